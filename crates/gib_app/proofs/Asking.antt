@@ -13,10 +13,10 @@ use Rattle.clap.specs.Takes.{built_takes, default_passes, entered_passes, is_giv
 use Rattle.clap.proofs.OnLiterals.{clap_on_literals}
 use Rattle.clap.proofs.WalkLemmas.{both}
 use Rattle.gib_app.specs.declared.plan.Job.{Job}
-use Rattle.gib_app.specs.declared.plan.Job.TheVariants.{Run, Plain, Check, Core, Code, Pack, Show, Trace, Replay}
+use Rattle.gib_app.specs.declared.plan.Job.TheVariants.{Run, Plain, Check, Core, Code, Pack, Show, Trace, Replay, Local}
 use Rattle.gib_app.specs.Plan.{Named}
 use Rattle.gib_app.specs.Words.{Target, NoTarget, AtPlace, ByOption, Form, app_for, asked_by_command, command_set, file_of, gen_app, made_requested, planned, requested, file_in, target_in, with_value, word_of}
-use Rattle.gib_app.specs.Words.{check_form, code_form, core_form, pack_form, plain_form, replay_form, run_form, show_form, trace_form}
+use Rattle.gib_app.specs.Words.{check_form, code_form, core_form, local_form, pack_form, plain_form, replay_form, run_form, show_form, trace_form}
 use Rattle.gib_app.proofs.Filling.{AllFilled, AllKnown, AllOf, Filled, Known, is_valued, level_filled}
 
 -- ---- Rows
@@ -181,6 +181,10 @@ replay_asks : Asks (built_form replay_form)
 unfolding clap_on_literals
 replay_asks words passes = plan_there (built_form replay_form) words ((refl, refl), ((refl, refl), ((refl, refl), ((refl, refl), tt)))) refl passes Replay (Some (codes "input")) (Some (codes "journal")) (ByOption (codes "image")) None (_, refl, refl, refl) (_, refl, refl, refl) (_, refl, refl, refl) tt
 
+local_asks : Asks (built_form local_form)
+unfolding clap_on_literals
+local_asks words passes = plan_there (built_form local_form) words ((refl, refl), ((refl, refl), ((refl, refl), ((refl, refl), ((refl, refl), ((refl, refl), tt)))))) refl passes Local (Some (codes "input")) None NoTarget None (_, refl, refl, refl) (_, refl, refl, refl) tt tt
+
 gen_asks : Asks built_gen
 unfolding clap_on_literals
 gen_asks words passes =
@@ -188,7 +192,7 @@ gen_asks words passes =
 
 all_ask : AllOf Asks (built command_set).subs
 unfolding clap_on_literals
-all_ask = (run_asks, (plain_asks, (check_asks, (core_asks, (code_asks, (pack_asks, (show_asks, (trace_asks, (replay_asks, (gen_asks, tt))))))))))
+all_ask = (run_asks, (plain_asks, (check_asks, (core_asks, (code_asks, (pack_asks, (show_asks, (trace_asks, (replay_asks, (local_asks, (gen_asks, tt)))))))))))
 
 needs_command : (built command_set).top.subcommand_required ≡ true
 unfolding clap_on_literals

@@ -6,6 +6,7 @@ use Rattle.std.proofs.lemmas.Option.{same_Some}
 use Rattle.gib_base.specs.Lexed.{Lexed}
 use Rattle.gib_base.specs.Names.{AreNames}
 use Rattle.gib_base.specs.Texts.{TextsView}
+use Rattle.gib_base.specs.declared.token.Dialect.TheVariants as dialect
 use Rattle.gib_types.specs.declared.table.Ty.{Ty}
 use Rattle.gib_types.specs.Table.{name_at}
 use Rattle.gib_types.specs.Tree.{Datum, HasType}
@@ -34,7 +35,7 @@ use Rattle.gib_mono.proofs.Theorem.{set_made, copied_typed, copied_fine, copied_
 use Rattle.gib_mono.proofs.Whole.{IsSet}
 use Rattle.gib_app.specs.GenericText.{generic_text, row_text}
 use Rattle.gib_app.specs.Headline.{copy_with}
-use Rattle.gib_app.specs.Running.{IsCopy, IsProgram, IsInput}
+use Rattle.gib_app.specs.Running.{IsCopy, IsProgram, IsInput, sourced}
 use Rattle.gib_app.specs.Causes.{OnProgram}
 use Rattle.gib_app.specs.Stops.{IsReady}
 use Rattle.gib_app.proofs.Held.{named_below, rows_are_words}
@@ -120,30 +121,37 @@ pub record OnCopy (source : List ℕ) (P : ProgramTree → TextsView → Type 0)
   pub is_spelled : IsSpelled source lexed generic found
   pub holds : P (copy_with generic lexed found) (texts_with lexed found)
 
-pub to_copy : (source : List ℕ) (P : ProgramTree → TextsView → Type 0) → OnProgram source P → OnCopy source P
+-- the source is a program whose places are left to the passes, and this holds of its tree
+abbrev pub OnTree : List ℕ → (ProgramTree → TextsView → Type 0) → Type 0
+OnTree source P = OnProgram dialect.Source source (λ p names. P p.tree names)
+
+pub to_copy : (source : List ℕ) (P : ProgramTree → TextsView → Type 0) → OnTree source P → OnCopy source P
 to_copy source P on =
-    let is = on.is_program in
+    let is = on.is_program.0 in
     let A : ProgramTree → Type 0 = λ p. P p on.texts in
     let B : TextsView → Type 0 = λ t. P (copy_with is.generic is.lexed is.copy.found) t in
     record {
       lexed = is.lexed;
       generic = is.generic;
       found = is.copy.found;
-      is_spelled = spelled_of source on.texts on.program is;
+      is_spelled = spelled_of source on.texts on.program.tree is;
       holds = subst B is.copy.shown (subst A is.copy.is on.holds);
     }
 
-pub of_copy : (source : List ℕ) (P : ProgramTree → TextsView → Type 0) → OnCopy source P → OnProgram source P
+pub of_copy : (source : List ℕ) (P : ProgramTree → TextsView → Type 0) → OnCopy source P → OnTree source P
 of_copy source P on = record {
   texts = texts_with on.lexed on.found;
-  program = copy_with on.generic on.lexed on.found;
-  is_program = record {
-    lexed = on.lexed;
-    generic = on.generic;
-    spelled = on.is_spelled.spelled;
-    typed = on.is_spelled.typed;
-    copy = record { found = on.found; within = on.is_spelled.within; is = refl; shown = refl };
-  };
+  program = sourced (copy_with on.generic on.lexed on.found);
+  is_program = (
+    record {
+      lexed = on.lexed;
+      generic = on.generic;
+      spelled = on.is_spelled.spelled;
+      typed = on.is_spelled.typed;
+      copy = record { found = on.found; within = on.is_spelled.within; is = refl; shown = refl };
+    },
+    refl,
+  );
   holds = on.holds;
 }
 

@@ -1,8 +1,9 @@
 -- Facts of all jobs, by cases.
 use Rattle.gib_base.specs.Texts.{TextsView}
-use Rattle.std.proofs.Common.{◌≡◌, Bool, refl, ℕ, List, [], ◌∷◌, length, Option, Some, None, ◌⊎◌, inl, inr, ◌≤◌, sym, subst₂, arith}
+use Rattle.std.proofs.Common.{◌≡◌, Bool, refl, ℕ, List, [], ◌∷◌, length, Option, Some, None, MatchOption, ◌⊎◌, inl, inr, ◌≤◌, sym, subst, subst₂, arith}
 use Rattle.gib_types.specs.Tree.{Datum}
 use Rattle.gib_syntax.specs.Tree.{ProgramTree}
+use Rattle.gib_core.specs.Tree.{CoreTree}
 use Rattle.gib_machine.specs.Machine.{stopped}
 use Rattle.gib_locked.specs.declared.journal.Line.{Line}
 use Rattle.gib_locked.specs.declared.settings.Settings.{Settings}
@@ -12,15 +13,15 @@ use Rattle.gib_app.specs.declared.made.Made.{Made}
 use Rattle.gib_app.specs.declared.made.Reason.{Reason}
 use Rattle.gib_app.specs.declared.made.Reason.TheVariants.{Meant, Full, Long}
 use Rattle.gib_app.specs.declared.plan.Job.{Job}
-use Rattle.gib_app.specs.declared.plan.Job.TheVariants.{Run, Plain, Check, Core, Code, Pack, Show, Gen, Trace, Replay}
+use Rattle.gib_app.specs.declared.plan.Job.TheVariants.{Run, Plain, Check, Core, Code, Pack, Show, Gen, Trace, Replay, Local}
 use Rattle.gib_app.specs.declared.plan.Options.{Options}
 use Rattle.gib_app.specs.Formats.{Accepts}
 use Rattle.gib_app.specs.Plan.{Contents}
 use Rattle.gib_app.specs.Replaying.{Happens, IsShownEnd, IsTrace, IsValueless, LacksChunks, OnJournal, journal_in}
-use Rattle.gib_app.specs.Running.{FillsUp, IsShownValue}
-use Rattle.gib_app.specs.Jobs.{End, Prints, NoValue, Does, Replays, Runs, Sums, Traces, run_forks, without_image}
+use Rattle.gib_app.specs.Running.{Program, FillsUp, FillsUpBy, IsShownValue}
+use Rattle.gib_app.specs.Jobs.{End, Prints, NoValue, Does, Replays, Runs, RunsLocated, Sums, Traces, run_forks, without_image}
 use Rattle.gib_app.specs.Kept.{EndsBy, file_of}
-use Rattle.gib_app.specs.MachineRun.{LacksValue}
+use Rattle.gib_app.specs.MachineRun.{LacksValue, LacksValueBy}
 use Rattle.gib_app.specs.Workers.{OnlyFull}
 
 -- what the events of a journal lead to, they lead to
@@ -35,8 +36,14 @@ on_happens p input bytes P f j = record {
   holds = f j.value j.settings j.lines j.holds;
 }
 
+-- chunks run out for a core that is written out
+fills_some : (o : Options) (p : Program) (located : Option CoreTree) (names : TextsView) (input : List ℕ) → MatchOption located ⊥ (λ core. FillsUpBy core p.tree names o.depth (run_forks o) o.chunks input)
+    → (core : CoreTree) × FillsUpBy core p.tree names o.depth (run_forks o) o.chunks input
+fills_some o p None names input h = absurd h
+fills_some o p (Some core) names input h = (core, h)
+
 -- what was made was made of a file that is accepted
-pub does_accepts : (job : Job) (o : Options) (p : ProgramTree) (names : TextsView) (given : Contents) (file : Option (List ℕ)) (e : End) → Does job o p names given file e → Accepts job o p names given
+pub does_accepts : (job : Job) (o : Options) (p : Program) (names : TextsView) (given : Contents) (file : Option (List ℕ)) (e : End) → Does job o p names given file e → Accepts job o p names given
 does_accepts Run o p names given file (Prints text) h = (h.1.value, h.1.is_input)
 does_accepts Run o p names given file (NoValue (Meant why)) h = (h.1.value, h.1.is_input)
 does_accepts Run o p names given file (NoValue Full) h = (h.1.value, h.1.is_input)
@@ -60,10 +67,14 @@ does_accepts Trace o p names given file (Prints text) h = (h.1.value, h.1.is_inp
 does_accepts Trace o p names given file (NoValue (Meant why)) h = (h.1.value, h.1.is_input)
 does_accepts Trace o p names given file (NoValue Full) h = (h.1.value, h.1.is_input)
 does_accepts Trace o p names given file (NoValue Long) h = absurd h
-does_accepts Replay o p names given file (Prints text) h = on_happens p given.second (journal_in given) (IsShownEnd p names o.image file text) (λ v settings lines e. inl (e.memory, e.ends_with, e.ended)) h
-does_accepts Replay o p names given file (NoValue (Meant why)) h = on_happens p given.second (journal_in given) (IsValueless p why) (λ v settings lines e. inl (e.memory, stopped why, e.ended)) h.1
-does_accepts Replay o p names given file (NoValue Full) h = on_happens p given.second (journal_in given) (LacksChunks p) (λ v settings lines e. inr e) h.1
+does_accepts Replay o p names given file (Prints text) h = on_happens p.tree given.second (journal_in given) (IsShownEnd p.tree names o.image file text) (λ v settings lines e. inl (e.memory, e.ends_with, e.ended)) h
+does_accepts Replay o p names given file (NoValue (Meant why)) h = on_happens p.tree given.second (journal_in given) (IsValueless p.tree why) (λ v settings lines e. inl (e.memory, stopped why, e.ended)) h.1
+does_accepts Replay o p names given file (NoValue Full) h = on_happens p.tree given.second (journal_in given) (LacksChunks p.tree) (λ v settings lines e. inr e) h.1
 does_accepts Replay o p names given file (NoValue Long) h = absurd h
+does_accepts Local o p names given file (Prints text) h = (h.1.value, h.1.is_input)
+does_accepts Local o p names given file (NoValue (Meant why)) h = (h.1.value, h.1.is_input)
+does_accepts Local o p names given file (NoValue Full) h = let u = fills_some o p p.located names given.second h.1 in (u.1.value, u.1.is_input)
+does_accepts Local o p names given file (NoValue Long) h = absurd h
 
 -- a file whose value is shown is not too long
 pub shown_short : {names : TextsView} (p : ProgramTree) (skips : Bool) (v : Datum) (bytes : List ℕ) → IsShownValue p names skips v bytes → length bytes ≤ 268435480
@@ -71,8 +82,8 @@ shown_short p skips v bytes (inl is) = let short = is.short in omega (arith, sho
 shown_short p skips v bytes (inr read) = let few = read.image.formed.few in let long = read.image.formed.long in omega (arith, few, long)
 
 -- chunks run out in a run, or where a journal leads
-pub full_runs : (job : Job) (o : Options) (p : ProgramTree) (names : TextsView) (given : Contents) (file : Option (List ℕ)) → Does job o p names given file (NoValue Full) →
-    ((job ≡ Run) ⊎ (job ≡ Gen) ⊎ (job ≡ Trace)) ⊎ (job ≡ Replay)
+pub full_runs : (job : Job) (o : Options) (p : Program) (names : TextsView) (given : Contents) (file : Option (List ℕ)) → Does job o p names given file (NoValue Full) →
+    ((job ≡ Run) ⊎ (job ≡ Gen) ⊎ (job ≡ Trace) ⊎ (job ≡ Local)) ⊎ (job ≡ Replay)
 full_runs Run o p names given file h = inl (inl refl)
 full_runs Plain o p names given file h = absurd h
 full_runs Check o p names given file h = absurd h
@@ -81,8 +92,9 @@ full_runs Code o p names given file h = absurd h
 full_runs Pack o p names given file h = absurd h
 full_runs Show o p names given file h = absurd h
 full_runs Gen o p names given file h = inl (inr (inl refl))
-full_runs Trace o p names given file h = inl (inr (inr refl))
+full_runs Trace o p names given file h = inl (inr (inr (inl refl)))
 full_runs Replay o p names given file h = inr refl
+full_runs Local o p names given file h = inl (inr (inr (inr refl)))
 
 -- a run that lacks a value
 
@@ -95,6 +107,14 @@ pub lacks_sums : (p : ProgramTree) (names : TextsView) (o : Options) (input : Li
 lacks_sums p names o input (Meant why) h = (refl, h)
 lacks_sums p names o input Full h = (refl, h)
 lacks_sums p names o input Long h = absurd h
+
+-- a core that is written out and lacks a value
+pub lacks_located : (core : CoreTree) (p : Program) (names : TextsView) (o : Options) (input : List ℕ) → p.located ≡ Some core → (why : Reason) → LacksValueBy core p.tree names o.depth (run_forks o) o.chunks input why
+    → RunsLocated p names o input None (NoValue why)
+lacks_located core p names o input is (Meant why) h = (refl, h)
+lacks_located core p names o input is Full h =
+    let P : Option CoreTree → Type 0 = λ x. MatchOption x ⊥ (λ c. FillsUpBy c p.tree names o.depth (run_forks o) o.chunks input) in (refl, subst P (sym is) h)
+lacks_located core p names o input is Long h = absurd h
 
 -- a trace whose chunks run out
 

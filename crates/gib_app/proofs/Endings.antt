@@ -1,7 +1,16 @@
 -- From the stop of a call to its answer, and from the status that is due to the one that is answered.
-use Rattle.gib_base.specs.Texts.{TextsView}
+use Rattle.gib_base.specs.Texts.{TextsView, plain_texts}
 use Rattle.std.proofs.Common.{◌≡◌, ◌∙◌, refl, ap, ap₂, ℕ, List, [], ◌∷◌, length, Option, Some, None, MatchOption, ◌⊎◌, inl, inr, subst, sym, arith, ◌≤◌, ◌<◌, ◌++◌, Bool, true, false, subst₂, Ok, Result}
-use Rattle.gib_base.specs.Lexed.{Lexed, IsLexed}
+use Rattle.gib_base.specs.Lexed.{Lexed, IsLexed, IsLexedIn}
+use Rattle.gib_base.specs.declared.token.Dialect.{Dialect}
+use Rattle.gib_base.specs.declared.token.Dialect.TheVariants as dialect
+use Rattle.gib_core.specs.Erasing.{erase_core}
+use Rattle.gib_core.specs.Marking.{mark_core}
+use Rattle.gib_core.specs.Tree.{CoreTree}
+use Rattle.gib_local.specs.Building.{Placed, build_core}
+use Rattle.gib_local.specs.PlacedTexts.{TextAt}
+use Rattle.gib_local.specs.Texts.{spell_text}
+use Rattle.gib_local.specs.Tree.{LocalTree}
 use Rattle.gib_base.specs.declared.token.Token.{Token}
 use Rattle.gib_types.specs.Tree.{Datum}
 use Rattle.gib_base.specs.declared.Span.{Span}
@@ -27,18 +36,18 @@ use Rattle.gib_app.specs.declared.status.Status.TheVariants as status
 use Rattle.gib_app.specs.declared.stop.Stop.{Stop}
 use Rattle.gib_app.specs.declared.stop.Stop.TheVariants.{Usage, Source, Unread, Input, NoValue, Memory, Unwritten, Unput}
 use Rattle.gib_app.specs.declared.plan.Job.{Job}
-use Rattle.gib_app.specs.declared.plan.Job.TheVariants.{Run, Plain, Check, Core, Code, Pack, Show, Gen, Trace, Replay}
+use Rattle.gib_app.specs.declared.plan.Job.TheVariants.{Run, Plain, Check, Core, Code, Pack, Show, Gen, Trace, Replay, Local}
 use Rattle.gib_app.specs.declared.plan.Options.{Options}
 use Rattle.gib_app.specs.declared.made.Reason.{Reason}
 use Rattle.gib_app.specs.declared.made.Reason.TheVariants.{Meant, Full, Long}
 use Rattle.gib_app.specs.Plan.{Document, Write, Plan, Files, bytes_in, Contents}
 use Rattle.gib_app.specs.Writes.{at_reading, with_write, writes_of, job_writes, IsStuckIn, IsNamedIn}
 use Rattle.gib_app.specs.Words.{asked}
-use Rattle.gib_app.specs.Running.{IsCopy, IsInput, IsProgram, IsSource, IsNoProgram, IsOutput, IsSummary, IsPackedResult, IsLongResult, MeansNone, IsShownValue}
+use Rattle.gib_app.specs.Running.{IsCopy, IsInput, IsProgram, IsLocated, IsProgramIn, IsSourceIn, IsNoProgramIn, Program, IsOutput, IsSummary, IsPackedResult, IsLongResult, MeansNone, IsShownValue}
 use Rattle.gib_app.specs.Replaying.{journal_in}
 use Rattle.gib_app.specs.Packing.{IsPackedBy}
-use Rattle.gib_app.specs.SourceFaults.{IsSourceFault}
-use Rattle.gib_app.specs.Formats.{inputs_of, Accepts, Refuses}
+use Rattle.gib_app.specs.SourceFaults.{IsSourceFaultIn}
+use Rattle.gib_app.specs.Formats.{inputs_of, dialect_of, Accepts, Refuses}
 use Rattle.gib_app.specs.Formats.{Input as PlanInput}
 use Rattle.gib_app.specs.Jobs.{End, Prints, Does, DoesPack, DoesAll, PacksResult, without_image}
 use Rattle.gib_app.specs.Jobs.{NoValue as Without}
@@ -60,7 +69,7 @@ map_asked (Some r) P Q go h = go r h
 on_source : (kept : Files) (d : Document) (P Q : List ℕ → Type 0) → ((source : List ℕ) → P source → Q source) → OnSource kept d P → OnSource kept d Q
 on_source kept d P Q go h = record { source = h.source; source_held = h.source_held; holds = go h.source h.holds }
 
-map_reached : (kept : Files) (r : Plan) (P Q : ProgramTree → TextsView → Contents → Type 0) → ((p : ProgramTree) (names : TextsView) (given : Contents) → P p names given → Q p names given) →
+map_reached : (kept : Files) (r : Plan) (P Q : Program → TextsView → Contents → Type 0) → ((p : Program) (names : TextsView) (given : Contents) → P p names given → Q p names given) →
     OnReached kept r P → OnReached kept r Q
 map_reached kept r P Q go h = record {
   source = h.source;
@@ -82,7 +91,7 @@ IsWriteCause tells words before now out_before out_now =
 
 abbrev pub IsCause : Bool → List (List ℕ) → ShelfView → ShelfView → SinkView → SinkView → Status → Type 0
 IsCause tells words before now out_before out_now status.Done = IsPrinted tells words before now out_before out_now
-IsCause tells words before now out_before out_now status.Source = AsksSource tells words before.kept IsNoProgram
+IsCause tells words before now out_before out_now status.Source = AsksSource tells words before.kept IsNoProgramIn
 IsCause tells words before now out_before out_now status.Usage = asked words ≡ None
 IsCause tells words before now out_before out_now status.Depth = AsksProgram tells words before.kept (HasNoValue (Meant why.Deep))
 IsCause tells words before now out_before out_now status.Full = AsksProgram tells words before.kept (HasNoValue Full)
@@ -99,7 +108,7 @@ abbrev pub K : Bool → ShelfView → Plan → Files
 K tells before r = at_reading tells before.kept r
 
 -- what holds of inputs that are refused
-abbrev Refused : Plan → InputFault → ProgramTree → TextsView → Contents → Type 0
+abbrev Refused : Plan → InputFault → Program → TextsView → Contents → Type 0
 Refused r fault p names given = Refuses r.job r.options p names given fault × (Accepts r.job r.options p names given → ⊥)
 
 without_of : (tells : Bool) (words : List (List ℕ)) (before now : ShelfView) (cause : Reason) → AsksProgram tells words before.kept (EndsWithout tells before now cause) → AsksProgram tells words before.kept (HasNoValue cause)
@@ -110,8 +119,8 @@ without_of tells words before now cause h =
 pub cause_of : (tells : Bool) (words : List (List ℕ)) (before now : ShelfView) (out_before out_now : SinkView) (status : Status) (said : List ℕ) → IsEnding tells words before now out_before out_now status said → IsCause tells words before now out_before out_now status
 cause_of tells words before now out_before out_now status.Done said h = h.0
 cause_of tells words before now out_before out_now status.Source said h =
-    map_asked (asked words) (λ r. OnSource (K tells before r) r.source (λ bytes. IsSourceFault bytes h.0 × IsNoProgram bytes)) (λ r. OnSource (K tells before r) r.source IsNoProgram)
-    (λ r k. on_source (K tells before r) r.source (λ bytes. IsSourceFault bytes h.0 × IsNoProgram bytes) IsNoProgram (λ bytes both. both.1) k) h.1
+    map_asked (asked words) (λ r. OnSource (K tells before r) r.source (λ bytes. IsSourceFaultIn (dialect_of r.job) bytes h.0 × IsNoProgramIn (dialect_of r.job) bytes)) (λ r. OnSource (K tells before r) r.source (IsNoProgramIn (dialect_of r.job)))
+    (λ r k. on_source (K tells before r) r.source (λ bytes. IsSourceFaultIn (dialect_of r.job) bytes h.0 × IsNoProgramIn (dialect_of r.job) bytes) (IsNoProgramIn (dialect_of r.job)) (λ bytes both. both.1) k) h.1
 cause_of tells words before now out_before out_now status.Usage said h = h.0
 cause_of tells words before now out_before out_now status.Depth said h = without_of tells words before now (Meant why.Deep) h.0
 cause_of tells words before now out_before out_now status.Full said h = without_of tells words before now Full h.0
@@ -150,6 +159,8 @@ ending_of tells words before now out_before out_now Unput h = inr (h.0, h.1, h.2
 pub record Laws : Type 0 where
   pub lexed : (bytes : List ℕ) (l m : Lexed) → IsLexed bytes l → IsLexed bytes m → l ≡ m
   pub parsed : (at : Places) (tokens : List Token) (p q : GenericProgramTree) → Derives tokens p → Derives tokens q → IsPlacedProgram at p → IsPlacedProgram at q → p ≡ q
+  pub located : (d : Dialect) (bytes : List ℕ) (l m : Lexed) → IsLexedIn d bytes l → IsLexedIn d bytes m → l ≡ m
+  pub texts : (at : Places) (t u : LocalTree) → TextAt at t [] → TextAt at u [] → spell_text t [] ≡ spell_text u [] → t ≡ u
   pub filed : OneValue
 
 same_lexed : Laws → (source : List ℕ) (l m : Lexed) (p q : GenericProgramTree) → Spells source l p → Spells source m q → l ≡ m
@@ -174,35 +185,59 @@ one_copy g ns p q t u h k =
     (h.is ∙ ap P e ∙ sym k.is, h.shown ∙ ap T e ∙ sym k.shown)
 
 -- a source is one program
-same_both : Laws → (source : List ℕ) (t u : TextsView) (p q : ProgramTree) → IsProgram source t p → IsProgram source u q → (p ≡ q) × (t ≡ u)
-same_both laws source t u p q h k =
+same_sourced : Laws → (source : List ℕ) (t u : TextsView) (p q : ProgramTree) → IsProgram source t p → IsProgram source u q → (p ≡ q) × (t ≡ u)
+same_sourced laws source t u p q h k =
     let el = same_lexed laws source k.lexed h.lexed k.generic h.generic k.spelled h.spelled in
     let eg = same_spelled laws source k.lexed h.lexed k.generic h.generic k.spelled h.spelled in
     let C : GenericProgramTree → Lexed → Type 0 = λ g l. IsCopy g l.names q u in
     one_copy h.generic h.lexed.names p q t u h.copy (subst₂ C eg el k.copy)
 
-same_program : Laws → (source : List ℕ) (t u : TextsView) (p q : ProgramTree) → IsProgram source t p → IsProgram source u q → p ≡ q
-same_program laws source t u p q h k = (same_both laws source t u p q h k).0
+-- and one that writes its places out makes one core
+made_once : (r : Placed CoreTree) (c d : CoreTree) → r ≡ Ok c → r ≡ Ok d → c ≡ d
+made_once r c d e f = let both = sym e ∙ f in cc
 
-same_texts : Laws → (source : List ℕ) (t u : TextsView) (p q : ProgramTree) → IsProgram source t p → IsProgram source u q → t ≡ u
-same_texts laws source t u p q h k = (same_both laws source t u p q h k).1
+same_located : Laws → (source : List ℕ) (t u : TextsView) (p q : Program) → IsLocated source t p → IsLocated source u q → (p ≡ q) × (t ≡ u)
+same_located laws source t u p q h k =
+    let l = h.local in
+    let m = k.local in
+    let el = laws.located dialect.Located source m.lexed l.lexed m.is_lexed l.is_lexed in
+    let S : Lexed → Type 0 = λ x. spell_text m.tree [] ≡ x.tokens in
+    let A : Lexed → Type 0 = λ x. TextAt (places_of x.spans) m.tree [] in
+    let et = laws.texts (places_of l.lexed.spans) m.tree l.tree (subst A el m.placed) l.placed (subst S el m.spelled ∙ sym l.spelled) in
+    let ec = made_once (build_core l.tree) k.core h.core (ap build_core (sym et) ∙ m.made) l.made in
+    let P : LocalTree → CoreTree → Program = λ x c. record { tree = erase_core x.datas c; located = Some (mark_core c) } in
+    let N : Lexed → TextsView = λ x. plain_texts x.names in
+    (h.is ∙ ap₂ P (sym et) (sym ec) ∙ sym k.is, h.shown ∙ ap N (sym el) ∙ sym k.shown)
+
+same_parts_of : (p q : Program) → p.tree ≡ q.tree → p.located ≡ q.located → p ≡ q
+same_parts_of p q e f = ap₂ (λ t (c : Option CoreTree). record { tree = t; located = c }) e f
+
+same_both : Laws → (d : Dialect) (source : List ℕ) (t u : TextsView) (p q : Program) → IsProgramIn d source t p → IsProgramIn d source u q → (p ≡ q) × (t ≡ u)
+same_both laws dialect.Source source t u p q h k = let both = same_sourced laws source t u p.tree q.tree h.0 k.0 in (same_parts_of p q both.0 (h.1 ∙ sym k.1), both.1)
+same_both laws dialect.Located source t u p q h k = same_located laws source t u p q h k
+
+same_program : Laws → (d : Dialect) (source : List ℕ) (t u : TextsView) (p q : Program) → IsProgramIn d source t p → IsProgramIn d source u q → p ≡ q
+same_program laws d source t u p q h k = (same_both laws d source t u p q h k).0
+
+same_texts : Laws → (d : Dialect) (source : List ℕ) (t u : TextsView) (p q : Program) → IsProgramIn d source t p → IsProgramIn d source u q → t ≡ u
+same_texts laws d source t u p q h k = (same_both laws d source t u p q h k).1
 
 -- what holds of the program of a source, and what else holds of it, hold of one
-pub together : Laws → (source : List ℕ) (P Q : ProgramTree → TextsView → Type 0) → OnProgram source P → OnProgram source Q → (p : ProgramTree) × (names : TextsView) × P p names × Q p names
-together laws source P Q a b =
-    let et = same_texts laws source b.texts a.texts b.program a.program b.is_program a.is_program in
-    let ep = same_program laws source b.texts a.texts b.program a.program b.is_program a.is_program in
+pub together : Laws → (d : Dialect) (source : List ℕ) (P Q : Program → TextsView → Type 0) → OnProgram d source P → OnProgram d source Q → (p : Program) × (names : TextsView) × P p names × Q p names
+together laws d source P Q a b =
+    let et = same_texts laws d source b.texts a.texts b.program a.program b.is_program a.is_program in
+    let ep = same_program laws d source b.texts a.texts b.program a.program b.is_program a.is_program in
     let L : TextsView → Type 0 = λ x. Q b.program x in
-    let R : ProgramTree → Type 0 = λ x. Q x a.texts in
+    let R : Program → Type 0 = λ x. Q x a.texts in
     (a.program, a.texts, a.holds, subst R ep (subst L et b.holds))
 
 -- both hold of the program of a source
-pub joined : Laws → (source : List ℕ) (P Q : ProgramTree → TextsView → Type 0) → OnProgram source P → OnProgram source Q → OnProgram source (λ p names. P p names × Q p names)
-joined laws source P Q a b =
-    let et = same_texts laws source b.texts a.texts b.program a.program b.is_program a.is_program in
-    let ep = same_program laws source b.texts a.texts b.program a.program b.is_program a.is_program in
+pub joined : Laws → (d : Dialect) (source : List ℕ) (P Q : Program → TextsView → Type 0) → OnProgram d source P → OnProgram d source Q → OnProgram d source (λ p names. P p names × Q p names)
+joined laws d source P Q a b =
+    let et = same_texts laws d source b.texts a.texts b.program a.program b.is_program a.is_program in
+    let ep = same_program laws d source b.texts a.texts b.program a.program b.is_program a.is_program in
     let L : TextsView → Type 0 = λ x. Q b.program x in
-    let R : ProgramTree → Type 0 = λ x. Q x a.texts in
+    let R : Program → Type 0 = λ x. Q x a.texts in
     record { texts = a.texts; program = a.program; is_program = a.is_program; holds = (a.holds, subst R ep (subst L et b.holds)) }
 
 pub same_bytes : (o : Held) (a b : List ℕ) → o ≡ Has a → IsAllOf o b → b ≡ a
@@ -222,30 +257,30 @@ same_given kept [] a b e h = same_parts a b (h.0 ∙ sym e.0) (h.1 ∙ sym e.1)
 same_given kept (i ∷ is) a b e h = same_parts a b (same_bytes (bytes_in kept i.document) a.second b.second e.0 h.0) (same_further kept is a.further b.further e.1 h.1)
 
 -- what is due and what is answered hold of the same files
-clash : Laws → (tells : Bool) (before now : ShelfView) (r : Plan) (P Q : ProgramTree → TextsView → Contents → Type 0) → DueOfFiles tells before now r P → OnBoth (K tells before r) r Q →
-    (p : ProgramTree) × (names : TextsView) × (given : Contents) × P p names given × Q p names given
+clash : Laws → (tells : Bool) (before now : ShelfView) (r : Plan) (P Q : Program → TextsView → Contents → Type 0) → DueOfFiles tells before now r P → OnBoth (K tells before r) r Q →
+    (p : Program) × (names : TextsView) × (given : Contents) × P p names given × Q p names given
 clash laws tells before now r P Q due end' =
     let es = same_bytes (bytes_in (K tells before r) r.source) due.source end'.source due.source_told end'.source_held in
     let eb = same_given (K tells before r) (inputs_of r) due.given end'.given due.given_told end'.given_held in
-    let S : List ℕ → Type 0 = λ s. OnProgram s (λ p names. Q p names end'.given) in
-    let B : Contents → Type 0 = λ b. OnProgram due.source (λ p names. Q p names b) in
-    let both = together laws due.source (λ p names. P p names due.given) (λ p names. Q p names due.given) due.holds (subst B eb (subst S es end'.holds)) in
+    let S : List ℕ → Type 0 = λ s. OnProgram (dialect_of r.job) s (λ p names. Q p names end'.given) in
+    let B : Contents → Type 0 = λ b. OnProgram (dialect_of r.job) due.source (λ p names. Q p names b) in
+    let both = together laws (dialect_of r.job) due.source (λ p names. P p names due.given) (λ p names. Q p names due.given) due.holds (subst B eb (subst S es end'.holds)) in
     (both.0, both.1, due.given, both.2, both.3)
 
 -- Inputs that are told, and inputs as far as they were read
 
-same_second : (kept : Files) (p : ProgramTree) (names : TextsView) (is : List PlanInput) (a b : Contents) → AreTold kept is a → AreReached kept p names is b → b.second ≡ a.second
+same_second : (kept : Files) (p : Program) (names : TextsView) (is : List PlanInput) (a b : Contents) → AreTold kept is a → AreReached kept p names is b → b.second ≡ a.second
 same_second kept p names [] a b e h = h.0 ∙ sym e.0
 same_second kept p names (i ∷ is) a b e h = same_bytes (bytes_in kept i.document) a.second b.second e.0 h.0
 
-same_behind : (kept : Files) (p : ProgramTree) (names : TextsView) (is : List PlanInput) (a b : Contents) → AreTold kept is a → AreReached kept p names is b → ((v : Datum) × IsInput p names v b.second) → b.further ≡ a.further
+same_behind : (kept : Files) (p : Program) (names : TextsView) (is : List PlanInput) (a b : Contents) → AreTold kept is a → AreReached kept p names is b → ((v : Datum) × IsInput p.tree names v b.second) → b.further ≡ a.further
 same_behind kept p names [] a b e h taken = h.1 ∙ sym e.1
 same_behind kept p names (i ∷ is) a b e h taken = same_further kept is a.further b.further e.1 (h.1 taken)
 
 -- what is accepted of all of them, is accepted of those that were read
-module _ (options : Options) (p : ProgramTree) (names : TextsView) (a b : Contents) (second : b.second ≡ a.second) (behind : ((v : Datum) × IsInput p names v b.second) → b.further ≡ a.further) where
-  packed_again : ((v : Datum) × IsInput p names v a.second) → (v : Datum) × IsInput p names v b.second
-  packed_again h = let P : List ℕ → Type 0 = λ bytes. (v : Datum) × IsInput p names v bytes in subst P (sym second) h
+module _ (options : Options) (p : Program) (names : TextsView) (a b : Contents) (second : b.second ≡ a.second) (behind : ((v : Datum) × IsInput p.tree names v b.second) → b.further ≡ a.further) where
+  packed_again : ((v : Datum) × IsInput p.tree names v a.second) → (v : Datum) × IsInput p.tree names v b.second
+  packed_again h = let P : List ℕ → Type 0 = λ bytes. (v : Datum) × IsInput p.tree names v bytes in subst P (sym second) h
 
   accepted_again : (job : Job) → Accepts job options p names a → Accepts job options p names b
   accepted_again Run h = packed_again h
@@ -253,50 +288,51 @@ module _ (options : Options) (p : ProgramTree) (names : TextsView) (a b : Conten
   accepted_again Check h = h
   accepted_again Core h = h
   accepted_again Code h = h
-  accepted_again Pack h = let P : List ℕ → Type 0 = λ bytes. (packed : List ℕ) × IsPackedBy options.repacks options.first_version p names bytes packed in subst P (sym second) h
-  accepted_again Show h = let P : List ℕ → Type 0 = λ bytes. (v : Datum) × IsShownValue p names options.skips v bytes in subst P (sym second) h
+  accepted_again Pack h = let P : List ℕ → Type 0 = λ bytes. (packed : List ℕ) × IsPackedBy options.repacks options.first_version p.tree names bytes packed in subst P (sym second) h
+  accepted_again Show h = let P : List ℕ → Type 0 = λ bytes. (v : Datum) × IsShownValue p.tree names options.skips v bytes in subst P (sym second) h
   accepted_again Gen h = packed_again h
   accepted_again Trace h = packed_again h
   accepted_again Replay h =
       let same : b ≡ a = same_parts a b second (behind (packed_again (h.value, h.is_input))) in
       let P : Contents → Type 0 = Accepts Replay options p names in
       subst P (sym same) h
+  accepted_again Local h = packed_again h
 
 -- what is due is accepted, and what was read is not
-fit_or_unfit : Laws → (tells : Bool) (before now : ShelfView) (r : Plan) (P : ProgramTree → TextsView → Contents → Type 0) →
-    ((p : ProgramTree) (names : TextsView) (given : Contents) → P p names given → Accepts r.job r.options p names given) → DueOfFiles tells before now r P →
+fit_or_unfit : Laws → (tells : Bool) (before now : ShelfView) (r : Plan) (P : Program → TextsView → Contents → Type 0) →
+    ((p : Program) (names : TextsView) (given : Contents) → P p names given → Accepts r.job r.options p names given) → DueOfFiles tells before now r P →
     OnReached (K tells before r) r (λ p names given. Accepts r.job r.options p names given → ⊥) → ⊥
 fit_or_unfit laws tells before now r P accepts due end' =
     let kept = K tells before r in
-    let Q : ProgramTree → TextsView → Type 0 = λ p names. AreReached kept p names (inputs_of r) end'.given × (Accepts r.job r.options p names end'.given → ⊥) in
-    let S : List ℕ → Type 0 = λ s. OnProgram s Q in
+    let Q : Program → TextsView → Type 0 = λ p names. AreReached kept p names (inputs_of r) end'.given × (Accepts r.job r.options p names end'.given → ⊥) in
+    let S : List ℕ → Type 0 = λ s. OnProgram (dialect_of r.job) s Q in
     let es = same_bytes (bytes_in kept r.source) due.source end'.source due.source_told end'.source_held in
-    let both = together laws due.source (λ p names. P p names due.given) Q due.holds (subst S es end'.holds) in
+    let both = together laws (dialect_of r.job) due.source (λ p names. P p names due.given) Q due.holds (subst S es end'.holds) in
     let p = both.0 in
     let reached = both.3.0 in
     let second = same_second kept p both.1 (inputs_of r) due.given end'.given due.given_told reached in
     let behind = same_behind kept p both.1 (inputs_of r) due.given end'.given due.given_told reached in
     both.3.1 (accepted_again r.options p both.1 due.given end'.given second behind r.job (accepts p both.1 due.given both.2))
 
-no_program : (tells : Bool) (before now : ShelfView) (r : Plan) (P : ProgramTree → TextsView → Contents → Type 0) → DueOfFiles tells before now r P → OnSource (K tells before r) r.source IsNoProgram → ⊥
+no_program : (tells : Bool) (before now : ShelfView) (r : Plan) (P : Program → TextsView → Contents → Type 0) → DueOfFiles tells before now r P → OnSource (K tells before r) r.source (IsNoProgramIn (dialect_of r.job)) → ⊥
 no_program tells before now r P due end' =
     let es = same_bytes (bytes_in (K tells before r) r.source) due.source end'.source due.source_told end'.source_held in
-    subst IsNoProgram es end'.holds due.holds.texts due.holds.program due.holds.is_program
+    subst (IsNoProgramIn (dialect_of r.job)) es end'.holds due.holds.texts due.holds.program due.holds.is_program
 
-a_program : (tells : Bool) (before now : ShelfView) (r : Plan) (Q : ProgramTree → TextsView → Contents → Type 0) → DueOfSource tells before now r IsNoProgram → OnBoth (K tells before r) r Q → ⊥
+a_program : (tells : Bool) (before now : ShelfView) (r : Plan) (Q : Program → TextsView → Contents → Type 0) → DueOfSource tells before now r (IsNoProgramIn (dialect_of r.job)) → OnBoth (K tells before r) r Q → ⊥
 a_program tells before now r Q due end' =
     let es = same_bytes (bytes_in (K tells before r) r.source) due.source end'.source due.source_told end'.source_held in
-    subst IsNoProgram (sym es) due.holds end'.holds.texts end'.holds.program end'.holds.is_program
+    subst (IsNoProgramIn (dialect_of r.job)) (sym es) due.holds end'.holds.texts end'.holds.program end'.holds.is_program
 
-reached_program : (tells : Bool) (before now : ShelfView) (r : Plan) (Q : ProgramTree → TextsView → Contents → Type 0) → DueOfSource tells before now r IsNoProgram → OnReached (K tells before r) r Q → ⊥
+reached_program : (tells : Bool) (before now : ShelfView) (r : Plan) (Q : Program → TextsView → Contents → Type 0) → DueOfSource tells before now r (IsNoProgramIn (dialect_of r.job)) → OnReached (K tells before r) r Q → ⊥
 reached_program tells before now r Q due end' =
     let es = same_bytes (bytes_in (K tells before r) r.source) due.source end'.source due.source_told end'.source_held in
-    subst IsNoProgram (sym es) due.holds end'.holds.texts end'.holds.program end'.holds.is_program
+    subst (IsNoProgramIn (dialect_of r.job)) (sym es) due.holds end'.holds.texts end'.holds.program end'.holds.is_program
 
-a_source : (tells : Bool) (before now : ShelfView) (r : Plan) → DueOfSource tells before now r IsNoProgram → OnSource (K tells before r) r.source IsSource → ⊥
+a_source : (tells : Bool) (before now : ShelfView) (r : Plan) → DueOfSource tells before now r (IsNoProgramIn (dialect_of r.job)) → OnSource (K tells before r) r.source (IsSourceIn (dialect_of r.job)) → ⊥
 a_source tells before now r due end' =
     let es = same_bytes (bytes_in (K tells before r) r.source) due.source end'.source due.source_told end'.source_held in
-    subst IsNoProgram (sym es) due.holds end'.holds.0 end'.holds.1 end'.holds.2
+    subst (IsNoProgramIn (dialect_of r.job)) (sym es) due.holds end'.holds.0 end'.holds.1 end'.holds.2
 
 first_unread : (before now : ShelfView) (is : List PlanInput) (name : List ℕ) → AreUnread before now (first_of is) name → AreUnread before now is name
 first_unread before now [] name h = h
@@ -307,12 +343,12 @@ further_unread : (before now : ShelfView) (is : List PlanInput) (name : List ℕ
 further_unread before now [] name h = h
 further_unread before now (i ∷ is) name h = inr h
 
-read_both : (tells : Bool) (before now : ShelfView) (r : Plan) (P : ProgramTree → TextsView → Contents → Type 0) (name : List ℕ) → DueOfFiles tells before now r P → FailsToRead (K tells before r) before now r name → ⊥
+read_both : (tells : Bool) (before now : ShelfView) (r : Plan) (P : Program → TextsView → Contents → Type 0) (name : List ℕ) → DueOfFiles tells before now r P → FailsToRead (K tells before r) before now r name → ⊥
 read_both tells before now r P name due (inl h) = due.source_read name h
 read_both tells before now r P name due (inr (inl h)) = due.given_read name (first_unread before now (inputs_of r) name h.0)
 read_both tells before now r P name due (inr (inr h)) = due.given_read name (further_unread before now (inputs_of r) name h.0)
 
-read_one : (tells : Bool) (before now : ShelfView) (r : Plan) (name : List ℕ) → DueOfSource tells before now r IsNoProgram → FailsToRead (K tells before r) before now r name → ⊥
+read_one : (tells : Bool) (before now : ShelfView) (r : Plan) (name : List ℕ) → DueOfSource tells before now r (IsNoProgramIn (dialect_of r.job)) → FailsToRead (K tells before r) before now r name → ⊥
 read_one tells before now r name due (inl h) = due.source_read name h
 read_one tells before now r name due (inr (inl h)) = a_source tells before now r due h.1
 read_one tells before now r name due (inr (inr h)) =
@@ -344,7 +380,7 @@ stuck_two tells kept (Some bytes) None packed pack before now name h = inr (stuc
 stuck_two tells kept (Some bytes) (Some other) packed pack before now name (inl h) = inl (bytes, refl, ap Some h.0, h.1.rose)
 stuck_two tells kept (Some bytes) (Some other) packed pack before now name (inr h) = inr (stuck_one tells (with_write tells kept (record { name = other; bytes = bytes })) packed pack before now name h)
 
-of_two : (tells : Bool) (before now : ShelfView) (r : Plan) (p : ProgramTree) (names : TextsView) (given : Contents) (name : List ℕ) (u : IsUnwritten tells before now r p names given name) → StuckOfTwo u.file r.target u.packed r.pack before now name
+of_two : (tells : Bool) (before now : ShelfView) (r : Plan) (p : Program) (names : TextsView) (given : Contents) (name : List ℕ) (u : IsUnwritten tells before now r p names given name) → StuckOfTwo u.file r.target u.packed r.pack before now name
 of_two tells before now r p names given name u = stuck_two tells (K tells before r) u.file r.target u.packed r.pack before now name u.stuck
 
 -- so it is a file of the job that is not written
@@ -396,10 +432,10 @@ packed_or_long laws p names depth input bytes a b =
     omega (arith, long, few)
 
 -- where a text is due with a packed file that is asked for, that file is not too long
-packs_or_long : Laws → (job : Job) (o : Options) (p : ProgramTree) (names : TextsView) (given : Contents) (text : List ℕ) (packed file : Option (List ℕ)) → DoesPack job o p names given packed (Prints text) → Does job o p names given file (Without Long) → ⊥
+packs_or_long : Laws → (job : Job) (o : Options) (p : Program) (names : TextsView) (given : Contents) (text : List ℕ) (packed file : Option (List ℕ)) → DoesPack job o p names given packed (Prints text) → Does job o p names given file (Without Long) → ⊥
 packs_or_long laws Run o p names given text packed file h k =
-    let d = subst (λ (b : Bool). PacksResult b p names o.depth given.second packed (Prints text)) k.2 h in
-    packed_or_long laws p names o.depth given.second d.0 d.2 k.1
+    let d = subst (λ (b : Bool). PacksResult b p.tree names o.depth given.second packed (Prints text)) k.2 h in
+    packed_or_long laws p.tree names o.depth given.second d.0 d.2 k.1
 packs_or_long laws Plain o p names given text packed file h k = k
 packs_or_long laws Check o p names given text packed file h k = k
 packs_or_long laws Core o p names given text packed file h k = k
@@ -409,14 +445,15 @@ packs_or_long laws Show o p names given text packed file h k = k
 packs_or_long laws Gen o p names given text packed file h k = k
 packs_or_long laws Trace o p names given text packed file h k = k
 packs_or_long laws Replay o p names given text packed file h k = k
+packs_or_long laws Local o p names given text packed file h k = k
 
 -- a packed file is made where there is a text
-packed_text : (job : Job) (o : Options) (p : ProgramTree) (names : TextsView) (given : Contents) (bytes : List ℕ) (e : End) → DoesPack job o p names given (Some bytes) e → (text : List ℕ) × (e ≡ Prints text)
+packed_text : (job : Job) (o : Options) (p : Program) (names : TextsView) (given : Contents) (bytes : List ℕ) (e : End) → DoesPack job o p names given (Some bytes) e → (text : List ℕ) × (e ≡ Prints text)
 packed_text job o p names given bytes (Prints text) h = (text, refl)
 packed_text job o p names given bytes (Without reason) h = absurd (some_or_none bytes (valueless_packs job o p names given (Some bytes) reason h))
 
 -- without chunks no file is made
-full_no_file : (job : Job) (o : Options) (p : ProgramTree) (names : TextsView) (given : Contents) (bytes : List ℕ) → Does job o p names given (Some bytes) (Without Full) → ⊥
+full_no_file : (job : Job) (o : Options) (p : Program) (names : TextsView) (given : Contents) (bytes : List ℕ) → Does job o p names given (Some bytes) (Without Full) → ⊥
 full_no_file Run o p names given bytes h = some_or_none bytes h.0
 full_no_file Plain o p names given bytes h = h
 full_no_file Check o p names given bytes h = h
@@ -427,50 +464,54 @@ full_no_file Show o p names given bytes h = h
 full_no_file Gen o p names given bytes h = some_or_none bytes h.0
 full_no_file Trace o p names given bytes h = some_or_none bytes h.0
 full_no_file Replay o p names given bytes h = some_or_none bytes h.0
+full_no_file Local o p names given bytes h = some_or_none bytes h.0
 
 -- how a job ends and how it is due to end: of text, a reason without a value and want of chunks only one
 
-module _ (laws : Laws) (o : Options) (p : ProgramTree) (names : TextsView) (given : Contents) where
+module _ (laws : Laws) (o : Options) (p : Program) (names : TextsView) (given : Contents) where
   text_or_none : (job : Job) (text : List ℕ) (x : Why) (file other : Option (List ℕ)) → Does (ends_as job) (without_image o) p names given file (Prints text) → Does job o p names given other (Without (Meant x)) → ⊥
-  text_or_none Run text x file other h k = runs_well laws p names o.depth given.second text (means_why x) h.1 k.1
-  text_or_none Plain text x file other h k = runs_well laws p names o.depth given.second text (means_why x) h.1 k.1
+  text_or_none Run text x file other h k = runs_well laws p.tree names o.depth given.second text (means_why x) h.1 k.1
+  text_or_none Plain text x file other h k = runs_well laws p.tree names o.depth given.second text (means_why x) h.1 k.1
   text_or_none Check text x file other h k = k
   text_or_none Core text x file other h k = k
   text_or_none Code text x file other h k = k
   text_or_none Pack text x file other h k = k
   text_or_none Show text x file other h k = k
-  text_or_none Gen text x file other h k = sums_well laws p o.number o.levels o.depth given.second text (means_why x) h.1 k.1
-  text_or_none Trace text x file other h k = runs_well laws p names o.depth given.second text (means_why x) h.1 k.1
-  text_or_none Replay text x file other h k = shown_or_valueless laws.filed p names given.second (journal_in given) false file text x h k.1
+  text_or_none Gen text x file other h k = sums_well laws p.tree o.number o.levels o.depth given.second text (means_why x) h.1 k.1
+  text_or_none Trace text x file other h k = runs_well laws p.tree names o.depth given.second text (means_why x) h.1 k.1
+  text_or_none Replay text x file other h k = shown_or_valueless laws.filed p.tree names given.second (journal_in given) false file text x h k.1
+  text_or_none Local text x file other h k = runs_well laws p.tree names o.depth given.second text (means_why x) h.1 k.1
 
   none_or_text : (job : Job) (x : Why) (text : List ℕ) (file other : Option (List ℕ)) → Does (ends_as job) (without_image o) p names given file (Without (Meant x)) → Does job o p names given other (Prints text) → ⊥
-  none_or_text Run x text file other h k = runs_well laws p names o.depth given.second text (means_why x) k.1 h.1
-  none_or_text Plain x text file other h k = runs_well laws p names o.depth given.second text (means_why x) k.1 h.1
+  none_or_text Run x text file other h k = runs_well laws p.tree names o.depth given.second text (means_why x) k.1 h.1
+  none_or_text Plain x text file other h k = runs_well laws p.tree names o.depth given.second text (means_why x) k.1 h.1
   none_or_text Check x text file other h k = h
   none_or_text Core x text file other h k = h
   none_or_text Code x text file other h k = h
   none_or_text Pack x text file other h k = h
   none_or_text Show x text file other h k = h
-  none_or_text Gen x text file other h k = sums_well laws p o.number o.levels o.depth given.second text (means_why x) k.1 h.1
-  none_or_text Trace x text file other h k = runs_well laws p names o.depth given.second text (means_why x) k.1 h.1
-  none_or_text Replay x text file other h k = shown_or_valueless laws.filed p names given.second (journal_in given) o.image other text x k h.1
+  none_or_text Gen x text file other h k = sums_well laws p.tree o.number o.levels o.depth given.second text (means_why x) k.1 h.1
+  none_or_text Trace x text file other h k = runs_well laws p.tree names o.depth given.second text (means_why x) k.1 h.1
+  none_or_text Replay x text file other h k = shown_or_valueless laws.filed p.tree names given.second (journal_in given) o.image other text x k h.1
+  none_or_text Local x text file other h k = runs_well laws p.tree names o.depth given.second text (means_why x) k.1 h.1
 
   -- without a value, the reason is one
   one_end : (job : Job) (x y : Why) (file other : Option (List ℕ)) → Does (ends_as job) (without_image o) p names given file (Without (Meant x)) → Does job o p names given other (Without (Meant y)) → x ≡ y
-  one_end Run x y file other h k = one_cause laws p names o.depth given.second x y h.1 k.1
-  one_end Plain x y file other h k = one_cause laws p names o.depth given.second x y h.1 k.1
+  one_end Run x y file other h k = one_cause laws p.tree names o.depth given.second x y h.1 k.1
+  one_end Plain x y file other h k = one_cause laws p.tree names o.depth given.second x y h.1 k.1
   one_end Check x y file other h k = absurd h
   one_end Core x y file other h k = absurd h
   one_end Code x y file other h k = absurd h
   one_end Pack x y file other h k = absurd h
   one_end Show x y file other h k = absurd h
-  one_end Gen x y file other h k = one_cause laws p names o.depth given.second x y h.1 k.1
-  one_end Trace x y file other h k = one_cause laws p names o.depth given.second x y h.1 k.1
-  one_end Replay x y file other h k = one_valueless laws.filed p names given.second (journal_in given) x y h.1 k.1
+  one_end Gen x y file other h k = one_cause laws p.tree names o.depth given.second x y h.1 k.1
+  one_end Trace x y file other h k = one_cause laws p.tree names o.depth given.second x y h.1 k.1
+  one_end Replay x y file other h k = one_valueless laws.filed p.tree names given.second (journal_in given) x y h.1 k.1
+  one_end Local x y file other h k = one_cause laws p.tree names o.depth given.second x y h.1 k.1
 
   -- a result with too long a packed file is a value
   long_or_none : (job : Job) (x : Why) (file other : Option (List ℕ)) → Does (ends_as job) (without_image o) p names given file (Without (Meant x)) → Does job o p names given other (Without Long) → ⊥
-  long_or_none Run x file other h k = long_well laws p names o.depth given.second (means_why x) k.1 h.1
+  long_or_none Run x file other h k = long_well laws p.tree names o.depth given.second (means_why x) k.1 h.1
   long_or_none Plain x file other h k = k
   long_or_none Check x file other h k = k
   long_or_none Core x file other h k = k
@@ -480,6 +521,7 @@ module _ (laws : Laws) (o : Options) (p : ProgramTree) (names : TextsView) (give
   long_or_none Gen x file other h k = k
   long_or_none Trace x file other h k = k
   long_or_none Replay x file other h k = k
+  long_or_none Local x file other h k = k
 
   -- where a file is made, there is a value, or the file is one without
   file_or_none : (job : Job) (x : Why) (bytes : List ℕ) (e : End) (file : Option (List ℕ)) → Does job o p names given (Some bytes) e → Does (ends_as job) (without_image o) p names given file (Without (Meant x)) → e ≡ Without (Meant x)
@@ -490,10 +532,10 @@ module _ (laws : Laws) (o : Options) (p : ProgramTree) (names : TextsView) (give
 
   -- a replay that prints, or that ends without a value, has its chunks
   text_or_full : (any : Options) (text : List ℕ) (file other : Option (List ℕ)) → Does Replay any p names given file (Prints text) → Does Replay o p names given other (Without Full) → ⊥
-  text_or_full any text file other h k = shown_or_full laws.filed p names given.second (journal_in given) any.image file text h k.1
+  text_or_full any text file other h k = shown_or_full laws.filed p.tree names given.second (journal_in given) any.image file text h k.1
 
   none_or_full : (x : Why) (file other : Option (List ℕ)) → Does Replay o p names given file (Without (Meant x)) → Does Replay o p names given other (Without Full) → ⊥
-  none_or_full x file other h k = valueless_or_full laws.filed p names given.second (journal_in given) x h.1 k.1
+  none_or_full x file other h k = valueless_or_full laws.filed p.tree names given.second (journal_in given) x h.1 k.1
 
   -- where chunks run out, no file is made
   file_or_full : (bytes : List ℕ) (e : End) (other : Option (List ℕ)) → Does Replay o p names given (Some bytes) e → Does Replay o p names given other (Without Full) → ⊥
@@ -503,7 +545,7 @@ module _ (laws : Laws) (o : Options) (p : ProgramTree) (names : TextsView) (give
   file_or_full bytes (Without Long) other h k = h
 
 -- a job accepts what it is due to end with
-ends_accept : (job : Job) (o : Options) (p : ProgramTree) (names : TextsView) (given : Contents) (file : Option (List ℕ)) (e : End) → Does (ends_as job) o p names given file e → Accepts job o p names given
+ends_accept : (job : Job) (o : Options) (p : Program) (names : TextsView) (given : Contents) (file : Option (List ℕ)) (e : End) → Does (ends_as job) o p names given file e → Accepts job o p names given
 ends_accept Run o p names given file e h = does_accepts Run o p names given file e h
 ends_accept Plain o p names given file e h = does_accepts Plain o p names given file e h
 ends_accept Check o p names given file e h = does_accepts Check o p names given file e h
@@ -514,9 +556,10 @@ ends_accept Show o p names given file e h = does_accepts Show o p names given fi
 ends_accept Gen o p names given file e h = does_accepts Gen o p names given file e h
 ends_accept Trace o p names given file e h = does_accepts Run o p names given file e h
 ends_accept Replay o p names given file e h = does_accepts Replay o p names given file e h
+ends_accept Local o p names given file e h = does_accepts Local o p names given file e h
 
 -- what it accepts does not hang on an image
-accepts_without : (job : Job) (o : Options) (p : ProgramTree) (names : TextsView) (given : Contents) → Accepts job (without_image o) p names given → Accepts job o p names given
+accepts_without : (job : Job) (o : Options) (p : Program) (names : TextsView) (given : Contents) → Accepts job (without_image o) p names given → Accepts job o p names given
 accepts_without Run o p names given h = h
 accepts_without Plain o p names given h = h
 accepts_without Check o p names given h = h
@@ -527,6 +570,7 @@ accepts_without Show o p names given h = h
 accepts_without Gen o p names given h = h
 accepts_without Trace o p names given h = h
 accepts_without Replay o p names given h = h
+accepts_without Local o p names given h = h
 
 -- The status that is due
 
@@ -539,24 +583,24 @@ none_asked None P e h = h
 none_asked (Some r) P e h = cc
 
 -- a text was made, and the sink took it
-abbrev pub Whole : Bool → ShelfView → ShelfView → SinkView → SinkView → Plan → ProgramTree → TextsView → Contents → Type 0
+abbrev pub Whole : Bool → ShelfView → ShelfView → SinkView → SinkView → Plan → Program → TextsView → Contents → Type 0
 Whole tells before now a b r p names given = (text : List ℕ) × IsMade tells before.kept now.kept r p names given text × Appends a.taken b.taken text × PutsPieces a b (length text)
 
 -- a text was made, and the sink took a front of it
-abbrev Front : Bool → ShelfView → ShelfView → SinkView → SinkView → Plan → ProgramTree → TextsView → Contents → Type 0
+abbrev Front : Bool → ShelfView → ShelfView → SinkView → SinkView → Plan → Program → TextsView → Contents → Type 0
 Front tells before now a b r p names given = (text : List ℕ) × IsMade tells before.kept now.kept r p names given text × AppendsPart a.taken b.taken text × PutsSomePieces a b (length text)
 
 abbrev Somewhere : Bool → ShelfView → ShelfView → Plan → Type 0
 Somewhere tells before now r = (name : List ℕ) × FailsToWrite tells before now r name
 
 -- the program means none, for this reason
-abbrev pub Valueless : Why → Plan → ProgramTree → TextsView → Contents → Type 0
+abbrev pub Valueless : Why → Plan → Program → TextsView → Contents → Type 0
 Valueless x r = HasNoValue (Meant x) r
 
 abbrev pub Lacking : Bool → ShelfView → Why → Plan → Type 0
 Lacking tells before x r = OnBoth (K tells before r) r (Valueless x r)
 
-abbrev Unfit : Plan → ProgramTree → TextsView → Contents → Type 0
+abbrev Unfit : Plan → Program → TextsView → Contents → Type 0
 Unfit r p names given = Accepts r.job r.options p names given → ⊥
 
 abbrev Fails : Bool → ShelfView → ShelfView → Plan → Type 0
@@ -576,7 +620,7 @@ done_or_none laws tells words before now a b x due h =
 done_due : Laws → (tells : Bool) (words : List (List ℕ)) (before now : ShelfView) (a b : SinkView) → MatchOption (asked words) ⊥ (DueAll tells before now a b) → (end' : Status) → IsCause tells words before now a b end' → (end' ≡ status.Done) ⊎ (end' ≡ status.Memory) ⊎ (end' ≡ status.Full)
 done_due laws tells words before now a b due status.Done h = inl refl
 done_due laws tells words before now a b due status.Source h =
-    let k = both_asked (asked words) (DueAll tells before now a b) (λ r. OnSource (K tells before r) r.source IsNoProgram) due h in
+    let k = both_asked (asked words) (DueAll tells before now a b) (λ r. OnSource (K tells before r) r.source (IsNoProgramIn (dialect_of r.job))) due h in
     absurd (no_program tells before now k.0 (HasText k.0) k.1.0 k.2)
 done_due laws tells words before now a b due status.Usage h = absurd (none_asked (asked words) (DueAll tells before now a b) h due)
 done_due laws tells words before now a b due status.Depth h = absurd (done_or_none laws tells words before now a b why.Deep due h)
@@ -618,7 +662,7 @@ fit_ends laws tells words before now a b due status.Memory h = inr (inr (inr (in
 fit_ends laws tells words before now a b due status.Long h = inr (inr (inr (inr (inl refl))))
 fit_ends laws tells words before now a b due status.Full h = inr (inr (inr (inr (inr refl))))
 fit_ends laws tells words before now a b due status.Source h =
-    let k = both_asked (asked words) (DueFit tells before now a b) (λ r. OnSource (K tells before r) r.source IsNoProgram) due h in
+    let k = both_asked (asked words) (DueFit tells before now a b) (λ r. OnSource (K tells before r) r.source (IsNoProgramIn (dialect_of r.job))) due h in
     absurd (no_program tells before now k.0 (λ p names given. Accepts k.0.job k.0.options p names given) k.1.0 k.2)
 fit_ends laws tells words before now a b due status.Usage h = absurd (none_asked (asked words) (DueFit tells before now a b) h due)
 fit_ends laws tells words before now a b due status.ReadFault h =
@@ -641,7 +685,7 @@ fit_ends laws tells words before now a b due status.Input h =
 -- a refusal of the source is due
 
 abbrev DueRefusal : Bool → ShelfView → ShelfView → Plan → Type 0
-DueRefusal tells before now r = DueOfSource tells before now r IsNoProgram
+DueRefusal tells before now r = DueOfSource tells before now r (IsNoProgramIn (dialect_of r.job))
 
 source_or_none : (tells : Bool) (words : List (List ℕ)) (before now : ShelfView) (x : Why) → MatchOption (asked words) ⊥ (DueRefusal tells before now) → MatchOption (asked words) ⊥ (Lacking tells before x) → ⊥
 source_or_none tells words before now x due h =
@@ -696,7 +740,7 @@ none_due laws tells words before now a b x due status.Done h =
     let both = clash laws tells before now k.0 (DueWithout before now (Meant x) k.0) (Whole tells before now a b k.0) k.1 k.2 in
     absurd (none_or_text laws k.0.options both.0 both.1 both.2 k.0.job x both.4.0 both.3.0.0 both.4.1.ended.file both.3.0.1 both.4.1.ended.does)
 none_due laws tells words before now a b x due status.Source h =
-    let k = both_asked (asked words) (DueNone tells before now x) (λ r. OnSource (K tells before r) r.source IsNoProgram) due h in
+    let k = both_asked (asked words) (DueNone tells before now x) (λ r. OnSource (K tells before r) r.source (IsNoProgramIn (dialect_of r.job))) due h in
     absurd (no_program tells before now k.0 (DueWithout before now (Meant x) k.0) k.1 k.2)
 none_due laws tells words before now a b x due status.Usage h = absurd (none_asked (asked words) (DueNone tells before now x) h due)
 none_due laws tells words before now a b x due status.Depth h = inl (ap told_by (sym (none_or_none laws tells words before now x why.Deep due h)))
@@ -739,10 +783,10 @@ abbrev DueFull : Bool → ShelfView → ShelfView → Plan → Type 0
 DueFull tells before now r = (r.job ≡ Replay) × DueOfFiles tells before now r (DueWithout before now Full r)
 
 -- what a job does, where it is a replay
-as_replay : (job : Job) (o : Options) (p : ProgramTree) (names : TextsView) (given : Contents) (file : Option (List ℕ)) (e : End) → job ≡ Replay → Does job o p names given file e → Does Replay o p names given file e
+as_replay : (job : Job) (o : Options) (p : Program) (names : TextsView) (given : Contents) (file : Option (List ℕ)) (e : End) → job ≡ Replay → Does job o p names given file e → Does Replay o p names given file e
 as_replay job o p names given file e is h = let P : Job → Type 0 = λ j. Does j o p names given file e in subst P is h
 
-ends_replay : (job : Job) (o : Options) (p : ProgramTree) (names : TextsView) (given : Contents) (file : Option (List ℕ)) (e : End) → job ≡ Replay → Does (ends_as job) o p names given file e → Does Replay o p names given file e
+ends_replay : (job : Job) (o : Options) (p : Program) (names : TextsView) (given : Contents) (file : Option (List ℕ)) (e : End) → job ≡ Replay → Does (ends_as job) o p names given file e → Does Replay o p names given file e
 ends_replay job o p names given file e is h = let P : Job → Type 0 = λ j. Does (ends_as j) o p names given file e in subst P is h
 
 full_or_none : Laws → (tells : Bool) (words : List (List ℕ)) (before now : ShelfView) (x : Why) → MatchOption (asked words) ⊥ (DueFull tells before now) → MatchOption (asked words) ⊥ (Lacking tells before x) → ⊥
@@ -763,7 +807,7 @@ full_due laws tells words before now a b due status.Done h =
     let text = as_replay r.job r.options both.0 both.1 both.2 both.4.1.ended.file (Prints both.4.0) k.1.0 both.4.1.ended.does in
     absurd (text_or_full laws r.options both.0 both.1 both.2 r.options both.4.0 both.4.1.ended.file both.3.0.0 text full)
 full_due laws tells words before now a b due status.Source h =
-    let k = both_asked (asked words) (DueFull tells before now) (λ r. OnSource (K tells before r) r.source IsNoProgram) due h in
+    let k = both_asked (asked words) (DueFull tells before now) (λ r. OnSource (K tells before r) r.source (IsNoProgramIn (dialect_of r.job))) due h in
     absurd (no_program tells before now k.0 (DueWithout before now Full k.0) k.1.1 k.2)
 full_due laws tells words before now a b due status.Usage h = absurd (none_asked (asked words) (DueFull tells before now) h due)
 full_due laws tells words before now a b due status.Depth h = absurd (full_or_none laws tells words before now why.Deep due h)
@@ -806,7 +850,7 @@ full_due laws tells words before now a b due status.Input h =
 -- a refusal of the inputs is due
 
 -- the first one, which is told, is that which is given
-same_reached : (kept : Files) (p : ProgramTree) (names : TextsView) (is : List PlanInput) (first : List ℕ) (given : Contents) → AreTold kept (first_of is) (record { second = first; further = [] }) → AreReached kept p names is given → given.second ≡ first
+same_reached : (kept : Files) (p : Program) (names : TextsView) (is : List PlanInput) (first : List ℕ) (given : Contents) → AreTold kept (first_of is) (record { second = first; further = [] }) → AreReached kept p names is given → given.second ≡ first
 same_reached kept p names [] first given e h = h.0 ∙ sym e.0
 same_reached kept p names (i ∷ is) first given e h = same_bytes (bytes_in kept i.document) first given.second e.0 h.0
 
@@ -815,20 +859,20 @@ same_alone kept [] first given e h = h.0 ∙ sym e.0
 same_alone kept (i ∷ is) first given e h = same_bytes (bytes_in kept i.document) first given.second e.0 h.0
 
 -- what a replay accepts begins with a packed file
-accepts_packed : (job : Job) (options : Options) (p : ProgramTree) (names : TextsView) (given : Contents) → job ≡ Replay → Accepts job options p names given → (v : Datum) × IsInput p names v given.second
+accepts_packed : (job : Job) (options : Options) (p : Program) (names : TextsView) (given : Contents) → job ≡ Replay → Accepts job options p names given → (v : Datum) × IsInput p.tree names v given.second
 accepts_packed job options p names given is h = let P : Job → Type 0 = λ j. Accepts j options p names given in let a : Accepts Replay options p names given = subst P is h in (a.value, a.is_input)
 
 -- the first is no packed file, and is one
 module _ (laws : Laws) (tells : Bool) (before now : ShelfView) (r : Plan) (due : DueOfSource tells before now r (RefusesFirst tells before now r)) where
-  refused_and_taken : (source : List ℕ) (given : Contents) → IsAllOf (bytes_in (K tells before r) r.source) source → given.second ≡ due.holds.holds.first → OnProgram source (λ p names. (v : Datum) × IsInput p names v given.second) → ⊥
+  refused_and_taken : (source : List ℕ) (given : Contents) → IsAllOf (bytes_in (K tells before r) r.source) source → given.second ≡ due.holds.holds.first → OnProgram (dialect_of r.job) source (λ p names. (v : Datum) × IsInput p.tree names v given.second) → ⊥
   refused_and_taken source given held second on =
       let es = same_bytes (bytes_in (K tells before r) r.source) due.source source due.source_told held in
-      let Q : ProgramTree → TextsView → Type 0 = λ p names. (v : Datum) × IsInput p names v given.second in
-      let S : List ℕ → Type 0 = λ s. OnProgram s Q in
-      let F : ProgramTree → TextsView → Type 0 = λ p names. ((v : Datum) × IsInput p names v due.holds.holds.first) → ⊥ in
-      let first : OnProgram due.source F = record { texts = due.holds.texts; program = due.holds.program; is_program = due.holds.is_program; holds = due.holds.holds.holds } in
-      let both = together laws due.source F Q first (subst S es on) in
-      let I : List ℕ → Type 0 = λ bytes. (v : Datum) × IsInput both.0 both.1 v bytes in
+      let Q : Program → TextsView → Type 0 = λ p names. (v : Datum) × IsInput p.tree names v given.second in
+      let S : List ℕ → Type 0 = λ s. OnProgram (dialect_of r.job) s Q in
+      let F : Program → TextsView → Type 0 = λ p names. ((v : Datum) × IsInput p.tree names v due.holds.holds.first) → ⊥ in
+      let first : OnProgram (dialect_of r.job) due.source F = record { texts = due.holds.texts; program = due.holds.program; is_program = due.holds.is_program; holds = due.holds.holds.holds } in
+      let both = together laws (dialect_of r.job) due.source F Q first (subst S es on) in
+      let I : List ℕ → Type 0 = λ bytes. (v : Datum) × IsInput both.0.tree both.1 v bytes in
       both.2 (subst I second both.3)
 
   refused_read : (name : List ℕ) → FailsToRead (K tells before r) before now r name → ⊥
@@ -837,11 +881,11 @@ module _ (laws : Laws) (tells : Bool) (before now : ShelfView) (r : Plan) (due :
   refused_read name (inr (inr h)) =
       refused_and_taken h.1.source h.1.given h.1.source_held (same_alone (K tells before r) (inputs_of r) due.holds.holds.first h.1.given due.holds.holds.first_told h.1.given_held) h.1.holds
 
-  refused_both : (Q : ProgramTree → TextsView → Contents → Type 0) → r.job ≡ Replay → ((p : ProgramTree) (names : TextsView) (given : Contents) → Q p names given → Accepts r.job r.options p names given) →
+  refused_both : (Q : Program → TextsView → Contents → Type 0) → r.job ≡ Replay → ((p : Program) (names : TextsView) (given : Contents) → Q p names given → Accepts r.job r.options p names given) →
       OnBoth (K tells before r) r Q → ⊥
   refused_both Q is accepts end' =
       let given = end'.given in
-      let on : OnProgram end'.source (λ p names. (v : Datum) × IsInput p names v given.second) = record {
+      let on : OnProgram (dialect_of r.job) end'.source (λ p names. (v : Datum) × IsInput p.tree names v given.second) = record {
         texts = end'.holds.texts;
         program = end'.holds.program;
         is_program = end'.holds.is_program;
@@ -849,19 +893,19 @@ module _ (laws : Laws) (tells : Bool) (before now : ShelfView) (r : Plan) (due :
       } in
       refused_and_taken end'.source given end'.source_held (same_reached (K tells before r) end'.holds.program end'.holds.texts (inputs_of r) due.holds.holds.first given due.holds.holds.first_told (reached_all (K tells before r) end'.holds.program end'.holds.texts (inputs_of r) given end'.given_held)) on
 
-  refused_program : OnSource (K tells before r) r.source IsNoProgram → ⊥
+  refused_program : OnSource (K tells before r) r.source (IsNoProgramIn (dialect_of r.job)) → ⊥
   refused_program end' =
       let es = same_bytes (bytes_in (K tells before r) r.source) due.source end'.source due.source_told end'.source_held in
-      subst IsNoProgram es end'.holds due.holds.texts due.holds.program due.holds.is_program
+      subst (IsNoProgramIn (dialect_of r.job)) es end'.holds due.holds.texts due.holds.program due.holds.is_program
 
 -- so the inputs are not accepted, and their source is a program
 module _ (laws : Laws) (tells : Bool) (before now : ShelfView) (r : Plan) where
-  unfit_both : (Q : ProgramTree → TextsView → Contents → Type 0) → ((p : ProgramTree) (names : TextsView) (given : Contents) → Q p names given → Accepts r.job r.options p names given) →
+  unfit_both : (Q : Program → TextsView → Contents → Type 0) → ((p : Program) (names : TextsView) (given : Contents) → Q p names given → Accepts r.job r.options p names given) →
       DueRefused tells before now r → OnBoth (K tells before r) r Q → ⊥
   unfit_both Q accepts (inl due) end' = let both = clash laws tells before now r (Unfit r) Q due end' in both.3 (accepts both.0 both.1 both.2 both.4)
   unfit_both Q accepts (inr due) end' = refused_both laws tells before now r due.1 Q due.0 accepts end'
 
-  unfit_program : DueRefused tells before now r → OnSource (K tells before r) r.source IsNoProgram → ⊥
+  unfit_program : DueRefused tells before now r → OnSource (K tells before r) r.source (IsNoProgramIn (dialect_of r.job)) → ⊥
   unfit_program (inl due) end' = no_program tells before now r (Unfit r) due end'
   unfit_program (inr due) end' = refused_program laws tells before now r due.1 end'
 
@@ -885,7 +929,7 @@ input_due laws tells words before now a b due status.Done h =
     let r = k.0 in
     absurd (unfit_both laws tells before now r (Whole tells before now a b r) (λ p names given w. does_accepts r.job r.options p names given w.1.ended.file (Prints w.0) w.1.ended.does) k.1 k.2)
 input_due laws tells words before now a b due status.Source h =
-    let k = both_asked (asked words) (DueRefused tells before now) (λ r. OnSource (K tells before r) r.source IsNoProgram) due h in
+    let k = both_asked (asked words) (DueRefused tells before now) (λ r. OnSource (K tells before r) r.source (IsNoProgramIn (dialect_of r.job))) due h in
     absurd (unfit_program laws tells before now k.0 k.1 k.2)
 input_due laws tells words before now a b due status.Usage h = absurd (none_asked (asked words) (DueRefused tells before now) h due)
 input_due laws tells words before now a b due status.Depth h = absurd (input_or_none laws tells words before now why.Deep due h)
@@ -915,7 +959,7 @@ input_due laws tells words before now a b due status.Input h = inl refl
 not_missing : (o : Held) (bytes : List ℕ) → o ≡ Missing → IsAllOf o bytes → ⊥
 not_missing o bytes e h = let P : Held → Type 0 = λ x. IsAllOf x bytes in subst P e h
 
-first_missing : (kept : Files) (p : ProgramTree) (names : TextsView) (is : List PlanInput) (given : Contents) → IsMissing kept is → AreReached kept p names is given → ⊥
+first_missing : (kept : Files) (p : Program) (names : TextsView) (is : List PlanInput) (given : Contents) → IsMissing kept is → AreReached kept p names is given → ⊥
 first_missing kept p names [] given e h = e
 first_missing kept p names (i ∷ is) given e h = not_missing (bytes_in kept i.document) given.second e h.0
 
@@ -929,41 +973,41 @@ further_missing kept [] given e h = e
 further_missing kept (i ∷ is) given e h = behind_missing kept is given.further e h.1
 
 -- where the first is taken, what is behind it is reached
-taken_missing : {names : TextsView} (kept : Files) (p : ProgramTree) (is : List PlanInput) (given : Contents) → IsMissing kept (further_of is) → ((v : Datum) × IsInput p names v given.second) → AreReached kept p names is given → ⊥
+taken_missing : {names : TextsView} (kept : Files) (p : Program) (is : List PlanInput) (given : Contents) → IsMissing kept (further_of is) → ((v : Datum) × IsInput p.tree names v given.second) → AreReached kept p names is given → ⊥
 taken_missing kept p [] given e taken h = e
 taken_missing kept p (i ∷ is) given e taken h = behind_missing kept is given.further e (h.1 taken)
 
-missing_both : (tells : Bool) (before now : ShelfView) (r : Plan) (Q : ProgramTree → TextsView → Contents → Type 0) → DueMissing tells before now r → OnBoth (K tells before r) r Q → ⊥
+missing_both : (tells : Bool) (before now : ShelfView) (r : Plan) (Q : Program → TextsView → Contents → Type 0) → DueMissing tells before now r → OnBoth (K tells before r) r Q → ⊥
 missing_both tells before now r Q (inl e) h = not_missing (bytes_in (K tells before r) r.source) h.source e.0 h.source_held
 missing_both tells before now r Q (inr (inl d)) h = first_missing (K tells before r) h.holds.program h.holds.texts (inputs_of r) h.given d.1 (reached_all (K tells before r) h.holds.program h.holds.texts (inputs_of r) h.given h.given_held)
 missing_both tells before now r Q (inr (inr d)) h = further_missing (K tells before r) (inputs_of r) h.given d.holds.1 h.given_held
 
-missing_reached : Laws → (tells : Bool) (before now : ShelfView) (r : Plan) (Q : ProgramTree → TextsView → Contents → Type 0) → DueMissing tells before now r → OnReached (K tells before r) r Q → ⊥
+missing_reached : Laws → (tells : Bool) (before now : ShelfView) (r : Plan) (Q : Program → TextsView → Contents → Type 0) → DueMissing tells before now r → OnReached (K tells before r) r Q → ⊥
 missing_reached laws tells before now r Q (inl e) h = not_missing (bytes_in (K tells before r) r.source) h.source e.0 h.source_held
 missing_reached laws tells before now r Q (inr (inl d)) h = first_missing (K tells before r) h.holds.program h.holds.texts (inputs_of r) h.given d.1 h.holds.holds.0
 missing_reached laws tells before now r Q (inr (inr d)) h =
     let kept = K tells before r in
     let es = same_bytes (bytes_in kept r.source) d.source h.source d.source_told h.source_held in
-    let R : ProgramTree → TextsView → Type 0 = λ p names. AreReached kept p names (inputs_of r) h.given × Q p names h.given in
-    let S : List ℕ → Type 0 = λ s. OnProgram s R in
-    let F : ProgramTree → TextsView → Type 0 = λ p names. DueOfFirst tells before now r (λ bytes. (v : Datum) × IsInput p names v bytes) in
-    let both = together laws d.source F R d.holds.0 (subst S es h.holds) in
+    let R : Program → TextsView → Type 0 = λ p names. AreReached kept p names (inputs_of r) h.given × Q p names h.given in
+    let S : List ℕ → Type 0 = λ s. OnProgram (dialect_of r.job) s R in
+    let F : Program → TextsView → Type 0 = λ p names. DueOfFirst tells before now r (λ bytes. (v : Datum) × IsInput p.tree names v bytes) in
+    let both = together laws (dialect_of r.job) d.source F R d.holds.0 (subst S es h.holds) in
     let p = both.0 in
     let names = both.1 in
     let first = both.2 in
     let second = same_reached kept p names (inputs_of r) first.first h.given first.first_told both.3.0 in
-    let I : List ℕ → Type 0 = λ bytes. (v : Datum) × IsInput p names v bytes in
+    let I : List ℕ → Type 0 = λ bytes. (v : Datum) × IsInput p.tree names v bytes in
     taken_missing kept p (inputs_of r) h.given d.holds.1 (subst I (sym second) first.holds) both.3.0
 
-missing_program : (tells : Bool) (before now : ShelfView) (r : Plan) → DueMissing tells before now r → OnSource (K tells before r) r.source IsNoProgram → ⊥
+missing_program : (tells : Bool) (before now : ShelfView) (r : Plan) → DueMissing tells before now r → OnSource (K tells before r) r.source (IsNoProgramIn (dialect_of r.job)) → ⊥
 missing_program tells before now r (inl e) h = not_missing (bytes_in (K tells before r) r.source) h.source e.0 h.source_held
 missing_program tells before now r (inr (inl d)) h =
     let es = same_bytes (bytes_in (K tells before r) r.source) d.0.source h.source d.0.source_told h.source_held in
-    let program : IsSource d.0.source = d.0.holds in
-    subst IsNoProgram es h.holds program.0 program.1 program.2
+    let program : (IsSourceIn (dialect_of r.job)) d.0.source = d.0.holds in
+    subst (IsNoProgramIn (dialect_of r.job)) es h.holds program.0 program.1 program.2
 missing_program tells before now r (inr (inr d)) h =
     let es = same_bytes (bytes_in (K tells before r) r.source) d.source h.source d.source_told h.source_held in
-    subst IsNoProgram es h.holds d.holds.0.texts d.holds.0.program d.holds.0.is_program
+    subst (IsNoProgramIn (dialect_of r.job)) es h.holds d.holds.0.texts d.holds.0.program d.holds.0.is_program
 
 missing_first : (tells : Bool) (before now : ShelfView) (r : Plan) → DueMissing tells before now r → FirstWritten before now r
 missing_first tells before now r (inl e) = e.1
@@ -980,7 +1024,7 @@ read_due laws tells words before now a b due status.Done h =
     let k = both_asked (asked words) (DueMissing tells before now) (λ r. OnBoth (K tells before r) r (Whole tells before now a b r)) due h in
     absurd (missing_both tells before now k.0 (Whole tells before now a b k.0) k.1 k.2)
 read_due laws tells words before now a b due status.Source h =
-    let k = both_asked (asked words) (DueMissing tells before now) (λ r. OnSource (K tells before r) r.source IsNoProgram) due h in
+    let k = both_asked (asked words) (DueMissing tells before now) (λ r. OnSource (K tells before r) r.source (IsNoProgramIn (dialect_of r.job))) due h in
     absurd (missing_program tells before now k.0 k.1 k.2)
 read_due laws tells words before now a b due status.Usage h = absurd (none_asked (asked words) (DueMissing tells before now) h due)
 read_due laws tells words before now a b due status.Depth h = absurd (read_or_none tells words before now why.Deep due h)
@@ -1005,7 +1049,7 @@ read_due laws tells words before now a b due status.Input h =
 
 usage_due : (tells : Bool) (words : List (List ℕ)) (before now : ShelfView) (a b : SinkView) → asked words ≡ None → (end' : Status) → IsCause tells words before now a b end' → (end' ≡ status.Usage) ⊎ (end' ≡ status.Memory) ⊎ (end' ≡ status.Full)
 usage_due tells words before now a b due status.Done h = absurd (none_asked (asked words) (λ r. OnBoth (K tells before r) r (Whole tells before now a b r)) due h)
-usage_due tells words before now a b due status.Source h = absurd (none_asked (asked words) (λ r. OnSource (K tells before r) r.source IsNoProgram) due h)
+usage_due tells words before now a b due status.Source h = absurd (none_asked (asked words) (λ r. OnSource (K tells before r) r.source (IsNoProgramIn (dialect_of r.job))) due h)
 usage_due tells words before now a b due status.Usage h = inl refl
 usage_due tells words before now a b due status.Depth h = absurd (none_asked (asked words) (Lacking tells before why.Deep) due h)
 usage_due tells words before now a b due status.Trap h = absurd (none_asked (asked words) (Lacking tells before why.Trap) due h)
@@ -1023,30 +1067,30 @@ abbrev pub DueLong : Bool → ShelfView → ShelfView → Plan → Type 0
 DueLong tells before now r = (r.job ≡ Run) × DueOfFiles tells before now r (DueWithout before now Long r)
 
 -- what a job does and makes, where it is a run
-as_run : (job : Job) (o : Options) (p : ProgramTree) (names : TextsView) (given : Contents) (file : Option (List ℕ)) (e : End) → job ≡ Run → Does job o p names given file e → Does Run o p names given file e
+as_run : (job : Job) (o : Options) (p : Program) (names : TextsView) (given : Contents) (file : Option (List ℕ)) (e : End) → job ≡ Run → Does job o p names given file e → Does Run o p names given file e
 as_run job o p names given file e is h = let P : Job → Type 0 = λ j. Does j o p names given file e in subst P is h
 
-packs_run : (job : Job) (o : Options) (p : ProgramTree) (names : TextsView) (given : Contents) (packed : Option (List ℕ)) (e : End) → job ≡ Run → DoesPack job o p names given packed e → DoesPack Run o p names given packed e
+packs_run : (job : Job) (o : Options) (p : Program) (names : TextsView) (given : Contents) (packed : Option (List ℕ)) (e : End) → job ≡ Run → DoesPack job o p names given packed e → DoesPack Run o p names given packed e
 packs_run job o p names given packed e is h = let P : Job → Type 0 = λ j. DoesPack j o p names given packed e in subst P is h
 
 -- so it is with a run, where it may leave out an image
-abbrev LongRun : Options → ProgramTree → TextsView → Contents → Type 0
-LongRun o p names given = IsLongResult p names o.depth given.second × (o.packs ≡ true)
+abbrev LongRun : Options → Program → TextsView → Contents → Type 0
+LongRun o p names given = IsLongResult p.tree names o.depth given.second × (o.packs ≡ true)
 
-long_run : (job : Job) (o : Options) (p : ProgramTree) (names : TextsView) (given : Contents) (file : Option (List ℕ)) → job ≡ Run → Does (ends_as job) (without_image o) p names given file (Without Long) → LongRun o p names given
+long_run : (job : Job) (o : Options) (p : Program) (names : TextsView) (given : Contents) (file : Option (List ℕ)) → job ≡ Run → Does (ends_as job) (without_image o) p names given file (Without Long) → LongRun o p names given
 long_run job o p names given file is h =
     let P : Job → Type 0 = λ j. Does (ends_as j) (without_image o) p names given file (Without Long) in
     let k = subst P is h in
     (k.1, k.2)
 
-module _ (laws : Laws) (o : Options) (p : ProgramTree) (names : TextsView) (given : Contents) (long : LongRun o p names given) where
+module _ (laws : Laws) (o : Options) (p : Program) (names : TextsView) (given : Contents) (long : LongRun o p names given) where
   long_or_text : (job : Job) → job ≡ Run → (text : List ℕ) (packed : Option (List ℕ)) → DoesPack job o p names given packed (Prints text) → ⊥
   long_or_text job is text packed d =
-      let k = subst (λ (b : Bool). PacksResult b p names o.depth given.second packed (Prints text)) long.1 (packs_run job o p names given packed (Prints text) is d) in
-      packed_or_long laws p names o.depth given.second k.0 k.2 long.0
+      let k = subst (λ (b : Bool). PacksResult b p.tree names o.depth given.second packed (Prints text)) long.1 (packs_run job o p names given packed (Prints text) is d) in
+      packed_or_long laws p.tree names o.depth given.second k.0 k.2 long.0
 
   long_lacks : (job : Job) → job ≡ Run → (x : Why) (file : Option (List ℕ)) → Does job o p names given file (Without (Meant x)) → ⊥
-  long_lacks job is x file d = long_well laws p names o.depth given.second (means_why x) long.0 (as_run job o p names given file (Without (Meant x)) is d).1
+  long_lacks job is x file d = long_well laws p.tree names o.depth given.second (means_why x) long.0 (as_run job o p names given file (Without (Meant x)) is d).1
 
   -- where it makes a file, it ends so
   long_file : (job : Job) → job ≡ Run → (bytes : List ℕ) (packed : Option (List ℕ)) (e : End) → Does job o p names given (Some bytes) e → DoesPack job o p names given packed e → e ≡ Without Long
@@ -1071,7 +1115,7 @@ long_due laws tells words before now a b due status.Done h =
     let long = long_run r.job r.options both.0 both.1 both.2 both.3.0.0 k.1.0 both.3.0.1 in
     absurd (long_or_text laws r.options both.0 both.1 both.2 long r.job k.1.0 both.4.0 both.4.1.ended.packed both.4.1.ended.packs)
 long_due laws tells words before now a b due status.Source h =
-    let k = both_asked (asked words) (DueLong tells before now) (λ r. OnSource (K tells before r) r.source IsNoProgram) due h in
+    let k = both_asked (asked words) (DueLong tells before now) (λ r. OnSource (K tells before r) r.source (IsNoProgramIn (dialect_of r.job))) due h in
     absurd (no_program tells before now k.0 (DueWithout before now Long k.0) k.1.1 k.2)
 long_due laws tells words before now a b due status.Usage h = absurd (none_asked (asked words) (DueLong tells before now) h due)
 long_due laws tells words before now a b due status.Depth h = absurd (long_or_lacking laws tells words before now why.Deep due h)
@@ -1124,7 +1168,7 @@ due_ends laws tells words before now a b end' h status.Input due = input_due law
 -- chunks run out in a run alone, or where that is due
 
 abbrev Scarce : Plan → Type 0
-Scarce r = (r.job ≡ Run) ⊎ (r.job ≡ Gen) ⊎ (r.job ≡ Trace)
+Scarce r = (r.job ≡ Run) ⊎ (r.job ≡ Gen) ⊎ (r.job ≡ Trace) ⊎ (r.job ≡ Local)
 
 abbrev Drained : Bool → ShelfView → Plan → Type 0
 Drained tells before r = OnBoth (K tells before r) r (HasNoValue Full r)
@@ -1134,7 +1178,7 @@ map_two : (o : Option Plan) (P Q R : Plan → Type 0) → ((r : Plan) → P r �
 map_two None P Q R go h k = absurd h
 map_two (Some r) P Q R go h k = go r h k
 
-run_or_replay : (r : Plan) (p : ProgramTree) (names : TextsView) (given : Contents) (file : Option (List ℕ)) → Does r.job r.options p names given file (Without Full) → Scarce r ⊎ (r.job ≡ Replay)
+run_or_replay : (r : Plan) (p : Program) (names : TextsView) (given : Contents) (file : Option (List ℕ)) → Does r.job r.options p names given file (Without Full) → Scarce r ⊎ (r.job ≡ Replay)
 run_or_replay r p names given file h = full_runs r.job r.options p names given file h
 
 module _ (laws : Laws) (tells : Bool) (before now : ShelfView) where

@@ -12,13 +12,13 @@ use Rattle.gib_types.specs.Tree.{Datum}
 use Rattle.gib_mem.specs.Memory.{Memory}
 use Rattle.gib_packed.specs.declared.root.Root.{Root}
 use Rattle.gib_syntax.specs.Declarations.{output_type}
-use Rattle.gib_syntax.specs.Tree.{ProgramTree}
 use Rattle.gib_app.specs.declared.plan.Job.{Job}
-use Rattle.gib_app.specs.declared.plan.Job.TheVariants.{Run, Plain, Check, Core, Code, Pack, Show, Gen, Trace, Replay}
+use Rattle.gib_app.specs.declared.plan.Job.TheVariants.{Run, Plain, Check, Core, Code, Pack, Show, Gen, Trace, Replay, Local}
 use Rattle.gib_app.specs.declared.plan.Options.{Options}
 use Rattle.gib_app.specs.Plan.{Document, Plan, Files, Contents}
 use Rattle.gib_app.specs.Writes.{AreWritten}
-use Rattle.gib_app.specs.Words.{pack_form, show_form, trace_form, replay_form, Form, Target, NoTarget, AtPlace, ByOption, asked, command_set, file_of, forms, made_plan, made_requested, options_of, pack_in, planned, read_requested, requested, file_in, target_in, with_value, word_of}
+use Rattle.gib_app.specs.Words.{pack_form, show_form, trace_form, replay_form, local_form, Form, Target, NoTarget, AtPlace, ByOption, asked, command_set, file_of, forms, made_plan, made_requested, options_of, pack_in, planned, read_requested, requested, file_in, target_in, with_value, word_of}
+use Rattle.gib_app.specs.Running.{Program}
 use Rattle.gib_app.specs.Cores.{layouts_of}
 use Rattle.gib_app.specs.declared.made.End.{End as KeptEnd}
 use Rattle.gib_app.specs.declared.made.End.TheVariants as ends
@@ -44,6 +44,7 @@ MakesFile Show o = ⊥
 MakesFile Gen o = ⊥
 MakesFile Trace o = ⊤
 MakesFile Replay o = o.image ≡ true
+MakesFile Local o = ⊥
 
 abbrev is_run : Job → Bool
 is_run Run = true
@@ -56,6 +57,7 @@ is_run Show = false
 is_run Gen = false
 is_run Trace = false
 is_run Replay = false
+is_run Local = false
 
 -- Where the plan names a file, its job makes one; where it names a packed file of the result, its job is a run that is asked for that; and
 -- a run that is asked for that has a name for it.
@@ -143,9 +145,9 @@ always_fits job second third target off makes rows r e =
 all_fit : AllOf FormFits forms
 all_fit =
     let input : Option Text = Some (codes "input") in
-    let last : AllOf FormFits (trace_form ∷ replay_form ∷ []) =
-    (always_fits Trace input None (AtPlace (codes "journal")) refl (λ o. tt), (imaged_fits Replay input (Some (codes "journal")) refl (λ o on. on), tt)) in
-    let texts : AllOf FormFits (pack_form ∷ show_form ∷ trace_form ∷ replay_form ∷ []) =
+    let last : AllOf FormFits (trace_form ∷ replay_form ∷ local_form ∷ []) =
+    (always_fits Trace input None (AtPlace (codes "journal")) refl (λ o. tt), (imaged_fits Replay input (Some (codes "journal")) refl (λ o on. on), (without_target Local input refl, tt))) in
+    let texts : AllOf FormFits (pack_form ∷ show_form ∷ trace_form ∷ replay_form ∷ local_form ∷ []) =
     (always_fits Pack (Some (codes "text")) None (AtPlace (codes "target")) refl (λ o. tt), (without_target Show (Some (codes "file")) refl, last)) in
     (run_fits input None, (without_target Plain input refl, (without_target Check None refl, (without_target Core None refl, (without_target Code None refl, texts)))))
 
@@ -195,8 +197,8 @@ none_replayed : (image : Bool) (laid : LaidOut) (ty : Ty) (memory : Memory) (pla
 none_replayed false laid ty memory place result on d = true≢false (sym on)
 none_replayed true laid ty memory place result on d = none_is_some (image_of memory place) d.0
 
-made_none : (job : Job) (o : Options) (p : ProgramTree) (names : TextsView) (given : Contents) (text : List ℕ) → MakesFile job o → Does job o p names given None (Prints text) → ⊥
-made_none Run o p names given text on d = subst (λ (b : Bool). MakesImage b p names o.skips o.depth o.chunks given.second None) on d.0
+made_none : (job : Job) (o : Options) (p : Program) (names : TextsView) (given : Contents) (text : List ℕ) → MakesFile job o → Does job o p names given None (Prints text) → ⊥
+made_none Run o p names given text on d = subst (λ (b : Bool). MakesImage b p.tree names o.skips o.depth o.chunks given.second None) on d.0
 made_none Plain o p names given text on d = on
 made_none Check o p names given text on d = on
 made_none Core o p names given text on d = on
@@ -207,20 +209,21 @@ made_none Gen o p names given text on d = on
 made_none Trace o p names given text on d = d.0
 made_none Replay o p names given text on d =
     let end = d.holds in
-    none_replayed o.image (layouts_of d.settings.skips p) (output_type p) end.memory end.place end.result on end.is_file
+    none_replayed o.image (layouts_of d.settings.skips p.tree) (output_type p.tree) end.memory end.place end.result on end.is_file
+made_none Local o p names given text on d = on
 
-stored : (r : Plan) (p : ProgramTree) (names : TextsView) (given : Contents) (text : List ℕ) → Fits r → (target file : Option (List ℕ)) → r.target ≡ target
+stored : (r : Plan) (p : Program) (names : TextsView) (given : Contents) (text : List ℕ) → Fits r → (target file : Option (List ℕ)) → r.target ≡ target
     → Does r.job r.options p names given file (Prints text) → IsStored target file
 stored r p names given text fits None file e d = tt {0}
 stored r p names given text fits (Some name) None e d = made_none r.job r.options p names given text (fits.makes name e) d
 stored r p names given text fits (Some name) (Some bytes) e d = tt {0}
 
-packed_none : (o : Options) (p : ProgramTree) (names : TextsView) (given : Contents) (text : List ℕ) → o.packs ≡ true → DoesPack Run o p names given None (Prints text) → ⊥
+packed_none : (o : Options) (p : Program) (names : TextsView) (given : Contents) (text : List ℕ) → o.packs ≡ true → DoesPack Run o p names given None (Prints text) → ⊥
 packed_none o p names given text on d =
-    let k = subst (λ (b : Bool). PacksResult b p names o.depth given.second None (Prints text)) on d in
+    let k = subst (λ (b : Bool). PacksResult b p.tree names o.depth given.second None (Prints text)) on d in
     none_is_some k.0 k.1
 
-stored_packed : (r : Plan) (p : ProgramTree) (names : TextsView) (given : Contents) (text : List ℕ) → Fits r → (pack packed : Option (List ℕ)) → r.pack ≡ pack
+stored_packed : (r : Plan) (p : Program) (names : TextsView) (given : Contents) (text : List ℕ) → Fits r → (pack packed : Option (List ℕ)) → r.pack ≡ pack
     → DoesPack r.job r.options p names given packed (Prints text) → IsStored pack packed
 stored_packed r p names given text fits None packed e d = tt {0}
 stored_packed r p names given text fits (Some name) None e d =
@@ -237,7 +240,7 @@ pub image_asked : (words : List Text) (r : Plan) (name : List ℕ) → asked wor
 image_asked words r name e is named = subst (λ (j : Job). MakesFile j r.options) is ((asked_fits words r e).makes name named)
 
 -- A job that ends with a text made the files that are written.
-pub is_made : (tells : Bool) (words : List (List ℕ)) (before now : Files) (r : Plan) (p : ProgramTree) (names : TextsView) (given : Contents) (text : List ℕ) (file packed : Option (List ℕ)) → asked words ≡ Some r
+pub is_made : (tells : Bool) (words : List (List ℕ)) (before now : Files) (r : Plan) (p : Program) (names : TextsView) (given : Contents) (text : List ℕ) (file packed : Option (List ℕ)) → asked words ≡ Some r
     → DoesAll r.job r.options p names given file packed (Prints text) → AreWritten tells before now r file packed → IsMade tells before now r p names given text
 is_made tells words before now r p names given text file packed e d w = record {
   ended = record { file = file; packed = packed; does = d.0; packs = d.1; written = w };
@@ -258,10 +261,10 @@ both_end file packed e bytes behind P first second h =
     (x.0, subst₂ (λ (f q : Option (List ℕ)). P f q x.0) first second x.1)
 
 -- A job that ends without a value makes no packed file of it.
-pub valueless_packs : (job : Job) (o : Options) (p : ProgramTree) (names : TextsView) (given : Contents) (packed : Option (List ℕ)) (reason : Reason) → DoesPack job o p names given packed (NoValue reason) → packed ≡ None
+pub valueless_packs : (job : Job) (o : Options) (p : Program) (names : TextsView) (given : Contents) (packed : Option (List ℕ)) (reason : Reason) → DoesPack job o p names given packed (NoValue reason) → packed ≡ None
 valueless_packs Run o p names given packed reason d = go o.packs d
   where
-    go : (b : Bool) → PacksResult b p names o.depth given.second packed (NoValue reason) → packed ≡ None
+    go : (b : Bool) → PacksResult b p.tree names o.depth given.second packed (NoValue reason) → packed ≡ None
     go false k = k
     go true k = k
 valueless_packs Plain o p names given packed reason d = d
@@ -273,8 +276,9 @@ valueless_packs Show o p names given packed reason d = d
 valueless_packs Gen o p names given packed reason d = d
 valueless_packs Trace o p names given packed reason d = d
 valueless_packs Replay o p names given packed reason d = d
+valueless_packs Local o p names given packed reason d = d
 
-end_ordered : (r : Plan) (p : ProgramTree) (names : TextsView) (given : Contents) (file packed : Option (List ℕ)) (x : End) → Fits r → DoesAll r.job r.options p names given file packed x → AreOrdered r file packed
+end_ordered : (r : Plan) (p : Program) (names : TextsView) (given : Contents) (file packed : Option (List ℕ)) (x : End) → Fits r → DoesAll r.job r.options p names given file packed x → AreOrdered r file packed
 end_ordered r p names given file packed (NoValue reason) fits d = λ name named none. valueless_packs r.job r.options p names given packed reason d.1
 end_ordered r p names given file packed (Prints text) fits d = λ name named none.
     absurd (made_none r.job r.options p names given text (fits.makes name named) (subst (λ (f : Option (List ℕ)). Does r.job r.options p names given f (Prints text)) none d.0))

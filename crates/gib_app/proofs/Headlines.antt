@@ -1,5 +1,6 @@
 -- The promise of `run`, from how a call ends.
 use Rattle.gib_base.specs.Texts.{TextsView}
+use Rattle.gib_base.specs.declared.token.Dialect.TheVariants as dialect
 use Rattle.std.proofs.Common.{◌≡◌, ◌∙◌, refl, ℕ, List, [], ◌∷◌, ◌++◌, Option, Some, None, IfSome, MatchOption, ◌⊎◌, inl, inr, subst, subst₂, sym, ap, Bool, true, false, true≢false}
 use Rattle.gib_types.specs.Tree.{Datum}
 use Rattle.gib_syntax.specs.Tree.{ProgramTree}
@@ -19,7 +20,7 @@ use Rattle.gib_mono.specs.Walk.{Copy, base_of}
 use Rattle.gib_mono.specs.Naming.{entries}
 use Rattle.gib_mono.specs.Showing.{long_texts}
 use Rattle.gib_app.specs.GenericText.{generic_text}
-use Rattle.gib_app.proofs.Copied.{IsSpelled, OnCopy, texts_with, to_copy, of_copy, has, means, text_is, read_once}
+use Rattle.gib_app.proofs.Copied.{IsSpelled, OnCopy, OnTree, texts_with, to_copy, of_copy, has, means, text_is, read_once}
 use Rattle.gib_code.specs.declared.answer.Reason.{Reason as Why}
 use Rattle.gib_code.specs.declared.answer.Reason.TheVariants as why
 use Rattle.gib_weave.specs.Sound.{means_why}
@@ -34,11 +35,11 @@ use Rattle.gib_app.specs.Plan.{Document, Write, Plan, Files, bytes_in, Contents}
 use Rattle.gib_app.specs.Writes.{at_reading, AreMade, IsNamedIn, writes_of}
 use Rattle.gib_app.specs.Formats.{inputs_of, Accepts}
 use Rattle.gib_app.specs.Words.{asked}
-use Rattle.gib_app.specs.Running.{IsInput, IsOutput, IsRunImage, IsPackedResult, IsLongResult, MeansNone, FillsUp, text_line}
+use Rattle.gib_app.specs.Running.{Program, sourced, IsInput, IsOutput, IsRunImage, IsPackedResult, IsLongResult, MeansNone, FillsUp, text_line}
 use Rattle.gib_app.specs.Jobs.{Prints, MakesImage, PacksResult, run_forks}
 use Rattle.gib_app.specs.Causes.{OnProgram, OnBoth, EndsWithout, AsksProgram, IsStored, IsUnread}
 use Rattle.gib_app.specs.Ending.{IsEnding, HasText, DueOfFiles, DueWithout, TakesAll}
-use Rattle.gib_app.specs.Headline.{IsRun, IsPackingRun, copy_with, copy_in, read_in, meant_in, Given, IsResult, IsResultImage, IsResultFile, HasLongFile, HasNoResult, IsTooDeep, DividesByZero, IsTooBig, NoneFailed, NoWriteFailed}
+use Rattle.gib_app.specs.Headline.{IsRun, IsPackingRun, copy_with, copy_in, read_in, meant_in, Given, IsResult, IsResultImage, IsResultFile, HasLongFile, HasNoResult, IsTooDeep, DividesByZero, IsTooBig, TellsWhatIsMeant, NoneFailed, NoWriteFailed}
 use Rattle.gib_app.proofs.Performing.{asked_of}
 use Rattle.gib_app.proofs.Fitting.{image_asked, packs_agrees, valueless_packs}
 use Rattle.gib_app.proofs.FirstWriting.{others_after, written_first}
@@ -74,12 +75,12 @@ asked_is o r P e h = let Q : Option Plan → Type 0 = λ x. MatchOption x ⊥ P 
 
 -- what holds of the files of a run holds of their bytes
 of_files : (words : List (List ℕ)) (before : ShelfView) (out : SinkView) (source input : List ℕ) (options : Options) (front : List ℕ) (r : AnyRun words before out source input options front)
-    (P : ProgramTree → TextsView → Contents → Type 0) → OnBoth before.kept (any_plan r.program r.packed r.image r.pack options) P → OnProgram source (λ p names. P p names (record { second = input; further = [] }))
+    (P : Program → TextsView → Contents → Type 0) → OnBoth before.kept (any_plan r.program r.packed r.image r.pack options) P → OnProgram dialect.Source source (λ p names. P p names (record { second = input; further = [] }))
 of_files words before out source input options front r P h =
     let es = same_bytes (bytes_in before.kept r.program) source h.source r.source_is h.source_held in
     let ei = same_given before.kept (inputs_of (any_plan r.program r.packed r.image r.pack options)) (record { second = input; further = [] }) h.given (r.input_is, refl) h.given_held in
-    let S : List ℕ → Type 0 = λ s. OnProgram s (λ p names. P p names h.given) in
-    let I : Contents → Type 0 = λ i. OnProgram source (λ p names. P p names i) in
+    let S : List ℕ → Type 0 = λ s. OnProgram dialect.Source s (λ p names. P p names h.given) in
+    let I : Contents → Type 0 = λ i. OnProgram dialect.Source source (λ p names. P p names i) in
     subst I ei (subst S es h.holds)
 
 -- a source's program and an input for its copy
@@ -93,8 +94,16 @@ is_spelled given = record { spelled = given.spelled; typed = given.typed; within
 input_in : {source input : List ℕ} (given : Given source input) → IsInput (copy_in given) (texts_with given.lexed given.found) given.value input
 input_in given = record { short = given.short; file = given.file }
 
+-- two things that hold of the tree of a source hold of one
+together_trees : Laws → (source : List ℕ) (P Q : ProgramTree → TextsView → Type 0) → OnTree source P → OnTree source Q → (p : ProgramTree) × (names : TextsView) × P p names × Q p names
+together_trees laws source P Q a b =
+    let both = together laws dialect.Source source (λ p names. P p.tree names) (λ p names. Q p.tree names) a b in (both.0.tree, both.1, both.2, both.3)
+
+joined_trees : Laws → (source : List ℕ) (P Q : ProgramTree → TextsView → Type 0) → OnTree source P → OnTree source Q → OnTree source (λ p names. P p names × Q p names)
+joined_trees laws source P Q a b = joined laws dialect.Source source (λ p names. P p.tree names) (λ p names. Q p.tree names) a b
+
 -- of what holds of the copy with an input
-from_given : {source input : List ℕ} (given : Given source input) (P : ProgramTree → TextsView → Type 0) → P (copy_in given) (texts_with given.lexed given.found) → OnProgram source P
+from_given : {source input : List ℕ} (given : Given source input) (P : ProgramTree → TextsView → Type 0) → P (copy_in given) (texts_with given.lexed given.found) → OnTree source P
 from_given {source} given P h = of_copy source P (record { lexed = given.lexed; generic = given.program; found = given.found; is_spelled = is_spelled given; holds = h })
 
 input_typed : {source input : List ℕ} (given : Given source input) → HasType (table_of_program (copy_in given)) given.value (input_type (copy_in given))
@@ -146,7 +155,7 @@ gave_it {source} given depth u h m =
     let same = read_once source given.lexed given.program given.found (is_spelled given) (differ_in given) w.value u (output_type (copy_in given)) (result_typed given depth w.value w.gives) h w.read in
     w.gives ∙ ap Gives same
 
-result_of : (source input : List ℕ) (depth : ℕ) (output : List ℕ) (on : OnProgram source (λ p names. IsOutput p names depth input output)) → IsResult source input depth output
+result_of : (source input : List ℕ) (depth : ℕ) (output : List ℕ) (on : OnTree source (λ p names. IsOutput p names depth input output)) → IsResult source input depth output
 result_of source input depth output on =
     let c = to_copy source (λ p names. IsOutput p names depth input output) on in
     let given = given_of source input c.lexed c.generic c.found c.holds.value c.is_spelled c.holds.is_input in
@@ -157,7 +166,7 @@ result_of source input depth output on =
       is_text = c.holds.is_text ∙ line_in given depth c.holds.result c.holds.means;
     }
 
-output_of : (source input : List ℕ) (depth : ℕ) (output : List ℕ) → IsResult source input depth output → OnProgram source (λ p names. IsOutput p names depth input output)
+output_of : (source input : List ℕ) (depth : ℕ) (output : List ℕ) → IsResult source input depth output → OnTree source (λ p names. IsOutput p names depth input output)
 output_of source input depth output h =
     let w = gave h.given depth h.result h.means in
     from_given h.given (λ p names. IsOutput p names depth input output) (record {
@@ -168,13 +177,13 @@ output_of source input depth output h =
       is_text = h.is_text ∙ ap (λ (v : Datum). generic_text (rows_of h.given.program.datas) h.given.lexed.names v ++ 10 ∷ []) (sym w.read) ∙ sym (line_in h.given depth w.value w.gives);
     })
 
-none_of : (source input : List ℕ) (depth : ℕ) (meant : Reason) → OnProgram source (λ p names. MeansNone p names depth input meant) → HasNoResult source input depth meant
+none_of : (source input : List ℕ) (depth : ℕ) (meant : Reason) → OnTree source (λ p names. MeansNone p names depth input meant) → HasNoResult source input depth meant
 none_of source input depth meant on =
     let c = to_copy source (λ p names. MeansNone p names depth input meant) on in
     let given = given_of source input c.lexed c.generic c.found c.holds.value c.is_spelled c.holds.is_input in
     record { given = given; means = means_in given depth (Stops meant) c.holds.means }
 
-of_none : (source input : List ℕ) (depth : ℕ) (meant : Reason) → HasNoResult source input depth meant → OnProgram source (λ p names. MeansNone p names depth input meant)
+of_none : (source input : List ℕ) (depth : ℕ) (meant : Reason) → HasNoResult source input depth meant → OnTree source (λ p names. MeansNone p names depth input meant)
 of_none source input depth meant h =
     from_given h.given (λ p names. MeansNone p names depth input meant) (record { value = h.given.value; is_input = input_in h.given; means = stopped h.given depth meant h.means })
 
@@ -192,13 +201,13 @@ any_done tells words before now out out_now source input options front said r h 
 
 -- a packed file of the result, and one that is too long
 
-file_result : (source input : List ℕ) (depth : ℕ) (bytes : List ℕ) → OnProgram source (λ p names. IsPackedResult p names depth input bytes) → IsResultFile source input depth bytes
+file_result : (source input : List ℕ) (depth : ℕ) (bytes : List ℕ) → OnTree source (λ p names. IsPackedResult p names depth input bytes) → IsResultFile source input depth bytes
 file_result source input depth bytes on =
     let c = to_copy source (λ p names. IsPackedResult p names depth input bytes) on in
     let given = given_of source input c.lexed c.generic c.found c.holds.value c.is_spelled c.holds.is_input in
     record { given = given; result = c.holds.result; means = means_in given depth (Gives c.holds.result) c.holds.means; file = c.holds.file; few = c.holds.few }
 
-result_file : (source input : List ℕ) (depth : ℕ) (bytes : List ℕ) → IsResultFile source input depth bytes → OnProgram source (λ p names. IsPackedResult p names depth input bytes)
+result_file : (source input : List ℕ) (depth : ℕ) (bytes : List ℕ) → IsResultFile source input depth bytes → OnTree source (λ p names. IsPackedResult p names depth input bytes)
 result_file source input depth bytes h =
     from_given h.given (λ p names. IsPackedResult p names depth input bytes) (record {
       value = h.given.value;
@@ -209,7 +218,7 @@ result_file source input depth bytes h =
       few = h.few;
     })
 
-long_result : (source input : List ℕ) (depth : ℕ) → HasLongFile source input depth → OnProgram source (λ p names. IsLongResult p names depth input)
+long_result : (source input : List ℕ) (depth : ℕ) → HasLongFile source input depth → OnTree source (λ p names. IsLongResult p names depth input)
 long_result source input depth h =
     from_given h.given (λ p names. IsLongResult p names depth input) (record {
       value = h.given.value;
@@ -219,7 +228,7 @@ long_result source input depth h =
       long = h.long;
     })
 
-image_result : (source input : List ℕ) (skips : Bool) (depth chunks : ℕ) (bytes : List ℕ) → OnProgram source (λ p names. IsRunImage p names skips depth chunks input bytes) → IsResultImage source input skips depth chunks bytes
+image_result : (source input : List ℕ) (skips : Bool) (depth chunks : ℕ) (bytes : List ℕ) → OnTree source (λ p names. IsRunImage p names skips depth chunks input bytes) → IsResultImage source input skips depth chunks bytes
 image_result source input skips depth chunks bytes on =
     let c = to_copy source (λ p names. IsRunImage p names skips depth chunks input bytes) on in
     let given = given_of source input c.lexed c.generic c.found c.holds.value c.is_spelled c.holds.is_input in
@@ -241,7 +250,7 @@ any_image tells words before now out out_now source input options front said nam
     let made = on.holds.1 in
     let S : Option (List ℕ) → Type 0 = λ t. IsStored t made.ended.file in
     let W : Option (List ℕ) → Type 0 = λ t. AreMade tells before.kept now.kept (writes_of made.ended.file t ++ writes_of made.ended.packed r.pack) in
-    let there = image_there {names = on.texts} tells before.kept now.kept name options.image on.program options.skips options.depth options.chunks input made.ended.file
+    let there = image_there {names = on.texts} tells before.kept now.kept name options.image on.program.tree options.skips options.depth options.chunks input made.ended.file
     (writes_of made.ended.packed r.pack) (λ i. other (one_named made.ended.packed r.pack name i)) (subst S named made.stored) (subst W named made.ended.written) made.ended.does.0 in
     (there.0, there.1, image_result source input options.skips options.depth options.chunks there.0 (record { texts = on.texts; program = on.program; is_program = on.is_program; holds = there.2 }))
 
@@ -263,11 +272,11 @@ any_packed tells words before now out out_now source input options front said na
     let made = on.holds.1 in
     let S : Option (List ℕ) → Type 0 = λ t. IsStored t made.ended.packed in
     let W : Option (List ℕ) → Type 0 = λ t. AreMade tells before.kept now.kept (writes_of made.ended.file r.image ++ writes_of made.ended.packed t) in
-    let there = packed_there {names = on.texts} tells before.kept now.kept name options.packs on.program options.depth input on.holds.0 made.ended.packed
+    let there = packed_there {names = on.texts} tells before.kept now.kept name options.packs on.program.tree options.depth input on.holds.0 made.ended.packed
     (writes_of made.ended.file r.image) (subst S named made.stored_packed) (subst W named made.ended.written) made.ended.packs in
     (there.0, there.1, file_result source input options.depth there.0 (record { texts = on.texts; program = on.program; is_program = on.is_program; holds = there.2 }))
 
-long_of : (source input : List ℕ) (depth : ℕ) → OnProgram source (λ p names. IsLongResult p names depth input) → HasLongFile source input depth
+long_of : (source input : List ℕ) (depth : ℕ) → OnTree source (λ p names. IsLongResult p names depth input) → HasLongFile source input depth
 long_of source input depth on =
     let c = to_copy source (λ p names. IsLongResult p names depth input) on in
     let given = given_of source input c.lexed c.generic c.found c.holds.value c.is_spelled c.holds.is_input in
@@ -317,7 +326,7 @@ any_long_image tells words before now out out_now source input options front sai
     let none = valueless_packs Run options on.program on.texts (record { second = input; further = [] }) ended.packed Long ended.packs in
     let W : Option (List ℕ) → Option (List ℕ) → Type 0 = λ t q. AreMade tells before.kept now.kept (writes_of ended.file t ++ writes_of q r.pack) in
     let written : W (Some name) None = subst₂ W named none ended.written in
-    let there = asked_image {names = on.texts} tells before.kept now.kept name options.image on.program options.skips options.depth options.chunks input ended.file (image_asked words plan name r.asks refl named) written ended.does.0 in
+    let there = asked_image {names = on.texts} tells before.kept now.kept name options.image on.program.tree options.skips options.depth options.chunks input ended.file (image_asked words plan name r.asks refl named) written ended.does.0 in
     (there.0, there.1, image_result source input options.skips options.depth options.chunks there.0 (record { texts = on.texts; program = on.program; is_program = on.is_program; holds = there.2 }))
 
 any_none : (tells : Bool) (words : List (List ℕ)) (before now : ShelfView) (out : SinkView) (source input : List ℕ) (options : Options) (front : List ℕ) (x : Why) →
@@ -336,7 +345,7 @@ any_trapped : (tells : Bool) (words : List (List ℕ)) (before now : ShelfView) 
     AnyRun words before out source input options front → IsEnding tells words before now out out_now status.Trap said → DividesByZero source input options.depth
 any_trapped tells words before now out out_now source input options front said r h = any_none tells words before now out source input options front why.Trap r h.0
 
-big_of : (source input : List ℕ) (skips : Bool) (depth forks chunks : ℕ) → OnProgram source (λ p names. FillsUp p names skips depth forks chunks input) → IsTooBig source input skips depth forks chunks
+big_of : (source input : List ℕ) (skips : Bool) (depth forks chunks : ℕ) → OnTree source (λ p names. FillsUp p names skips depth forks chunks input) → IsTooBig source input skips depth forks chunks
 big_of source input skips depth forks chunks on =
     let c = to_copy source (λ p names. FillsUp p names skips depth forks chunks input) on in
     record { given = given_of source input c.lexed c.generic c.found c.holds.value c.is_spelled c.holds.is_input; tight = c.holds.tight }
@@ -354,7 +363,7 @@ packed_read before now d quiet name (inl h) = quiet name h
 packed_read before now d quiet name (inr h) = h
 
 due_of : (tells : Bool) (words : List (List ℕ)) (before now : ShelfView) (out out_now : SinkView) (source input : List ℕ) (options : Options) (front : List ℕ) (r : AnyRun words before out source input options front) →
-    NoFault r.program r.packed r.image r.pack before now out out_now → (P : ProgramTree → TextsView → Contents → Type 0) → OnProgram source (λ p names. P p names (record { second = input; further = [] })) →
+    NoFault r.program r.packed r.image r.pack before now out out_now → (P : Program → TextsView → Contents → Type 0) → OnProgram dialect.Source source (λ p names. P p names (record { second = input; further = [] })) →
     DueOfFiles tells before now (any_plan r.program r.packed r.image r.pack options) P
 due_of tells words before now out out_now source input options front r quiet P on = record {
   source = source;
@@ -369,15 +378,15 @@ due_of tells words before now out out_now source input options front r quiet P o
 
 -- the text of a run is due, with the packed file that is asked for
 text_due : Laws → (source input : List ℕ) (options : Options) (output : List ℕ) (b : Bool) → options.packs ≡ b → (options.packs ≡ true → (bytes : List ℕ) × IsResultFile source input options.depth bytes) →
-    OnProgram source (λ p names. IsOutput p names options.depth input output) →
-    OnProgram source (λ p names. IsOutput p names options.depth input output × ((packed : Option (List ℕ)) × PacksResult options.packs p names options.depth input packed (Prints output)))
+    OnTree source (λ p names. IsOutput p names options.depth input output) →
+    OnTree source (λ p names. IsOutput p names options.depth input output × ((packed : Option (List ℕ)) × PacksResult options.packs p names options.depth input packed (Prints output)))
 text_due laws source input options output false off packs on =
-    let P : Bool → Type 0 = λ x. PacksResult x on.program on.texts options.depth input None (Prints output) in
+    let P : Bool → Type 0 = λ x. PacksResult x on.program.tree on.texts options.depth input None (Prints output) in
     record { texts = on.texts; program = on.program; is_program = on.is_program; holds = (on.holds, (None, subst P (sym off) refl)) }
 text_due laws source input options output true asks packs on =
     let file = packs asks in
-    let both = joined laws source (λ p names. IsOutput p names options.depth input output) (λ p names. IsPackedResult p names options.depth input file.0) on (result_file source input options.depth file.0 file.1) in
-    let P : Bool → Type 0 = λ x. PacksResult x both.program both.texts options.depth input (Some file.0) (Prints output) in
+    let both = joined_trees laws source (λ p names. IsOutput p names options.depth input output) (λ p names. IsPackedResult p names options.depth input file.0) on (result_file source input options.depth file.0 file.1) in
+    let P : Bool → Type 0 = λ x. PacksResult x both.program.tree both.texts options.depth input (Some file.0) (Prints output) in
     record { texts = both.texts; program = both.program; is_program = both.is_program; holds = (both.holds.0, (Some file.0, subst P (sym asks) (file.0, refl, both.holds.1))) }
 
 any_ends_done : Laws → (tells : Bool) (words : List (List ℕ)) (before now : ShelfView) (out out_now : SinkView) (source input : List ℕ) (options : Options) (front output said : List ℕ) (end' : Status) →
@@ -438,7 +447,7 @@ any_fits laws tells words before now out out_now source input options front said
     let E : Status → Type 0 = λ s. IsEnding tells words before now out out_now s said in
     let takes : TakesAll before now out out_now plan = record { target = quiet.image_written; pack = quiet.packed_written; out = quiet.put } in
     let due = due_of tells words before now out out_now source input options front r quiet (λ p names given. Accepts plan.job plan.options p names given)
-    (from_given g (λ p names. Accepts plan.job plan.options p names (record { second = input; further = [] })) (g.value, input_in g)) in
+    (from_given g (λ p names. Accepts plan.job plan.options (sourced p) names (record { second = input; further = [] })) (g.value, input_in g)) in
     elim (fit_ends laws tells words before now out out_now (asked_of (asked words) plan (DueFit tells before now out out_now) r.asks (due, takes)) end' (cause_of tells words before now out out_now end' said ends)) [
       | inl e ↦ inl e
       | inr (inl e) ↦ inr (inl e)
@@ -453,7 +462,7 @@ any_fits laws tells words before now out out_now source input options front said
 pub one_packed : Laws → ((table : Table) (names : List (List ℕ)) (ty : Ty) (v : Datum) (a b : List ℕ) → File2 table names ty v a → File2 table names ty v b → a ≡ b) →
     (source input : List ℕ) (depth : ℕ) (bytes other : List ℕ) → IsResultFile source input depth bytes → IsResultFile source input depth other → bytes ≡ other
 one_packed laws second source input depth bytes other h k =
-    let both = together laws source (λ p names. IsPackedResult p names depth input bytes) (λ p names. IsPackedResult p names depth input other)
+    let both = together_trees laws source (λ p names. IsPackedResult p names depth input bytes) (λ p names. IsPackedResult p names depth input other)
     (result_file source input depth bytes h) (result_file source input depth other k) in
     let p = both.0 in
     let names = both.1 in
@@ -467,7 +476,7 @@ one_packed laws second source input depth bytes other h k =
 
 pub short_or_long : Laws → (source input : List ℕ) (depth : ℕ) (bytes : List ℕ) → IsResultFile source input depth bytes → HasLongFile source input depth → ⊥
 short_or_long laws source input depth bytes h k =
-    let both = together laws source (λ p names. IsPackedResult p names depth input bytes) (λ p names. IsLongResult p names depth input) (result_file source input depth bytes h) (long_result source input depth k) in
+    let both = together_trees laws source (λ p names. IsPackedResult p names depth input bytes) (λ p names. IsLongResult p names depth input) (result_file source input depth bytes h) (long_result source input depth k) in
     packed_or_long laws both.0 both.1 depth input bytes both.2 both.3
 
 one_value : (r : Outcome) (u v : Datum) → r ≡ Gives u → r ≡ Gives v → u ≡ v
@@ -475,7 +484,7 @@ one_value r u v e f = let both = sym e ∙ f in cc
 
 pub one_result : Laws → (source input : List ℕ) (depth : ℕ) (output other : List ℕ) → IsResult source input depth output → IsResult source input depth other → output ≡ other
 one_result laws source input depth output other h k =
-    let both = together laws source (λ p names. IsOutput p names depth input output) (λ p names. IsOutput p names depth input other)
+    let both = together_trees laws source (λ p names. IsOutput p names depth input output) (λ p names. IsOutput p names depth input other)
     (output_of source input depth output h) (output_of source input depth other k) in
     let p = both.0 in
     let a = both.2 in
@@ -487,7 +496,7 @@ one_result laws source input depth output other h k =
 
 result_or_none : Laws → (source input : List ℕ) (depth : ℕ) (output : List ℕ) (meant : Reason) → IsResult source input depth output → HasNoResult source input depth meant → ⊥
 result_or_none laws source input depth output meant h k =
-    let both = together laws source (λ p names. IsOutput p names depth input output) (λ p names. MeansNone p names depth input meant)
+    let both = together_trees laws source (λ p names. IsOutput p names depth input output) (λ p names. MeansNone p names depth input meant)
     (output_of source input depth output h) (of_none source input depth meant k) in
     runs_well laws both.0 both.1 depth input output meant both.2 both.3
 
@@ -500,7 +509,7 @@ two_reasons e = cc
 
 pub not_either : Laws → (source input : List ℕ) (depth : ℕ) → IsTooDeep source input depth → DividesByZero source input depth → ⊥
 not_either laws source input depth h k =
-    let both = together laws source (λ p names. MeansNone p names depth input Deep) (λ p names. MeansNone p names depth input Trap)
+    let both = together_trees laws source (λ p names. MeansNone p names depth input Deep) (λ p names. MeansNone p names depth input Trap)
     (of_none source input depth Deep h) (of_none source input depth Trap k) in
     two_reasons (one_meaning laws both.0 both.1 depth input Deep Trap both.2 both.3)
 
@@ -531,6 +540,21 @@ run_deep tells words before now out out_now source input options front said r h 
 
 pub run_trapped : (tells : Bool) (words : List (List ℕ)) (before now : ShelfView) (out out_now : SinkView) (source input : List ℕ) (options : Options) (front said : List ℕ) → IsRun words before out source input options front → IsEnding tells words before now out out_now status.Trap said → DividesByZero source input options.depth
 run_trapped tells words before now out out_now source input options front said r h = any_trapped tells words before now out out_now source input options front said (bare words before out source input options front r) h
+
+-- What the status of a run tells, by how the call ends.
+pub run_tells : (tells : Bool) (words : List (List ℕ)) (before now : ShelfView) (out out_now : SinkView) (end' : Status) (said : List ℕ) → IsEnding tells words before now out out_now end' said
+    → (source input : List ℕ) (options : Options) (front : List ℕ) → IsRun words before out source input options front → TellsWhatIsMeant source input options.depth front out_now end'
+run_tells tells words before now out out_now status.Done said h source input options front r = run_done tells words before now out out_now source input options front said r h
+run_tells tells words before now out out_now status.Depth said h source input options front r = run_deep tells words before now out out_now source input options front said r h
+run_tells tells words before now out out_now status.Trap said h source input options front r = run_trapped tells words before now out out_now source input options front said r h
+run_tells tells words before now out out_now status.Source said h source input options front r = tt
+run_tells tells words before now out out_now status.Usage said h source input options front r = tt
+run_tells tells words before now out out_now status.Full said h source input options front r = tt
+run_tells tells words before now out out_now status.Memory said h source input options front r = tt
+run_tells tells words before now out out_now status.ReadFault said h source input options front r = tt
+run_tells tells words before now out out_now status.WriteFault said h source input options front r = tt
+run_tells tells words before now out out_now status.Input said h source input options front r = tt
+run_tells tells words before now out out_now status.Long said h source input options front r = tt
 
 pub run_full : (tells : Bool) (words : List (List ℕ)) (before now : ShelfView) (out out_now : SinkView) (source input : List ℕ) (options : Options) (front said : List ℕ) → IsRun words before out source input options front → IsEnding tells words before now out out_now status.Full said → IsTooBig source input options.skips options.depth (run_forks options) options.chunks
 run_full tells words before now out out_now source input options front said r h = any_full tells words before now out out_now source input options front said (bare words before out source input options front r) h

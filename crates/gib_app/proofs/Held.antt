@@ -3,10 +3,12 @@ use Rattle.std.proofs.Common.{◌≡◌, ◌∙◌, refl, ℕ, zero, suc, ◌<�
 use Rattle.std.specs.Prelude.{slice_get, nat_lt, ◌==◌, ◌^◌}
 use Rattle.std.specs.List.{AllByRecursion, list_all}
 use Rattle.std.specs.Char.{is_ascii_digit, is_ascii_alphabetic}
+use Rattle.gib_base.specs.declared.token.Dialect.TheVariants as dialect
 use Rattle.gib_base.specs.declared.token.Token.{Token}
 use Rattle.gib_base.specs.declared.token.Token.TheVariants as t
 use Rattle.gib_base.specs.declared.token.Sign.TheVariants as sign
 use Rattle.gib_base.specs.declared.token.Piece.TheVariants as kinds
+use Rattle.gib_base.specs.declared.token.Dialect.TheVariants as dialect
 use Rattle.gib_base.specs.Piece.{Class, Blank, Letter, Digit, Dash, Equal, Single, Other, class_of, is_piece, is_name_byte, is_blank, is_sign_byte}
 use Rattle.gib_base.specs.Spelling.{piece_of, piece_in, value_from, dash_piece, equal_piece}
 use Rattle.gib_base.specs.Lexed.{Lexed}
@@ -91,7 +93,7 @@ module _ (names : List (List ℕ)) where
   abbrev IsRowWord : GenericRow → Type 0
   IsRowWord row = IsWord (source_text names row.name)
 
-  word_at : (number : ℕ) → IsNameOf names kinds.Constructor number → IsWord (source_text names number)
+  word_at : (number : ℕ) → IsNameOf dialect.Source names kinds.Constructor number → IsWord (source_text names number)
   word_at number n = subst IsWord (sym (ap (λ o. Rattle.std.specs.Prelude.unwrap_or o []) n.held)) (word_of n.text n.whole n.is_so)
 
   rows_words : (d : GenericDataTree) (cs : List GenericConstructorTree) (more : List GenericRow) → AllByRecursion (HasName W) cs → AllByRecursion IsRowWord more → AllByRecursion IsRowWord (map (row_of d) cs ++ more)

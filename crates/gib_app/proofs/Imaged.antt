@@ -19,11 +19,11 @@ use Rattle.gib_app.specs.declared.made.Valued.{Valued}
 use Rattle.gib_app.specs.declared.plan.Options.{Options}
 use Rattle.gib_app.specs.Cores.{layouts_of}
 use Rattle.gib_app.specs.Imaging.{IsShownWith}
-use Rattle.gib_app.specs.Jobs.{MakesImage, Runs}
+use Rattle.gib_app.specs.Jobs.{RunsLocated, MakesImage, Runs}
 use Rattle.gib_app.specs.Kept.{EndsBy}
 use Rattle.gib_app.specs.MachineRun.{StandsMeant, cells_of}
 use Rattle.gib_app.specs.Replaying.{IsImageFile}
-use Rattle.gib_app.specs.Running.{text_line}
+use Rattle.gib_app.specs.Running.{Program, text_line}
 use Rattle.gib_app.specs.declared.stop.Stop.{Stop}
 use Rattle.gib_app.specs.declared.stop.Stop.TheVariants.{Memory as NoMemory}
 use Rattle.gib_app.specs.Stops.{IsRunStop}
@@ -108,6 +108,16 @@ value_ends p o input value held off s =
       record { program = p; depth = o.depth; input = input; stands = s; held = held; is_text = refl },
       (subst M (sym off) refl, record { value = s.value; result = s.result; is_input = s.is_input; means = s.means; is_text = refl }),
     )
+
+-- The same of a core that is written out.
+pub located_ends : (p : Program) (o : Options) (input : List ℕ) (value : Valued) → AreHeld value.ran.lowered.code.laid.table value.names.short
+    → StandsMeant p.tree value.names o.depth input value.ran.lowered.code.laid (cells_of value.ran.memory) value.ran.root → EndsBy None (ends.Value value) (RunsLocated p value.names o input)
+located_ends p o input value held s = (
+  refl,
+  text_line p.tree value.names s.result,
+  record { program = p.tree; depth = o.depth; input = input; stands = s; held = held; is_text = refl },
+  (refl, record { value = s.value; result = s.result; is_input = s.is_input; means = s.means; is_text = refl }),
+)
 
 -- Want of memory is free to stop a run.
 pub memory_stops : {T : Type 0} (r : Result T Stop) (p : ProgramTree) (names : TextsView) (input : List ℕ) → IfErr r (λ stop. stop ≡ NoMemory) → IfErr r (IsRunStop p names input)

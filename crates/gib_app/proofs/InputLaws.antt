@@ -31,13 +31,13 @@ use Rattle.gib_app.specs.declared.plan.Job.{Job}
 use Rattle.gib_app.specs.declared.plan.Options.{Options}
 use Rattle.gib_app.specs.declared.input_fault.JournalFault.{JournalFault}
 use Rattle.gib_app.specs.declared.input_fault.JournalFault.TheVariants as journal
-use Rattle.gib_app.specs.declared.plan.Job.TheVariants.{Run, Plain, Check, Core, Code, Pack, Show, Gen, Trace, Replay}
+use Rattle.gib_app.specs.declared.plan.Job.TheVariants.{Run, Plain, Check, Core, Code, Pack, Show, Gen, Trace, Replay, Local}
 use Rattle.gib_app.specs.InputFaults.{IsTypesFault, IsPayloadFault, IsFileFault, IsInputFault, IsImageFault, IsJournalFault, IsReplayFault, IsShowFault, IsPackFault}
 use Rattle.gib_app.specs.Plan.{Contents}
 use Rattle.gib_app.specs.Replaying.{Happens, IsJournal, IsNotEnabled, IsNotEnded, OnJournal, code_for, journal_in, start_for}
 use Rattle.gib_app.specs.Formats.{Accepts, Refuses}
 use Rattle.gib_app.specs.Packing.{without_feed, IsPackable, IsPackedBy}
-use Rattle.gib_app.specs.Running.{IsInput, IsShownValue}
+use Rattle.gib_app.specs.Running.{sourced, IsInput, IsShownValue}
 use Rattle.gib_app.proofs.Doing.{shown_short}
 use Rattle.gib_app.proofs.Signs.{signs_differ, formed_sign, fault_sign, no_packed_value, no_sign_value, ReadOrRefused, no_image_value}
 use Rattle.gib_app.proofs.Refusals.{HeaderRefuses, TypesRefuse, PayloadRefuses, no_file}
@@ -384,7 +384,7 @@ module _ (p : ProgramTree) (names : TextsView) (laws : Laws (table_of_program p)
 
 -- The inputs of a job.
 module _ (p : ProgramTree) (names : TextsView) (laws : Laws (table_of_program p) names.short) (options : Options) (given : Contents) where
-  pub one_refusal : (job : Job) (f g : InputFault) → Refuses job options p names given f → Refuses job options p names given g → f ≡ g
+  pub one_refusal : (job : Job) (f g : InputFault) → Refuses job options (sourced p) names given f → Refuses job options (sourced p) names given g → f ≡ g
   one_refusal Run f g h k = one_input p names laws options.skips given.second f g h k
   one_refusal Plain f g h k = one_input p names laws options.skips given.second f g h k
   one_refusal Check f g h k = absurd h
@@ -395,8 +395,9 @@ module _ (p : ProgramTree) (names : TextsView) (laws : Laws (table_of_program p)
   one_refusal Gen f g h k = one_input p names laws options.skips given.second f g h k
   one_refusal Trace f g h k = one_input p names laws options.skips given.second f g h k
   one_refusal Replay f g h k = one_replay p names laws options.skips given.second (journal_in given) f g h k
+  one_refusal Local f g h k = one_input p names laws options.skips given.second f g h k
 
-  pub not_accepted : (job : Job) (f : InputFault) → Refuses job options p names given f → Accepts job options p names given → ⊥
+  pub not_accepted : (job : Job) (f : InputFault) → Refuses job options (sourced p) names given f → Accepts job options (sourced p) names given → ⊥
   not_accepted Run f h a = not_input p names laws options.skips given.second f a.0 h a.1
   not_accepted Plain f h a = not_input p names laws options.skips given.second f a.0 h a.1
   not_accepted Check f h a = h
@@ -407,3 +408,4 @@ module _ (p : ProgramTree) (names : TextsView) (laws : Laws (table_of_program p)
   not_accepted Gen f h a = not_input p names laws options.skips given.second f a.0 h a.1
   not_accepted Trace f h a = not_input p names laws options.skips given.second f a.0 h a.1
   not_accepted Replay f h a = not_replayed p names laws options.skips given.second (journal_in given) f h a
+  not_accepted Local f h a = not_input p names laws options.skips given.second f a.0 h a.1

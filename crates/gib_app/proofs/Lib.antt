@@ -42,3 +42,8 @@ mod Ranges
 mod Shown
 mod Copied
 mod Compiling
+mod Locating
+mod LocatedNames
+mod LocatedLaws
+mod LocalHeadlines
+mod Dialects

@@ -10,32 +10,35 @@ use Rattle.gib_types.specs.Tree.{Datum}
 use Rattle.gib_file.specs.Framed.{File}
 use Rattle.gib_file.specs.Packed.{Packed}
 use Rattle.gib_syntax.specs.Declarations.{table_of_program, input_type}
-use Rattle.gib_syntax.specs.Tree.{ProgramTree}
+use Rattle.gib_base.specs.declared.token.Dialect.{Dialect}
+use Rattle.gib_base.specs.declared.token.Dialect.TheVariants as dialect
 use Rattle.gib_app.specs.declared.input_fault.InputFault.{InputFault}
 use Rattle.gib_app.specs.declared.input_fault.InputFault.TheVariants as input
+use Rattle.gib_app.specs.declared.source_fault.SourceFault.TheVariants as source
 use Rattle.gib_app.specs.declared.stop.Stop.{Stop}
 use Rattle.gib_app.specs.declared.stop.Stop.TheVariants.{Usage, Source, Unread, Input, NoValue, Memory, Unwritten, Unput}
 use Rattle.gib_app.specs.declared.plan.Input.{Input as KeptInput}
 use Rattle.gib_app.specs.Kept.{document_of, input_of}
 use Rattle.gib_app.specs.declared.plan.Job.{Job}
 use Rattle.gib_app.specs.declared.plan.Options.{Options}
-use Rattle.gib_app.specs.declared.plan.Job.TheVariants.{Run, Plain, Check, Core, Code, Pack, Show, Gen, Trace, Replay}
+use Rattle.gib_app.specs.declared.plan.Job.TheVariants.{Run, Plain, Check, Core, Code, Pack, Show, Gen, Trace, Replay, Local}
 use Rattle.gib_app.specs.Plan.{Document, BuiltIn, Named, Plan, Files, Contents}
-use Rattle.gib_app.specs.Running.{IsProgram, IsInput, IsSource, IsNoProgram}
-use Rattle.gib_app.specs.SourceFaults.{IsSourceFault}
+use Rattle.gib_app.specs.Running.{Program, sourced, IsProgramIn, IsInput, IsSourceIn, IsNoProgram, IsNoProgramIn}
+use Rattle.gib_app.specs.SourceFaults.{IsSourceFaultIn}
 use Rattle.gib_app.specs.InputFaults.{IsInputFault, IsReplayFault}
-use Rattle.gib_app.specs.Formats.{format_of, inputs_of, limits_of, most_of, with_limits, Accepts, Refuses}
+use Rattle.gib_app.specs.Formats.{dialect_of, format_of, inputs_of, limits_of, most_of, with_limits, Accepts, Refuses}
 use Rattle.gib_app.specs.Formats.{Input as PlanInput}
 use Rattle.gib_app.specs.Causes.{Holds, AreFurther, AreGiven, AreReached, OnSource, OnBoth, OnReached, IsUnread, AreUnread, FailsToRead, TakesFirst, first_of, further_of}
 use Rattle.gib_app.specs.Stops.{IsCompileStop, IsReadStop, IsSourceStop, IsInputStop, IsLongFurther, IsFurtherStop, IsInputsStop, IsPackedStop, IsRunStop, FailsTo, IsMakeStop, IsStop}
+use Rattle.gib_app.specs.Located.{IsLocatedStop}
 use Rattle.gib_app.specs.Writes.{at_reading}
 use Rattle.gib_app.proofs.Told.{document_before, further_before, held_before}
 use Rattle.gib_app.proofs.Doing.{shown_short}
 use Rattle.gib_app.proofs.Refusals.{run_stop}
 
 -- what holds of the compiled program and the inputs holds of the plan's files
-pub on_both : (kept : Files) (r : Plan) (d : Document) (p : ProgramTree) (names : TextsView) (given : Contents) (P : ProgramTree → TextsView → Contents → Type 0) → d ≡ r.source →
-    OnSource kept d (λ source. IsProgram source names p) → AreGiven kept (inputs_of r) given → P p names given → OnBoth kept r P
+pub on_both : (kept : Files) (r : Plan) (d : Document) (p : Program) (names : TextsView) (given : Contents) (P : Program → TextsView → Contents → Type 0) → d ≡ r.source →
+    OnSource kept d (λ source. IsProgramIn (dialect_of r.job) source names p) → AreGiven kept (inputs_of r) given → P p names given → OnBoth kept r P
 on_both kept r d p names given P e on held h =
     let H : Document → Type 0 = λ x. Holds kept x on.source in
     record {
@@ -46,18 +49,18 @@ on_both kept r d p names given P e on held h =
       holds = record { texts = names; program = p; is_program = on.holds; holds = h };
     }
 
-source_here : (kept : Files) (r : Plan) (d : Document) (p : ProgramTree) (names : TextsView) → d ≡ r.source → OnSource kept d (λ source. IsProgram source names p) → OnSource kept r.source IsSource
+source_here : (kept : Files) (r : Plan) (d : Document) (p : Program) (names : TextsView) → d ≡ r.source → OnSource kept d (λ source. IsProgramIn (dialect_of r.job) source names p) → OnSource kept r.source (IsSourceIn (dialect_of r.job))
 source_here kept r d p names e on =
     let H : Document → Type 0 = λ x. Holds kept x on.source in
     record { source = on.source; source_held = subst H e on.source_held; holds = (names, p, on.holds) }
 
 -- inputs that are given are reached
-pub reached_all : (kept : Files) (p : ProgramTree) (names : TextsView) (is : List PlanInput) (given : Contents) → AreGiven kept is given → AreReached kept p names is given
+pub reached_all : (kept : Files) (p : Program) (names : TextsView) (is : List PlanInput) (given : Contents) → AreGiven kept is given → AreReached kept p names is given
 reached_all kept p names [] given h = h
 reached_all kept p names (i ∷ is) given h = (h.0, λ taken. h.1)
 
 -- the first one is, where it is refused
-reached_first : {names : TextsView} (kept : Files) (p : ProgramTree) (is : List PlanInput) (first : List ℕ) → (((v : Datum) × IsInput p names v first) → ⊥) → AreGiven kept (first_of is) (record { second = first; further = [] }) →
+reached_first : {names : TextsView} (kept : Files) (p : Program) (is : List PlanInput) (first : List ℕ) → (((v : Datum) × IsInput p.tree names v first) → ⊥) → AreGiven kept (first_of is) (record { second = first; further = [] }) →
     AreReached kept p names is (record { second = first; further = [] })
 reached_first kept p [] first not' h = h
 reached_first kept p (i ∷ is) first not' h = (h.0, λ taken. absurd (not' taken))
@@ -73,8 +76,8 @@ pub inputs_given : (kept mid : Files) (is : List PlanInput) (first : List ℕ) (
     AreFurther mid (further_of is) further → AreGiven kept is (record { second = first; further = further })
 inputs_given kept mid is first further same h k = joined kept is first further h (further_before kept mid (further_of is) further same k)
 
-pub on_reached : (kept : Files) (r : Plan) (d : Document) (p : ProgramTree) (names : TextsView) (given : Contents) (P : ProgramTree → TextsView → Contents → Type 0) → d ≡ r.source →
-    OnSource kept d (λ source. IsProgram source names p) → AreReached kept p names (inputs_of r) given → P p names given → OnReached kept r P
+pub on_reached : (kept : Files) (r : Plan) (d : Document) (p : Program) (names : TextsView) (given : Contents) (P : Program → TextsView → Contents → Type 0) → d ≡ r.source →
+    OnSource kept d (λ source. IsProgramIn (dialect_of r.job) source names p) → AreReached kept p names (inputs_of r) given → P p names given → OnReached kept r P
 on_reached kept r d p names given P e on reached h =
     let H : Document → Type 0 = λ x. Holds kept x on.source in
     record {
@@ -84,27 +87,62 @@ on_reached kept r d p names given P e on reached h =
       holds = record { texts = names; program = p; is_program = on.holds; holds = (reached, h) };
     }
 
+-- the dialect of a job is told
+pub in_dialect : (kept : Files) (r : Plan) (d : Document) (p : Program) (names : TextsView) (dl : Dialect) → dialect_of r.job ≡ dl → OnSource kept d (λ source. IsProgramIn dl source names p)
+    → OnSource kept d (λ source. IsProgramIn (dialect_of r.job) source names p)
+in_dialect kept r d p names dl e on = let P : Dialect → Type 0 = λ x. OnSource kept d (λ source. IsProgramIn x source names p) in subst P (sym e) on
+
+pub stop_in : (before now : ShelfView) (r : Plan) (d : Document) (stop : Stop) (dl : Dialect) → dialect_of r.job ≡ dl → IsSourceStop dl before now d stop → IsSourceStop (dialect_of r.job) before now d stop
+stop_in before now r d stop dl e h = let P : Dialect → Type 0 = λ x. IsSourceStop x before now d stop in subst P (sym e) h
+
 -- why a source is not read, or not compiled
 
-pub read_source : (before now : ShelfView) (d : Document) (stop : Stop) → IsReadStop before now d stop → IsSourceStop before now d stop
-read_source before now d Usage h = h
-read_source before now d (Source fault) h = absurd h
-read_source before now d (Unread name) h = h
-read_source before now d (Input fault) h = h
-read_source before now d (NoValue reason) h = h
-read_source before now d Memory h = h
-read_source before now d (Unwritten name) h = h
-read_source before now d Unput h = h
+pub read_source : (dl : Dialect) (before now : ShelfView) (d : Document) (stop : Stop) → IsReadStop before now d stop → IsSourceStop dl before now d stop
+read_source dl before now d Usage h = h
+read_source dl before now d (Source fault) h = absurd h
+read_source dl before now d (Unread name) h = h
+read_source dl before now d (Input fault) h = h
+read_source dl before now d (NoValue reason) h = h
+read_source dl before now d Memory h = h
+read_source dl before now d (Unwritten name) h = h
+read_source dl before now d Unput h = h
 
-pub compile_source : (before now : ShelfView) (d : Document) (source : List ℕ) → Holds before.kept d source → (stop : Stop) → IsCompileStop source stop → IsSourceStop before now d stop
+-- a source is no program in its dialect where it spells none
+pub none_in : (source : List ℕ) → IsNoProgram source → IsNoProgramIn dialect.Source source
+none_in source h texts p is = h texts p.tree is.0
+
+pub compile_source : (before now : ShelfView) (d : Document) (source : List ℕ) → Holds before.kept d source → (stop : Stop) → IsCompileStop source stop → IsSourceStop dialect.Source before now d stop
 compile_source before now d source held Usage h = h
-compile_source before now d source held (Source fault) h = record { source = source; source_held = held; holds = h }
+compile_source before now d source held (Source fault) h = record { source = source; source_held = held; holds = (h.0, none_in source h.1) }
 compile_source before now d source held (Unread name) h = absurd h
 compile_source before now d source held (Input fault) h = h
 compile_source before now d source held (NoValue reason) h = h
 compile_source before now d source held Memory h = h
 compile_source before now d source held (Unwritten name) h = h
 compile_source before now d source held Unput h = h
+
+pub locate_source : (before now : ShelfView) (d : Document) (source : List ℕ) → Holds before.kept d source → (stop : Stop) → IsLocatedStop source stop → IsSourceStop dialect.Located before now d stop
+locate_source before now d source held Usage h = h
+locate_source before now d source held (Source fault) h = record { source = source; source_held = held; holds = h }
+locate_source before now d source held (Unread name) h = absurd h
+locate_source before now d source held (Input fault) h = h
+locate_source before now d source held (NoValue reason) h = h
+locate_source before now d source held Memory h = h
+locate_source before now d source held (Unwritten name) h = h
+locate_source before now d source held Unput h = h
+
+-- a source with too many bytes is no program
+pub long_source : (dl : Dialect) (before now : ShelfView) (d : Document) → OnSource before.kept d (λ bytes. 1048576 < length bytes) → IsSourceStop dl before now d (Source source.Long)
+long_source dialect.Source before now d on = record {
+  source = on.source;
+  source_held = on.source_held;
+  holds = (on.holds, λ texts p is. let short = is.0.spelled.short in let many = on.holds in omega (arith, short, many));
+}
+long_source dialect.Located before now d on = record {
+  source = on.source;
+  source_held = on.source_held;
+  holds = (on.holds, λ texts p is. let short = is.local.short in let many = on.holds in omega (arith, short, many));
+}
 
 -- what is found where nothing is
 pub found_none : {V : Type 0} (o : Option V) (A : Type 0) (B : V → Type 0) → o ≡ None → MatchOption o A B → A
@@ -156,7 +194,7 @@ module _ (o : Option KeptInput) (r : Plan) (same : option_to_list (option_map in
 -- The input behind it, or none
 
 -- a replay alone has one
-only_first : (most : ℕ) (documents : List Document) → further_of (with_limits (most ∷ []) documents) ≡ []
+pub only_first : (most : ℕ) (documents : List Document) → further_of (with_limits (most ∷ []) documents) ≡ []
 only_first most [] = refl
 only_first most (d ∷ documents) = refl
 
@@ -171,6 +209,7 @@ is_replay Show documents some = absurd (some (only_first 268435480 documents))
 is_replay Gen documents some = absurd (some (only_first 16777216 documents))
 is_replay Trace documents some = absurd (some (only_first 16777216 documents))
 is_replay Replay documents some = refl
+is_replay Local documents some = absurd (some (only_first 16777216 documents))
 
 not_none : {X : Type 0} (x : X) (xs : List X) → x ∷ xs ≡ [] → ⊥
 not_none x xs e = cc
@@ -196,11 +235,11 @@ module _ (o : Option KeptInput) (r : Plan) (same : option_to_list (option_map in
   first_short i e first few = let P : Job → Type 0 = λ job. length first ≤ most_of job in subst P (replays i e) few
 
   -- it was looked over, and is a packed file
-  pub first_taken : {names : TextsView} (i : KeptInput) → o ≡ Some i → (p : ProgramTree) (first : List ℕ) (table : Table) (ty : Ty) (payload : List ℕ) → length first ≤ most_of r.job → ((v : Datum) × Packed table ty v payload) →
-      ((v : Datum) → Packed table ty v payload → File (table_of_program p) names.long (input_type p) v first) → (v : Datum) × IsInput p names v first
+  pub first_taken : {names : TextsView} (i : KeptInput) → o ≡ Some i → (p : Program) (first : List ℕ) (table : Table) (ty : Ty) (payload : List ℕ) → length first ≤ most_of r.job → ((v : Datum) × Packed table ty v payload) →
+      ((v : Datum) → Packed table ty v payload → File (table_of_program p.tree) names.long (input_type p.tree) v first) → (v : Datum) × IsInput p.tree names v first
   first_taken i e p first table ty payload few packed file = (packed.0, record { short = first_short i e first few; file = file packed.0 packed.1 })
 
-  pub long_further : {names : TextsView} (before now : ShelfView) (i : KeptInput) → o ≡ Some i → i.most ≡ 16777216 → (p : ProgramTree) (first : List ℕ) → ((v : Datum) × IsInput p names v first) →
+  pub long_further : {names : TextsView} (before now : ShelfView) (i : KeptInput) → o ≡ Some i → i.most ≡ 16777216 → (p : Program) (first : List ℕ) → ((v : Datum) × IsInput p.tree names v first) →
       OnSource before.kept (document_of i.document) (λ bytes. i.most < length bytes) → IsFurtherStop before now r p names first (Input (input.Long i.most))
   long_further before now i e most p first taken on = inr (record {
     is = ap (λ n. input.Long n) most;
@@ -211,7 +250,7 @@ module _ (o : Option KeptInput) (r : Plan) (same : option_to_list (option_map in
   })
 
   -- why it is not read: the first one is refused
-  refused_first : (before now : ShelfView) (i : KeptInput) → o ≡ Some i → (p : ProgramTree) (names : TextsView) (first : List ℕ) (stop : Stop) → IsRunStop p names first stop → IsFurtherStop before now r p names first stop
+  refused_first : (before now : ShelfView) (i : KeptInput) → o ≡ Some i → (p : Program) (names : TextsView) (first : List ℕ) (stop : Stop) → IsRunStop p.tree names first stop → IsFurtherStop before now r p names first stop
   refused_first before now i e p names first Usage h = h
   refused_first before now i e p names first (Source fault) h = h
   refused_first before now i e p names first (Unread name) h = absurd h
@@ -221,12 +260,12 @@ module _ (o : Option KeptInput) (r : Plan) (same : option_to_list (option_map in
   refused_first before now i e p names first (Unwritten name) h = h
   refused_first before now i e p names first Unput h = h
 
-  pub unsurveyed : (before now : ShelfView) (i : KeptInput) → o ≡ Some i → (p : ProgramTree) (names : TextsView) (first : List ℕ) (stop : Stop) → length first ≤ most_of r.job →
-      IsPackedStop (table_of_program p) names.long (input_type p) first stop → IsFurtherStop before now r p names first stop
-  unsurveyed before now i e p names first stop few h = refused_first before now i e p names first stop (run_stop p names first (first_short i e first few) stop h)
+  pub unsurveyed : (before now : ShelfView) (i : KeptInput) → o ≡ Some i → (p : Program) (names : TextsView) (first : List ℕ) (stop : Stop) → length first ≤ most_of r.job →
+      IsPackedStop (table_of_program p.tree) names.long (input_type p.tree) first stop → IsFurtherStop before now r p names first stop
+  unsurveyed before now i e p names first stop few h = refused_first before now i e p names first stop (run_stop p.tree names first (first_short i e first few) stop h)
 
   -- or its own file is not read
-  pub read_further_stop : {names : TextsView} (before now : ShelfView) (i : KeptInput) → o ≡ Some i → (p : ProgramTree) (first : List ℕ) → ((v : Datum) × IsInput p names v first) → (stop : Stop) →
+  pub read_further_stop : {names : TextsView} (before now : ShelfView) (i : KeptInput) → o ≡ Some i → (p : Program) (first : List ℕ) → ((v : Datum) × IsInput p.tree names v first) → (stop : Stop) →
       IsReadStop before now (document_of i.document) stop → IsFurtherStop before now r p names first stop
   read_further_stop before now i e p first taken Usage h = h
   read_further_stop before now i e p first taken (Source fault) h = h
@@ -254,18 +293,18 @@ inputs_unread_before before mid now (i ∷ is) name e (inr h) = inr (inputs_unre
 
 -- a first input that is too long is refused, and what is behind it is not reached
 
-record IsLongFirst (kept : Files) (job : Job) (options : Options) (documents : List Document) (p : ProgramTree) (names : TextsView) (given : Contents) : Type 0 where
+record IsLongFirst (kept : Files) (job : Job) (options : Options) (documents : List Document) (p : Program) (names : TextsView) (given : Contents) : Type 0 where
   reached : AreReached kept p names (with_limits (option_map_or limits_of (format_of job) []) documents) given
   refused : Refuses job options p names given (input.Long (most_of job))
   not_accepted : Accepts job options p names given → ⊥
 
-long_reached : (kept : Files) (p : ProgramTree) (names : TextsView) (most : ℕ) (limits : List ℕ) (documents : List Document) (given : Contents) → 16777216 ≤ most → most < length given.second →
+long_reached : (kept : Files) (p : Program) (names : TextsView) (most : ℕ) (limits : List ℕ) (documents : List Document) (given : Contents) → 16777216 ≤ most → most < length given.second →
     AreGiven kept (first_of (with_limits (most ∷ limits) documents)) given → AreReached kept p names (with_limits (most ∷ limits) documents) given
 long_reached kept p names most limits [] given room many h = h
 long_reached kept p names most limits (d ∷ documents) given room many h = (h.0, λ taken. let short = taken.1.short in absurd (omega (arith, room, many, short)))
 
-module _ (kept : Files) (options : Options) (documents : List Document) (p : ProgramTree) (names : TextsView) (given : Contents) where
-  long_packed : (most : ℕ) → 16777216 ≤ most → most < length given.second → (v : Datum) → IsInput p names v given.second → ⊥
+module _ (kept : Files) (options : Options) (documents : List Document) (p : Program) (names : TextsView) (given : Contents) where
+  long_packed : (most : ℕ) → 16777216 ≤ most → most < length given.second → (v : Datum) → IsInput p.tree names v given.second → ⊥
   long_packed most room many v is = let short = is.short in omega (arith, room, many, short)
 
   long_first : (job : Job) → AreGiven kept (first_of (with_limits (option_map_or limits_of (format_of job) []) documents)) given → most_of job < length given.second →
@@ -291,7 +330,7 @@ module _ (kept : Files) (options : Options) (documents : List Document) (p : Pro
   long_first Show h many = record {
     reached = long_reached kept p names 268435480 [] documents given (omega arith) many h;
     refused = inl (refl, many);
-    not_accepted = λ a. let short = shown_short p options.skips a.0 given.second a.1 in absurd (omega (arith, many, short));
+    not_accepted = λ a. let short = shown_short p.tree options.skips a.0 given.second a.1 in absurd (omega (arith, many, short));
   }
   long_first Gen h many = record {
     reached = long_reached kept p names 16777216 [] documents given (omega arith) many h;
@@ -308,8 +347,13 @@ module _ (kept : Files) (options : Options) (documents : List Document) (p : Pro
     refused = inl (refl, many);
     not_accepted = λ a. long_packed 16777216 (omega arith) many a.value a.is_input;
   }
+  long_first Local h many = record {
+    reached = long_reached kept p names 16777216 [] documents given (omega arith) many h;
+    refused = (refl, many);
+    not_accepted = λ a. long_packed 16777216 (omega arith) many a.0 a.1;
+  }
 
-pub first_stops : (before now : ShelfView) (r : Plan) (p : ProgramTree) (names : TextsView) (stop : Stop) → IsInputStop before now r stop → IsInputsStop before now r p names stop
+pub first_stops : (before now : ShelfView) (r : Plan) (p : Program) (names : TextsView) (stop : Stop) → IsInputStop before now r stop → IsInputsStop before now r p names stop
 first_stops before now r p names Usage h = h
 first_stops before now r p names (Source fault) h = h
 first_stops before now r p names (Unread name) h = inl h
@@ -323,17 +367,17 @@ first_stops before now r p names (Unwritten name) h = h
 first_stops before now r p names Unput h = h
 
 -- a replay whose first input is refused
-replay_fault : (p : ProgramTree) (names : TextsView) (first journal : List ℕ) (fault : InputFault) → IsInputFault p names first fault → IsReplayFault p names first journal fault
+replay_fault : (p : Program) (names : TextsView) (first journal : List ℕ) (fault : InputFault) → IsInputFault p.tree names first fault → IsReplayFault p.tree names first journal fault
 replay_fault p names first journal (input.Long most) h = inl h
 replay_fault p names first journal (input.Packed fault) h = h
 replay_fault p names first journal (input.Image fault) h = h
 replay_fault p names first journal (input.Text place) h = h
 replay_fault p names first journal (input.Journal fault) h = absurd h
 
-module _ (before mid now : ShelfView) (r : Plan) (p : ProgramTree) (names : TextsView) (first : List ℕ)
+module _ (before mid now : ShelfView) (r : Plan) (p : Program) (names : TextsView) (first : List ℕ)
     (same : (name : List ℕ) → mid.kept name ≡ before.kept name) (reads : (name : List ℕ) → mid.reads name ≡ before.reads name)
     (held : AreGiven before.kept (first_of (inputs_of r)) (record { second = first; further = [] })) where
-  refused_there : (fault : InputFault) → (r.job ≡ Replay) × IsInputFault p names first fault × (((v : Datum) × IsInput p names v first) → ⊥) → IsInputsStop before now r p names (Input fault)
+  refused_there : (fault : InputFault) → (r.job ≡ Replay) × IsInputFault p.tree names first fault × (((v : Datum) × IsInput p.tree names v first) → ⊥) → IsInputsStop before now r p names (Input fault)
   refused_there fault h =
       let given : Contents = record { second = first; further = [] } in
       let R : Job → Type 0 = λ job. Refuses job r.options p names given fault × (Accepts job r.options p names given → ⊥) in
@@ -347,7 +391,7 @@ module _ (before mid now : ShelfView) (r : Plan) (p : ProgramTree) (names : Text
       let F : List PlanInput → Type 0 = λ is. AreFurther before.kept is (h.bytes ∷ []) in
       let replay = is_replay r.job r.inputs (λ none'. not_none h.bytes [] (subst F none' behind)) in
       let R : Job → Type 0 = λ job. Refuses job r.options p names given fault × (Accepts job r.options p names given → ⊥) in
-      let L : InputFault → Type 0 = λ f. IsReplayFault p names first h.bytes f in
+      let L : InputFault → Type 0 = λ f. IsReplayFault p.tree names first h.bytes f in
       let many = h.many in
       let refused = subst R (sym replay) (subst L (sym h.is) (inr (h.taken, refl, many)), λ a. let short = a.is_journal.short in absurd (omega (arith, many, short))) in
       (given, reached_all before.kept p names (inputs_of r) given (joined before.kept (inputs_of r) first (h.bytes ∷ []) held behind), refused.0, refused.1)
@@ -364,7 +408,7 @@ module _ (before mid now : ShelfView) (r : Plan) (p : ProgramTree) (names : Text
   further_stops Unput h = h
 
 -- what a job does not make of its inputs
-pub job_stop : (before now : ShelfView) (r : Plan) (p : ProgramTree) (names : TextsView) (given : Contents) → OnSource before.kept r.source (λ source. IsProgram source names p) →
+pub job_stop : (before now : ShelfView) (r : Plan) (p : Program) (names : TextsView) (given : Contents) → OnSource before.kept r.source (λ source. IsProgramIn (dialect_of r.job) source names p) →
     AreGiven before.kept (inputs_of r) given → (stop : Stop) → FailsTo r.job r.options p names given stop → IsMakeStop before now r stop
 job_stop before now r p names given on held Usage h = h
 job_stop before now r p names given on held (Source fault) h = absurd h
@@ -378,10 +422,10 @@ job_stop before now r p names given on held (Unwritten name) h = absurd h
 job_stop before now r p names given on held Unput h = h
 
 -- a stop at the source is one of the request
-pub source_stop : (before now : ShelfView) (r : Plan) (d : Document) → d ≡ r.source → (stop : Stop) → IsSourceStop before now d stop → IsMakeStop before now r stop
+pub source_stop : (before now : ShelfView) (r : Plan) (d : Document) → d ≡ r.source → (stop : Stop) → IsSourceStop (dialect_of r.job) before now d stop → IsMakeStop before now r stop
 source_stop before now r d e Usage h = h
 source_stop before now r d e (Source fault) h =
-    let P : Document → Type 0 = λ x. OnSource before.kept x (λ bytes. IsSourceFault bytes fault × IsNoProgram bytes) in subst P e h
+    let P : Document → Type 0 = λ x. OnSource before.kept x (λ bytes. IsSourceFaultIn (dialect_of r.job) bytes fault × IsNoProgramIn (dialect_of r.job) bytes) in subst P e h
 source_stop before now r d e (Unread name) h =
     let P : Document → Type 0 = λ x. IsUnread before now x name.now in inl (subst P e h)
 source_stop before now r d e (Input fault) h = absurd h
@@ -391,12 +435,12 @@ source_stop before now r d e (Unwritten name) h = absurd h
 source_stop before now r d e Unput h = h
 
 -- what the inputs are in a later view, they are in the one before
-reached_before : (kept now : Files) (p : ProgramTree) (names : TextsView) (is : List PlanInput) (given : Contents) → ((name : List ℕ) → now name ≡ kept name) → AreReached now p names is given → AreReached kept p names is given
+reached_before : (kept now : Files) (p : Program) (names : TextsView) (is : List PlanInput) (given : Contents) → ((name : List ℕ) → now name ≡ kept name) → AreReached now p names is given → AreReached kept p names is given
 reached_before kept now p names [] given e h = h
 reached_before kept now p names (i ∷ is) given e h = (document_before kept now i.document given.second e h.0, λ taken. further_before kept now is given.further e (h.1 taken))
 
-takes_first : (kept mid : Files) (r : Plan) (d : Document) (p : ProgramTree) (names : TextsView) → d ≡ r.source → ((name : List ℕ) → mid name ≡ kept name) → OnSource kept d (λ source. IsProgram source names p) →
-    ((given : Contents) × AreGiven mid (first_of (inputs_of r)) given × ((v : Datum) × IsInput p names v given.second)) → TakesFirst kept r
+takes_first : (kept mid : Files) (r : Plan) (d : Document) (p : Program) (names : TextsView) → d ≡ r.source → ((name : List ℕ) → mid name ≡ kept name) → OnSource kept d (λ source. IsProgramIn (dialect_of r.job) source names p) →
+    ((given : Contents) × AreGiven mid (first_of (inputs_of r)) given × ((v : Datum) × IsInput p.tree names v given.second)) → TakesFirst kept r
 takes_first kept mid r d p names e same on h =
     let H : Document → Type 0 = λ x. Holds kept x on.source in
     record {
@@ -407,8 +451,8 @@ takes_first kept mid r d p names e same on h =
       holds = record { texts = names; program = p; is_program = on.holds; holds = h.2 };
     }
 
-module _ (before mid now : ShelfView) (r : Plan) (d : Document) (p : ProgramTree) (names : TextsView) (e : d ≡ r.source)
-    (same : (name : List ℕ) → mid.kept name ≡ before.kept name) (reads : (name : List ℕ) → mid.reads name ≡ before.reads name) (on : OnSource before.kept d (λ source. IsProgram source names p)) where
+module _ (before mid now : ShelfView) (r : Plan) (d : Document) (p : Program) (names : TextsView) (e : d ≡ r.source)
+    (same : (name : List ℕ) → mid.kept name ≡ before.kept name) (reads : (name : List ℕ) → mid.reads name ≡ before.reads name) (on : OnSource before.kept d (λ source. IsProgramIn (dialect_of r.job) source names p)) where
   pub inputs_stop : (stop : Stop) → IsInputsStop mid now r p names stop → IsMakeStop before now r stop
   inputs_stop Usage h = h
   inputs_stop (Source fault) h = absurd h
@@ -427,7 +471,7 @@ module _ (before mid now : ShelfView) (r : Plan) (d : Document) (p : ProgramTree
 source_from : (kept start : Files) (d : Document) (P : List ℕ → Type 0) → ((name : List ℕ) → start name ≡ kept name) → OnSource start d P → OnSource kept d P
 source_from kept start d P e on = record { source = on.source; source_held = document_before kept start d on.source e on.source_held; holds = on.holds }
 
-pub both_from : (kept start : Files) (r : Plan) (P : ProgramTree → TextsView → Contents → Type 0) → ((name : List ℕ) → start name ≡ kept name) → OnBoth start r P → OnBoth kept r P
+pub both_from : (kept start : Files) (r : Plan) (P : Program → TextsView → Contents → Type 0) → ((name : List ℕ) → start name ≡ kept name) → OnBoth start r P → OnBoth kept r P
 both_from kept start r P e on = record {
   source = on.source;
   given = on.given;
@@ -436,7 +480,7 @@ both_from kept start r P e on = record {
   holds = on.holds;
 }
 
-reached_from : (kept start : Files) (r : Plan) (P : ProgramTree → TextsView → Contents → Type 0) → ((name : List ℕ) → start name ≡ kept name) → OnReached start r P → OnReached kept r P
+reached_from : (kept start : Files) (r : Plan) (P : Program → TextsView → Contents → Type 0) → ((name : List ℕ) → start name ≡ kept name) → OnReached start r P → OnReached kept r P
 reached_from kept start r P e on = record {
   source = on.source;
   given = on.given;
@@ -461,12 +505,12 @@ takes_from kept start r e on = record {
 module _ (tells : Bool) (before start now : ShelfView) (r : Plan) (same : (name : List ℕ) → start.kept name ≡ at_reading tells before.kept r name) (reads : (name : List ℕ) → start.reads name ≡ before.reads name) where
   fails_from : (name : List ℕ) → FailsToRead start.kept start now r name → FailsToRead (at_reading tells before.kept r) before now r name
   fails_from name (inl h) = inl (unread_before before start now r.source name reads h)
-  fails_from name (inr (inl h)) = inr (inl (inputs_unread_before before start now (first_of (inputs_of r)) name reads h.0, source_from (at_reading tells before.kept r) start.kept r.source IsSource same h.1))
+  fails_from name (inr (inl h)) = inr (inl (inputs_unread_before before start now (first_of (inputs_of r)) name reads h.0, source_from (at_reading tells before.kept r) start.kept r.source (IsSourceIn (dialect_of r.job)) same h.1))
   fails_from name (inr (inr h)) = inr (inr (inputs_unread_before before start now (further_of (inputs_of r)) name reads h.0, takes_from (at_reading tells before.kept r) start.kept r same h.1))
 
   pub make_stop : (stop : Stop) → IsMakeStop start now r stop → IsStop tells before now r stop
   make_stop Usage h = h
-  make_stop (Source fault) h = source_from (at_reading tells before.kept r) start.kept r.source (λ bytes. IsSourceFault bytes fault × IsNoProgram bytes) same h
+  make_stop (Source fault) h = source_from (at_reading tells before.kept r) start.kept r.source (λ bytes. IsSourceFaultIn (dialect_of r.job) bytes fault × IsNoProgramIn (dialect_of r.job) bytes) same h
   make_stop (Unread name) h = fails_from name.now h
   make_stop (Input fault) h =
       reached_from (at_reading tells before.kept r) start.kept r (λ p names given. Refuses r.job r.options p names given fault × (Accepts r.job r.options p names given → ⊥)) same h

@@ -25,13 +25,13 @@ use Rattle.gib_app.specs.declared.stop.Stop.{Stop}
 use Rattle.gib_app.specs.Cores.{layouts_of}
 use Rattle.gib_app.specs.Imaging.{IsShownWith}
 use Rattle.gib_app.specs.declared.plan.Job.{Job}
-use Rattle.gib_app.specs.declared.plan.Job.TheVariants.{Run, Plain, Check, Core, Code, Pack, Show, Gen, Trace, Replay}
+use Rattle.gib_app.specs.declared.plan.Job.TheVariants.{Run, Plain, Check, Core, Code, Pack, Show, Gen, Trace, Replay, Local}
 use Rattle.gib_app.specs.Plan.{Contents}
 use Rattle.gib_app.specs.Jobs.{End, Prints, NoValue, Does, DoesAll, PacksResult, Runs, RunsBoth}
 use Rattle.gib_app.specs.Kept.{EndsBy, EndsByBoth, StandsAgain, file_of, packed_of}
 use Rattle.gib_app.specs.MachineRun.{StandsMeant, cells_of}
 use Rattle.gib_app.specs.Replaying.{IsImageFile}
-use Rattle.gib_app.specs.Running.{text_line, IsInput}
+use Rattle.gib_app.specs.Running.{Program, text_line, IsInput}
 use Rattle.gib_app.proofs.Imaged.{image_made, shown_runs}
 
 -- What holds where a call is well, holds of what it gives.
@@ -156,7 +156,7 @@ runs_valueless p names o input f (NoValue reason) h = (h, go o.packs)
     go true = refl
 
 -- Of the jobs a run alone makes one.
-pub does_alone : (job : Job) (o : Options) (p : ProgramTree) (names : TextsView) (given : Contents) → (job ≡ Run → ⊥) → (f : Option (List ℕ)) (x : End) → Does job o p names given f x → DoesAll job o p names given f None x
+pub does_alone : (job : Job) (o : Options) (p : Program) (names : TextsView) (given : Contents) → (job ≡ Run → ⊥) → (f : Option (List ℕ)) (x : End) → Does job o p names given f x → DoesAll job o p names given f None x
 does_alone Run o p names given other f x h = absurd (other refl)
 does_alone Plain o p names given other f x h = (h, refl)
 does_alone Check o p names given other f x h = (h, refl)
@@ -167,3 +167,4 @@ does_alone Show o p names given other f x h = (h, refl)
 does_alone Gen o p names given other f x h = (h, refl)
 does_alone Trace o p names given other f x h = (h, refl)
 does_alone Replay o p names given other f x h = (h, refl)
+does_alone Local o p names given other f x h = (h, refl)

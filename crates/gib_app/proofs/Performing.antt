@@ -5,7 +5,6 @@ use Rattle.std.specs.Prelude.{⊤}
 use Rattle.std.specs.Option.{option_map_or}
 use Rattle.gib_edge.specs.Causes.{Rose, Appends, AppendsPart, PutsPieces, PutsSomePieces}
 use Rattle.gib_edge.specs.Views.{ShelfView, SinkView}
-use Rattle.gib_syntax.specs.Tree.{ProgramTree}
 use Rattle.gib_app.specs.declared.status.Status.{Status}
 use Rattle.gib_app.specs.declared.status.Status.TheVariants as status
 use Rattle.gib_app.specs.declared.stop.Stop.{Stop}
@@ -19,6 +18,7 @@ use Rattle.gib_app.specs.declared.made.Reason.TheVariants.{Meant, Full, Long}
 use Rattle.gib_app.specs.declared.made.Valued.{Valued}
 use Rattle.gib_app.specs.Kept.{EndsByBoth, IsTextOf}
 use Rattle.gib_app.specs.Plan.{Write, Plan, Files, Contents}
+use Rattle.gib_app.specs.Running.{Program}
 use Rattle.gib_app.specs.Writes.{at_reading, AreMade, job_writes, IsTarget}
 use Rattle.gib_app.specs.Words.{asked}
 use Rattle.gib_app.specs.Jobs.{End, Prints, NoValue, DoesAll}
@@ -31,7 +31,7 @@ use Rattle.gib_app.proofs.FirstWriting.{Cause, stuck_from}
 use Rattle.gib_app.proofs.Writing.{made_from, all_stay}
 use Rattle.gib_app.proofs.Fitting.{is_made, some_end}
 
-pub map_both : (kept : Files) (r : Plan) (P Q : ProgramTree → TextsView → Contents → Type 0) → ((p : ProgramTree) (names : TextsView) (given : Contents) → P p names given → Q p names given) → OnBoth kept r P → OnBoth kept r Q
+pub map_both : (kept : Files) (r : Plan) (P Q : Program → TextsView → Contents → Type 0) → ((p : Program) (names : TextsView) (given : Contents) → P p names given → Q p names given) → OnBoth kept r P → OnBoth kept r Q
 map_both kept r P Q go h = record {
   source = h.source;
   given = h.given;

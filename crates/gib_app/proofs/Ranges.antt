@@ -22,12 +22,12 @@ use Rattle.clap.proofs.ValueTestLemmas.{accepts-Accepts}
 use Rattle.clap.proofs.WalkLemmas.{both}
 use Rattle.gib_locked.specs.Limits.{are_settings}
 use Rattle.gib_app.specs.declared.plan.Job.{Job}
-use Rattle.gib_app.specs.declared.plan.Job.TheVariants.{Run, Plain, Check, Core, Code, Pack, Show, Gen, Trace, Replay}
+use Rattle.gib_app.specs.declared.plan.Job.TheVariants.{Run, Plain, Check, Core, Code, Pack, Show, Gen, Trace, Replay, Local}
 use Rattle.gib_app.specs.declared.plan.Options.{Options}
 use Rattle.gib_app.specs.Plan.{Document, Plan}
 use Rattle.gib_app.specs.Ranges.{AreInRange, AreOfRun, AreOfMade}
 use Rattle.gib_app.specs.Words.{Target, NoTarget, AtPlace, ByOption, Form, app_for, asked, asked_by_command, byte_of, byte_or, command_set, file_in, file_of, gen_app, made_plan, made_requested, number_in, number_or, options_of, pack_in, planned, requested, target_in, usual, with_value, word_of}
-use Rattle.gib_app.specs.Words.{check_form, code_form, core_form, pack_form, plain_form, replay_form, run_form, show_form, trace_form}
+use Rattle.gib_app.specs.Words.{check_form, code_form, core_form, local_form, pack_form, plain_form, replay_form, run_form, show_form, trace_form}
 use Rattle.gib_app.proofs.Asking.{found_in}
 use Rattle.gib_app.proofs.Filling.{AllFilled, AllKnown, AllOf, Filled, Known, is_valued, level_filled}
 
@@ -208,6 +208,12 @@ replay_keeps : Keeps (built_form replay_form)
 unfolding clap_on_literals
 replay_keeps words passes = planned_within Replay (Some (codes "input")) (Some (codes "journal")) (ByOption (codes "image")) None (rows_after (built_form replay_form).rules [] words) tt
 
+local_keeps : Keeps (built_form local_form)
+unfolding clap_on_literals
+local_keeps words passes =
+    planned_within Local (Some (codes "input")) None NoTarget None (rows_after (built_form local_form).rules [] words)
+    (run_within (built_form local_form) words ((refl, refl), ((refl, refl), ((refl, refl), ((refl, refl), ((refl, refl), ((refl, refl), tt)))))) passes (_, refl, refl, refl) (_, refl, refl, refl) (_, refl, refl, refl) (_, refl, refl, refl))
+
 gen_known : AllOf (Known built_gen.rules) built_gen.rules
 unfolding clap_on_literals
 gen_known = ((refl, refl), ((refl, refl), ((refl, refl), ((refl, refl), ((refl, refl), ((refl, refl), ((refl, refl), ((refl, refl), ((refl, refl), tt)))))))))
@@ -223,7 +229,7 @@ gen_keeps words passes =
 
 all_keep : AllOf Keeps (built command_set).subs
 unfolding clap_on_literals
-all_keep = (run_keeps, (plain_keeps, (check_keeps, (core_keeps, (code_keeps, (pack_keeps, (show_keeps, (trace_keeps, (replay_keeps, (gen_keeps, tt))))))))))
+all_keep = (run_keeps, (plain_keeps, (check_keeps, (core_keeps, (code_keeps, (pack_keeps, (show_keeps, (trace_keeps, (replay_keeps, (local_keeps, (gen_keeps, tt)))))))))))
 
 entered_within : (a : App) (stop : Option (Text × List Text)) → AllOf Keeps a.subs → entered_passes a stop ≡ true → MatchOption (option_and_then (λ e. requested e.0 e.1) (entered a stop)) ⊤ InRange
 entered_within a None keeps passes = tt

@@ -14,6 +14,7 @@ use Rattle.gib_file.specs.Framed.{Content, File, Framed, HasMagic, IsFirstFault}
 use Rattle.gib_file.specs.Agreeing.{IsSchemaFault}
 use Rattle.gib_file.specs.Describing.{Agrees, Differs}
 use Rattle.gib_file.specs.Reading.{Fails, read_all}
+use Rattle.gib_core.specs.Tree.{CoreTree}
 use Rattle.gib_syntax.specs.Tree.{ProgramTree}
 use Rattle.gib_syntax.specs.Declarations.{table_of_program, input_type}
 use Rattle.gib_app.specs.declared.input_fault.InputFault.TheVariants as input
@@ -23,7 +24,7 @@ use Rattle.gib_app.specs.declared.stop.Stop.{Stop}
 use Rattle.gib_app.specs.declared.stop.Stop.TheVariants.{Usage, Source, Unread, Input, NoValue, Memory, Unwritten, Unput}
 use Rattle.gib_app.specs.InputFaults.{IsFileFault, IsPayloadFault}
 use Rattle.gib_app.specs.PassFaults.{packed_stop, payload_stop, schema_stop}
-use Rattle.gib_app.specs.MachineRun.{IsMachineStop}
+use Rattle.gib_app.specs.MachineRun.{IsMachineStopBy}
 use Rattle.gib_app.specs.Stops.{IsPackedStop, IsRunStop, IsShowStop}
 use Rattle.gib_app.proofs.Signs.{no_packed_value}
 
@@ -106,12 +107,12 @@ module _ (p : ProgramTree) (names : TextsView) (skips : Bool) (bytes : List ℕ)
   show_stop (Unwritten name) h = h
   show_stop Unput h = h
 
-pub machine_stop : (p : ProgramTree) (names : TextsView) (skips : Bool) (depth forks chunks : ℕ) (bytes : List ℕ) (stop : Stop) → IsRunStop p names bytes stop → IsMachineStop p names skips depth forks chunks bytes stop
-machine_stop p names skips depth forks chunks bytes Usage h = h
-machine_stop p names skips depth forks chunks bytes (Source fault) h = h
-machine_stop p names skips depth forks chunks bytes (Unread name) h = h
-machine_stop p names skips depth forks chunks bytes (Input fault) h = h
-machine_stop p names skips depth forks chunks bytes (NoValue reason) h = absurd h
-machine_stop p names skips depth forks chunks bytes Memory h = h
-machine_stop p names skips depth forks chunks bytes (Unwritten name) h = h
-machine_stop p names skips depth forks chunks bytes Unput h = h
+pub machine_stop : (core : CoreTree) (p : ProgramTree) (names : TextsView) (depth forks chunks : ℕ) (bytes : List ℕ) (stop : Stop) → IsRunStop p names bytes stop → IsMachineStopBy core p names depth forks chunks bytes stop
+machine_stop core p names depth forks chunks bytes Usage h = h
+machine_stop core p names depth forks chunks bytes (Source fault) h = h
+machine_stop core p names depth forks chunks bytes (Unread name) h = h
+machine_stop core p names depth forks chunks bytes (Input fault) h = h
+machine_stop core p names depth forks chunks bytes (NoValue reason) h = absurd h
+machine_stop core p names depth forks chunks bytes Memory h = h
+machine_stop core p names depth forks chunks bytes (Unwritten name) h = h
+machine_stop core p names depth forks chunks bytes Unput h = h

@@ -1,7 +1,7 @@
 -- A call that replays the journal of a trace ends as the call that traced.
 use Rattle.gib_base.specs.Texts.{TextsView}
 use Rattle.std.proofs.Common.{◌≡◌, ◌∙◌, ◌≤◌, refl, sym, ap, subst, ℕ, List, [], ◌∷◌, ◌++◌, length, Option, Some, None, IfSome, MatchOption, ◌⊎◌, inl, inr, Bool, true, false}
-use Rattle.gib_syntax.specs.Tree.{ProgramTree}
+use Rattle.gib_base.specs.declared.token.Dialect.TheVariants as dialect
 use Rattle.gib_code.specs.declared.answer.Reason.{Reason as Why}
 use Rattle.gib_code.specs.declared.answer.Reason.TheVariants as why
 use Rattle.gib_edge.specs.Causes.{Rose, told}
@@ -14,8 +14,9 @@ use Rattle.gib_app.specs.declared.status.Status.{Status}
 use Rattle.gib_app.specs.declared.status.Status.TheVariants as status
 use Rattle.gib_app.specs.Plan.{Document, Named, Plan, Files, bytes_in, Contents}
 use Rattle.gib_app.specs.Writes.{at_reading, AreMade, writes_of}
-use Rattle.gib_app.specs.Formats.{inputs_of}
+use Rattle.gib_app.specs.Formats.{dialect_of, inputs_of}
 use Rattle.gib_app.specs.Words.{asked}
+use Rattle.gib_app.specs.Running.{Program}
 use Rattle.gib_app.specs.Jobs.{End, Prints, NoValue, Does, MakesTrace, without_image}
 use Rattle.gib_app.specs.Causes.{OnProgram, OnBoth, EndsWithout, AsksProgram, IsStored, IsUnread}
 use Rattle.gib_app.specs.Ending.{IsEnding, AreTold, HasText, DueOfFiles, DueWithout, TakesAll, IsDue, AsksRun, IsDueOrScarce}
@@ -30,15 +31,15 @@ asked_is o r P e h = let Q : Option Plan → Type 0 = λ x. MatchOption x ⊥ P 
 
 -- what holds of the files of a plan holds of their bytes, where these are told
 of_told : (kept : Files) (r : Plan) (source : List ℕ) (given : Contents) → bytes_in kept r.source ≡ Has source → AreTold kept (inputs_of r) given →
-    (P : ProgramTree → TextsView → Contents → Type 0) → OnBoth kept r P → OnProgram source (λ p names. P p names given)
+    (P : Program → TextsView → Contents → Type 0) → OnBoth kept r P → OnProgram (dialect_of r.job) source (λ p names. P p names given)
 of_told kept r source given source_is given_is P h =
     let es = same_bytes (bytes_in kept r.source) source h.source source_is h.source_held in
     let ei = same_given kept (inputs_of r) given h.given given_is h.given_held in
-    let S : List ℕ → Type 0 = λ s. OnProgram s (λ p names. P p names h.given) in
-    let I : Contents → Type 0 = λ i. OnProgram source (λ p names. P p names i) in
+    let S : List ℕ → Type 0 = λ s. OnProgram (dialect_of r.job) s (λ p names. P p names h.given) in
+    let I : Contents → Type 0 = λ i. OnProgram (dialect_of r.job) source (λ p names. P p names i) in
     subst I ei (subst S es h.holds)
 
-map_program : (source : List ℕ) (P Q : ProgramTree → TextsView → Type 0) → ((p : ProgramTree) (names : TextsView) → P p names → Q p names) → OnProgram source P → OnProgram source Q
+map_program : (source : List ℕ) (P Q : Program → TextsView → Type 0) → ((p : Program) (names : TextsView) → P p names → Q p names) → OnProgram dialect.Source source P → OnProgram dialect.Source source Q
 map_program source P Q go h = record { texts = h.texts; program = h.program; is_program = h.is_program; holds = go h.program h.texts h.holds }
 
 -- what was written is what stands there
@@ -47,7 +48,7 @@ told_is true bytes journal held e f = let both = sym e ∙ f in cc
 told_is false bytes journal held e f = let both = sym e ∙ f in cc
 
 -- a trace that ends makes the journal, which is what stands there
-left_by : (tells : Bool) (before left : Files) (name journal : List ℕ) (o : Options) (p : ProgramTree) (names : TextsView) (given : Contents) (file : Option (List ℕ)) (e : End) → left name ≡ Has journal →
+left_by : (tells : Bool) (before left : Files) (name journal : List ℕ) (o : Options) (p : Program) (names : TextsView) (given : Contents) (file : Option (List ℕ)) (e : End) → left name ≡ Has journal →
     AreMade tells before left (writes_of file (Some name) ++ []) → (file ≡ None → ⊥) → Does Trace o p names given file e → Does Trace o p names given (Some journal) e
 left_by tells before left name journal o p names given None e is made stored h = absurd (stored refl)
 left_by tells before left name journal o p names given (Some bytes) e is made stored h =
@@ -62,17 +63,18 @@ is_stored : (name : List ℕ) (file : Option (List ℕ)) → IsStored (Some name
 is_stored name None h e = h
 is_stored name (Some bytes) h e = cc
 
-makes_some : (o : Options) (p : ProgramTree) (names : TextsView) (given : Contents) (why : Why) (file : Option (List ℕ)) → Does Trace o p names given file (NoValue (Meant why)) → file ≡ None → ⊥
+makes_some : (o : Options) (p : Program) (names : TextsView) (given : Contents) (why : Why) (file : Option (List ℕ)) → Does Trace o p names given file (NoValue (Meant why)) → file ≡ None → ⊥
 makes_some o p names given why None h e = h.0
 makes_some o p names given why (Some bytes) h e = cc
 
 -- no run is asked for
 no_run : (words : List (List ℕ)) (program packed : Document) (name : List ℕ) (image : Option (List ℕ)) (others : Options) → asked words ≡ Some (replay_plan program packed name image others) → AsksRun words → ⊥
 no_run words program packed name image others e h =
-    elim (asked_is (asked words) (replay_plan program packed name image others) (λ r. (r.job ≡ job.Run) ⊎ (r.job ≡ job.Gen) ⊎ (r.job ≡ Trace)) e h) [
+    elim (asked_is (asked words) (replay_plan program packed name image others) (λ r. (r.job ≡ job.Run) ⊎ (r.job ≡ job.Gen) ⊎ (r.job ≡ Trace) ⊎ (r.job ≡ job.Local)) e h) [
       | inl is ↦ cc
       | inr (inl is) ↦ cc
-      | inr (inr is) ↦ cc
+      | inr (inr (inl is)) ↦ cc
+      | inr (inr (inr is)) ↦ cc
     ]
 
 due_alone : (words : List (List ℕ)) (program packed : Document) (name : List ℕ) (image : Option (List ℕ)) (others : Options) → asked words ≡ Some (replay_plan program packed name image others) → (due end' : Status) →
@@ -99,7 +101,7 @@ module _ (laws : Laws) (tells : Bool) (words again : List (List ℕ)) (before le
   all_read quiet file (inr (inl h)) = let R : List ℕ → Type 0 = λ x. Rose (later.reads x) (now.reads x) in quiet.journal_read (subst R (sym h.0) h.1)
   all_read quiet file (inr (inr h)) = h
 
-  due_of : NoneFails r.program r.packed r.name r.image later now out_later out_now → (P : ProgramTree → TextsView → Contents → Type 0) → OnProgram r.source (λ p names. P p names given_again) → DueOfFiles tells later now second P
+  due_of : NoneFails r.program r.packed r.name r.image later now out_later out_now → (P : Program → TextsView → Contents → Type 0) → OnProgram dialect.Source r.source (λ p names. P p names given_again) → DueOfFiles tells later now second P
   due_of quiet P on = record {
     source = r.source;
     given = given_again;
@@ -116,11 +118,11 @@ module _ (laws : Laws) (tells : Bool) (words again : List (List ℕ)) (before le
   one_written name file packed none made = let P : Option (List ℕ) → Type 0 = λ q. AreMade tells before.kept left.kept (writes_of file (Some name) ++ writes_of q None) in subst P none made
 
   -- what the first call made
-  abbrev Traced : List ℕ → ProgramTree → TextsView → Type 0
+  abbrev Traced : List ℕ → Program → TextsView → Type 0
   Traced text p names = Does Trace r.options p names given (Some r.journal) (Prints text)
 
   traced : (said : List ℕ) → IsEnding tells words before left out out_left status.Done said →
-      (text : List ℕ) × ((front : List ℕ) → out.taken ≡ Some front → out_left.taken ≡ Some (front ++ text)) × OnProgram r.source (Traced text)
+      (text : List ℕ) × ((front : List ℕ) → out.taken ≡ Some front → out_left.taken ≡ Some (front ++ text)) × OnProgram dialect.Source r.source (Traced text)
   traced said h =
       let P : Plan → Type 0 = λ q. OnBoth (at_reading tells before.kept q) q (Whole tells before left out out_left q) in
       let on = of_told before.kept first r.source given r.source_is (r.input_is, refl) (Whole tells before left out out_left first) (asked_is (asked words) first P r.traces h.0) in
@@ -137,18 +139,18 @@ module _ (laws : Laws) (tells : Bool) (words again : List (List ℕ)) (before le
         },
       )
 
-  again_printed : (text : List ℕ) (p : ProgramTree) (names : TextsView) → Traced text p names → HasText second p names given_again
-  again_printed text p names h = (None, text, replays_again laws.filed p names r.options r.others given r.journal (Prints text) r.short h, (None, refl))
+  again_printed : (text : List ℕ) (p : Program) (names : TextsView) → Traced text p names → HasText second p names given_again
+  again_printed text p names h = (None, text, replays_again laws.filed p.tree names r.options r.others given r.journal (Prints text) r.short h, (None, refl))
 
   -- what the second call put, where it ends well
-  put_again : (said : List ℕ) (text front_later : List ℕ) → OnProgram r.source (Traced text) → out_later.taken ≡ Some front_later → IsEnding tells again later now out_later out_now status.Done said → out_now.taken ≡ Some (front_later ++ text)
+  put_again : (said : List ℕ) (text front_later : List ℕ) → OnProgram dialect.Source r.source (Traced text) → out_later.taken ≡ Some front_later → IsEnding tells again later now out_later out_now status.Done said → out_now.taken ≡ Some (front_later ++ text)
   put_again said text front_later on_first begins h =
       let P : Plan → Type 0 = λ q. OnBoth (at_reading tells later.kept q) q (Whole tells later now out_later out_now q) in
       let on = of_told later.kept second r.source given_again r.source_again (r.input_again, (r.journal_is, refl)) (Whole tells later now out_later out_now second) (asked_is (asked again) second P r.replays h.0) in
-      let both = together laws r.source (Traced text) (λ p names. Whole tells later now out_later out_now second p names given_again) on_first on in
+      let both = together laws dialect.Source r.source (Traced text) (λ p names. Whole tells later now out_later out_now second p names given_again) on_first on in
       let other = both.3.0 in
       let made = both.3.1 in
-      let same : Prints text ≡ Prints other = same_end laws.filed both.0 both.1 r.options r.others given r.journal made.ended.file (Prints text) (Prints other) r.short both.2 made.ended.does in
+      let same : Prints text ≡ Prints other = same_end laws.filed both.0.tree both.1 r.options r.others given r.journal made.ended.file (Prints text) (Prints other) r.short both.2 made.ended.does in
       let texts : other ≡ text = cc in
       let T : Option (List ℕ) → Type 0 = λ t. IfSome t (λ front. out_now.taken ≡ Some (front ++ other)) in
       let X : List ℕ → Type 0 = λ x. out_now.taken ≡ Some (front_later ++ x) in
@@ -170,10 +172,10 @@ module _ (laws : Laws) (tells : Bool) (words again : List (List ℕ)) (before le
       ]
 
   -- what the first call made where the program means no value
-  abbrev Valueless : Why → ProgramTree → TextsView → Type 0
+  abbrev Valueless : Why → Program → TextsView → Type 0
   Valueless x p names = Does Trace r.options p names given (Some r.journal) (NoValue (Meant x))
 
-  stopped_at : (x : Why) → AsksProgram tells words before.kept (EndsWithout tells before left (Meant x)) → OnProgram r.source (Valueless x)
+  stopped_at : (x : Why) → AsksProgram tells words before.kept (EndsWithout tells before left (Meant x)) → OnProgram dialect.Source r.source (Valueless x)
   stopped_at x h =
       let P : Plan → Type 0 = λ q. OnBoth (at_reading tells before.kept q) q (EndsWithout tells before left (Meant x) q) in
       let on = of_told before.kept first r.source given r.source_is (r.input_is, refl) (EndsWithout tells before left (Meant x) first) (asked_is (asked words) first P r.traces h) in
@@ -185,13 +187,13 @@ module _ (laws : Laws) (tells : Bool) (words again : List (List ℕ)) (before le
         holds = left_by tells before.kept left.kept r.name r.journal r.options on.program on.texts given ended.file (NoValue (Meant x)) r.journal_left (one_written r.name ended.file ended.packed ended.packs ended.written) (makes_some r.options on.program on.texts given x ended.file ended.does) ended.does;
       }
 
-  again_valueless : NoneFails r.program r.packed r.name r.image later now out_later out_now → (x : Why) (p : ProgramTree) (names : TextsView) → Valueless x p names → DueWithout later now (Meant x) second p names given_again
+  again_valueless : NoneFails r.program r.packed r.name r.image later now out_later out_now → (x : Why) (p : Program) (names : TextsView) → Valueless x p names → DueWithout later now (Meant x) second p names given_again
   again_valueless quiet x p names h = (
-    (None, replays_again laws.filed p names r.options r.others given r.journal (NoValue (Meant x)) r.short h),
+    (None, replays_again laws.filed p.tree names r.options r.others given r.journal (NoValue (Meant x)) r.short h),
     (λ name bytes named does. quiet.image_written name named),
   )
 
-  due_none : NoneFails r.program r.packed r.name r.image later now out_later out_now → (x : Why) → OnProgram r.source (Valueless x) → DueNone tells later now x second
+  due_none : NoneFails r.program r.packed r.name r.image later now out_later out_now → (x : Why) → OnProgram dialect.Source r.source (Valueless x) → DueNone tells later now x second
   due_none quiet x on = due_of quiet (DueWithout later now (Meant x) second) (map_program r.source (Valueless x) (λ p names. DueWithout later now (Meant x) second p names given_again) (again_valueless quiet x) on)
 
   pub repeats_deep : (said said_later : List ℕ) (end' : Status) → NoneFails r.program r.packed r.name r.image later now out_later out_now →

@@ -23,7 +23,7 @@ use Rattle.gib_app.specs.Cores.{layouts_of}
 use Rattle.gib_app.specs.Jobs.{End, Prints, NoValue, Does, without_image}
 use Rattle.gib_app.specs.Plan.{Contents}
 use Rattle.gib_app.specs.Replaying.{IsEndOf, IsShownEnd, IsTrace, IsValueless, OnJournal, journal_in, root_in}
-use Rattle.gib_app.specs.Running.{IsOutput, MeansNone, text_line}
+use Rattle.gib_app.specs.Running.{IsOutput, MeansNone, sourced, text_line}
 use Rattle.gib_app.proofs.Replays.{OneValue, both_on, some_or_none, shown_or_valueless, shown_or_full, one_valueless, valueless_or_full}
 
 -- An answer where a value is owed is a root, and one where none is says why.
@@ -97,15 +97,15 @@ one_outcome o u v e f = let both = sym e ∙ f in cc
 
 module _ (one : OneValue) (p : ProgramTree) (names : TextsView) where
   -- the journal is replayed to the same end
-  pub replays_again : (o a : Options) (given : Contents) (bytes : List ℕ) (e : End) → length bytes ≤ 16777216 → Does Trace o p names given (Some bytes) e →
-      Does Replay (without_image a) p names (record { second = given.second; further = bytes ∷ [] }) None e
+  pub replays_again : (o a : Options) (given : Contents) (bytes : List ℕ) (e : End) → length bytes ≤ 16777216 → Does Trace o (sourced p) names given (Some bytes) e →
+      Does Replay (without_image a) (sourced p) names (record { second = given.second; further = bytes ∷ [] }) None e
   replays_again o a given bytes (Prints text) short h = shown_again one p names o given.second bytes short h.0 text h.1
   replays_again o a given bytes (NoValue (Meant why)) short h = (refl, stopped_again one p names o given.second bytes short h.0 why h.1)
   replays_again o a given bytes (NoValue Full) short h = absurd (some_or_none bytes h.0)
   replays_again o a given bytes (NoValue Long) short h = absurd h
 
   -- and to no other one
-  one_end : (o a : Options) (given : Contents) (file other : Option (List ℕ)) (e f : End) → Does Replay o p names given file e → Does Replay a p names given other f → e ≡ f
+  one_end : (o a : Options) (given : Contents) (file other : Option (List ℕ)) (e f : End) → Does Replay o (sourced p) names given file e → Does Replay a (sourced p) names given other f → e ≡ f
   one_end o a given file other (Prints x) (Prints y) h k =
       let both = both_on one p given.second (journal_in given) (IsShownEnd p names o.image file x) (IsShownEnd p names a.image other y) h k in
       let shown = both.3 in
@@ -125,7 +125,7 @@ module _ (one : OneValue) (p : ProgramTree) (names : TextsView) where
   one_end o a given file other (NoValue Full) (NoValue Long) h k = absurd k
   one_end o a given file other (NoValue Long) e h k = absurd h
 
-  pub same_end : (o a : Options) (given : Contents) (bytes : List ℕ) (file : Option (List ℕ)) (e f : End) → length bytes ≤ 16777216 → Does Trace o p names given (Some bytes) e →
-      Does Replay a p names (record { second = given.second; further = bytes ∷ [] }) file f → e ≡ f
+  pub same_end : (o a : Options) (given : Contents) (bytes : List ℕ) (file : Option (List ℕ)) (e f : End) → length bytes ≤ 16777216 → Does Trace o (sourced p) names given (Some bytes) e →
+      Does Replay a (sourced p) names (record { second = given.second; further = bytes ∷ [] }) file f → e ≡ f
   same_end o a given bytes file e f short h k =
       one_end (without_image a) a (record { second = given.second; further = bytes ∷ [] }) None file e f (replays_again o a given bytes e short h) k

@@ -13,6 +13,7 @@ use Rattle.gib_packed.specs.Stands.{Stands, a_whole, a_truth, a_tree}
 use Rattle.gib_file.specs.Framed.{File}
 use Rattle.gib_file.specs.Packed.{Packed, IsPacked}
 use Rattle.gib_file.specs.Surveyed.{Surveyed}
+use Rattle.gib_lower.specs.Lowering.{lower_program}
 use Rattle.gib_load.specs.Holding.{Holding}
 use Rattle.gib_load.specs.Placement.{placed_in, begun, Placement}
 use Rattle.gib_load.specs.Preorder.{heads}
@@ -25,9 +26,10 @@ use Rattle.gib_core.specs.Cost.{Cost, run_cost, body_cost}
 use Rattle.gib_core.specs.Low.{laid_of}
 use Rattle.gib_core.specs.LoweredParts.{LoweredParts}
 use Rattle.gib_core.specs.Meaning.{core_run}
-use Rattle.gib_core.specs.Parts.{core_of}
+use Rattle.gib_core.specs.Parts.{Parts, core_of}
 use Rattle.gib_core.specs.Tight.{Tight}
 use Rattle.gib_core.specs.Tree.{CoreTree}
+use Rattle.gib_code.specs.Program.{CodeTree}
 use Rattle.gib_code.specs.declared.answer.Answer.{Answer}
 use Rattle.gib_code.specs.declared.answer.Answer.TheVariants as answer
 use Rattle.gib_code.specs.declared.answer.Reason.{Reason as Why}
@@ -45,8 +47,8 @@ use Rattle.gib_app.specs.declared.stop.Stop.TheVariants as stop
 use Rattle.gib_app.specs.Cores.{core_after, layouts_of}
 use Rattle.gib_app.specs.Replaying.{root_in}
 use Rattle.gib_app.specs.Running.{IsInput}
-use Rattle.gib_app.specs.Stops.{IsRunStop}
-use Rattle.gib_app.specs.MachineRun.{cells_of, StandsMeant, LacksValue, IsMachineStop, IsRootOf, Lacks, Halts, EndsWith, program_cost}
+use Rattle.gib_app.specs.Stops.{IsPackedStop, IsRunStop}
+use Rattle.gib_app.specs.MachineRun.{cells_of, StandsMeant, RunsFor, LacksValueBy, IsMachineStop, IsMachineStopBy, IsRootOf, Lacks, Halts, EndsWith, program_cost}
 
 -- A value that was loaded is where a run may start.
 pub start_of : (l : LoweredParts) (laid : LaidOut) (ty : Ty) (v : Datum) (m : Memory) (place : Root) (tails : List ℕ) → laid ≡ l.code.laid → ty ≡ (core_of l.core).main.parameter
@@ -161,39 +163,47 @@ table_laid p skips laid e = ap (λ (x : LaidOut). x.table) e
 pub parameter_of : (p : ProgramTree) (skips : Bool) (l : LoweredParts) → core_of l.core ≡ core_after skips 4 p → (core_of l.core).main.parameter ≡ input_type p
 parameter_of p skips l e = ap (λ (c : CoreTree). c.main.parameter) e
 
-pub root_meant : {names : TextsView} (p : ProgramTree) (skips : Bool) (depth : ℕ) (input : List ℕ) (v : Datum) (l l' : LoweredParts) (s : Store) (place : Root) → IsOfProgram p skips l → IsInput p names v input → l' ≡ l
-    → IsRootOf l.code.laid s (core_of l.core).main.result (core_run (core_of l.core) depth v) place → StandsMeant p names depth input l'.code.laid s place
-root_meant {names} p skips depth input v l l' s place of is e h =
-    let there : StandsMeant p names depth input l.code.laid s place = record {
-      value = v;
-      result = h.result;
-      is_input = is;
-      means = sym (of.means depth v) ∙ h.means;
-      table = table_laid p skips l.code.laid of.laid;
-      stands = subst (λ (t : Ty). Stands l.code.laid s place t h.result) (ap (λ (c : CoreTree). c.main.result) of.core) h.stands;
-    } in
-    subst (λ (x : LoweredParts). StandsMeant p names depth input x.code.laid s place) (sym e) there
+-- What was lowered is a core that runs in a program's place.
+pub record IsOfCore (core : CoreTree) (p : ProgramTree) (l : LoweredParts) : Type 0 where
+  pub core_is : core_of l.core ≡ core
+  pub means : (depth : ℕ) (v : Datum) → core_run (core_of l.core) depth v ≡ run p depth v
+  pub table : l.code.laid.table ≡ table_of_program p
+  pub result : core.main.result ≡ output_type p
 
-lacks_meant : {names : TextsView} (p : ProgramTree) (skips : Bool) (depth forks chunks : ℕ) (input : List ℕ) (v : Datum) (l : LoweredParts) → IsOfProgram p skips l → IsInput p names v input → (why : Reason)
-    → Lacks (core_run (core_of l.core) depth v) chunks (run_cost (core_of l.core) depth forks v) why → LacksValue p names skips depth forks chunks input why
-lacks_meant p skips depth forks chunks input v l of is (reason.Meant other) h = record { value = v; is_input = is; means = sym (of.means depth v) ∙ h }
-lacks_meant p skips depth forks chunks input v l of is reason.Full h = record {
+pub of_program : (p : ProgramTree) (skips : Bool) (l : LoweredParts) → IsOfProgram p skips l → IsOfCore (core_after skips 4 p) p l
+of_program p skips l of = record { core_is = of.core; means = of.means; table = table_laid p skips l.code.laid of.laid; result = refl }
+
+pub root_meant : {names : TextsView} (core : CoreTree) (p : ProgramTree) (depth : ℕ) (input : List ℕ) (v : Datum) (l : LoweredParts) (s : Store) (place : Root) → IsOfCore core p l → IsInput p names v input
+    → IsRootOf l.code.laid s (core_of l.core).main.result (core_run (core_of l.core) depth v) place → StandsMeant p names depth input l.code.laid s place
+root_meant core p depth input v l s place of is h = record {
+  value = v;
+  result = h.result;
+  is_input = is;
+  means = sym (of.means depth v) ∙ h.means;
+  table = of.table;
+  stands = subst (λ (t : Ty). Stands l.code.laid s place t h.result) (ap (λ (c : CoreTree). c.main.result) of.core_is ∙ of.result) h.stands;
+}
+
+lacks_meant : {names : TextsView} (core : CoreTree) (p : ProgramTree) (depth forks chunks : ℕ) (input : List ℕ) (v : Datum) (l : LoweredParts) → IsOfCore core p l → IsInput p names v input → (why : Reason)
+    → Lacks (core_run (core_of l.core) depth v) chunks (run_cost (core_of l.core) depth forks v) why → LacksValueBy core p names depth forks chunks input why
+lacks_meant core p depth forks chunks input v l of is (reason.Meant other) h = record { value = v; is_input = is; means = sym (of.means depth v) ∙ h }
+lacks_meant core p depth forks chunks input v l of is reason.Full h = record {
   value = v;
   is_input = is;
-  tight = subst (λ (c : CoreTree). Tight chunks (run_cost c depth forks v)) of.core h;
+  tight = subst (λ (c : CoreTree). Tight chunks (run_cost c depth forks v)) of.core_is h;
 }
-lacks_meant p skips depth forks chunks input v l of is reason.Long h = h
+lacks_meant core p depth forks chunks input v l of is reason.Long h = h
 
-pub stop_meant : {names : TextsView} (p : ProgramTree) (skips : Bool) (depth forks chunks : ℕ) (input : List ℕ) (v : Datum) (l : LoweredParts) → IsOfProgram p skips l → IsInput p names v input → (why : Stop)
-    → Halts (core_run (core_of l.core) depth v) chunks (run_cost (core_of l.core) depth forks v) why → IsMachineStop p names skips depth forks chunks input why
-stop_meant p skips depth forks chunks input v l of is stop.Usage h = h
-stop_meant p skips depth forks chunks input v l of is (stop.Source fault) h = h
-stop_meant p skips depth forks chunks input v l of is (stop.Unread name) h = h
-stop_meant p skips depth forks chunks input v l of is (stop.Input fault) h = absurd h
-stop_meant p skips depth forks chunks input v l of is (stop.NoValue why) h = lacks_meant p skips depth forks chunks input v l of is why h
-stop_meant p skips depth forks chunks input v l of is stop.Memory h = h
-stop_meant p skips depth forks chunks input v l of is (stop.Unwritten name) h = h
-stop_meant p skips depth forks chunks input v l of is stop.Unput h = h
+pub stop_meant : {names : TextsView} (core : CoreTree) (p : ProgramTree) (depth forks chunks : ℕ) (input : List ℕ) (v : Datum) (l : LoweredParts) → IsOfCore core p l → IsInput p names v input → (why : Stop)
+    → Halts (core_run (core_of l.core) depth v) chunks (run_cost (core_of l.core) depth forks v) why → IsMachineStopBy core p names depth forks chunks input why
+stop_meant core p depth forks chunks input v l of is stop.Usage h = h
+stop_meant core p depth forks chunks input v l of is (stop.Source fault) h = h
+stop_meant core p depth forks chunks input v l of is (stop.Unread name) h = h
+stop_meant core p depth forks chunks input v l of is (stop.Input fault) h = absurd h
+stop_meant core p depth forks chunks input v l of is (stop.NoValue why) h = lacks_meant core p depth forks chunks input v l of is why h
+stop_meant core p depth forks chunks input v l of is stop.Memory h = h
+stop_meant core p depth forks chunks input v l of is (stop.Unwritten name) h = h
+stop_meant core p depth forks chunks input v l of is stop.Unput h = h
 
 -- A survey's value is the input.
 pub input_of : {names : TextsView} (p : ProgramTree) (input : List ℕ) (s : Surveyed) → length input ≤ 16777216 → ((v : Datum) → Packed s.table s.ty v s.bytes → File (table_of_program p) names.long (input_type p) v input)
@@ -206,7 +216,9 @@ pub survey_stands : (names : TextsView) (p : ProgramTree) (skips : Bool) (depth 
     → IfOk r (λ ran. (v : Datum) → Packed s.table s.ty v s.bytes → IsRootOf l.code.laid (cells_of ran.memory) (core_of l.core).main.result (core_run (core_of l.core) depth v) ran.root)
     → IfOk r (λ ran. StandsMeant p names depth input ran.lowered.code.laid (cells_of ran.memory) ran.root)
 survey_stands names p skips depth input s l of short packed file (Ok ran) same ends =
-    root_meant p skips depth input packed.0 l ran.lowered (cells_of ran.memory) ran.root of (input_of {names = names} p input s short file packed.0 packed.1) same (ends packed.0 packed.1)
+    let there : StandsMeant p names depth input l.code.laid (cells_of ran.memory) ran.root =
+    root_meant (core_after skips 4 p) p depth input packed.0 l (cells_of ran.memory) ran.root (of_program p skips l of) (input_of {names = names} p input s short file packed.0 packed.1) (ends packed.0 packed.1) in
+    subst (λ (x : LoweredParts). StandsMeant p names depth input x.code.laid (cells_of ran.memory) ran.root) (sym same) there
 survey_stands names p skips depth input s l of short packed file (Err why) same ends = tt {0}
 
 pub survey_stops : (names : TextsView) (p : ProgramTree) (skips : Bool) (depth forks chunks : ℕ) (input : List ℕ) (s : Surveyed) (l : LoweredParts) → IsOfProgram p skips l → length input ≤ 16777216 → IsPacked s.table s.ty s.bytes s.count
@@ -214,7 +226,30 @@ pub survey_stops : (names : TextsView) (p : ProgramTree) (skips : Bool) (depth f
     → IfErr r (λ why. (v : Datum) → Packed s.table s.ty v s.bytes → Halts (core_run (core_of l.core) depth v) chunks (run_cost (core_of l.core) depth forks v) why)
     → IfErr r (IsMachineStop p names skips depth forks chunks input)
 survey_stops names p skips depth forks chunks input s l of short packed file (Ok ran) ends = tt {0}
-survey_stops names p skips depth forks chunks input s l of short packed file (Err why) ends = stop_meant p skips depth forks chunks input packed.0 l of (input_of {names = names} p input s short file packed.0 packed.1) why (ends packed.0 packed.1)
+survey_stops names p skips depth forks chunks input s l of short packed file (Err why) ends =
+    stop_meant (core_after skips 4 p) p depth forks chunks input packed.0 l (of_program p skips l of) (input_of {names = names} p input s short file packed.0 packed.1) why (ends packed.0 packed.1)
+
+-- The run of a core that is written out, in a program's place.
+module _ (core : CoreTree) (p : ProgramTree) (names : TextsView) (runs : RunsFor core p names) where
+  -- what is lowered of it
+  pub located_of : (checked : Parts) (l : LoweredParts) → core ≡ core_of checked → l.core ≡ checked → l.code ≡ lower_program (core_of checked) → IsOfCore core p l
+  located_of checked l same is code =
+      let e : core_of l.core ≡ core = ap core_of is ∙ sym same in
+      record {
+        core_is = e;
+        means = λ depth v. ap (λ (c : CoreTree). core_run c depth v) e ∙ runs.means depth v;
+        table = ap (λ (c : CodeTree). c.laid.table) code ∙ ap (λ (c : CoreTree). c.table) (sym same) ∙ runs.table;
+        result = runs.result;
+      }
+
+  -- a survey by its table and the type of its main's parameter
+  pub located_file : (table : Table) (ty : Ty) (input : List ℕ) (s : Surveyed) → table ≡ core.table → ty ≡ core.main.parameter → ((v : Datum) → Packed s.table s.ty v s.bytes → File table names.long ty v input)
+      → (v : Datum) → Packed s.table s.ty v s.bytes → File (table_of_program p) names.long (input_type p) v input
+  located_file table ty input s e f file v q = subst₂ (λ (t : Table) (y : Ty). File t names.long y v input) (e ∙ runs.table) (f ∙ runs.parameter) (file v q)
+
+  pub located_refused : (table : Table) (ty : Ty) (input : List ℕ) (why : Stop) → table ≡ core.table → ty ≡ core.main.parameter → IsPackedStop table names.long ty input why
+      → IsPackedStop (table_of_program p) names.long (input_type p) input why
+  located_refused table ty input why e f h = subst₂ (λ (t : Table) (y : Ty). IsPackedStop t names.long y input why) (e ∙ runs.table) (f ∙ runs.parameter) h
 
 -- Any value that is the input is the survey's.
 pub survey_only : {names : TextsView} (p : ProgramTree) (skips : Bool) (depth forks chunks : ℕ) (input : List ℕ) (s : Surveyed) (l : LoweredParts) → IsOfProgram p skips l → length input ≤ 16777216 → IsPacked s.table s.ty s.bytes s.count

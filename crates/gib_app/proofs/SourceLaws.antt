@@ -25,7 +25,7 @@ use Rattle.gib_mono.specs.Walk.{Copy, copies_of}
 use Rattle.gib_syntax.specs.Spelling.{Places, Derives, IsPlacedProgram, places_of, levels_program}
 use Rattle.gib_syntax.specs.Source.{Spells}
 use Rattle.gib_app.specs.declared.source_fault.SourceFault.{SourceFault}
-use Rattle.gib_app.specs.declared.source_fault.SourceFault.TheVariants.{Long, BadCharacter, BigNumber, ManyNames, Syntax, Nested, Broken, OverLimit}
+use Rattle.gib_app.specs.declared.source_fault.SourceFault.TheVariants.{Long, BadCharacter, BigNumber, ManyNames, Syntax, Nested, Broken, OverLimit, Misplaced, BreaksRule}
 use Rattle.gib_app.specs.Running.{IsNoProgram}
 use Rattle.gib_app.specs.SourceFaults.{IsSourceFault, HasTokens}
 
@@ -69,6 +69,8 @@ stage source (Nested place) h = Reading h.lexed (TooDeep h.nested.left) h.tokens
 stage source (Broken kind place) h =
     Typing h.lexed h.program h.fault h.spelled h.first (ap (λ k. Broken k place) (sym h.of_kind) ∙ ap (Broken h.fault.kind) (sym h.here))
 stage source (OverLimit place) h = Copying h.lexed h.program h.use_of h.spelled h.typed h.first (ap OverLimit (sym h.here))
+stage source (Misplaced place) h = absurd h
+stage source (BreaksRule n term) h = absurd h
 
 -- a text that is refused by its tokens is no program's
 

@@ -4,13 +4,13 @@ use Rattle.std.specs.Prelude.{◌≡◌, ℕ, ◌⊎◌, List, [], ◌∷◌, le
 use Rattle.gib_edge.specs.Causes.{Rose, IsAllOf, Appends, AppendsPart, PutsPieces, PutsSomePieces}
 use Rattle.gib_edge.specs.Views.{ShelfView, SinkView}
 use Rattle.gib_types.specs.Tree.{Datum}
-use Rattle.gib_syntax.specs.Tree.{ProgramTree}
+use Rattle.gib_base.specs.declared.token.Dialect.{Dialect}
 use Rattle.gib_app.specs.declared.made.Reason.{Reason}
 use Rattle.gib_app.specs.Plan.{Document, BuiltIn, Named, Plan, Files, bytes_in, Contents}
 use Rattle.gib_app.specs.Writes.{at_reading, job_writes, AreWritten, IsStuckIn}
 use Rattle.gib_app.specs.Words.{asked}
-use Rattle.gib_app.specs.Running.{IsInput, IsProgram, IsSource}
-use Rattle.gib_app.specs.Formats.{Input, inputs_of}
+use Rattle.gib_app.specs.Running.{Program, IsInput, IsProgramIn, IsSourceIn}
+use Rattle.gib_app.specs.Formats.{Input, inputs_of, dialect_of}
 use Rattle.gib_app.specs.Jobs.{End, Prints, NoValue, Does, DoesPack, DoesAll}
 
 -- How often reads or writes of names have failed.
@@ -46,40 +46,40 @@ pub record OnFiles (kept : Files) (first : Document) (inputs : List Input) (P : 
   pub given_held : AreGiven kept inputs given
   pub holds : P source given
 
--- The source is a program, of which this holds with the texts of its names.
-pub record OnProgram (source : List ℕ) (P : ProgramTree → TextsView → Type 0) : Type 0 where
+-- The source is a program in a dialect, of which this holds with the texts of its names.
+pub record OnProgram (dialect : Dialect) (source : List ℕ) (P : Program → TextsView → Type 0) : Type 0 where
   pub texts : TextsView
-  pub program : ProgramTree
-  pub is_program : IsProgram source texts program
+  pub program : Program
+  pub is_program : IsProgramIn dialect source texts program
   pub holds : P program texts
 
 -- The first input has these bytes; where they are a packed file of a value that the program takes, so have the further ones: else
 -- these are not read.
-abbrev pub AreReached : Files → ProgramTree → TextsView → List Input → Contents → Type 0
+abbrev pub AreReached : Files → Program → TextsView → List Input → Contents → Type 0
 AreReached kept p names [] given = (given.second ≡ []) × (given.further ≡ [])
-AreReached kept p names (input ∷ rest) given = Holds kept input.document given.second × (((v : Datum) × IsInput p names v given.second) → AreFurther kept rest given.further)
+AreReached kept p names (input ∷ rest) given = Holds kept input.document given.second × (((v : Datum) × IsInput p.tree names v given.second) → AreFurther kept rest given.further)
 
 -- The source of a plan is a program, of which this holds with its names and the bytes of the inputs, as far as these are read.
-pub record OnReached (kept : Files) (plan : Plan) (P : ProgramTree → TextsView → Contents → Type 0) : Type 0 where
+pub record OnReached (kept : Files) (plan : Plan) (P : Program → TextsView → Contents → Type 0) : Type 0 where
   pub source : List ℕ
   pub given : Contents
   pub source_held : Holds kept plan.source source
-  pub holds : OnProgram source (λ p names. AreReached kept p names (inputs_of plan) given × P p names given)
+  pub holds : OnProgram (dialect_of plan.job) source (λ p names. AreReached kept p names (inputs_of plan) given × P p names given)
 
--- The words are taken, and this holds of the bytes of the source that they name.
-abbrev pub AsksSource : Bool → List (List ℕ) → Files → (List ℕ → Type 0) → Type 0
-AsksSource tells words kept P = MatchOption (asked words) ⊥ (λ plan. OnSource (at_reading tells kept plan) plan.source P)
+-- The words are taken, and this holds of the bytes of the source that they name, in the dialect in which they are read.
+abbrev pub AsksSource : Bool → List (List ℕ) → Files → (Dialect → List ℕ → Type 0) → Type 0
+AsksSource tells words kept P = MatchOption (asked words) ⊥ (λ plan. OnSource (at_reading tells kept plan) plan.source (P (dialect_of plan.job)))
 
 -- The source of a plan is a program, of which this holds with its names and the bytes of the inputs.
-abbrev pub OnBoth : Files → Plan → (ProgramTree → TextsView → Contents → Type 0) → Type 0
-OnBoth kept plan P = OnFiles kept plan.source (inputs_of plan) (λ source given. OnProgram source (λ p names. P p names given))
+abbrev pub OnBoth : Files → Plan → (Program → TextsView → Contents → Type 0) → Type 0
+OnBoth kept plan P = OnFiles kept plan.source (inputs_of plan) (λ source given. OnProgram (dialect_of plan.job) source (λ p names. P p names given))
 
 -- The words are taken, and the same holds of their plan.
-abbrev pub AsksProgram : Bool → List (List ℕ) → Files → (Plan → ProgramTree → TextsView → Contents → Type 0) → Type 0
+abbrev pub AsksProgram : Bool → List (List ℕ) → Files → (Plan → Program → TextsView → Contents → Type 0) → Type 0
 AsksProgram tells words kept P = MatchOption (asked words) ⊥ (λ plan. OnBoth (at_reading tells kept plan) plan (P plan))
 
 -- The job was done and ends so; the file that it made, if any, was written, and then the packed file of its result, if it made one.
-pub record IsEnded (tells : Bool) (before now : Files) (plan : Plan) (p : ProgramTree) (names : TextsView) (given : Contents) (end : End) : Type 0 where
+pub record IsEnded (tells : Bool) (before now : Files) (plan : Plan) (p : Program) (names : TextsView) (given : Contents) (end : End) : Type 0 where
   pub file : Option (List ℕ)
   pub packed : Option (List ℕ)
   pub does : Does plan.job plan.options p names given file end
@@ -93,13 +93,13 @@ IsStored (Some name) None = ⊥
 IsStored (Some name) (Some bytes) = Unit {0}
 
 -- The job was done and ends with a text; the files that it made are written, and each that is asked for is one of them.
-pub record IsMade (tells : Bool) (before now : Files) (plan : Plan) (p : ProgramTree) (names : TextsView) (given : Contents) (text : List ℕ) : Type 0 where
+pub record IsMade (tells : Bool) (before now : Files) (plan : Plan) (p : Program) (names : TextsView) (given : Contents) (text : List ℕ) : Type 0 where
   pub ended : IsEnded tells before now plan p names given (Prints text)
   pub stored : IsStored plan.target ended.file
   pub stored_packed : IsStored plan.pack ended.packed
 
 -- The job ends without a value, for this reason.
-abbrev pub HasNoValue : Reason → Plan → ProgramTree → TextsView → Contents → Type 0
+abbrev pub HasNoValue : Reason → Plan → Program → TextsView → Contents → Type 0
 HasNoValue reason plan p names given = (file : Option (List ℕ)) × Does plan.job plan.options p names given file (NoValue reason)
 
 -- What the words ask for was made, and `out` took it, whole and nothing else, in pieces; what is to be written is written.
@@ -117,11 +117,11 @@ IsPrintedInPart tells words before now out_before out_now =
     × AppendsPart out_before.taken out_now.taken text × PutsSomePieces out_before out_now (length text))
 
 -- The job ends without a value, for this reason; the file that it made, if any, is written, and no packed file of a result.
-abbrev pub EndsWithout : Bool → ShelfView → ShelfView → Reason → Plan → ProgramTree → TextsView → Contents → Type 0
+abbrev pub EndsWithout : Bool → ShelfView → ShelfView → Reason → Plan → Program → TextsView → Contents → Type 0
 EndsWithout tells before now reason plan p names given = IsEnded tells before.kept now.kept plan p names given (NoValue reason)
 
 -- The job makes a file that is to be written under this name, or the packed file of its result, and that write fails.
-pub record IsUnwritten (tells : Bool) (before now : ShelfView) (plan : Plan) (p : ProgramTree) (names : TextsView) (given : Contents) (name : List ℕ) : Type 0 where
+pub record IsUnwritten (tells : Bool) (before now : ShelfView) (plan : Plan) (p : Program) (names : TextsView) (given : Contents) (name : List ℕ) : Type 0 where
   pub file : Option (List ℕ)
   pub packed : Option (List ℕ)
   pub ending : End
@@ -156,12 +156,12 @@ further_of (input ∷ rest) = rest
 
 -- The source of a plan is a program, and the first input a packed file of a value that it takes.
 abbrev pub TakesFirst : Files → Plan → Type 0
-TakesFirst kept plan = OnFiles kept plan.source (first_of (inputs_of plan)) (λ source given. OnProgram source (λ p names. (v : Datum) × IsInput p names v given.second))
+TakesFirst kept plan = OnFiles kept plan.source (first_of (inputs_of plan)) (λ source given. OnProgram (dialect_of plan.job) source (λ p names. (v : Datum) × IsInput p.tree names v given.second))
 
 -- The file of this name could not be read: it is the source; or else the first input, and the source is a program; or else a further
 -- one, and the first is a packed file of a value that the program takes. These are the files that are read.
 abbrev pub FailsToRead : Files → ShelfView → ShelfView → Plan → List ℕ → Type 0
 FailsToRead kept before now plan name =
     IsUnread before now plan.source name
-    ⊎ (AreUnread before now (first_of (inputs_of plan)) name × OnSource kept plan.source IsSource)
+    ⊎ (AreUnread before now (first_of (inputs_of plan)) name × OnSource kept plan.source (IsSourceIn (dialect_of plan.job)))
     ⊎ (AreUnread before now (further_of (inputs_of plan)) name × TakesFirst kept plan)

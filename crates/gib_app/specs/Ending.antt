@@ -5,11 +5,10 @@ use Rattle.std.specs.Option.{option_map_or}
 use Rattle.gib_edge.specs.Causes.{Rose}
 use Rattle.gib_edge.specs.Views.{Has, Missing, ShelfView, SinkView}
 use Rattle.gib_types.specs.Tree.{Datum}
-use Rattle.gib_syntax.specs.Tree.{ProgramTree}
 use Rattle.gib_code.specs.declared.answer.Reason.TheVariants as why
 use Rattle.gib_app.specs.declared.input_fault.InputFault.{InputFault}
 use Rattle.gib_app.specs.declared.plan.Job.{Job}
-use Rattle.gib_app.specs.declared.plan.Job.TheVariants.{Run, Gen, Trace, Replay}
+use Rattle.gib_app.specs.declared.plan.Job.TheVariants.{Run, Gen, Trace, Replay, Local}
 use Rattle.gib_app.specs.declared.source_fault.SourceFault.{SourceFault}
 use Rattle.gib_app.specs.declared.status.Status.{Status}
 use Rattle.gib_app.specs.declared.status.Status.TheVariants.{Done, Source, Usage, Depth, Full, Memory, ReadFault, WriteFault, Input, Trap, Long}
@@ -19,9 +18,9 @@ use Rattle.gib_app.specs.declared.made.Reason.TheVariants.{Meant}
 use Rattle.gib_app.specs.Plan.{Write, Plan, Files, bytes_in, Contents}
 use Rattle.gib_app.specs.Writes.{at_reading, AreMade, IsNamedIn, IsTarget}
 use Rattle.gib_app.specs.Words.{asked}
-use Rattle.gib_app.specs.Running.{IsInput, IsSource, IsNoProgram}
-use Rattle.gib_app.specs.SourceFaults.{IsSourceFault}
-use Rattle.gib_app.specs.Formats.{inputs_of, Accepts, Refuses}
+use Rattle.gib_app.specs.Running.{Program, IsInput, IsSourceIn, IsNoProgramIn}
+use Rattle.gib_app.specs.SourceFaults.{IsSourceFaultIn}
+use Rattle.gib_app.specs.Formats.{inputs_of, dialect_of, Accepts, Refuses}
 use Rattle.gib_app.specs.Formats.{Input as PlanInput}
 use Rattle.gib_app.specs.Lines.{line, source_text, input_text}
 use Rattle.gib_app.specs.Jobs.{End, Prints, NoValue, Does, DoesPack, DoesAll, without_image}
@@ -43,7 +42,7 @@ IsWriteEnding tells words before now out_before out_now said =
 abbrev pub IsEnding : Bool → List (List ℕ) → ShelfView → ShelfView → SinkView → SinkView → Status → List ℕ → Type 0
 IsEnding tells words before now out_before out_now Done said = IsPrinted tells words before now out_before out_now × (said ≡ [])
 IsEnding tells words before now out_before out_now Source said =
-    (fault : SourceFault) × AsksSource tells words before.kept (λ bytes. IsSourceFault bytes fault × IsNoProgram bytes) × (said ≡ line (source_text fault))
+    (fault : SourceFault) × AsksSource tells words before.kept (λ dialect bytes. IsSourceFaultIn dialect bytes fault × IsNoProgramIn dialect bytes) × (said ≡ line (source_text fault))
 IsEnding tells words before now out_before out_now Usage said = (asked words ≡ None) × (said ≡ line (codes "usage"))
 IsEnding tells words before now out_before out_now Depth said = AsksProgram tells words before.kept (EndsWithout tells before now (Meant why.Deep)) × (said ≡ line (codes "depth"))
 IsEnding tells words before now out_before out_now Full said = AsksProgram tells words before.kept (EndsWithout tells before now reason.Full) × (said ≡ line (codes "chunks"))
@@ -84,7 +83,7 @@ StaysAfter tells first before now Trap = ⊤
 StaysAfter tells first before now Long = ⊤
 
 -- The job makes both files, of which this is the first.
-abbrev pub MakesBoth : List ℕ → Plan → ProgramTree → TextsView → Contents → Type 0
+abbrev pub MakesBoth : List ℕ → Plan → Program → TextsView → Contents → Type 0
 MakesBoth bytes plan p names given = (packed : List ℕ) × (end : End) × DoesAll plan.job plan.options p names given (Some bytes) (Some packed) end
 
 -- Both files of a job are asked for and were made, and memory ran out between their writes: the first one was written, and nothing behind it.
@@ -122,7 +121,7 @@ ends_as Trace = Run
 ends_as job = job
 
 -- The job ends with a text, where it may leave out an image, and the packed file of its result, where that is asked for, is not too long.
-abbrev pub HasText : Plan → ProgramTree → TextsView → Contents → Type 0
+abbrev pub HasText : Plan → Program → TextsView → Contents → Type 0
 HasText plan p names given =
     (file : Option (List ℕ)) × (text : List ℕ) × Does (ends_as plan.job) (without_image plan.options) p names given file (Prints text)
     × ((packed : Option (List ℕ)) × DoesPack plan.job plan.options p names given packed (Prints text))
@@ -152,7 +151,7 @@ pub record DueOfSource (tells : Bool) (before now : ShelfView) (plan : Plan) (P 
 
 -- The bytes of all files are told, the source is a program, of which this holds with its names and the bytes
 -- of the inputs, and no count of these files rose, nor that of a first write.
-pub record DueOfFiles (tells : Bool) (before now : ShelfView) (plan : Plan) (P : ProgramTree → TextsView → Contents → Type 0) : Type 0 where
+pub record DueOfFiles (tells : Bool) (before now : ShelfView) (plan : Plan) (P : Program → TextsView → Contents → Type 0) : Type 0 where
   pub source : List ℕ
   pub given : Contents
   pub source_told : bytes_in (at_reading tells before.kept plan) plan.source ≡ Has source
@@ -160,7 +159,7 @@ pub record DueOfFiles (tells : Bool) (before now : ShelfView) (plan : Plan) (P :
   pub first_written : FirstWritten before now plan
   pub source_read : (name : List ℕ) → IsUnread before now plan.source name → ⊥
   pub given_read : (name : List ℕ) → AreUnread before now (inputs_of plan) name → ⊥
-  pub holds : OnProgram source (λ p names. P p names given)
+  pub holds : OnProgram (dialect_of plan.job) source (λ p names. P p names given)
 
 -- The first input is not there.
 abbrev pub IsMissing : Files → List PlanInput → Type 0
@@ -177,18 +176,18 @@ pub record DueOfFirst (tells : Bool) (before now : ShelfView) (plan : Plan) (P :
 -- The first input is the packed file of a value that the program of the source takes, and the one behind it is not there.
 abbrev pub LacksFurther : Bool → ShelfView → ShelfView → Plan → List ℕ → Type 0
 LacksFurther tells before now plan source =
-    OnProgram source (λ p names. DueOfFirst tells before now plan (λ bytes. (v : Datum) × IsInput p names v bytes)) × IsMissing (at_reading tells before.kept plan) (further_of (inputs_of plan))
+    OnProgram (dialect_of plan.job) source (λ p names. DueOfFirst tells before now plan (λ bytes. (v : Datum) × IsInput p.tree names v bytes)) × IsMissing (at_reading tells before.kept plan) (further_of (inputs_of plan))
 
 -- The first input is no packed file of a value that the program of the source takes.
 abbrev pub RefusesFirst : Bool → ShelfView → ShelfView → Plan → List ℕ → Type 0
-RefusesFirst tells before now plan source = OnProgram source (λ p names. DueOfFirst tells before now plan (λ bytes. ((v : Datum) × IsInput p names v bytes) → ⊥))
+RefusesFirst tells before now plan source = OnProgram (dialect_of plan.job) source (λ p names. DueOfFirst tells before now plan (λ bytes. ((v : Datum) × IsInput p.tree names v bytes) → ⊥))
 
 -- A file that is to be read is not there: the source; or else the first input, and the source is a program; or else the one behind
 -- it.
 abbrev pub DueMissing : Bool → ShelfView → ShelfView → Plan → Type 0
 DueMissing tells before now plan =
     ((bytes_in (at_reading tells before.kept plan) plan.source ≡ Missing) × FirstWritten before now plan)
-    ⊎ (DueOfSource tells before now plan IsSource × IsMissing (at_reading tells before.kept plan) (inputs_of plan))
+    ⊎ (DueOfSource tells before now plan (IsSourceIn (dialect_of plan.job)) × IsMissing (at_reading tells before.kept plan) (inputs_of plan))
     ⊎ DueOfSource tells before now plan (LacksFurther tells before now plan)
 
 -- The counts of `out` and of the files that are to be written did not rise.
@@ -199,7 +198,7 @@ pub record TakesAll (before now : ShelfView) (out_before out_now : SinkView) (pl
 
 -- The job ends without a value for this reason, where it may leave out an image; and where it makes a file then, the count of its name
 -- did not rise.
-abbrev pub DueWithout : ShelfView → ShelfView → Reason → Plan → ProgramTree → TextsView → Contents → Type 0
+abbrev pub DueWithout : ShelfView → ShelfView → Reason → Plan → Program → TextsView → Contents → Type 0
 DueWithout before now reason plan p names given =
     ((file : Option (List ℕ)) × Does (ends_as plan.job) (without_image plan.options) p names given file (NoValue reason))
     × ((name bytes : List ℕ) → plan.target ≡ Some name → Does plan.job plan.options p names given (Some bytes) (NoValue reason) → Rose (before.writes name) (now.writes name) → ⊥)
@@ -216,7 +215,7 @@ abbrev pub IsDue : Bool → List (List ℕ) → ShelfView → ShelfView → Sink
 IsDue tells words before now out_before out_now Done =
     MatchOption (asked words) ⊥
     (λ plan. DueOfFiles tells before now plan (HasText plan) × TakesAll before now out_before out_now plan)
-IsDue tells words before now out_before out_now Source = MatchOption (asked words) ⊥ (λ plan. DueOfSource tells before now plan IsNoProgram)
+IsDue tells words before now out_before out_now Source = MatchOption (asked words) ⊥ (λ plan. DueOfSource tells before now plan (IsNoProgramIn (dialect_of plan.job)))
 IsDue tells words before now out_before out_now Usage = asked words ≡ None
 IsDue tells words before now out_before out_now Depth = MatchOption (asked words) ⊥ (λ plan. DueOfFiles tells before now plan (DueWithout before now (Meant why.Deep) plan))
 IsDue tells words before now out_before out_now Full =
@@ -229,10 +228,10 @@ IsDue tells words before now out_before out_now Trap = MatchOption (asked words)
 IsDue tells words before now out_before out_now Long =
     MatchOption (asked words) ⊥ (λ plan. (plan.job ≡ Run) × DueOfFiles tells before now plan (DueWithout before now reason.Long plan))
 
--- The words ask for `run`, `gen` or `trace`: of the other jobs `replay` alone uses chunks of region memory, and its journal tells
+-- The words ask for `run`, `gen`, `trace` or `local`: of the other jobs `replay` alone uses chunks of region memory, and its journal tells
 -- whether these run out.
 abbrev pub AsksRun : List (List ℕ) → Type 0
-AsksRun words = MatchOption (asked words) ⊥ (λ plan. (plan.job ≡ Run) ⊎ (plan.job ≡ Gen) ⊎ (plan.job ≡ Trace))
+AsksRun words = MatchOption (asked words) ⊥ (λ plan. (plan.job ≡ Run) ⊎ (plan.job ≡ Gen) ⊎ (plan.job ≡ Trace) ⊎ (plan.job ≡ Local))
 
 -- The status is the one that is due; or memory ran out, or chunks of region memory did, in a run.
 abbrev pub IsDueOrScarce : List (List ℕ) → (due status : Status) → Type 0

@@ -3,15 +3,16 @@ use Rattle.gib_base.specs.Texts.{TextsView}
 use Rattle.std.specs.Prelude.{Bool, ℕ, List, [], ◌∷◌, Option, None, Some, MatchOption, ⊤}
 use Rattle.std.specs.Option.{option_map_or}
 use Rattle.gib_types.specs.Tree.{Datum}
-use Rattle.gib_syntax.specs.Tree.{ProgramTree}
+use Rattle.gib_base.specs.declared.token.Dialect.{Dialect}
+use Rattle.gib_base.specs.declared.token.Dialect.TheVariants as dialect
 use Rattle.gib_app.specs.declared.input_fault.InputFault.{InputFault}
 use Rattle.gib_app.specs.declared.plan.Format.{Format}
 use Rattle.gib_app.specs.declared.plan.Format.TheVariants.{Packed, Packable, Shown, Journaled}
 use Rattle.gib_app.specs.declared.plan.Job.{Job}
-use Rattle.gib_app.specs.declared.plan.Job.TheVariants.{Run, Plain, Check, Core, Code, Pack, Show, Gen, Trace, Replay}
+use Rattle.gib_app.specs.declared.plan.Job.TheVariants.{Run, Plain, Check, Core, Code, Pack, Show, Gen, Trace, Replay, Local}
 use Rattle.gib_app.specs.declared.plan.Options.{Options}
 use Rattle.gib_app.specs.Plan.{Document, Plan, Contents}
-use Rattle.gib_app.specs.Running.{IsInput, IsShownValue}
+use Rattle.gib_app.specs.Running.{Program, IsInput, IsShownValue}
 use Rattle.gib_app.specs.Replaying.{journal_in, OnJournal, Happens}
 use Rattle.gib_app.specs.Packing.{IsPackedBy}
 use Rattle.gib_app.specs.InputFaults.{IsInputFault, IsReplayFault, IsShowFault, IsPackFault}
@@ -29,6 +30,21 @@ format_of Show = Some Shown
 format_of Gen = Some Packed
 format_of Trace = Some Packed
 format_of Replay = Some Journaled
+format_of Local = Some Packed
+
+-- How the source of a job is read: `local` alone takes one that writes its places out.
+abbrev pub dialect_of : Job → Dialect
+dialect_of Run = dialect.Source
+dialect_of Plain = dialect.Source
+dialect_of Check = dialect.Source
+dialect_of Core = dialect.Source
+dialect_of Code = dialect.Source
+dialect_of Pack = dialect.Source
+dialect_of Show = dialect.Source
+dialect_of Gen = dialect.Source
+dialect_of Trace = dialect.Source
+dialect_of Replay = dialect.Source
+dialect_of Local = dialect.Located
 
 -- How many bytes of the first input of that format are read at most.
 abbrev pub limit_of : Format → ℕ
@@ -69,23 +85,23 @@ inputs_of plan = with_limits (option_map_or limits_of (format_of plan.job) []) p
 
 -- The inputs are accepted as that.
 -- An image is read by the layouts that the flag `--skips` chooses; what is packed, and how, the flags `--from` and `--v1` tell.
-abbrev pub IsAccepted : Format → Options → ProgramTree → TextsView → Contents → Type 0
-IsAccepted Packed options p names given = (v : Datum) × IsInput p names v given.second
-IsAccepted Packable options p names given = (packed : List ℕ) × IsPackedBy options.repacks options.first_version p names given.second packed
-IsAccepted Shown options p names given = (v : Datum) × IsShownValue p names options.skips v given.second
-IsAccepted Journaled options p names given = OnJournal p names given.second (journal_in given) (Happens p)
+abbrev pub IsAccepted : Format → Options → Program → TextsView → Contents → Type 0
+IsAccepted Packed options p names given = (v : Datum) × IsInput p.tree names v given.second
+IsAccepted Packable options p names given = (packed : List ℕ) × IsPackedBy options.repacks options.first_version p.tree names given.second packed
+IsAccepted Shown options p names given = (v : Datum) × IsShownValue p.tree names options.skips v given.second
+IsAccepted Journaled options p names given = OnJournal p.tree names given.second (journal_in given) (Happens p.tree)
 
 -- The inputs are refused as that, for this fault.
-abbrev pub IsRefused : Format → Options → ProgramTree → TextsView → Contents → InputFault → Type 0
-IsRefused Packed options p names given fault = IsInputFault p names given.second fault
-IsRefused Packable options p names given fault = IsPackFault options.repacks options.first_version p names given.second fault
-IsRefused Shown options p names given fault = IsShowFault p names options.skips given.second fault
-IsRefused Journaled options p names given fault = IsReplayFault p names given.second (journal_in given) fault
+abbrev pub IsRefused : Format → Options → Program → TextsView → Contents → InputFault → Type 0
+IsRefused Packed options p names given fault = IsInputFault p.tree names given.second fault
+IsRefused Packable options p names given fault = IsPackFault options.repacks options.first_version p.tree names given.second fault
+IsRefused Shown options p names given fault = IsShowFault p.tree names options.skips given.second fault
+IsRefused Journaled options p names given fault = IsReplayFault p.tree names given.second (journal_in given) fault
 
 -- A job accepts its inputs, if it has some.
-abbrev pub Accepts : Job → Options → ProgramTree → TextsView → Contents → Type 0
+abbrev pub Accepts : Job → Options → Program → TextsView → Contents → Type 0
 Accepts job options p names given = MatchOption (format_of job) ⊤ (λ format. IsAccepted format options p names given)
 
 -- A job refuses its inputs for this fault.
-abbrev pub Refuses : Job → Options → ProgramTree → TextsView → Contents → InputFault → Type 0
+abbrev pub Refuses : Job → Options → Program → TextsView → Contents → InputFault → Type 0
 Refuses job options p names given fault = MatchOption (format_of job) ⊥ (λ format. IsRefused format options p names given fault)

@@ -1,5 +1,5 @@
 -- What a call of `run` promises, in the fewest words: a reader may begin here.
-use Rattle.std.specs.Prelude.{◌≡◌, ◌≤◌, ◌<◌, Bool, ℕ, List, [], ◌∷◌, ◌++◌, length, Option, None, Some, Ok}
+use Rattle.std.specs.Prelude.{◌≡◌, ◌⊎◌, ⊤, ◌≤◌, ◌<◌, Bool, ℕ, List, [], ◌∷◌, ◌++◌, length, Option, None, Some, Ok}
 use Rattle.gib_base.specs.Lexed.{Lexed}
 use Rattle.gib_types.specs.Tree.{Datum, HasType}
 use Rattle.gib_file.specs.Framed.{File, File2}
@@ -20,6 +20,8 @@ use Rattle.gib_core.specs.Cost.{run_cost}
 use Rattle.gib_core.specs.Tight.{Tight}
 use Rattle.gib_app.specs.declared.plan.Job.TheVariants.{Run}
 use Rattle.gib_app.specs.declared.plan.Options.{Options}
+use Rattle.gib_app.specs.declared.status.Status.{Status}
+use Rattle.gib_app.specs.declared.status.Status.TheVariants as status
 use Rattle.gib_app.specs.Plan.{Document, Plan, bytes_in}
 use Rattle.gib_app.specs.Words.{asked}
 use Rattle.gib_print.specs.Image.{IsImageOf, chunk_count}
@@ -106,6 +108,18 @@ DividesByZero source input depth = HasNoResult source input depth Trap
 pub record IsTooBig (source input : List ℕ) (skips : Bool) (depth forks chunks : ℕ) : Type 0 where
   pub given : Given source input
   pub tight : Tight chunks (run_cost (core_after skips 4 (copy_in given)) depth forks given.value)
+
+-- What the status of such a call tells. At 0 exactly the text of the value that the program means within the depth, with a line feed, was
+-- put behind what `out` had taken. It is 3 only where the meaning runs out of depth, and 9 only where that is a division by 0.
+abbrev pub TellsWhatIsMeant : (source input : List ℕ) → (depth : ℕ) → (front : List ℕ) → SinkView → Status → Type 0
+TellsWhatIsMeant source input depth front out status.Done = (output : List ℕ) × IsResult source input depth output × (out.taken ≡ Some (front ++ output))
+TellsWhatIsMeant source input depth front out status.Depth = IsTooDeep source input depth
+TellsWhatIsMeant source input depth front out status.Trap = DividesByZero source input depth
+TellsWhatIsMeant source input depth front out end' = ⊤
+
+-- A call ends with this status, or for want of memory, or of chunks.
+abbrev pub IsOrScarce : (due end' : Status) → Type 0
+IsOrScarce due end' = (end' ≡ due) ⊎ (end' ≡ status.Memory) ⊎ (end' ≡ status.Full)
 
 -- No read of the two documents failed in the call, nor the write of an image, nor a put on `out`.
 pub record NoneFailed (program packed : Document) (image : Option (List ℕ)) (before now : ShelfView) (out_before out_now : SinkView) : Type 0 where

@@ -1,18 +1,18 @@
 -- What each job makes.
 use Rattle.gib_base.specs.Texts.{TextsView}
-use Rattle.std.specs.Prelude.{◌≡◌, ℕ, List, [], ◌∷◌, ◌++◌, codes, Bool, true, false, nat_lt, if◌then◌else◌, Option, None, Some}
+use Rattle.std.specs.Prelude.{◌≡◌, ℕ, List, [], ◌∷◌, ◌++◌, codes, Bool, true, false, nat_lt, if◌then◌else◌, Option, None, Some, MatchOption}
 use Rattle.gib_syntax.specs.Tree.{ProgramTree}
 use Rattle.gib_core.specs.CoreText.{core_text}
 use Rattle.gib_code.specs.ListingText.{listing_text}
 use Rattle.gib_lower.specs.Lowering.{lower_program}
 use Rattle.gib_weave.specs.Sound.{means_why}
 use Rattle.gib_app.specs.declared.plan.Job.{Job}
-use Rattle.gib_app.specs.declared.plan.Job.TheVariants.{Run, Plain, Check, Core, Code, Pack, Show, Gen, Trace, Replay}
+use Rattle.gib_app.specs.declared.plan.Job.TheVariants.{Run, Plain, Check, Core, Code, Pack, Show, Gen, Trace, Replay, Local}
 use Rattle.gib_app.specs.declared.plan.Options.{Options}
 use Rattle.gib_app.specs.declared.made.Reason.{Reason}
 use Rattle.gib_app.specs.declared.made.Reason.TheVariants.{Meant, Full, Long}
 use Rattle.gib_app.specs.Plan.{Contents}
-use Rattle.gib_app.specs.Running.{IsOutput, IsSummary, IsRunImage, IsPackedResult, IsLongResult, MeansNone, FillsUp, IsShown}
+use Rattle.gib_app.specs.Running.{Program, IsOutput, IsSummary, IsRunImage, IsPackedResult, IsLongResult, MeansNone, FillsUp, FillsUpBy, IsShown}
 use Rattle.gib_app.specs.Packing.{IsPackedBy}
 use Rattle.gib_app.specs.Cores.{core_after}
 use Rattle.gib_app.specs.Replaying.{journal_in, IsTrace, OnJournal, IsShownEnd, IsValueless, LacksChunks}
@@ -90,19 +90,29 @@ Replays p names image given file (NoValue (Meant why)) = (file ≡ None) × OnJo
 Replays p names image given file (NoValue Full) = (file ≡ None) × OnJournal p names given.second (journal_in given) (LacksChunks p)
 Replays p names image given file (NoValue Long) = ⊥
 
+-- `local`: the text of the value that is meant by what is left of the core without its places; or it means none; or so many chunks of
+-- memory may not be enough for what the run of this core costs. No file is made.
+abbrev pub RunsLocated : Program → TextsView → Options → List ℕ → Option (List ℕ) → End → Type 0
+RunsLocated p names options input file (Prints text) = (file ≡ None) × IsOutput p.tree names options.depth input text
+RunsLocated p names options input file (NoValue (Meant why)) = (file ≡ None) × MeansNone p.tree names options.depth input (means_why why)
+RunsLocated p names options input file (NoValue Full) =
+    (file ≡ None) × MatchOption p.located ⊥ (λ core. FillsUpBy core p.tree names options.depth (run_forks options) options.chunks input)
+RunsLocated p names options input file (NoValue Long) = ⊥
+
 -- What a job with these options makes, for the program with these names, of the bytes of its inputs: a file, or none, and its
 -- end.
-abbrev pub Does : Job → Options → ProgramTree → TextsView → Contents → Option (List ℕ) → End → Type 0
-Does Run options p names given = Runs p names options given.second
-Does Plain options p names given = Means p names options.depth given.second
+abbrev pub Does : Job → Options → Program → TextsView → Contents → Option (List ℕ) → End → Type 0
+Does Run options p names given = Runs p.tree names options given.second
+Does Plain options p names given = Means p.tree names options.depth given.second
 Does Check options p names given = OnlyPrints (λ text. text ≡ ok_line)
-Does Core options p names given = OnlyPrints (λ text. text ≡ core_text names.long (core_after options.skips options.pass p))
-Does Code options p names given = OnlyPrints (λ text. text ≡ listing_text names.long (lower_program (core_after options.skips 4 p)))
-Does Pack options p names given = Packs p names options given.second
-Does Show options p names given = OnlyPrints (IsShown p names options.skips given.second)
-Does Gen options p names given = Sums p names options given.second
-Does Trace options p names given = Traces p names options given.second
-Does Replay options p names given = Replays p names options.image given
+Does Core options p names given = OnlyPrints (λ text. text ≡ core_text names.long (core_after options.skips options.pass p.tree))
+Does Code options p names given = OnlyPrints (λ text. text ≡ listing_text names.long (lower_program (core_after options.skips 4 p.tree)))
+Does Pack options p names given = Packs p.tree names options given.second
+Does Show options p names given = OnlyPrints (IsShown p.tree names options.skips given.second)
+Does Gen options p names given = Sums p.tree names options given.second
+Does Trace options p names given = Traces p.tree names options given.second
+Does Replay options p names given = Replays p.tree names options.image given
+Does Local options p names given = RunsLocated p names options given.second
 
 -- The packed file of the value that a run means, where that is asked for and the run ends with a text; else there is none.
 abbrev pub PacksResult : Bool → ProgramTree → TextsView → (depth : ℕ) → List ℕ → Option (List ℕ) → End → Type 0
@@ -115,8 +125,8 @@ abbrev pub RunsBoth : ProgramTree → TextsView → Options → List ℕ → (fi
 RunsBoth p names options input file packed end = Runs p names options input file end × PacksResult options.packs p names options.depth input packed end
 
 -- The packed file of its result that a job makes where it ends so, or none: `run` alone makes one.
-abbrev pub DoesPack : Job → Options → ProgramTree → TextsView → Contents → Option (List ℕ) → End → Type 0
-DoesPack Run options p names given packed end = PacksResult options.packs p names options.depth given.second packed end
+abbrev pub DoesPack : Job → Options → Program → TextsView → Contents → Option (List ℕ) → End → Type 0
+DoesPack Run options p names given packed end = PacksResult options.packs p.tree names options.depth given.second packed end
 DoesPack Plain options p names given packed end = packed ≡ None
 DoesPack Check options p names given packed end = packed ≡ None
 DoesPack Core options p names given packed end = packed ≡ None
@@ -126,9 +136,10 @@ DoesPack Show options p names given packed end = packed ≡ None
 DoesPack Gen options p names given packed end = packed ≡ None
 DoesPack Trace options p names given packed end = packed ≡ None
 DoesPack Replay options p names given packed end = packed ≡ None
+DoesPack Local options p names given packed end = packed ≡ None
 
 -- Both files and the end of a job.
-abbrev pub DoesAll : Job → Options → ProgramTree → TextsView → Contents → (file packed : Option (List ℕ)) → End → Type 0
+abbrev pub DoesAll : Job → Options → Program → TextsView → Contents → (file packed : Option (List ℕ)) → End → Type 0
 DoesAll job options p names given file packed end = Does job options p names given file end × DoesPack job options p names given packed end
 
 -- The same options, without an image.

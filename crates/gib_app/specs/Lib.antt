@@ -17,6 +17,7 @@ pub mod Ending
 pub mod Codes
 pub mod Stops
 pub mod MachineRun
+pub mod Located
 pub mod Workers
 pub mod Kept
 pub mod Imaging
@@ -27,6 +28,7 @@ pub mod Readings
 pub mod Performing
 pub mod FirstWrites
 pub mod Headline
+pub mod LocalHeadline
 pub mod Repeating
 pub mod Ranges
 pub mod GenericText

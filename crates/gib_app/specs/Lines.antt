@@ -8,7 +8,7 @@ use Rattle.gib_check.specs.declared.fault.Kind.TheVariants as rule
 use Rattle.gib_file.specs.declared.fault.HeadFault.{HeadFault}
 use Rattle.gib_file.specs.declared.fault.HeadFault.TheVariants as header
 use Rattle.gib_app.specs.declared.answer.Detail.{Detail}
-use Rattle.gib_app.specs.declared.answer.Detail.TheVariants.{Nothing, Number, Bytes, Name}
+use Rattle.gib_app.specs.declared.answer.Detail.TheVariants.{Nothing, Number, AtTerm, Bytes, Name}
 use Rattle.gib_app.specs.declared.answer.Said.{Said}
 use Rattle.gib_app.specs.declared.source_fault.SourceFault.{SourceFault}
 use Rattle.gib_app.specs.declared.source_fault.SourceFault.TheVariants as source
@@ -52,6 +52,8 @@ source_text (source.Syntax place) = codes "source: syntax at " ++ decimal place
 source_text (source.Nested place) = codes "source: nested too deep at " ++ decimal place
 source_text (source.Broken kind place) = codes "source: " ++ rule_text kind ++ decimal place
 source_text (source.OverLimit place) = codes "source: over a limit at " ++ decimal place
+source_text (source.Misplaced place) = codes "source: wrong place at " ++ decimal place
+source_text (source.BreaksRule n term) = codes "source: location rule " ++ (decimal n ++ (codes " at term " ++ decimal term))
 
 -- What is said of the header of a packed file.
 abbrev pub header_text : HeadFault → List ℕ
@@ -93,6 +95,7 @@ input_text (input.Journal fault) = codes "input: " ++ journal_text fault
 abbrev pub with_detail : List ℕ → Detail → List ℕ
 with_detail words Nothing = words
 with_detail words (Number n) = words ++ decimal n
+with_detail words (AtTerm n term) = words ++ (decimal n ++ (codes " at term " ++ decimal term))
 with_detail words (Bytes n) = words ++ (decimal n ++ codes " bytes")
 with_detail words (Name name) = words ++ name.now
 

@@ -4,26 +4,28 @@ use Rattle.std.specs.Prelude.{◌≡◌, Bool, ℕ, List, Result, MatchResult}
 use Rattle.gib_types.specs.declared.table.Ty.{Ty}
 use Rattle.gib_types.specs.Layout.{LaidOut}
 use Rattle.gib_types.specs.Tree.{Datum}
+use Rattle.gib_value.specs.Text.{AreHeld}
 use Rattle.gib_mem.specs.Memory.{Store}
 use Rattle.gib_arena.specs.Sole.{sole_memory}
 use Rattle.gib_arena.specs.declared.sole_mem.SoleMem.{SoleMem}
 use Rattle.gib_packed.specs.Stands.{Stands}
 use Rattle.gib_packed.specs.declared.root.Root.{Root}
 use Rattle.gib_syntax.specs.Tree.{ProgramTree}
-use Rattle.gib_syntax.specs.Declarations.{table_of_program, output_type}
+use Rattle.gib_syntax.specs.Declarations.{table_of_program, input_type, output_type}
 use Rattle.gib_syntax.specs.Meaning.{Outcome, Gives, Stops, run}
 use Rattle.gib_core.specs.Cost.{Cost, run_cost}
 use Rattle.gib_core.specs.LoweredParts.{LoweredParts}
 use Rattle.gib_core.specs.Meaning.{core_run}
 use Rattle.gib_core.specs.Parts.{core_of}
 use Rattle.gib_core.specs.Tight.{Tight}
+use Rattle.gib_core.specs.Tree.{CoreTree}
 use Rattle.gib_weave.specs.Sound.{means_why}
 use Rattle.gib_app.specs.declared.made.Reason.{Reason}
 use Rattle.gib_app.specs.declared.made.Reason.TheVariants as reason
 use Rattle.gib_app.specs.declared.stop.Stop.{Stop}
 use Rattle.gib_app.specs.Cores.{core_after}
 use Rattle.gib_app.specs.InputFaults.{IsInputFault}
-use Rattle.gib_app.specs.Running.{IsInput, MeansNone, FillsUp}
+use Rattle.gib_app.specs.Running.{IsInput, MeansNone, FillsUpBy}
 use Rattle.gib_app.specs.Stops.{StopsBy}
 
 -- The bytes of a memory.
@@ -39,20 +41,37 @@ pub record StandsMeant (p : ProgramTree) (names : TextsView) (depth : ℕ) (inpu
   pub table : laid.table ≡ table_of_program p
   pub stands : Stands laid s place (output_type p) result
 
--- What a run of a program on a value costs at most, where so many calls and forks may be nested: that of the core that runs.
+-- What a run of a program on a value costs at most, where so many calls and forks may be nested: that of the core that the passes make.
 abbrev pub program_cost : ProgramTree → (skips : Bool) → (depth forks : ℕ) → Datum → Cost
 program_cost p skips depth forks v = run_cost (core_after skips 4 p) depth forks v
 
--- Why a program has no value on an input: it means none, for a reason, or so many chunks may not be enough.
-abbrev pub LacksValue : ProgramTree → TextsView → (skips : Bool) → (depth forks chunks : ℕ) → (input : List ℕ) → Reason → Type 0
-LacksValue p names skips depth forks chunks input (reason.Meant why) = MeansNone p names depth input (means_why why)
-LacksValue p names skips depth forks chunks input reason.Full = FillsUp p names skips depth forks chunks input
-LacksValue p names skips depth forks chunks input reason.Long = ⊥
+-- Why a program has no value on an input by a run of this core: it means none, for a reason, or so many chunks may not be enough.
+abbrev pub LacksValueBy : CoreTree → ProgramTree → TextsView → (depth forks chunks : ℕ) → (input : List ℕ) → Reason → Type 0
+LacksValueBy core p names depth forks chunks input (reason.Meant why) = MeansNone p names depth input (means_why why)
+LacksValueBy core p names depth forks chunks input reason.Full = FillsUpBy core p names depth forks chunks input
+LacksValueBy core p names depth forks chunks input reason.Long = ⊥
 
--- Why a run leaves no root.
+-- The same by the core that the passes make.
+abbrev pub LacksValue : ProgramTree → TextsView → (skips : Bool) → (depth forks chunks : ℕ) → (input : List ℕ) → Reason → Type 0
+LacksValue p names skips depth forks chunks input = LacksValueBy (core_after skips 4 p) p names depth forks chunks input
+
+-- Why a run of this core leaves no root.
+abbrev pub IsMachineStopBy : CoreTree → ProgramTree → TextsView → (depth forks chunks : ℕ) → (input : List ℕ) → Stop → Type 0
+IsMachineStopBy core p names depth forks chunks input =
+    StopsBy (λ fault. ⊥) (λ name. ⊥) (λ fault. IsInputFault p names input fault × (((v : Datum) × IsInput p names v input) → ⊥)) (LacksValueBy core p names depth forks chunks input) (λ name. ⊥)
+
+-- The same of the core that the passes make.
 abbrev pub IsMachineStop : ProgramTree → TextsView → (skips : Bool) → (depth forks chunks : ℕ) → (input : List ℕ) → Stop → Type 0
-IsMachineStop p names skips depth forks chunks input =
-    StopsBy (λ fault. ⊥) (λ name. ⊥) (λ fault. IsInputFault p names input fault × (((v : Datum) × IsInput p names v input) → ⊥)) (LacksValue p names skips depth forks chunks input) (λ name. ⊥)
+IsMachineStop p names skips depth forks chunks input = IsMachineStopBy (core_after skips 4 p) p names depth forks chunks input
+
+-- This core can run in a program's place: its values are of the program's types, and it means what the program means. The names of the
+-- program's constructors are there.
+pub record RunsFor (core : CoreTree) (p : ProgramTree) (names : TextsView) : Type 0 where
+  pub table : core.table ≡ table_of_program p
+  pub parameter : core.main.parameter ≡ input_type p
+  pub result : core.main.result ≡ output_type p
+  pub means : (depth : ℕ) (v : Datum) → core_run core depth v ≡ run p depth v
+  pub held : AreHeld (table_of_program p) names.short
 
 -- A value was owed, and in region memory it stands for the root.
 pub record IsRootOf (laid : LaidOut) (s : Store) (ty : Ty) (owed : Outcome) (place : Root) : Type 0 where

@@ -5,6 +5,8 @@ use Rattle.gib_parse.specs.declared.fault.ParseFault.{ParseFault}
 use Rattle.gib_parse.specs.declared.fault.ParseFault.TheVariants as parsing
 use Rattle.gib_check.specs.declared.fault.TypeFault.{TypeFault}
 use Rattle.gib_check.specs.declared.fault.TypeFault.TheVariants as typing
+use Rattle.gib_local.specs.declared.fault.LocalFault.{LocalFault}
+use Rattle.gib_local.specs.declared.fault.LocalFault.TheVariants as locating
 use Rattle.gib_mono.specs.declared.found.MonoFault.{MonoFault}
 use Rattle.gib_mono.specs.declared.found.MonoFault.TheVariants as copying
 use Rattle.gib_file.specs.declared.fault.SchemaFault.{SchemaFault}
@@ -44,6 +46,19 @@ check_stop (typing.Broken fault) = Source (source.Broken fault.kind fault.span.s
 abbrev pub copy_stop : MonoFault → Stop
 copy_stop copying.Memory = Memory
 copy_stop (copying.Limit span) = Source (source.OverLimit span.start)
+
+-- A fault of a text that writes its places out.
+abbrev pub local_stop : LocalFault → Stop
+local_stop locating.Memory = Memory
+local_stop locating.Long = Source source.Long
+local_stop (locating.At place) = Source (source.BadCharacter place)
+local_stop (locating.Big place) = Source (source.BigNumber place)
+local_stop locating.Many = Source source.ManyNames
+local_stop (locating.Syntax place) = Source (source.Syntax place)
+local_stop (locating.Nested place) = Source (source.Nested place)
+local_stop (locating.Broken fault) = Source (source.Broken fault.kind fault.span.start)
+local_stop (locating.Place place) = Source (source.Misplaced place)
+local_stop (locating.Rule rule term) = Source (source.BreaksRule rule term)
 
 -- A second file that is no packed file.
 abbrev pub packed_stop : PackedFault → Stop

@@ -1,7 +1,7 @@
 -- The ranges of the numbers among the options.
 use Rattle.std.specs.Prelude.{ℕ, ◌≤◌, ⊤}
 use Rattle.gib_app.specs.declared.plan.Job.{Job}
-use Rattle.gib_app.specs.declared.plan.Job.TheVariants.{Run, Plain, Check, Core, Code, Pack, Show, Gen, Trace, Replay}
+use Rattle.gib_app.specs.declared.plan.Job.TheVariants.{Run, Plain, Check, Core, Code, Pack, Show, Gen, Trace, Replay, Local}
 use Rattle.gib_app.specs.declared.plan.Options.{Options}
 
 -- Those of a run.
@@ -32,3 +32,4 @@ AreInRange Show options = ⊤
 AreInRange Gen options = AreOfMade options
 AreInRange Trace options = AreOfRun options
 AreInRange Replay options = ⊤
+AreInRange Local options = AreOfRun options

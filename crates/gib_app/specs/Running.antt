@@ -1,7 +1,9 @@
 -- What a source and a packed file are, and what a program means on a file.
-use Rattle.gib_base.specs.Texts.{TextsView}
-use Rattle.std.specs.Prelude.{◌≡◌, ◌⊎◌, Bool, ℕ, ◌≤◌, ◌<◌, List, [], ◌∷◌, ◌++◌, length, Ok}
+use Rattle.gib_base.specs.Texts.{TextsView, plain_texts}
+use Rattle.std.specs.Prelude.{◌≡◌, ◌⊎◌, Bool, ℕ, ◌≤◌, ◌<◌, List, [], ◌∷◌, ◌++◌, length, Ok, Option, None, Some}
 use Rattle.gib_base.specs.Lexed.{Lexed}
+use Rattle.gib_base.specs.declared.token.Dialect.{Dialect}
+use Rattle.gib_base.specs.declared.token.Dialect.TheVariants.{Source, Located}
 use Rattle.gib_types.specs.Tree.{Datum}
 use Rattle.gib_file.specs.Framed.{File, File2}
 use Rattle.gib_value.specs.Text.{text}
@@ -18,7 +20,12 @@ use Rattle.gib_mono.specs.Showing.{short_texts, long_texts}
 use Rattle.gib_syntax.specs.Meaning.{Reason, Gives, Stops, run}
 use Rattle.gib_gen.specs.Summary.{summary_line}
 use Rattle.gib_core.specs.Cost.{run_cost}
+use Rattle.gib_core.specs.Erasing.{erase_core}
+use Rattle.gib_core.specs.Marking.{mark_core}
 use Rattle.gib_core.specs.Tight.{Tight}
+use Rattle.gib_core.specs.Tree.{CoreTree}
+use Rattle.gib_local.specs.Counting.{broken_text}
+use Rattle.gib_local.specs.Local.{Local}
 use Rattle.gib_app.specs.Cores.{core_after, layouts_of}
 
 -- This is the copy of a program with these names, for the types with which its declarations are used: all uses are within the
@@ -37,11 +44,39 @@ pub record IsProgram (source : List ℕ) (texts : TextsView) (p : ProgramTree) :
   pub typed : IsTypedGeneric generic
   pub copy : IsCopy generic lexed.names p texts
 
--- The source is a program.
-abbrev pub IsSource : List ℕ → Type 0
-IsSource source = (texts : TextsView) × (p : ProgramTree) × IsProgram source texts p
+-- A program as a job takes it: its tree, which tells what it means; and the core that runs, where a source writes its places out.
+pub record Program : Type 0 where
+  pub tree : ProgramTree
+  pub located : Option CoreTree
 
--- The source is no program: it is too long, spells none, is not typed, or a use in it is over a limit.
+-- A program whose core the passes make.
+abbrev pub sourced : ProgramTree → Program
+sourced p = record { tree = p; located = None }
+
+-- The source is a text that writes its places out, whose core breaks no build rule. That core runs, with its marks, and the program is
+-- what is left of it without its places. Values, cores and descriptions have the names of the text.
+pub record IsLocated (source : List ℕ) (texts : TextsView) (p : Program) : Type 0 where
+  pub core : CoreTree
+  pub local : Local source core
+  pub built : broken_text local.tree core ≡ None
+  pub is : p ≡ record { tree = erase_core local.tree.datas core; located = Some (mark_core core) }
+  pub shown : texts ≡ plain_texts local.lexed.names
+
+-- The source is this program in a dialect: with its places left to the passes, or written out.
+abbrev pub IsProgramIn : Dialect → List ℕ → TextsView → Program → Type 0
+IsProgramIn Source source texts p = IsProgram source texts p.tree × (p.located ≡ None)
+IsProgramIn Located source texts p = IsLocated source texts p
+
+-- The source is a program in a dialect.
+abbrev pub IsSourceIn : Dialect → List ℕ → Type 0
+IsSourceIn dialect source = (texts : TextsView) × (p : Program) × IsProgramIn dialect source texts p
+
+-- The source is no program in a dialect: it is too long, spells none, is not typed, or a use in it is over a limit; or where places are
+-- written out, a name is not in order, a place is not the one that is due, or a build rule is broken.
+abbrev pub IsNoProgramIn : Dialect → List ℕ → Type 0
+IsNoProgramIn dialect source = (texts : TextsView) (p : Program) → IsProgramIn dialect source texts p → ⊥
+
+-- The source is no program whose places are left to the passes.
 abbrev pub IsNoProgram : List ℕ → Type 0
 IsNoProgram source = (texts : TextsView) (p : ProgramTree) → IsProgram source texts p → ⊥
 
@@ -105,11 +140,16 @@ pub record MeansNone (p : ProgramTree) (names : TextsView) (depth : ℕ) (input 
   pub is_input : IsInput p names value input
   pub means : run p depth value ≡ Stops why
 
--- So many chunks may not be enough for what the run of the program on the input costs, where so many calls and forks may be nested.
-pub record FillsUp (p : ProgramTree) (names : TextsView) (skips : Bool) (depth forks chunks : ℕ) (input : List ℕ) : Type 0 where
+-- So many chunks may not be enough for what the run of a core of the program on the input costs, where so many calls and forks may be
+-- nested.
+pub record FillsUpBy (core : CoreTree) (p : ProgramTree) (names : TextsView) (depth forks chunks : ℕ) (input : List ℕ) : Type 0 where
   pub value : Datum
   pub is_input : IsInput p names value input
-  pub tight : Tight chunks (run_cost (core_after skips 4 p) depth forks value)
+  pub tight : Tight chunks (run_cost core depth forks value)
+
+-- The same of the core that the passes make of the program.
+abbrev pub FillsUp : ProgramTree → TextsView → (skips : Bool) → (depth forks chunks : ℕ) → List ℕ → Type 0
+FillsUp p names skips depth forks chunks input = FillsUpBy (core_after skips 4 p) p names depth forks chunks input
 
 -- A file whose value is shown: the packed file of a value of the type of main's parameter; or an image of one of the type of
 -- main's result, in which it is read in at most 16,777,216 items.

@@ -21,6 +21,7 @@ use Rattle.gib_app.specs.declared.plan.Job.TheVariants.{Replay}
 use Rattle.gib_app.specs.declared.source_fault.SourceFault.{SourceFault}
 use Rattle.gib_app.specs.declared.source_fault.SourceFault.TheVariants.{OverLimit}
 use Rattle.gib_base.specs.declared.Span.{Span}
+use Rattle.gib_base.specs.declared.token.Dialect.{Dialect}
 use Rattle.gib_syntax.specs.GenericTree.{GenericProgramTree}
 use Rattle.gib_mono.specs.Walk.{copies_of}
 use Rattle.gib_app.specs.declared.plan.Options.{Options}
@@ -28,11 +29,11 @@ use Rattle.gib_app.specs.declared.stop.Stop.{Stop}
 use Rattle.gib_app.specs.declared.stop.Stop.TheVariants.{Usage, Source, Unread, Input, NoValue, Memory, Unwritten, Unput}
 use Rattle.gib_app.specs.Plan.{Document, Plan, Files, Contents}
 use Rattle.gib_app.specs.Writes.{at_reading}
-use Rattle.gib_app.specs.Running.{IsProgram, IsNoProgram, IsInput, IsShownValue}
+use Rattle.gib_app.specs.Running.{Program, IsNoProgram, IsNoProgramIn, IsInput, IsShownValue}
 use Rattle.gib_app.specs.Packing.{IsPackedBy}
-use Rattle.gib_app.specs.SourceFaults.{IsSourceFault}
+use Rattle.gib_app.specs.SourceFaults.{IsSourceFault, IsSourceFaultIn}
 use Rattle.gib_app.specs.InputFaults.{IsFileFault, IsInputFault, IsReplayFault, IsShowFault, IsPackFault}
-use Rattle.gib_app.specs.Formats.{inputs_of, most_of, Accepts, Refuses}
+use Rattle.gib_app.specs.Formats.{inputs_of, dialect_of, most_of, Accepts, Refuses}
 use Rattle.gib_app.specs.Causes.{AreFurther, AreGiven, AreReached, OnSource, OnReached, IsUnread, AreUnread, first_of, further_of, FailsToRead, FailsToWrite}
 use Rattle.gib_app.specs.Replaying.{journal_in, OnJournal, Happens}
 
@@ -73,10 +74,10 @@ IsCopyStop generic = StopsBy (λ fault. (use_of : Span) × (copies_of generic �
 abbrev pub IsReadStop : ShelfView → ShelfView → Document → Stop → Type 0
 IsReadStop before now d = StopsBy (λ fault. ⊥) (λ name. IsUnread before now d name) (λ fault. ⊥) (λ reason. ⊥) (λ name. ⊥)
 
--- Why no program comes of a source.
-abbrev pub IsSourceStop : ShelfView → ShelfView → Document → Stop → Type 0
-IsSourceStop before now d =
-    StopsBy (λ fault. OnSource before.kept d (λ bytes. IsSourceFault bytes fault × IsNoProgram bytes)) (λ name. IsUnread before now d name) (λ fault. ⊥) (λ reason. ⊥) (λ name. ⊥)
+-- Why no program comes of a source in a dialect.
+abbrev pub IsSourceStop : Dialect → ShelfView → ShelfView → Document → Stop → Type 0
+IsSourceStop dialect before now d =
+    StopsBy (λ fault. OnSource before.kept d (λ bytes. IsSourceFaultIn dialect bytes fault × IsNoProgramIn dialect bytes)) (λ name. IsUnread before now d name) (λ fault. ⊥) (λ reason. ⊥) (λ name. ⊥)
 
 -- The first input has more bytes than a plan reads.
 pub record IsLongInput (kept : Files) (plan : Plan) (fault : InputFault) : Type 0 where
@@ -90,28 +91,28 @@ abbrev pub IsInputStop : ShelfView → ShelfView → Plan → Stop → Type 0
 IsInputStop before now plan = StopsBy (λ fault. ⊥) (λ name. AreUnread before now (first_of (inputs_of plan)) name) (IsLongInput before.kept plan) (λ reason. ⊥) (λ name. ⊥)
 
 -- The input behind the first has more bytes than a plan reads, and the first is a packed file of a value that the program takes.
-pub record IsLongFurther (kept : Files) (plan : Plan) (p : ProgramTree) (names : TextsView) (first : List ℕ) (fault : InputFault) : Type 0 where
+pub record IsLongFurther (kept : Files) (plan : Plan) (p : Program) (names : TextsView) (first : List ℕ) (fault : InputFault) : Type 0 where
   pub is : fault ≡ input.Long 16777216
-  pub taken : (v : Datum) × IsInput p names v first
+  pub taken : (v : Datum) × IsInput p.tree names v first
   pub bytes : List ℕ
   pub held : AreFurther kept (further_of (inputs_of plan)) (bytes ∷ [])
   pub many : 16777216 < length bytes
 
 -- Why the bytes of the input behind the first are not read: the first is no packed file of a value that the program takes; or it is,
 -- and the count of the other one's file rose, or that one has more bytes than a plan reads.
-abbrev pub IsFurtherStop : ShelfView → ShelfView → Plan → ProgramTree → TextsView → (first : List ℕ) → Stop → Type 0
+abbrev pub IsFurtherStop : ShelfView → ShelfView → Plan → Program → TextsView → (first : List ℕ) → Stop → Type 0
 IsFurtherStop before now plan p names first =
-    StopsBy (λ fault. ⊥) (λ name. AreUnread before now (further_of (inputs_of plan)) name × ((v : Datum) × IsInput p names v first))
-    (λ fault. ((plan.job ≡ Replay) × IsInputFault p names first fault × (((v : Datum) × IsInput p names v first) → ⊥)) ⊎ IsLongFurther before.kept plan p names first fault)
+    StopsBy (λ fault. ⊥) (λ name. AreUnread before now (further_of (inputs_of plan)) name × ((v : Datum) × IsInput p.tree names v first))
+    (λ fault. ((plan.job ≡ Replay) × IsInputFault p.tree names first fault × (((v : Datum) × IsInput p.tree names v first) → ⊥)) ⊎ IsLongFurther before.kept plan p names first fault)
     (λ reason. ⊥) (λ name. ⊥)
 
 -- Why the bytes of the inputs are not read: the count of a file rose, for a further one where the first is a packed file of a value
 -- that the program takes; or they are refused.
-abbrev pub IsInputsStop : ShelfView → ShelfView → Plan → ProgramTree → (names : TextsView) → Stop → Type 0
+abbrev pub IsInputsStop : ShelfView → ShelfView → Plan → Program → (names : TextsView) → Stop → Type 0
 IsInputsStop before now plan p names =
     StopsBy (λ fault. ⊥)
     (λ name. AreUnread before now (first_of (inputs_of plan)) name
-    ⊎ (AreUnread before now (further_of (inputs_of plan)) name × ((given : Contents) × AreGiven before.kept (first_of (inputs_of plan)) given × ((v : Datum) × IsInput p names v given.second))))
+    ⊎ (AreUnread before now (further_of (inputs_of plan)) name × ((given : Contents) × AreGiven before.kept (first_of (inputs_of plan)) given × ((v : Datum) × IsInput p.tree names v given.second))))
     (λ fault. (given : Contents) × AreReached before.kept p names (inputs_of plan) given
     × Refuses plan.job plan.options p names given fault × (Accepts plan.job plan.options p names given → ⊥))
     (λ reason. ⊥) (λ name. ⊥)
@@ -149,20 +150,20 @@ abbrev pub IsReplayStop : ProgramTree → TextsView → Contents → Stop → Ty
 IsReplayStop p names given = IsRefusal (λ fault. IsReplayFault p names given.second (journal_in given) fault × (OnJournal p names given.second (journal_in given) (Happens p) → ⊥))
 
 -- Why a job makes nothing, for this program, of the bytes of its inputs.
-abbrev pub FailsTo : Job → Options → ProgramTree → TextsView → Contents → Stop → Type 0
+abbrev pub FailsTo : Job → Options → Program → TextsView → Contents → Stop → Type 0
 FailsTo job options p names given = IsRefusal (λ fault. Refuses job options p names given fault × (Accepts job options p names given → ⊥))
 
 -- Why what is asked for is not made: the source is no program, a file is not read, the inputs are refused.
 abbrev pub IsMakeStop : ShelfView → ShelfView → Plan → Stop → Type 0
 IsMakeStop before now plan =
-    StopsBy (λ fault. OnSource before.kept plan.source (λ bytes. IsSourceFault bytes fault × IsNoProgram bytes)) (λ name. FailsToRead before.kept before now plan name)
+    StopsBy (λ fault. OnSource before.kept plan.source (λ bytes. IsSourceFaultIn (dialect_of plan.job) bytes fault × IsNoProgramIn (dialect_of plan.job) bytes)) (λ name. FailsToRead before.kept before now plan name)
     (λ fault. OnReached before.kept plan (λ p names given. Refuses plan.job plan.options p names given fault × (Accepts plan.job plan.options p names given → ⊥)))
     (λ reason. ⊥) (λ name. ⊥)
 
 -- Why what is asked for is not made, or not written.
 abbrev pub IsStop : Bool → ShelfView → ShelfView → Plan → Stop → Type 0
 IsStop tells before now plan =
-    StopsBy (λ fault. OnSource (at_reading tells before.kept plan) plan.source (λ bytes. IsSourceFault bytes fault × IsNoProgram bytes))
+    StopsBy (λ fault. OnSource (at_reading tells before.kept plan) plan.source (λ bytes. IsSourceFaultIn (dialect_of plan.job) bytes fault × IsNoProgramIn (dialect_of plan.job) bytes))
     (λ name. FailsToRead (at_reading tells before.kept plan) before now plan name)
     (λ fault. OnReached (at_reading tells before.kept plan) plan (λ p names given. Refuses plan.job plan.options p names given fault × (Accepts plan.job plan.options p names given → ⊥)))
     (λ reason. ⊥)

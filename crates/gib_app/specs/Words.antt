@@ -14,7 +14,7 @@ use Rattle.clap.specs.Takes.{takes}
 use Rattle.clap.specs.declared.builder.action.ArgAction.TheVariants.{SetTrue}
 use Rattle.clap.specs.declared.builder.value_parser.ValueParser.TheVariants.{Unsigned}
 use Rattle.gib_app.specs.declared.plan.Job.{Job}
-use Rattle.gib_app.specs.declared.plan.Job.TheVariants.{Run, Plain, Check, Core, Code, Pack, Show, Gen, Trace, Replay}
+use Rattle.gib_app.specs.declared.plan.Job.TheVariants.{Run, Plain, Check, Core, Code, Pack, Show, Gen, Trace, Replay, Local}
 use Rattle.gib_app.specs.declared.plan.Options.{Options}
 use Rattle.gib_app.specs.Plan.{Document, BuiltIn, Named, Write, Plan}
 use Rattle.gib_gen.specs.Made.{source_text, grown}
@@ -264,6 +264,10 @@ trace_form = record { name = codes "trace"; second = Some (codes "input"); third
 abbrev pub replay_form : Form
 replay_form = record { name = codes "replay"; second = Some (codes "input"); third = Some (codes "journal"); target = ByOption (codes "image"); pack = None; options = image ∷ []; job = Replay }
 
+-- `local SOURCE INPUT [--workers N] [--depth N] [--chunks N] [--fork N]`: the source writes its places out.
+abbrev pub local_form : Form
+local_form = record { name = codes "local"; second = Some (codes "input"); third = None; target = NoTarget; pack = None; options = workers ∷ depth ∷ chunks ∷ fork ∷ []; job = Local }
+
 -- `gen NUMBER LEVELS SOURCE INPUT [--workers N] [--depth N] [--chunks N] [--fork N] [--skips]`: both files are made.
 abbrev pub gen_arguments : List Rule
 gen_arguments =
@@ -271,7 +275,7 @@ gen_arguments =
 
 -- All commands whose files are read.
 abbrev pub forms : List Form
-forms = run_form ∷ plain_form ∷ check_form ∷ core_form ∷ code_form ∷ pack_form ∷ show_form ∷ trace_form ∷ replay_form ∷ []
+forms = run_form ∷ plain_form ∷ check_form ∷ core_form ∷ code_form ∷ pack_form ∷ show_form ∷ trace_form ∷ replay_form ∷ local_form ∷ []
 
 -- A command as clap sees it.
 abbrev pub app_for : Form → App

@@ -26,6 +26,8 @@ pub enum Detail<'a> {
     Nothing,
     /// A number, in decimal.
     Number(u64),
+    /// The number of a rule, and that of a term.
+    AtTerm(u64, u64),
     /// So many bytes.
     Bytes(u64),
     /// The name of a file.
@@ -105,6 +107,11 @@ fn of_source(fault: SourceFault) -> Said<'static>
         SourceFault::Nested(place) => numbered(b"source: nested too deep at ", place as u64),
         SourceFault::Broken(kind, place) => numbered(rule_words(kind), place as u64),
         SourceFault::OverLimit(place) => numbered(b"source: over a limit at ", place as u64),
+        SourceFault::Misplaced(place) => numbered(b"source: wrong place at ", place as u64),
+        SourceFault::BreaksRule(rule, term) => Said {
+            words: b"source: location rule ",
+            detail: Detail::AtTerm(rule as u64, term),
+        },
     }
 }
 

@@ -4,7 +4,7 @@ ghost use Rattle.std.specs.Prelude.{◌≡◌, [], ◌∷◌, IfOk, codes, false
 ghost use Rattle.clap.specs.Walk.{rule_of};
 ghost use Rattle.clap.specs.Simple.{App, app_of, new_app, with_rule, with_subcommand};
 ghost use Rattle.gib_app.specs.Words.{app_for, bare_program, chunks, command_set, depth, fork, from, gen_app, image, numeral, pack, pass, positional, skips, v1, workers};
-ghost use Rattle.gib_app.specs.Words.{check_form, code_form, core_form, pack_form, plain_form, replay_form, run_form, show_form, trace_form};
+ghost use Rattle.gib_app.specs.Words.{check_form, code_form, core_form, local_form, pack_form, plain_form, replay_form, run_form, show_form, trace_form};
 
 use clap::builder::ValueParser;
 use clap::{Arg, ArgAction, Command};
@@ -129,16 +129,22 @@ fn on_both<'a>(alloc: Global, name: &'a str, second: &'a str) -> Result<Command<
         .arg(positional(alloc, second))
 }
 
-/// A command with the options of a run.
-fn with_run_options<'a>(alloc: Global, command: Command<'a>) -> Result<Command<'a>, AllocError>
-    ensures { IfOk result (λ c. app_of c ≡ fold with_rule (app_of command.entry) (workers ∷ depth ∷ chunks ∷ fork ∷ skips ∷ [])) }
+/// A command with the options of a run by workers.
+fn with_worker_options<'a>(alloc: Global, command: Command<'a>) -> Result<Command<'a>, AllocError>
+    ensures { IfOk result (λ c. app_of c ≡ fold with_rule (app_of command.entry) (workers ∷ depth ∷ chunks ∷ fork ∷ [])) }
 {
     command
         .arg(workers(alloc))?
         .arg(depth(alloc))?
         .arg(chunks(alloc))?
-        .arg(fork(alloc))?
-        .arg(skips(alloc))
+        .arg(fork(alloc))
+}
+
+/// A command with the options of a run.
+fn with_run_options<'a>(alloc: Global, command: Command<'a>) -> Result<Command<'a>, AllocError>
+    ensures { IfOk result (λ c. app_of c ≡ fold with_rule (app_of command.entry) (workers ∷ depth ∷ chunks ∷ fork ∷ skips ∷ [])) }
+{
+    with_worker_options(alloc, command)?.arg(skips(alloc))
 }
 
 /// `run SOURCE INPUT [--workers N] [--depth N] [--chunks N] [--fork N] [--skips] [--image FILE] [--pack FILE]`.
@@ -225,6 +231,13 @@ fn replay_command<'a>(alloc: Global) -> Result<Command<'a>, AllocError>
         .arg(image(alloc))
 }
 
+/// `local SOURCE INPUT [--workers N] [--depth N] [--chunks N] [--fork N]`.
+fn local_command<'a>(alloc: Global) -> Result<Command<'a>, AllocError>
+    ensures { IfOk result (λ command. app_of command ≡ app_for local_form) }
+{
+    with_worker_options(alloc, on_both(alloc, "local", "input")?)
+}
+
 /// `gen` on what has to be there: a number, levels, and the names of a source and an input.
 fn on_made<'a>(alloc: Global) -> Result<Command<'a>, AllocError>
     ensures { IfOk result (λ command. app_of command ≡ with_rule (with_rule (with_rule (with_rule (new_app (codes "gen")) (numeral (codes "number") 0 2147483647)) (numeral (codes "levels") 0 18)) (positional (codes "source"))) (positional (codes "input"))) }
@@ -277,5 +290,6 @@ pub fn command_set<'a>(alloc: Global) -> Result<Command<'a>, AllocError>
     let program = add_command(program, show_command(alloc));
     let program = add_command(program, trace_command(alloc));
     let program = add_command(program, replay_command(alloc));
+    let program = add_command(program, local_command(alloc));
     add_command(program, gen_command(alloc))
 }

@@ -11,7 +11,8 @@ ghost use Rattle.gib_app.specs.Headline.{IsRun, IsPackingRun, Given, IsResult, I
 
 use crate::status::Status;
 use gib_file::one_file;
-use gib_lex::laws::one_reading;
+use gib_lex::laws::{one_reading, one_reading_in};
+use gib_local::law::one_text;
 use gib_parse::law::one_program;
 
 /// What is promised of a call whose words ask for `run`, by how it ends: `IsEnding` stands in the clause `ends` of `gib`,
@@ -61,6 +62,8 @@ pub fn run_prints_what_is_meant()
 {
     one_reading();
     one_program();
+    one_reading_in();
+    one_text();
     one_file();
 }
 
@@ -124,5 +127,7 @@ pub fn run_packs_what_is_meant()
 {
     one_reading();
     one_program();
+    one_reading_in();
+    one_text();
     one_file();
 }

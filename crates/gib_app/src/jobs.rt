@@ -6,11 +6,13 @@ ghost use Rattle.gib_app.specs.Formats.{most_of};
 ghost use Rattle.gib_app.specs.Jobs.{Does, DoesAll, Replays};
 ghost use Rattle.gib_app.specs.Kept.{EndsBy, EndsByBoth, contents_of, file_of, packed_of};
 ghost use Rattle.gib_app.specs.Ranges.{AreInRange};
+ghost use Rattle.gib_app.specs.Running.{sourced};
 ghost use Rattle.gib_app.specs.Stops.{IsReady, IsReplayStop, FailsTo};
 
 pub mod check;
 pub mod code_text;
 pub mod core_text;
+pub mod local;
 pub mod made_run;
 pub mod pack;
 pub mod plain;
@@ -66,12 +68,13 @@ fn do_beside<R: Threads + Wait + Sync, G: Gate + Sync>(
     given: Given<'_>,
 ) -> Result<Made, Stop<'static>>
     requires other { job ≡ Job.Run → ⊥ }
+    requires here { job ≡ Job.Local → ⊥ }
     requires ready { IsReady (program_of compiled.now.typed) compiled.now.names }
     requires most { length given.second.now ≤ most_of job }
     requires short { IfSome given.journal (λ j. length j.now ≤ 16777216) }
     requires range { AreInRange job options }
-    ensures made { IfOk result (λ made. EndsBy (file_of made) made.end (Does job options (program_of compiled.now.typed) compiled.now.names (contents_of given.entry))) }
-    ensures stop { IfErr result (FailsTo job options (program_of compiled.now.typed) compiled.now.names (contents_of given.entry)) }
+    ensures made { IfOk result (λ made. EndsBy (file_of made) made.end (Does job options (sourced (program_of compiled.now.typed)) compiled.now.names (contents_of given.entry))) }
+    ensures stop { IfErr result (FailsTo job options (sourced (program_of compiled.now.typed)) compiled.now.names (contents_of given.entry)) }
 {
     match job {
         Job::Run => unreachable!(),
@@ -84,6 +87,7 @@ fn do_beside<R: Threads + Wait + Sync, G: Gate + Sync>(
         Job::Gen => made_run::made_run(alloc, runtime, compiled, options, given.second),
         Job::Trace => trace::trace(alloc, runtime, compiled, options, given.second),
         Job::Replay => do_replay(alloc, compiled, options.image, given),
+        Job::Local => unreachable!(),
     }
 }
 
@@ -98,7 +102,7 @@ pub fn unpacked(made: Result<Made, Stop<'static>>) -> Result<Finished, Stop<'sta
     }
 }
 
-/// What a job makes, for a program, of the bytes of its inputs.
+/// What a job makes, for a program whose places are left to the passes, of the bytes of its inputs.
 ///
 /// # Errors
 ///
@@ -112,11 +116,12 @@ pub fn do_job<R: Threads + Wait + Sync, G: Gate + Sync>(
     given: Given<'_>,
 ) -> Result<Finished, Stop<'static>>
     requires ready { IsReady (program_of compiled.typed) compiled.names }
+    requires here { job ≡ Job.Local → ⊥ }
     requires most { length given.second.now ≤ most_of job }
     requires short { IfSome given.journal (λ j. length j.now ≤ 16777216) }
     requires range { AreInRange job options }
-    ensures made { IfOk result (λ finished. EndsByBoth (file_of finished.made) (packed_of finished) finished.made.end (DoesAll job options (program_of compiled.typed) compiled.names (contents_of given.entry))) }
-    ensures stop { IfErr result (FailsTo job options (program_of compiled.typed) compiled.names (contents_of given.entry)) }
+    ensures made { IfOk result (λ finished. EndsByBoth (file_of finished.made) (packed_of finished) finished.made.end (DoesAll job options (sourced (program_of compiled.typed)) compiled.names (contents_of given.entry))) }
+    ensures stop { IfErr result (FailsTo job options (sourced (program_of compiled.typed)) compiled.names (contents_of given.entry)) }
 {
     match job {
         Job::Run => run::run(alloc, runtime, compiled, options, given.second),

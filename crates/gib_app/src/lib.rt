@@ -15,6 +15,8 @@ mod jobs;
 pub mod law;
 mod lines;
 mod loading;
+pub mod local_law;
+pub mod located;
 pub mod lowering;
 pub mod machine_run;
 mod made;

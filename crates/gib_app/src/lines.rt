@@ -98,6 +98,28 @@ fn put_count<E: Sink>(err: &mut E, count: u64) -> Result<(), Failed>
     Ok(())
 }
 
+/// Puts words, and then the number of a rule and that of a term.
+fn put_rule<E: Sink>(err: &mut E, words: &[u8], rule: u64, term: u64) -> Result<(), Failed>
+    ensures ok { OnOk result (Appends (E.view err.old).taken (E.view err.new).taken (words.now ++ (decimal rule ++ (codes " at term " ++ decimal term)))) }
+    ensures part { OnErr result (AppendsPart (E.view err.old).taken (E.view err.new).taken (words.now ++ (decimal rule ++ (codes " at term " ++ decimal term)))) }
+    ensures cause { HasCause (E.view err.old).faults (E.view err.new).faults result }
+{
+    put_all(err, words)?;
+    put_term(err, rule, term)?;
+    Ok(())
+}
+
+/// Puts the number of a rule and that of a term.
+fn put_term<E: Sink>(err: &mut E, rule: u64, term: u64) -> Result<(), Failed>
+    ensures ok { OnOk result (Appends (E.view err.old).taken (E.view err.new).taken (decimal rule ++ (codes " at term " ++ decimal term))) }
+    ensures part { OnErr result (AppendsPart (E.view err.old).taken (E.view err.new).taken (decimal rule ++ (codes " at term " ++ decimal term))) }
+    ensures cause { HasCause (E.view err.old).faults (E.view err.new).faults result }
+{
+    put_number(err, rule)?;
+    put_numbered(err, b" at term ", term)?;
+    Ok(())
+}
+
 /// Puts what is said.
 fn put_said<E: Sink>(err: &mut E, said: Said<'_>) -> Result<(), Failed>
     ensures ok { OnOk result (Appends (E.view err.old).taken (E.view err.new).taken (said_text said.entry)) }
@@ -107,6 +129,7 @@ fn put_said<E: Sink>(err: &mut E, said: Said<'_>) -> Result<(), Failed>
     match said.detail {
         Detail::Nothing => put_all(err, said.words),
         Detail::Number(number) => put_numbered(err, said.words, number),
+        Detail::AtTerm(rule, term) => put_rule(err, said.words, rule, term),
         Detail::Bytes(count) => put_sized(err, said.words, count),
         Detail::Name(name) => put_named(err, said.words, name),
     }

@@ -13,6 +13,7 @@ ghost use Rattle.gib_syntax.specs.Tree.{ProgramTree};
 ghost use Rattle.gib_core.specs.Cost.{run_cost};
 ghost use Rattle.gib_core.specs.LoweredParts.{LoweredParts};
 ghost use Rattle.gib_core.specs.Meaning.{core_run};
+ghost use Rattle.gib_core.specs.Numbering.{AreNumbered};
 ghost use Rattle.gib_core.specs.Parts.{core_of};
 ghost use Rattle.gib_lower.specs.Lowering.{lower_program};
 ghost use Rattle.gib_weave.specs.Running.{IsStart, Kept};
@@ -21,11 +22,11 @@ ghost use Rattle.gib_app.specs.Cores.{core_after, layouts_of};
 ghost use Rattle.gib_app.specs.Jobs.{run_forks};
 ghost use Rattle.gib_app.specs.Running.{IsInput, text_line};
 ghost use Rattle.gib_app.specs.Replaying.{root_in};
-ghost use Rattle.gib_app.specs.MachineRun.{StandsMeant, IsMachineStop, IsRootOf, Halts, EndsWith, program_cost};
+ghost use Rattle.gib_app.specs.MachineRun.{StandsMeant, RunsFor, IsMachineStop, IsMachineStopBy, IsRootOf, Halts, EndsWith, program_cost};
 
 use crate::lowering::lowered;
 use crate::made::Reason;
-use crate::packed::survey_input;
+use crate::packed::{survey_input, survey_typed};
 use crate::plan::Options;
 use crate::runtime::Runtime;
 use crate::stop::Stop;
@@ -34,10 +35,11 @@ use gib_base::Texts;
 use gib_base::limits::FILE_BYTES;
 use gib_check::Typed;
 use gib_code::Answer;
-use gib_core::Lowered;
+use gib_core::{Checked, Lowered};
 use gib_edge::outside::{Gate, Sink};
 use gib_file::{Survey, one_file};
 use gib_load::{LoadFault, load};
+use gib_lower::lower;
 use gib_mem::Mem;
 use gib_packed::Root;
 use gib_pool::{Crew, Loaded, run_by};
@@ -175,7 +177,41 @@ fn run_loaded<R: Threads + Wait + Sync, G: Gate + Sync>(
     }
 }
 
+/// A region memory, and the root in it for which a result stands.
+#[derive(Drop)]
+struct Rooted {
+    memory: SoleMem,
+    root: Root,
+}
+
 /// Runs the code on the value of a survey, in a memory of its own.
+fn run_on<R: Threads + Wait + Sync, G: Gate + Sync>(
+    alloc: Global,
+    runtime: Runtime<'_, R, G>,
+    lowered: &Lowered,
+    survey: Survey<'_>,
+    options: Options,
+) -> Result<Rooted, Stop<'static>>
+    requires table { survey.table ≡ lowered.now.code.laid.table }
+    requires ty { survey.ty ≡ (core_of lowered.now.core).main.parameter }
+    ensures limit { IfOk result (λ left. (⟦<SoleMem as Mem>⟧.view left.memory).limit ≡ options.chunks) }
+    ensures root { IfOk result (λ left. (v : Datum) → Packed survey.entry.table survey.entry.ty v survey.entry.bytes
+        → IsRootOf lowered.now.code.laid (⟦<SoleMem as Mem>⟧.view left.memory).cells (core_of lowered.now.core).main.result (core_run (core_of lowered.now.core) options.depth v) left.root) }
+    ensures halts { IfErr result (λ why. (v : Datum) → Packed survey.entry.table survey.entry.ty v survey.entry.bytes
+        → Halts (core_run (core_of lowered.now.core) options.depth v) options.chunks (run_cost (core_of lowered.now.core) options.depth (run_forks options) v) why) }
+{
+    let memory = match SoleMem::make(alloc, options.chunks) {
+        Ok(memory) => memory,
+        Err(_) => return Err(Stop::Memory),
+    };
+    let (end, memory) = run_loaded(alloc, runtime, lowered, survey, memory, options);
+    match end {
+        Ok(root) => Ok(Rooted { memory, root }),
+        Err(stop) => Err(stop),
+    }
+}
+
+/// Runs the code on the value of a survey. The code is handed back with what is left.
 fn run_survey<R: Threads + Wait + Sync, G: Gate + Sync>(
     alloc: Global,
     runtime: Runtime<'_, R, G>,
@@ -192,16 +228,11 @@ fn run_survey<R: Threads + Wait + Sync, G: Gate + Sync>(
     ensures halts { IfErr result (λ why. (v : Datum) → Packed survey.entry.table survey.entry.ty v survey.entry.bytes
         → Halts (core_run (core_of lowered.core) options.depth v) options.chunks (run_cost (core_of lowered.core) options.depth (run_forks options) v) why) }
 {
-    let memory = match SoleMem::make(alloc, options.chunks) {
-        Ok(memory) => memory,
-        Err(_) => return Err(Stop::Memory),
-    };
-    let (end, memory) = run_loaded(alloc, runtime, &lowered, survey, memory, options);
-    match end {
-        Ok(root) => Ok(Ran {
+    match run_on(alloc, runtime, &lowered, survey, options) {
+        Ok(left) => Ok(Ran {
             lowered,
-            memory,
-            root,
+            memory: left.memory,
+            root: left.root,
         }),
         Err(stop) => Err(stop),
     }
@@ -244,6 +275,49 @@ pub fn run_packed<R: Threads + Wait + Sync, G: Gate + Sync>(
     match lowered(alloc, typed, options.skips) {
         Ok(lowered) => run_survey(alloc, runtime, lowered, survey, options),
         Err(_) => Err(Stop::Memory),
+    }
+}
+
+/// Runs a core that is written out, in the same way.
+///
+/// # Errors
+///
+/// As `run_packed`, for each program in whose place this core can run.
+pub fn run_located<R: Threads + Wait + Sync, G: Gate + Sync>(
+    alloc: Global,
+    runtime: Runtime<'_, R, G>,
+    core: Checked,
+    names: &Texts,
+    file: &[u8],
+    options: Options,
+) -> Result<Ran<SoleMem>, Stop<'static>>
+    requires short { length file.now ≤ FILE_BYTES }
+    requires numbered { AreNumbered (core_of core) }
+    ensures stands { (p : ProgramTree) → RunsFor (core_of core) p names.now
+        → IfOk result (λ ran. StandsMeant p names.now options.depth file.now ran.lowered.code.laid (⟦<SoleMem as Mem>⟧.view ran.memory).cells ran.root) }
+    ensures stop { (p : ProgramTree) → RunsFor (core_of core) p names.now
+        → IfErr result (IsMachineStopBy (core_of core) p names.now options.depth (run_forks options) options.chunks file.now) }
+{
+    let lowered = match lower(alloc, core) {
+        Ok(lowered) => lowered,
+        Err(_) => return Err(Stop::Memory),
+    };
+    let _code = lowered.code();
+    let core = lowered.core();
+    let types = core.types();
+    let ty = core.main().parameter;
+    let survey = match survey_typed(alloc, types, ty, names, file) {
+        Ok(survey) => survey,
+        Err(stop) => return Err(stop),
+    };
+    let _packed = survey.payload();
+    match run_on(alloc, runtime, &lowered, survey, options) {
+        Ok(left) => Ok(Ran {
+            lowered,
+            memory: left.memory,
+            root: left.root,
+        }),
+        Err(stop) => Err(stop),
     }
 }
 

@@ -235,6 +235,7 @@ fn read_plan<'a>(name: &str, matches: &ArgMatches<'a>) -> Option<Plan<'a>>
         "show" => on_both(matches, Job::Show, "file"),
         "trace" => to_target(matches, Job::Trace, "input", "journal"),
         "replay" => on_three(matches, Job::Replay, "input", "journal", "image"),
+        "local" => on_both(matches, Job::Local, "input"),
         _ => None,
     }
 }

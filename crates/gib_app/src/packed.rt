@@ -17,6 +17,7 @@ use gib_file::{
     PackFault, SchemaFault, Survey, agree, file_is_content, read_header, refused_description,
     refused_file, refused_header, survey, unpack,
 };
+use gib_types::{Ty, TypeTable};
 use gib_value::Value;
 use std::alloc::Global;
 
@@ -50,11 +51,46 @@ fn of_payload(fault: PackFault) -> Stop<'static>
     }
 }
 
-/// The payload of the packed file of a value of the type of main's parameter.
+/// The payload of the packed file of a value of this type.
 ///
 /// # Errors
 ///
 /// `Input` with the first fault of the header, else of what it says of its types, else of the payload; `Memory`.
+pub fn survey_typed<'a>(
+    alloc: Global,
+    types: &'a TypeTable,
+    ty: Ty,
+    names: &Texts,
+    bytes: &'a [u8],
+) -> Result<Survey<'a>, Stop<'static>>
+    ensures table { IfOk result (λ s. s.table ≡ types.now) }
+    ensures ty { IfOk result (λ s. s.ty ≡ ty) }
+    ensures file { IfOk result (λ s. (v : Datum) → Packed s.table s.ty v s.bytes → File types.now names.now.long ty v bytes.now) }
+    ensures refused { IfErr result (IsPackedStop types.now names.now.long ty bytes.now) }
+{
+    file_is_content();
+    refused_header();
+    refused_description();
+    refused_file();
+    let payload = match read_header(bytes) {
+        Ok(payload) => payload,
+        Err(fault) => return Err(of_packed(PackedFault::Header(fault))),
+    };
+    match agree(alloc, types, names, ty, &payload) {
+        Ok(()) => {}
+        Err(fault) => return Err(of_schema(fault)),
+    }
+    match survey(alloc, types, ty, payload) {
+        Ok(survey) => Ok(survey),
+        Err(fault) => Err(of_payload(fault)),
+    }
+}
+
+/// The payload of the packed file of a value of the type of main's parameter.
+///
+/// # Errors
+///
+/// As `survey_typed`.
 pub fn survey_input<'a>(
     alloc: Global,
     typed: &'a Typed,
@@ -66,22 +102,11 @@ pub fn survey_input<'a>(
     ensures file { IfOk result (λ s. (v : Datum) → Packed s.table s.ty v s.bytes → File (table_of_program (program_of typed.now)) names.now.long (input_type (program_of typed.now)) v bytes.now) }
     ensures refused { IfErr result (IsPackedStop (table_of_program (program_of typed.now)) names.now.long (input_type (program_of typed.now)) bytes.now) }
 {
-    file_is_content();
-    refused_header();
-    refused_description();
-    refused_file();
+    let types = typed.types();
     let ty = typed.input_type();
-    let payload = match read_header(bytes) {
-        Ok(payload) => payload,
-        Err(fault) => return Err(of_packed(PackedFault::Header(fault))),
-    };
-    match agree(alloc, typed.types(), names, ty, &payload) {
-        Ok(()) => {}
-        Err(fault) => return Err(of_schema(fault)),
-    }
-    match survey(alloc, typed.types(), ty, payload) {
+    match survey_typed(alloc, types, ty, names, bytes) {
         Ok(survey) => Ok(survey),
-        Err(fault) => Err(of_payload(fault)),
+        Err(stop) => Err(stop),
     }
 }
 

@@ -3,6 +3,7 @@
 ghost use Rattle.std.specs.Prelude.{◌≡◌};
 
 use gib_base::limits::FILE_BYTES;
+use gib_base::token::Dialect;
 
 /// Where bytes come from.
 #[derive(Clone, Copy, Debug)]
@@ -40,6 +41,8 @@ pub enum Job {
     Trace,
     /// Prints the value to which the events of a journal lead.
     Replay,
+    /// Prints the value of a program that writes its places out on a packed input, within a depth of calls.
+    Local,
 }
 
 /// What inputs are read as.
@@ -114,7 +117,7 @@ pub struct Plan<'a> {
 }
 
 impl Job {
-    ghost use Rattle.gib_app.specs.Formats.{format_of};
+    ghost use Rattle.gib_app.specs.Formats.{dialect_of, format_of};
 
     /// What the second file is read as, where there is one.
     pub fn format(self) -> Option<Format>
@@ -131,6 +134,26 @@ impl Job {
             Job::Gen => Some(Format::Packed),
             Job::Trace => Some(Format::Packed),
             Job::Replay => Some(Format::Journaled),
+            Job::Local => Some(Format::Packed),
+        }
+    }
+
+    /// How the source is read.
+    pub fn dialect(self) -> Dialect
+        ensures { result ≡ dialect_of self }
+    {
+        match self {
+            Job::Run => Dialect::Source,
+            Job::Plain => Dialect::Source,
+            Job::Check => Dialect::Source,
+            Job::Core => Dialect::Source,
+            Job::Code => Dialect::Source,
+            Job::Pack => Dialect::Source,
+            Job::Show => Dialect::Source,
+            Job::Gen => Dialect::Source,
+            Job::Trace => Dialect::Source,
+            Job::Replay => Dialect::Source,
+            Job::Local => Dialect::Located,
         }
     }
 }

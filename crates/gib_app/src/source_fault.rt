@@ -30,4 +30,10 @@ pub enum SourceFault {
     /// The use at this place is over a limit on copies.
     #[error("a use is over a limit at byte {0}")]
     OverLimit(u32),
+    /// Where places are written out: at this byte another region or location is due.
+    #[error("another place is due at byte {0}")]
+    Misplaced(u32),
+    /// Where places are written out: the core breaks this build rule, at the term of this number.
+    #[error("build rule {0} is broken at term {1}")]
+    BreaksRule(u8, u64),
 }

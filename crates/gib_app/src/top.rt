@@ -7,6 +7,8 @@ ghost use Rattle.gib_app.specs.Words.{bytes_of};
 ghost use Rattle.gib_app.specs.Causes.{IsPrinted};
 ghost use Rattle.gib_app.specs.Calls.{calls_asked};
 ghost use Rattle.gib_app.specs.Lines.{IsPut};
+ghost use Rattle.gib_app.specs.Headline.{IsRun, IsResult, IsTooDeep, TellsWhatIsMeant, IsOrScarce, NoneFailed};
+ghost use Rattle.gib_app.specs.declared.plan.Options.{Options as OptionValues};
 ghost use Rattle.gib_app.specs.Ending.{IsEnding, IsNoTarget, FilesStay, ReadsStay, WritesStay, OutStays, IsDue, IsDueOrScarce};
 ghost use Rattle.gib_app.specs.Performing.{IsCallStop};
 ghost use Rattle.gib_app.specs.Stopping.{answer_for};
@@ -22,7 +24,8 @@ use crate::stop::Stop;
 use crate::words::read_words;
 use gib_edge::outside::{Gate, Shelf, Sink, put_all};
 use gib_file::one_file;
-use gib_lex::laws::one_reading;
+use gib_lex::laws::{one_reading, one_reading_in};
+use gib_local::law::one_text;
 use gib_parse::law::one_program;
 use gib_print::PrintFault;
 use std::alloc::Global;
@@ -96,6 +99,18 @@ pub fn gib<R: Threads + Wait + Sync, S: Shelf, O: Sink, E: Sink, G: Gate + Sync>
     // chunks of region memory do, which has its cause.
     ensures complete { (due : Statuses) → IsDue S.tells (bytes_of words.now) (S.view shelf.old) (S.view shelf.new) (O.view out.old) (O.view out.new) due → IsDueOrScarce (bytes_of words.now) due result }
 
+    // The headline. Of a call that asks to run the program of one document on another: at 0 exactly the text of the value that the program
+    // means on that input within the depth was put, and at 3 its meaning runs out of depth. (`ends` speaks of all calls, and
+    // `headline.rt` of all that it says of these.)
+    ensures runs { (source input : List ℕ) (options : OptionValues) (front : List ℕ) → IsRun (bytes_of words.now) (S.view shelf.old) (O.view out.old) source input options front
+        → TellsWhatIsMeant source input options.depth front (O.view out.new) result }
+    // The other way round: where no read, no write and no put failed, the status is 0 where the program means a value, and 3 where its
+    // meaning runs out of depth, unless memory or its chunks run out.
+    ensures runs_done { (source input output : List ℕ) (options : OptionValues) (front : List ℕ) → (r : IsRun (bytes_of words.now) (S.view shelf.old) (O.view out.old) source input options front)
+        → NoneFailed r.program r.packed r.image (S.view shelf.old) (S.view shelf.new) (O.view out.old) (O.view out.new) → IsResult source input options.depth output → IsOrScarce Statuses.Done result }
+    ensures runs_deep { (source input : List ℕ) (options : OptionValues) (front : List ℕ) → (r : IsRun (bytes_of words.now) (S.view shelf.old) (O.view out.old) source input options front)
+        → NoneFailed r.program r.packed r.image (S.view shelf.old) (S.view shelf.new) (O.view out.old) (O.view out.new) → IsTooDeep source input options.depth → IsOrScarce Statuses.Depth result }
+
     // What files hold stays, but for those that are written, whose writes `ends` tells in their order; counts of faults never
     // fall, and rise only with the status that tells of them; but at `Done` and `WriteFault` nothing is put.
     ensures same { FilesStay S.tells (bytes_of words.now) (S.view shelf.old).kept (S.view shelf.new).kept result }
@@ -111,6 +126,8 @@ pub fn gib<R: Threads + Wait + Sync, S: Shelf, O: Sink, E: Sink, G: Gate + Sync>
 {
     one_reading();
     one_program();
+    one_reading_in();
+    one_text();
     one_file();
     let runtime = Runtime { threads: rt, gate };
     let answer = match call(alloc, runtime, words, shelf, out) {

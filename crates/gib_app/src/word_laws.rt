@@ -1,7 +1,7 @@
 //! What holds of the definitions: each law is the clause of a function that does nothing.
 
 ghost use Rattle.std.specs.Prelude.{◌≡◌, ◌∷◌, [], ℕ, List, None, Some, codes, is_some, true};
-ghost use Rattle.gib_app.specs.declared.plan.Job.TheVariants.{Run, Plain, Core, Code, Pack, Trace, Replay};
+ghost use Rattle.gib_app.specs.declared.plan.Job.TheVariants.{Run, Plain, Core, Code, Pack, Trace, Replay, Local};
 ghost use Rattle.gib_app.specs.Plan.{Named};
 ghost use Rattle.gib_app.specs.Words.{asked, taken, usual};
 
@@ -59,6 +59,11 @@ pub fn examples()
     ensures replay { asked (codes "gib" ∷ codes "replay" ∷ codes "a" ∷ codes "b" ∷ codes "j" ∷ codes "--image=m" ∷ [])
         ≡ Some (record { first = []; source = Named (codes "a"); inputs = Named (codes "b") ∷ Named (codes "j") ∷ []; target = Some (codes "m"); pack = None; job = Replay; options = record usual { image = true } }) }
     ensures replay_depth { asked (codes "gib" ∷ codes "replay" ∷ codes "a" ∷ codes "b" ∷ codes "j" ∷ codes "--depth" ∷ codes "7" ∷ []) ≡ None }
+    // A program that writes its places out takes the options of a run by workers, and makes no file.
+    ensures located { asked (codes "gib" ∷ codes "local" ∷ codes "a" ∷ codes "b" ∷ codes "--workers" ∷ codes "8" ∷ [])
+        ≡ Some (record { first = []; source = Named (codes "a"); inputs = Named (codes "b") ∷ []; target = None; pack = None; job = Local; options = record usual { workers = 8 } }) }
+    ensures located_skips { asked (codes "gib" ∷ codes "local" ∷ codes "a" ∷ codes "b" ∷ codes "--skips" ∷ []) ≡ None }
+    ensures located_image { asked (codes "gib" ∷ codes "local" ∷ codes "a" ∷ codes "b" ∷ codes "--image" ∷ codes "m" ∷ []) ≡ None }
     // A pass past its range.
     ensures pass { asked (codes "gib" ∷ codes "core" ∷ codes "a.gib" ∷ codes "--pass" ∷ codes "5" ∷ []) ≡ None }
     // What is packed, and into which version.

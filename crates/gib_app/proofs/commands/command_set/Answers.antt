@@ -12,4 +12,5 @@ returns c =
     let seven = c.add_command-program-7.ensures _ _ six c.show_command.ensures refl in
     let eight = c.add_command-program-8.ensures _ _ seven c.trace_command.ensures refl in
     let nine = c.add_command-program-9.ensures _ _ eight c.replay_command.ensures refl in
-    c.add_command.ensures _ _ nine c.gen_command.ensures refl
+    let ten = c.add_command-program-10.ensures _ _ nine c.local_command.ensures refl in
+    c.add_command.ensures _ _ ten c.gen_command.ensures refl

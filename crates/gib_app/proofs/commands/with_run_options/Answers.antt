@@ -1,12 +1,6 @@
-use Rattle.std.proofs.Common.{refl}
 use Rattle.std.proofs.lemmas.Result.{IfOk-weaker}
 use Rattle.gib_app.proofs.Adding.{adds_rule}
 use Rattle.gib_app.proofs.commands.with_run_options.Goals as goal
 
 pub returns : goal.returns
-returns c =
-    let one = adds_rule _ _ _ _ _ c.in_ok-arg.ensures refl c.workers.ensures.rule c.workers.ensures.local in
-    let two = adds_rule _ _ _ _ _ c.in_ok-arg-2.ensures one c.depth.ensures.rule c.depth.ensures.local in
-    let three = adds_rule _ _ _ _ _ c.in_ok-arg-3.ensures two c.chunks.ensures.rule c.chunks.ensures.local in
-    let four = adds_rule _ _ _ _ _ c.in_ok-arg-4.ensures three c.fork.ensures.rule c.fork.ensures.local in
-    IfOk-weaker c.arg-5.result _ _ (λ command adds. adds_rule _ _ _ _ _ adds four c.skips.ensures.rule c.skips.ensures.local) c.arg-5.ensures
+returns c = IfOk-weaker c.arg.result _ _ (λ command adds. adds_rule _ _ _ _ _ adds c.in_ok-with_worker_options.ensures c.skips.ensures.rule c.skips.ensures.local) c.arg.ensures

@@ -37,28 +37,28 @@ returns-clause-long_text c = long_text
 
 pub returns-clause-ends_done : goal.returns-clause-ends_done
 returns-clause-ends_done c =
-    let laws : Laws = record { lexed = c.one_reading.ensures; parsed = c.one_program.ensures; filed = c.one_file.ensures.value } in pack_ends_done laws
+    let laws : Laws = record { lexed = c.one_reading.ensures; parsed = c.one_program.ensures; located = c.one_reading_in.ensures; texts = c.one_text.ensures; filed = c.one_file.ensures.value } in pack_ends_done laws
 
 pub returns-clause-ends_long : goal.returns-clause-ends_long
 returns-clause-ends_long c =
-    let laws : Laws = record { lexed = c.one_reading.ensures; parsed = c.one_program.ensures; filed = c.one_file.ensures.value } in pack_ends_long laws
+    let laws : Laws = record { lexed = c.one_reading.ensures; parsed = c.one_program.ensures; located = c.one_reading_in.ensures; texts = c.one_text.ensures; filed = c.one_file.ensures.value } in pack_ends_long laws
 
 pub returns-clause-ends_deep : goal.returns-clause-ends_deep
 returns-clause-ends_deep c =
-    let laws : Laws = record { lexed = c.one_reading.ensures; parsed = c.one_program.ensures; filed = c.one_file.ensures.value } in pack_ends_deep laws
+    let laws : Laws = record { lexed = c.one_reading.ensures; parsed = c.one_program.ensures; located = c.one_reading_in.ensures; texts = c.one_text.ensures; filed = c.one_file.ensures.value } in pack_ends_deep laws
 
 pub returns-clause-ends_trapped : goal.returns-clause-ends_trapped
 returns-clause-ends_trapped c =
-    let laws : Laws = record { lexed = c.one_reading.ensures; parsed = c.one_program.ensures; filed = c.one_file.ensures.value } in pack_ends_trapped laws
+    let laws : Laws = record { lexed = c.one_reading.ensures; parsed = c.one_program.ensures; located = c.one_reading_in.ensures; texts = c.one_text.ensures; filed = c.one_file.ensures.value } in pack_ends_trapped laws
 
 pub returns-clause-fits : goal.returns-clause-fits
 returns-clause-fits c =
-    let laws : Laws = record { lexed = c.one_reading.ensures; parsed = c.one_program.ensures; filed = c.one_file.ensures.value } in pack_fits laws
+    let laws : Laws = record { lexed = c.one_reading.ensures; parsed = c.one_program.ensures; located = c.one_reading_in.ensures; texts = c.one_text.ensures; filed = c.one_file.ensures.value } in pack_fits laws
 
 pub returns-clause-one : goal.returns-clause-one
 returns-clause-one c =
-    let laws : Laws = record { lexed = c.one_reading.ensures; parsed = c.one_program.ensures; filed = c.one_file.ensures.value } in one_packed laws c.one_file.ensures.second
+    let laws : Laws = record { lexed = c.one_reading.ensures; parsed = c.one_program.ensures; located = c.one_reading_in.ensures; texts = c.one_text.ensures; filed = c.one_file.ensures.value } in one_packed laws c.one_file.ensures.second
 
 pub returns-clause-short : goal.returns-clause-short
 returns-clause-short c =
-    let laws : Laws = record { lexed = c.one_reading.ensures; parsed = c.one_program.ensures; filed = c.one_file.ensures.value } in short_or_long laws
+    let laws : Laws = record { lexed = c.one_reading.ensures; parsed = c.one_program.ensures; located = c.one_reading_in.ensures; texts = c.one_text.ensures; filed = c.one_file.ensures.value } in short_or_long laws

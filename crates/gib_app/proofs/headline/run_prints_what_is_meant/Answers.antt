@@ -19,28 +19,28 @@ returns-clause-full c = run_full
 
 pub returns-clause-ends_done : goal.returns-clause-ends_done
 returns-clause-ends_done c =
-    let laws : Laws = record { lexed = c.one_reading.ensures; parsed = c.one_program.ensures; filed = c.one_file.ensures.value } in run_ends_done laws
+    let laws : Laws = record { lexed = c.one_reading.ensures; parsed = c.one_program.ensures; located = c.one_reading_in.ensures; texts = c.one_text.ensures; filed = c.one_file.ensures.value } in run_ends_done laws
 
 pub returns-clause-ends_deep : goal.returns-clause-ends_deep
 returns-clause-ends_deep c =
-    let laws : Laws = record { lexed = c.one_reading.ensures; parsed = c.one_program.ensures; filed = c.one_file.ensures.value } in run_ends_deep laws
+    let laws : Laws = record { lexed = c.one_reading.ensures; parsed = c.one_program.ensures; located = c.one_reading_in.ensures; texts = c.one_text.ensures; filed = c.one_file.ensures.value } in run_ends_deep laws
 
 pub returns-clause-ends_trapped : goal.returns-clause-ends_trapped
 returns-clause-ends_trapped c =
-    let laws : Laws = record { lexed = c.one_reading.ensures; parsed = c.one_program.ensures; filed = c.one_file.ensures.value } in run_ends_trapped laws
+    let laws : Laws = record { lexed = c.one_reading.ensures; parsed = c.one_program.ensures; located = c.one_reading_in.ensures; texts = c.one_text.ensures; filed = c.one_file.ensures.value } in run_ends_trapped laws
 
 pub returns-clause-fits : goal.returns-clause-fits
 returns-clause-fits c =
-    let laws : Laws = record { lexed = c.one_reading.ensures; parsed = c.one_program.ensures; filed = c.one_file.ensures.value } in run_fits laws
+    let laws : Laws = record { lexed = c.one_reading.ensures; parsed = c.one_program.ensures; located = c.one_reading_in.ensures; texts = c.one_text.ensures; filed = c.one_file.ensures.value } in run_fits laws
 
 pub returns-clause-one : goal.returns-clause-one
 returns-clause-one c =
-    let laws : Laws = record { lexed = c.one_reading.ensures; parsed = c.one_program.ensures; filed = c.one_file.ensures.value } in one_result laws
+    let laws : Laws = record { lexed = c.one_reading.ensures; parsed = c.one_program.ensures; located = c.one_reading_in.ensures; texts = c.one_text.ensures; filed = c.one_file.ensures.value } in one_result laws
 
 pub returns-clause-none : goal.returns-clause-none
 returns-clause-none c =
-    let laws : Laws = record { lexed = c.one_reading.ensures; parsed = c.one_program.ensures; filed = c.one_file.ensures.value } in no_result laws
+    let laws : Laws = record { lexed = c.one_reading.ensures; parsed = c.one_program.ensures; located = c.one_reading_in.ensures; texts = c.one_text.ensures; filed = c.one_file.ensures.value } in no_result laws
 
 pub returns-clause-either : goal.returns-clause-either
 returns-clause-either c =
-    let laws : Laws = record { lexed = c.one_reading.ensures; parsed = c.one_program.ensures; filed = c.one_file.ensures.value } in not_either laws
+    let laws : Laws = record { lexed = c.one_reading.ensures; parsed = c.one_program.ensures; located = c.one_reading_in.ensures; texts = c.one_text.ensures; filed = c.one_file.ensures.value } in not_either laws

@@ -1,6 +1,7 @@
 use Rattle.gib_syntax.specs.Parts.{program_of}
 use Rattle.gib_app.specs.Jobs.{Does, DoesAll}
 use Rattle.gib_app.specs.Kept.{contents_of}
+use Rattle.gib_app.specs.Running.{sourced}
 use Rattle.gib_app.specs.Stops.{FailsTo}
 use Rattle.gib_app.proofs.PackedRuns.{does_alone, finished_alone, stopped_alone}
 use Rattle.gib_app.proofs.jobs.do_job.Goals as goal
@@ -9,7 +10,7 @@ pub returns : goal.returns
 returns g c =
     let job = c.args.job in
     let o = c.args.options in
-    let p = program_of c.args.compiled.typed in
+    let p = sourced (program_of c.args.compiled.typed) in
     let names = c.args.compiled.names in
     let given = contents_of c.args.given in
     record {

@@ -1,5 +1,6 @@
 use Rattle.gib_syntax.specs.Parts.{program_of}
 use Rattle.gib_syntax.specs.Meaning.{run}
+use Rattle.gib_app.specs.Cores.{core_after}
 use Rattle.gib_app.specs.Jobs.{run_forks}
 use Rattle.gib_app.specs.MachineRun.{program_cost}
 use Rattle.gib_app.proofs.Refusals.{machine_stop, run_stop}
@@ -10,7 +11,7 @@ pub returns-in-Err-clause-stop : goal.returns-in-Err-clause-stop
 returns-in-Err-clause-stop g c =
     let p = program_of c.args.typed.now in
     let file = c.args.file.now in
-    machine_stop p c.args.names.now c.args.options.skips c.args.options.depth (run_forks c.args.options) c.args.options.chunks file c.in-Err.stop (run_stop p c.args.names.now file c.requires.short c.in-Err.stop c.in-Err.ensures.refused)
+    machine_stop (core_after c.args.options.skips 4 p) p c.args.names.now c.args.options.depth (run_forks c.args.options) c.args.options.chunks file c.in-Err.stop (run_stop p c.args.names.now file c.requires.short c.in-Err.stop c.in-Err.ensures.refused)
 
 pub returns-in-Err-clause-only : goal.returns-in-Err-clause-only
 returns-in-Err-clause-only g c = λ v is.

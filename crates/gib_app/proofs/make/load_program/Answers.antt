@@ -1,12 +1,19 @@
-use Rattle.std.proofs.Common.{List, ℕ, subst}
+use Rattle.std.proofs.Common.{List, ℕ, refl, subst}
+use Rattle.gib_base.specs.declared.token.Dialect.TheVariants as dialect
+use Rattle.gib_syntax.specs.Parts.{program_of}
 use Rattle.gib_app.specs.Calls.{read_calls}
 use Rattle.gib_app.specs.Kept.{document_of}
+use Rattle.gib_app.specs.Running.{IsProgramIn, sourced}
 use Rattle.gib_app.specs.Stops.{IsCompileStop}
 use Rattle.gib_app.proofs.AfterReads.{stopped_behind}
-use Rattle.gib_app.proofs.Making.{compile_source, found_some}
+use Rattle.gib_app.proofs.Making.{compile_source, found_none, found_some, long_source}
 use Rattle.gib_app.proofs.make.load_program.Goals as goal
 
 -- src/make.rt
+pub returns-in-Ok-None-clause-stop : goal.returns-in-Ok-None-clause-stop
+returns-in-Ok-None-clause-stop g c =
+    long_source dialect.Source (g.S.Shelf.view c.args.shelf.now) (g.S.Shelf.view c.read_document.new.shelf) (document_of c.args.document) (found_none c.in-Ok-None.field-0 _ _ c.in-Ok-None.field-0-is c.in-Ok-None.ensures.bytes)
+
 pub returns-in-Ok-None-clause-stopped : goal.returns-in-Ok-None-clause-stopped
 returns-in-Ok-None-clause-stopped g c =
     let all = c.in-Ok-None.ensures in
@@ -36,3 +43,10 @@ returns-clause-stop g c =
     let S : List ℕ → Type 0 = λ source. IsCompileStop source c.in-Err-compile.stop in
     let found = found_some c.in-Ok-Some.field-0 c.in-Ok-Some.source _ _ c.in-Ok-Some.field-0-is c.in-Ok-Some.ensures.bytes in
     compile_source before now' (document_of c.args.document) c.in-Ok-Some.source.items found.0 c.in-Err-compile.stop (subst S c.deref.ensures.value c.in-Err-compile.ensures.refused)
+
+pub returns-in-Ok-clause-compiled : goal.returns-in-Ok-clause-compiled
+returns-in-Ok-clause-compiled g c =
+    let made = c.in-Ok.compiled in
+    let found = found_some c.in-Ok-Some.field-0 c.in-Ok-Some.source _ _ c.in-Ok-Some.field-0-is c.in-Ok-Some.ensures.bytes in
+    let S : List ℕ → Type 0 = λ source. IsProgramIn dialect.Source source made.names (sourced (program_of made.typed)) in
+    record { source = c.in-Ok-Some.source.items; source_held = found.0; holds = subst S c.deref.ensures.value (c.in-Ok.ensures.compiled, refl) }

@@ -1,6 +1,7 @@
 use Rattle.std.proofs.Common.{List, ℕ, subst}
 use Rattle.std.specs.Prelude.{option_map, option_to_list}
 use Rattle.gib_syntax.specs.Parts.{program_of}
+use Rattle.gib_app.specs.Running.{sourced}
 use Rattle.gib_app.specs.Formats.{inputs_of}
 use Rattle.gib_app.specs.Kept.{plan_of}
 use Rattle.gib_app.specs.Stops.{IsFurtherStop}
@@ -11,7 +12,7 @@ use Rattle.gib_app.proofs.make.read_inputs.Goals as goal
 -- src/make.rt
 pub returns-in-Err-clause-stop : goal.returns-in-Err-clause-stop
 returns-in-Err-clause-stop g c =
-    first_stops (g.S.Shelf.view c.args.shelf.now) (g.S.Shelf.view c.read_second.new.shelf) (plan_of c.args.plan) (program_of c.args.compiled.now.typed) c.args.compiled.now.names c.in-Err.stop c.in-Err.ensures.stop
+    first_stops (g.S.Shelf.view c.args.shelf.now) (g.S.Shelf.view c.read_second.new.shelf) (plan_of c.args.plan) (sourced (program_of c.args.compiled.now.typed)) c.args.compiled.now.names c.in-Err.stop c.in-Err.ensures.stop
 
 pub returns-in-Err-clause-stopped : goal.returns-in-Err-clause-stopped
 returns-in-Err-clause-stopped g c = first_stopped (g.S.Shelf.view c.args.shelf.now) (g.S.Shelf.view c.read_second.new.shelf) (g.S.Shelf.view c.read_second.new.shelf) (inputs_of (plan_of c.args.plan)) c.in-Err.stop c.in-Err.ensures.stopped
@@ -30,7 +31,7 @@ pub returns-clause-stop : goal.returns-clause-stop
 returns-clause-stop g c =
     let mid = g.S.Shelf.view c.read_second.new.shelf in
     let now' = g.S.Shelf.view c.read_third.new.shelf in
-    let p = program_of c.args.compiled.now.typed in
+    let p = sourced (program_of c.args.compiled.now.typed) in
     let names = c.args.compiled.now.names in
     let F : List ℕ → Type 0 = λ first. IsFurtherStop mid now' (plan_of c.args.plan) p names first c.in-Err-read_third.stop in
     further_stops (g.S.Shelf.view c.args.shelf.now) mid now' (plan_of c.args.plan) p names c.in-Ok.second.items c.in-Ok.ensures.read.same c.in-Ok.ensures.read.reads c.in-Ok.ensures.bytes

@@ -1,4 +1,5 @@
 use Rattle.gib_syntax.specs.Parts.{program_of}
+use Rattle.gib_app.specs.Running.{sourced}
 use Rattle.gib_app.specs.Calls.{input_calls, read_calls}
 use Rattle.gib_app.specs.Causes.{further_of}
 use Rattle.gib_app.specs.Formats.{inputs_of}
@@ -22,7 +23,7 @@ returns-in_default-clause-read g c = none_there c.third_input.result (further_of
 pub returns-in-Err-clause-stop : goal.returns-in-Err-clause-stop
 returns-in-Err-clause-stop g c =
     let before = g.S.Shelf.view c.args.shelf.now in
-    unsurveyed c.third_input.result (plan_of c.args.plan) c.third_input.ensures.input before before c.in-Some.third c.in-Some.is (program_of c.args.typed.now) c.args.names.now c.args.second.now c.in-Err.stop c.requires.most c.in-Err.ensures.refused
+    unsurveyed c.third_input.result (plan_of c.args.plan) c.third_input.ensures.input before before c.in-Some.third c.in-Some.is (sourced (program_of c.args.typed.now)) c.args.names.now c.args.second.now c.in-Err.stop c.requires.most c.in-Err.ensures.refused
 
 pub returns-in-Err-clause-stopped : goal.returns-in-Err-clause-stopped
 returns-in-Err-clause-stopped g c = none_begun (g.S.Shelf.view c.args.shelf.now) (input_calls (further_of (inputs_of (plan_of c.args.plan)))) c.in-Err.stop
@@ -45,7 +46,7 @@ returns-in-Ok-Some-clause-read g c =
 pub returns-in-Ok-None-clause-stop : goal.returns-in-Ok-None-clause-stop
 returns-in-Ok-None-clause-stop g c =
     let s = c.in-Ok.survey in
-    let p = program_of c.args.typed.now in
+    let p = sourced (program_of c.args.typed.now) in
     let first = c.args.second.now in
     let i = c.in-Some.third in
     let taken = first_taken c.third_input.result (plan_of c.args.plan) c.third_input.ensures.input {names = c.args.names.now} i c.in-Some.is p first s.table s.ty s.bytes c.requires.most (c.payload-packed.ensures.packed.0, c.payload-packed.ensures.packed.1) c.in-Ok.ensures.file in
@@ -68,7 +69,7 @@ returns-in-Ok-None-clause-stopped g c =
 pub returns-in-Err-read_document-clause-stop : goal.returns-in-Err-read_document-clause-stop
 returns-in-Err-read_document-clause-stop g c =
     let s = c.in-Ok.survey in
-    let p = program_of c.args.typed.now in
+    let p = sourced (program_of c.args.typed.now) in
     let first = c.args.second.now in
     let i = c.in-Some.third in
     let taken = first_taken c.third_input.result (plan_of c.args.plan) c.third_input.ensures.input {names = c.args.names.now} i c.in-Some.is p first s.table s.ty s.bytes c.requires.most (c.payload-packed.ensures.packed.0, c.payload-packed.ensures.packed.1) c.in-Ok.ensures.file in

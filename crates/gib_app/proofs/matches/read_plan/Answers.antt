@@ -22,7 +22,7 @@ returns-in_default c =
               (λ e. other.not-code (sym e)),
               (
                 (λ e. other.not-pack (sym e)),
-                ((λ e. other.not-show (sym e)), ((λ e. other.not-trace (sym e)), ((λ e. other.not-replay (sym e)), tt))),
+                ((λ e. other.not-show (sym e)), ((λ e. other.not-trace (sym e)), ((λ e. other.not-replay (sym e)), ((λ e. other.not-local (sym e)), tt)))),
               ),
             ),
           ),

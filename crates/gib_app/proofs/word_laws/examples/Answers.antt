@@ -101,3 +101,15 @@ returns-clause-packed_twice c = refl
 pub returns-clause-trace_packed : goal.returns-clause-trace_packed
 unfolding clap_on_literals
 returns-clause-trace_packed c = refl
+
+pub returns-clause-located : goal.returns-clause-located
+unfolding clap_on_literals
+returns-clause-located c = refl
+
+pub returns-clause-located_skips : goal.returns-clause-located_skips
+unfolding clap_on_literals
+returns-clause-located_skips c = refl
+
+pub returns-clause-located_image : goal.returns-clause-located_image
+unfolding clap_on_literals
+returns-clause-located_image c = refl

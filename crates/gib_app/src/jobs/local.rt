@@ -1,0 +1,52 @@
+//! `local`: prints what a program means that writes its places out.
+
+ghost use Rattle.std.specs.Prelude.{◌≡◌, ◌≤◌, Some, length, IfOk, IfErr};
+ghost use Rattle.gib_core.specs.Numbering.{AreNumbered};
+ghost use Rattle.gib_core.specs.Parts.{core_of};
+ghost use Rattle.gib_app.specs.Jobs.{RunsLocated};
+ghost use Rattle.gib_app.specs.Kept.{EndsBy, file_of};
+ghost use Rattle.gib_app.specs.MachineRun.{RunsFor};
+ghost use Rattle.gib_app.specs.Running.{Program};
+ghost use Rattle.gib_app.specs.Stops.{IsRunStop};
+
+use crate::located::LocatedCore;
+use crate::machine_run::run_located;
+use crate::made::{End, Made, Valued};
+use crate::plan::Options;
+use crate::printing::of_stop;
+use crate::runtime::Runtime;
+use crate::stop::Stop;
+use gib_base::limits::FILE_BYTES;
+use gib_edge::outside::Gate;
+use std::alloc::Global;
+use std::sync::Wait;
+use std::thread::Threads;
+
+/// What a core that is written out means on the bytes of an input, within the depth, in memory of so many chunks, by so many workers.
+///
+/// # Errors
+///
+/// `Input` where the bytes are no packed file of a value of the type of main's parameter.
+pub fn local<R: Threads + Wait + Sync, G: Gate + Sync>(
+    alloc: Global,
+    runtime: Runtime<'_, R, G>,
+    located: LocatedCore,
+    options: Options,
+    input: &[u8],
+) -> Result<Made, Stop<'static>>
+    requires short { length input.now ≤ FILE_BYTES }
+    requires numbered { AreNumbered (core_of located.core) }
+    ensures made { (p : Program) → p.located ≡ Some (core_of located.core) → RunsFor (core_of located.core) p.tree located.names
+        → IfOk result (λ made. EndsBy (file_of made) made.end (RunsLocated p located.names options input.now)) }
+    ensures stop { (p : Program) → p.located ≡ Some (core_of located.core) → RunsFor (core_of located.core) p.tree located.names
+        → IfErr result (IsRunStop p.tree located.names input.now) }
+{
+    let LocatedCore { core, names } = located;
+    match run_located(alloc, runtime, core, &names, input, options) {
+        Ok(ran) => Ok(Made {
+            file: None,
+            end: End::Value(Valued { ran, names }),
+        }),
+        Err(stop) => of_stop(stop),
+    }
+}
