@@ -12,8 +12,6 @@ mod law;
 mod memory;
 mod rule;
 mod sole_mem;
-#[cfg(test)]
-mod tests;
 mod view;
 
 pub use arena_mem::ArenaMem;

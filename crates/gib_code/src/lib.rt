@@ -5,8 +5,6 @@ mod answer;
 mod code;
 mod instruction;
 pub mod names;
-#[cfg(test)]
-mod tests;
 mod text;
 
 pub use answer::{Answer, Reason, Side};

@@ -14,6 +14,3 @@ use std::alloc::AllocError;
 
 /// Want of memory, the one answer that no contract ties to a cause.
 pub type Memory = AllocError;
-
-#[cfg(test)]
-mod tests;

@@ -10,6 +10,3 @@ pub use read::{
     field_by_offset, follow, pass_redirects, skip, tag_at, truth_at, whole_at, word_at,
 };
 pub use root::Root;
-
-#[cfg(test)]
-mod tests;

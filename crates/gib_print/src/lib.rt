@@ -23,6 +23,3 @@ pub use image_of::image;
 pub use image_value::read_image;
 pub use print::print_at;
 pub use total::{Total, total_at};
-
-#[cfg(test)]
-mod tests;

@@ -7,6 +7,3 @@ pub mod tails;
 
 pub use cursor::{Cursor, Full, fill, point, reserve};
 pub use tails::{Tails, begin, finish};
-
-#[cfg(test)]
-mod tests;

@@ -31,13 +31,10 @@ fn fault_of(alloc: Global, source: &str) -> Option<TypeFault> {
 }
 
 #[test]
-fn accepts_a_typed_program(rt: HostRuntime) -> Result<(), Fail> {
+fn a_typed_program_is_accepted_and_an_unknown_variable_refused(
+    rt: HostRuntime,
+) -> Result<(), Fail> {
     assert!(rt; is_main_alone(rt.alloc(), TYPED));
-    Ok(())
-}
-
-#[test]
-fn refuses_an_unknown_variable(rt: HostRuntime) -> Result<(), Fail> {
     let fault = Fault {
         kind: Kind::Unknown,
         span: Span { start: 23, end: 28 },

@@ -8,7 +8,6 @@ ghost use Rattle.gib_syntax.specs.Parts.{program_of};
 ghost use Rattle.gib_syntax.specs.Declarations.{table_of_program, input_type};
 ghost use Rattle.gib_app.specs.Stops.{IsReady};
 
-use crate::harness::packed;
 use gib_app::compile::{Compiled, compile as compile_bytes};
 use gib_base::Names;
 use gib_check::Typed;
@@ -18,6 +17,7 @@ use gib_parse::parse;
 use gib_plain::{Outcome, plain};
 use gib_syntax::GenericProgram;
 use gib_syntax::law::results_are_typed;
+use gib_unit_tests::bytes::packed;
 use gib_value::{Value, write_text};
 use std::alloc::{AllocError, Global};
 

@@ -17,14 +17,6 @@ fn name<'a>(document: Document<'a>) -> &'a str {
     }
 }
 
-/// The name of a document's file, where there is one.
-fn name_of<'a>(document: Option<Document<'a>>) -> Option<&'a str> {
-    match document {
-        Some(document) => Some(name(document)),
-        None => None,
-    }
-}
-
 /// The name of a job's command.
 fn command(job: Job) -> &'static str {
     match job {
@@ -38,50 +30,35 @@ fn command(job: Job) -> &'static str {
         Job::Gen => "gen",
         Job::Trace => "trace",
         Job::Replay => "replay",
+        Job::Local => "local",
     }
-}
-
-/// Puts a file that is named, where there is one.
-fn push_name(line: &mut String, name: Option<&str>) -> Result<(), AllocError> {
-    if let Some(name) = name {
-        line.push_str(" ")?;
-        line.push_str(name)?;
-    }
-    Ok(())
-}
-
-/// Puts an option and its value, where this is not the usual one.
-fn push_number(
-    line: &mut String,
-    alloc: Global,
-    option: &str,
-    value: u32,
-    usual: u32,
-) -> Result<(), AllocError> {
-    if value != usual {
-        line.push_str(&format!(in alloc; " {option} {value}")?)?;
-    }
-    Ok(())
-}
-
-/// Puts an option that is set.
-fn push_set(line: &mut String, option: &str, set: bool) -> Result<(), AllocError> {
-    if set {
-        line.push_str(option)?;
-    }
-    Ok(())
 }
 
 /// Puts the options of a line that are not the usual ones.
 fn push_options(line: &mut String, alloc: Global, options: &Options) -> Result<(), AllocError> {
-    push_number(line, alloc, "workers", options.workers, 1)?;
-    push_number(line, alloc, "fork", options.fork, 4)?;
-    push_number(line, alloc, "depth", options.depth, 10_000)?;
-    push_number(line, alloc, "chunks", options.chunks, 1_024)?;
-    push_number(line, alloc, "pass", options.pass, 4)?;
-    push_set(line, " image", options.image)?;
-    push_set(line, " packs", options.packs)?;
-    push_set(line, " skips", options.skips)
+    let numbers = [
+        ("workers", options.workers, 1),
+        ("fork", options.fork, 4),
+        ("depth", options.depth, 10_000),
+        ("chunks", options.chunks, 1_024),
+        ("pass", options.pass, 4),
+    ];
+    for (option, value, usual) in numbers {
+        if value != usual {
+            line.push_str(&format!(in alloc; " {option} {value}")?)?;
+        }
+    }
+    let set = [
+        (" image", options.image),
+        (" packs", options.packs),
+        (" skips", options.skips),
+    ];
+    for (option, set) in set {
+        if set {
+            line.push_str(option)?;
+        }
+    }
+    Ok(())
 }
 
 /// A plan as one line: its job, its files, and the options that are not the usual ones; or `not taken`.
@@ -90,29 +67,31 @@ fn shown(alloc: Global, plan: Option<Plan<'_>>) -> Result<String, AllocError> {
         return String::from_str(alloc, "not taken");
     };
     let mut line = String::from_str(alloc, command(plan.job))?;
-    push_name(&mut line, Some(name(plan.source)))?;
-    push_name(&mut line, name_of(plan.second))?;
-    push_name(&mut line, name_of(plan.third))?;
-    push_name(&mut line, plan.target)?;
-    push_name(&mut line, plan.pack)?;
+    for document in [Some(plan.source), plan.second, plan.third] {
+        if let Some(document) = document {
+            line.push_str(" ")?;
+            line.push_str(name(document))?;
+        }
+    }
+    for name in [plan.target, plan.pack] {
+        if let Some(name) = name {
+            line.push_str(" ")?;
+            line.push_str(name)?;
+        }
+    }
     push_options(&mut line, alloc, &plan.options)?;
     Ok(line)
 }
 
-/// What words ask for, without the program's name, which comes before them.
-fn asked(alloc: Global, texts: &[&str]) -> Result<String, AllocError> {
+/// Whether words, without the program's name, which comes before them, ask for what this line says.
+fn ask_for(alloc: Global, texts: &[&str], line: &str) -> Result<bool, AllocError> {
     let mut words = Vec::new(alloc);
     words.push(String::from_str(alloc, "gib")?)?;
     for text in texts {
         words.push(String::from_str(alloc, text)?)?;
     }
     let plan = read_words(alloc, words.as_slice())?;
-    shown(alloc, plan)
-}
-
-/// Whether words ask for what this line says.
-fn ask_for(alloc: Global, texts: &[&str], line: &str) -> Result<bool, AllocError> {
-    let asked = asked(alloc, texts)?;
+    let asked = shown(alloc, plan)?;
     Ok(asked.as_str() == line)
 }
 
@@ -238,14 +217,6 @@ const COMMANDS: [(&[&str], &str); 62] = [
     (&["pack", "s", "t", "o", "--skips"], "not taken"),
 ];
 
-#[test]
-fn commands_take_their_words(rt: HostRuntime) -> Result<(), Fail> {
-    for (texts, line) in &COMMANDS {
-        assert!(rt; ask_for(rt.alloc(), texts, line)?, "{texts:?}");
-    }
-    Ok(())
-}
-
 /// Words of runs by workers and of journals, and what they ask for.
 const WORKERS: [(&[&str], &str); 18] = [
     (&["run", "s", "i", "--workers", "2"], "run s i workers 2"),
@@ -277,14 +248,6 @@ const WORKERS: [(&[&str], &str); 18] = [
     (&["replay", "s", "i", "j", "--skips"], "not taken"),
 ];
 
-#[test]
-fn workers_and_journals_take_their_words(rt: HostRuntime) -> Result<(), Fail> {
-    for (texts, line) in &WORKERS {
-        assert!(rt; ask_for(rt.alloc(), texts, line)?, "{texts:?}");
-    }
-    Ok(())
-}
-
 /// Words that name files, and what they ask for.
 const FILES: [(&[&str], &str); 13] = [
     (&["check", "-"], "check -"),
@@ -301,14 +264,6 @@ const FILES: [(&[&str], &str); 13] = [
     (&["check", "-s"], "not taken"),
     (&["check", "--s"], "not taken"),
 ];
-
-#[test]
-fn names_of_files_are_any_words(rt: HostRuntime) -> Result<(), Fail> {
-    for (texts, line) in &FILES {
-        assert!(rt; ask_for(rt.alloc(), texts, line)?, "{texts:?}");
-    }
-    Ok(())
-}
 
 /// Words that are not taken.
 const OTHERS: [&[&str]; 33] = [
@@ -348,7 +303,13 @@ const OTHERS: [&[&str]; 33] = [
 ];
 
 #[test]
-fn other_words_are_not_taken(rt: HostRuntime) -> Result<(), Fail> {
+fn words_ask_for_what_they_say_or_are_not_taken(rt: HostRuntime) -> Result<(), Fail> {
+    let tables: [&[(&[&str], &str)]; 3] = [&COMMANDS, &WORKERS, &FILES];
+    for table in tables {
+        for (texts, line) in table {
+            assert!(rt; ask_for(rt.alloc(), texts, line)?);
+        }
+    }
     for texts in &OTHERS {
         assert!(rt; ask_for(rt.alloc(), texts, "not taken")?, "{texts:?}");
     }

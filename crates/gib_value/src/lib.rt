@@ -18,6 +18,3 @@ pub use node::Node;
 pub use read::read_text;
 pub use value::Value;
 pub use write::write_text;
-
-#[cfg(test)]
-mod tests;

@@ -1,0 +1,179 @@
+//! Where fields are reached.
+
+ghost use Rattle.std.specs.Prelude.{◌≡◌, ◌++◌, ◌∷◌, [], ◌<◌, ◌≤◌, length, map, IfOk, OnOk};
+
+use crate::terms::*;
+use gib_access::reach;
+use gib_base::{Memory, Name};
+use gib_core::*;
+use gib_types::sample::add;
+use gib_types::{ConId, Ty, TypeTable};
+use std::alloc::Global;
+use std::test::*;
+
+const LEAF: ConId = ConId(0);
+
+const PAIR: ConId = ConId(1);
+
+const NODE: ConId = ConId(2);
+
+const LAST: Name = Name(4);
+
+const SUM: Name = Name(5);
+
+// data Tree = Leaf Int | Pair Tree Tree | Node Tree Tree Tree ;
+fn table(alloc: Global) -> Result<TypeTable, Memory>
+    ensures { IfOk result (λ table. length table.types ≡ 1) }
+{
+    let types = Vec::from_slice(alloc, &[Name(0)])?;
+    let mut rows = Vec::new(alloc);
+    add(alloc, &mut rows, 1, 0, &[Ty::Whole])?;
+    add(alloc, &mut rows, 2, 0, &[TREE, TREE])?;
+    add(alloc, &mut rows, 3, 0, &[TREE, TREE, TREE])?;
+    TypeTable::make(alloc, types, rows)
+}
+
+// case %0, where each arm but the first goes on with its last field.
+fn body(alloc: Global, terms: &mut Terms) -> Result<TermId, Memory>
+    ensures { IfOk result (λ id. (id.0 < length terms.new) × (length terms.old ≤ length terms.new)) }
+{
+    let subject = Atom::Variable(Variable(0));
+    let leaf = put(terms, Node::Point(subject))?;
+    let pair = call(alloc, terms, LAST, 3)?;
+    let node = call(alloc, terms, LAST, 6)?;
+    let mut branches = Vec::new(alloc);
+    let of_pair = [Variable(2), Variable(3)];
+    let of_node = [Variable(4), Variable(5), Variable(6)];
+    branches.push(arm(alloc, LEAF, &[Variable(1)], leaf)?)?;
+    branches.push(arm(alloc, PAIR, &of_pair, pair)?)?;
+    branches.push(arm(alloc, NODE, &of_node, node)?)?;
+    put(terms, Node::Case { subject, branches })
+}
+
+// fun last (t : Tree) : Tree = .. ; main (t : Tree) : Tree = last(t) ;
+fn program(alloc: Global) -> Result<Core, Memory> {
+    let mut terms = Terms::new(alloc);
+    let body = body(alloc, &mut terms)?;
+    let main_body = call(alloc, &mut terms, LAST, 0)?;
+    let mut functions = Vec::new(alloc);
+    functions.push(CoreFunction {
+        name: LAST,
+        parameters: Vec::from_slice(alloc, &[TREE])?,
+        result: TREE,
+        body,
+    })?;
+    let main = CoreMain {
+        parameter: TREE,
+        result: TREE,
+        body: main_body,
+    };
+    let types = table(alloc)?;
+    Ok(Core::new(types, terms, functions, main, Vec::new(alloc), false))
+}
+
+// scalar %number, which is call sum %of, and then the rest
+fn summed(
+    alloc: Global,
+    terms: &mut Terms,
+    number: u32,
+    of: u32,
+    rest: TermId,
+) -> Result<TermId, Memory>
+    requires { rest.0 < length terms.old }
+    ensures { IfOk result (λ id. (id.0 < length terms.new) × (length terms.old ≤ length terms.new)) }
+{
+    let term = call(alloc, terms, SUM, of)?;
+    let side = bound(Kind::Scalar, number, Ty::Whole, term);
+    then(terms, Binding::One(side), rest)
+}
+
+// give %n
+fn give(terms: &mut Terms, number: u32) -> Result<TermId, Memory>
+    ensures { IfOk result (λ id. (id.0 < length terms.new) × (length terms.old ≤ length terms.new)) }
+{
+    put(terms, Node::Give(Atom::Variable(Variable(number))))
+}
+
+// case %0: the second arm sums both fields, the third its last one alone.
+fn sum_body(alloc: Global, terms: &mut Terms) -> Result<TermId, Memory>
+    ensures { IfOk result (λ id. (id.0 < length terms.new) × (length terms.old ≤ length terms.new)) }
+{
+    let leaf = give(terms, 1)?;
+    let second = give(terms, 5)?;
+    let second = summed(alloc, terms, 5, 3, second)?;
+    let pair = summed(alloc, terms, 4, 2, second)?;
+    let last = give(terms, 9)?;
+    let node = summed(alloc, terms, 9, 8, last)?;
+    let mut branches = Vec::new(alloc);
+    let of_pair = [Variable(2), Variable(3)];
+    let of_node = [Variable(6), Variable(7), Variable(8)];
+    branches.push(arm(alloc, LEAF, &[Variable(1)], leaf)?)?;
+    branches.push(arm(alloc, PAIR, &of_pair, pair)?)?;
+    branches.push(arm(alloc, NODE, &of_node, node)?)?;
+    let subject = Atom::Variable(Variable(0));
+    put(terms, Node::Case { subject, branches })
+}
+
+// fun sum (t : Tree) : Int = .. ; main (t : Tree) : Int = sum(t) ;
+fn sum_program(alloc: Global) -> Result<Core, Memory> {
+    let mut terms = Terms::new(alloc);
+    let body = sum_body(alloc, &mut terms)?;
+    let given = give(&mut terms, 1)?;
+    let main_body = summed(alloc, &mut terms, 1, 0, given)?;
+    let mut functions = Vec::new(alloc);
+    functions.push(CoreFunction {
+        name: SUM,
+        parameters: Vec::from_slice(alloc, &[TREE])?,
+        result: Ty::Whole,
+        body,
+    })?;
+    let main = CoreMain {
+        parameter: TREE,
+        result: Ty::Whole,
+        body: main_body,
+    };
+    let types = table(alloc)?;
+    Ok(Core::new(types, terms, functions, main, Vec::new(alloc), false))
+}
+
+const SKIPS: &str =
+    "fun last %0:Tree : Tree\n  case %0\n    Leaf %1\n      point %0\n    Pair %2 %3\n      reach %3 by skip %2\n      call last %3\n    Node %4 %5 %6\n      reach %5 by skip %4\n      reach %6 by skip %5\n      call last %6\nmain %0:Tree : Tree\n  call last %0\n";
+
+const OFFSETS: &str =
+    "fun last %0:Tree : Tree\n  case %0\n    Leaf %1\n      point %0\n    Pair %2 %3\n      reach %3 by offset\n      call last %3\n    Node %4 %5 %6\n      reach %6 by offset\n      call last %6\nmain %0:Tree : Tree\n  call last %0\n";
+
+const ENDS: &str =
+    "fun last %0:Tree : Tree\n  case %0\n    Leaf %1\n      point %0\n    Pair %2 %3\n      reach %3 by offset\n      call last %3 ends %3\n    Node %4 %5 %6\n      reach %6 by offset\n      call last %6 ends %6\nmain %0:Tree : Tree\n  call last %0 ends %0\n";
+
+const SUM_BY_ENDS: &str =
+    "fun sum %0:Tree : Int\n  case %0\n    Leaf %1\n      give %1\n    Pair %2 %3\n      scalar %4\n        call sum %2 ends %2\n      reach %3 by end %2\n      scalar %5\n        call sum %3 ends %3\n      give %5\n    Node %6 %7 %8\n      reach %8 by offset\n      scalar %9\n        call sum %8 ends %8\n      give %9\nmain %0:Tree : Int\n  scalar %1\n    call sum %0 ends %0\n  give %1\n";
+
+// A field is reached at the end of the one before it where a call told that end before; else by its offset.
+#[test]
+fn reaches_fields_by_ends(rt: HostRuntime) -> Result<(), Fail> {
+    let alloc = rt.alloc();
+    let names = names(alloc, &["Tree", "Leaf", "Pair", "Node", "last", "sum"])?;
+    let core = reach(alloc, sum_program(alloc)?, AccessMode::Ends)?;
+    let text = print_core(alloc, &core, &names)?;
+    assert!(rt; text.as_slice() == SUM_BY_ENDS.as_bytes());
+    assert!(rt; core.offsets() == [NODE].as_slice());
+    Ok(())
+}
+
+#[test]
+fn reaches_the_fields_of_arms(rt: HostRuntime) -> Result<(), Fail> {
+    let alloc = rt.alloc();
+    let names = names(alloc, &["Tree", "Leaf", "Pair", "Node", "last", "sum"])?;
+    let cases: [(AccessMode, &str, &[ConId]); 3] = [
+        (AccessMode::Skips, SKIPS, &[]),
+        (AccessMode::Offsets, OFFSETS, &[PAIR, NODE]),
+        (AccessMode::Ends, ENDS, &[PAIR, NODE]),
+    ];
+    for (mode, want, offsets) in cases {
+        let core = reach(alloc, program(alloc)?, mode)?;
+        let text = print_core(alloc, &core, &names)?;
+        assert!(rt; text.as_slice() == want.as_bytes(), "{want}");
+        assert!(rt; core.offsets() == offsets, "{want}");
+    }
+    Ok(())
+}

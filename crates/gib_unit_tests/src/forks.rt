@@ -1,0 +1,88 @@
+//! Which sides are marked to run at the same time.
+
+ghost use Rattle.std.specs.Prelude.{◌≡◌, ◌<◌, ◌≤◌, length, IfOk};
+
+use crate::terms::*;
+use gib_base::{Memory, Name};
+use gib_core::*;
+use gib_forks::forks;
+use gib_loccheck::loccheck;
+use gib_types::sample::trees;
+use std::alloc::Global;
+use std::test::*;
+
+const WORK: Name = Name(3);
+
+// call work %0, or point %0
+fn side(alloc: Global, terms: &mut Terms, calls: bool) -> Result<TermId, Memory>
+    ensures { IfOk result (λ id. (id.0 < length terms.new) × (length terms.old ≤ length terms.new)) }
+{
+    if calls {
+        call(alloc, terms, WORK, 0)
+    } else {
+        point(terms, 0)
+    }
+}
+
+// work, which points to its argument, and main, whose body begins with a par that has this mark, and whose sides call or do not.
+fn program(alloc: Global, sides: (bool, bool), fork: bool) -> Result<Core, Memory> {
+    let mut terms = Terms::new(alloc);
+    let work = point(&mut terms, 0)?;
+    let end = side(alloc, &mut terms, true)?;
+    let left = side(alloc, &mut terms, sides.0)?;
+    let right = side(alloc, &mut terms, sides.1)?;
+    let left = bound(Kind::Region, 1, TREE, left);
+    let right = bound(Kind::Region, 2, TREE, right);
+    let body = then(&mut terms, Binding::Par { fork, left, right }, end)?;
+    let mut functions = Vec::new(alloc);
+    functions.push(CoreFunction {
+        name: WORK,
+        parameters: Vec::from_slice(alloc, &[TREE])?,
+        result: TREE,
+        body: work,
+    })?;
+    let main = CoreMain {
+        parameter: TREE,
+        result: TREE,
+        body,
+    };
+    let types = trees(alloc)?;
+    Ok(Core::new(types, terms, functions, main, Vec::new(alloc), false))
+}
+
+/// Whether the program, which breaks no rule, is marked to this text behind that of work.
+fn is_marked(alloc: Global, sides: (bool, bool), fork: bool, want: &str) -> Result<bool, Fail> {
+    let names = names(alloc, &["Tree", "Leaf", "Node", "work"])?;
+    let Ok(checked) = loccheck(alloc, program(alloc, sides, fork)?) else {
+        return Ok(false);
+    };
+    let marked = forks(checked);
+    let text = print_core(alloc, marked.core(), &names)?;
+    let work = b"fun work %0:Tree : Tree\n  point %0\n".as_slice();
+    Ok(text.as_slice().strip_prefix(work) == Some(want.as_bytes()))
+}
+
+const BOTH: &str =
+    "main %0:Tree : Tree\n  par fork\n    region %1\n      call work %0\n    region %2\n      call work %0\n  call work %0\n";
+
+const LEFT: &str =
+    "main %0:Tree : Tree\n  par\n    region %1\n      call work %0\n    region %2\n      point %0\n  call work %0\n";
+
+const RIGHT: &str =
+    "main %0:Tree : Tree\n  par\n    region %1\n      point %0\n    region %2\n      call work %0\n  call work %0\n";
+
+/// Whether the sides call, the mark before, and the text of main.
+const ROWS: [((bool, bool), bool, &str); 4] = [
+    ((true, true), false, BOTH),
+    ((true, true), true, BOTH),
+    ((true, false), true, LEFT),
+    ((false, true), true, RIGHT),
+];
+
+#[test]
+fn marks_where_both_sides_call(rt: HostRuntime) -> Result<(), Fail> {
+    for (sides, fork, want) in &ROWS {
+        assert!(rt; is_marked(rt.alloc(), *sides, *fork, want)?, "{want}");
+    }
+    Ok(())
+}

@@ -1,0 +1,94 @@
+//! Cores that are built by hand, and what placing makes of them.
+
+ghost use Rattle.std.specs.Prelude.{◌≡◌, ◌<◌, ◌≤◌, length, IfOk};
+
+use crate::terms::*;
+use gib_base::{Memory, Name};
+use gib_core::*;
+use gib_place::place;
+use gib_types::ConId;
+use gib_types::sample::trees;
+use std::alloc::Global;
+use std::test::*;
+
+const NODE: ConId = ConId(1);
+
+const WORK: Name = Name(3);
+
+// Node %l %r, with its fields in %4 and %5.
+fn node(alloc: Global, terms: &mut Terms, fields: (u32, u32)) -> Result<TermId, Memory>
+    ensures { IfOk result (λ id. (id.0 < length terms.new) × (length terms.old ≤ length terms.new)) }
+{
+    let rest = write(alloc, terms, 3, NODE, &[], &[var(4), var(5)])?;
+    let rest = here(terms, 5, fields.1, rest)?;
+    let rest = here(terms, 4, fields.0, rest)?;
+    past(terms, 3, NODE, rest)
+}
+
+// main, which binds two calls, %1 and %2, side by side or one after the other, and then makes a node.
+fn program(alloc: Global, is_par: bool, fields: (u32, u32)) -> Result<Core, Memory> {
+    let mut terms = Terms::new(alloc);
+    let node = node(alloc, &mut terms, fields)?;
+    let left = call(alloc, &mut terms, WORK, 0)?;
+    let right = call(alloc, &mut terms, WORK, 0)?;
+    let left = bound(Kind::Region, 1, TREE, left);
+    let right = bound(Kind::Region, 2, TREE, right);
+    let body = if is_par {
+        let fork = false;
+        then(&mut terms, Binding::Par { fork, left, right }, node)?
+    } else {
+        let rest = then(&mut terms, Binding::One(right), node)?;
+        then(&mut terms, Binding::One(left), rest)?
+    };
+    let main = CoreMain {
+        parameter: TREE,
+        result: TREE,
+        body,
+    };
+    let types = trees(alloc)?;
+    Ok(Core::new(types, terms, Vec::new(alloc), main, Vec::new(alloc), false))
+}
+
+/// Whether placing makes this text of a program.
+fn places(alloc: Global, is_par: bool, fields: (u32, u32), want: &str) -> Result<bool, Fail> {
+    let names = names(alloc, &["Tree", "Leaf", "Node", "work"])?;
+    let core = place(alloc, program(alloc, is_par, fields)?)?;
+    let text = print_core(alloc, &core, &names)?;
+    Ok(text.as_slice() == want.as_bytes())
+}
+
+const BOTH: &str =
+    "main %0:Tree : Tree\n  past %1 Node\n  here %2\n    call work %0\n  here %3\n    call work %0\n  write %1 %2 %3\n";
+
+const USED_TWICE: &str =
+    "main %0:Tree : Tree\n  region %1\n    call work %0\n  region %2\n    call work %0\n  past %3 Node\n  here %4\n    point %1\n  here %5\n    point %1\n  write %3 %4 %5\n";
+
+const BEHIND_A_POINTED: &str =
+    "main %0:Tree : Tree\n  region %1\n    call work %0\n  past %2 Node\n  here %3\n    point %0\n  here %4\n    call work %0\n  write %2 %3 %4\n";
+
+const EXCHANGED: &str =
+    "main %0:Tree : Tree\n  region %1\n    call work %0\n  past %2 Node\n  here %3\n    call work %0\n  here %4\n    point %1\n  write %2 %3 %4\n";
+
+const BOTH_SIDES: &str =
+    "main %0:Tree : Tree\n  past %1 Node\n  par\n    here %2\n      call work %0\n    here %3\n      call work %0\n  write %1 %2 %3\n";
+
+const RIGHT_SIDE: &str =
+    "main %0:Tree : Tree\n  past %1 Node\n  here %2\n    point %0\n  par\n    region %3\n      call work %0\n    here %4\n      call work %0\n  write %1 %2 %4\n";
+
+/// Whether the two calls stand side by side, to which variables the fields point, and the text that is made of it.
+const CASES: [(bool, (u32, u32), &str); 6] = [
+    (false, (1, 2), BOTH),
+    (false, (1, 1), USED_TWICE),
+    (false, (0, 2), BEHIND_A_POINTED),
+    (false, (2, 1), EXCHANGED),
+    (true, (1, 2), BOTH_SIDES),
+    (true, (0, 2), RIGHT_SIDE),
+];
+
+#[test]
+fn places_what_stands_in_a_field(rt: HostRuntime) -> Result<(), Fail> {
+    for (is_par, fields, want) in &CASES {
+        assert!(rt; places(rt.alloc(), *is_par, *fields, want)?, "{want}");
+    }
+    Ok(())
+}

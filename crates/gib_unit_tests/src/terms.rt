@@ -1,0 +1,164 @@
+//! Terms that are put together by hand.
+
+ghost use Rattle.std.specs.Prelude.{◌≡◌, ◌<◌, ◌≤◌, length, IfOk};
+ghost use Rattle.gib_core.specs.Arena.{IsBindingBelow, PartsBelow};
+
+use gib_base::{Memory, Name, Names, Texts};
+use gib_core::*;
+use gib_syntax::Operator;
+use gib_types::{ConId, Ty, TyId};
+use std::alloc::Global;
+use std::test::Fail;
+
+/// The first declared type.
+pub const TREE: Ty = Ty::Tree(TyId(0));
+
+/// The names of a program, in their order.
+pub fn names(alloc: Global, texts: &[&str]) -> Result<Texts, Fail> {
+    let mut names = Names::make(alloc)?;
+    for text in texts {
+        if names.intern(alloc, text.as_bytes()).is_err() {
+            return Err(Fail::new("a name"));
+        }
+    }
+    Ok(Texts::new(alloc, names))
+}
+
+pub fn var(number: u32) -> Atom {
+    Atom::Variable(Variable(number))
+}
+
+pub fn put(terms: &mut Terms, node: Node) -> Result<TermId, Memory>
+    requires { PartsBelow node (length terms.old) }
+    ensures { IfOk result (λ id. (id.0 < length terms.new) × (length terms.old ≤ length terms.new)) }
+{
+    terms.put(node)
+}
+
+pub fn then(terms: &mut Terms, binding: Binding, rest: TermId) -> Result<TermId, Memory>
+    requires rest { rest.0 < length terms.old }
+    requires binding { IsBindingBelow (length terms.old) binding }
+    ensures { IfOk result (λ id. (id.0 < length terms.new) × (length terms.old ≤ length terms.new)) }
+{
+    put(terms, Node::Then(binding, rest))
+}
+
+/// point %n
+pub fn point(terms: &mut Terms, number: u32) -> Result<TermId, Memory>
+    ensures { IfOk result (λ id. (id.0 < length terms.new) × (length terms.old ≤ length terms.new)) }
+{
+    put(terms, Node::Point(var(number)))
+}
+
+/// call f %n
+pub fn call(alloc: Global, terms: &mut Terms, name: Name, number: u32) -> Result<TermId, Memory>
+    ensures { IfOk result (λ id. (id.0 < length terms.new) × (length terms.old ≤ length terms.new)) }
+{
+    let arguments = Vec::from_slice(alloc, &[var(number)])?;
+    put(terms, Node::Call(name, arguments))
+}
+
+/// write %h of the scalars and the packed fields
+pub fn write(
+    alloc: Global,
+    terms: &mut Terms,
+    head: u32,
+    constructor: ConId,
+    scalars: &[Atom],
+    packed: &[Atom],
+) -> Result<TermId, Memory>
+    ensures { IfOk result (λ id. (id.0 < length terms.new) × (length terms.old ≤ length terms.new)) }
+{
+    let scalars = Vec::from_slice(alloc, scalars)?;
+    let packed = Vec::from_slice(alloc, packed)?;
+    put(
+        terms,
+        Node::Write {
+            head: Variable(head),
+            constructor,
+            scalars,
+            packed,
+        },
+    )
+}
+
+pub fn bound(kind: Kind, number: u32, ty: Ty, term: TermId) -> BoundTerm
+    ensures { result.term ≡ term }
+{
+    BoundTerm {
+        kind,
+        variable: Variable(number),
+        ty,
+        term,
+    }
+}
+
+/// past %h, and the rest
+pub fn past(
+    terms: &mut Terms,
+    head: u32,
+    constructor: ConId,
+    rest: TermId,
+) -> Result<TermId, Memory>
+    requires { rest.0 < length terms.old }
+    ensures { IfOk result (λ id. (id.0 < length terms.new) × (length terms.old ≤ length terms.new)) }
+{
+    then(
+        terms,
+        Binding::Past {
+            head: Variable(head),
+            constructor,
+        },
+        rest,
+    )
+}
+
+/// here %n, and under it point %m, and the rest
+pub fn here(terms: &mut Terms, number: u32, target: u32, rest: TermId) -> Result<TermId, Memory>
+    requires { rest.0 < length terms.old }
+    ensures { IfOk result (λ id. (id.0 < length terms.new) × (length terms.old ≤ length terms.new)) }
+{
+    let point = point(terms, target)?;
+    let here = bound(Kind::Here, number, TREE, point);
+    then(terms, Binding::One(here), rest)
+}
+
+/// prim %n = an operation on two atoms, and the rest
+pub fn prim(
+    terms: &mut Terms,
+    number: u32,
+    operator: Operator,
+    left: Atom,
+    right: Atom,
+    rest: TermId,
+) -> Result<TermId, Memory>
+    requires { rest.0 < length terms.old }
+    ensures { IfOk result (λ id. (id.0 < length terms.new) × (length terms.old ≤ length terms.new)) }
+{
+    then(
+        terms,
+        Binding::Prim {
+            variable: Variable(number),
+            operator,
+            left,
+            right,
+        },
+        rest,
+    )
+}
+
+pub fn arm(
+    alloc: Global,
+    constructor: ConId,
+    variables: &[Variable],
+    term: TermId,
+) -> Result<Branch, Memory>
+    ensures { IfOk result (λ b. b.term ≡ term) }
+{
+    let variables = Vec::from_slice(alloc, variables)?;
+    Ok(Branch {
+        constructor,
+        variables,
+        term,
+    })
+}
