@@ -307,6 +307,11 @@ const ROWS: [Row<'static>; 12] = [
     },
 ];
 
+/// A source, which is `a.gib`, and its input, which is `a.gbp`.
+fn two_files<'x>(source: &'x str, input: &'x [u8]) -> [(&'x str, &'x [u8]); 2] {
+    [("a.gib", source.as_bytes()), ("a.gbp", input)]
+}
+
 /// How a call by two workers ends who come to each other's points; nothing where they do not.
 fn met<R: Threads + Wait + Sync>(
     rt: &R,
@@ -317,7 +322,7 @@ fn met<R: Threads + Wait + Sync>(
 ) -> Result<Option<Ended>, AllocError> {
     let gate = Meeting::new();
     let input = packed(alloc, payload)?;
-    let files = [("a.gib", source.as_bytes()), ("a.gbp", input.as_slice())];
+    let files = two_files(source, &input);
     let fails = Fails {
         shelf: &[],
         out: &[],
