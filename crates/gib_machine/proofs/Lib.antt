@@ -15,5 +15,3 @@ pub mod Stands
 pub mod Widths
 pub mod InPlaces
 pub mod Levels
--- For the tests.
-pub mod Samples

@@ -74,7 +74,7 @@ impl Model for GenericExprs {
 impl GenericExprs {
     ghost use Rattle.std.specs.Prelude.{◌≡◌, ◌<◌, length, IfOk, OnErr};
     ghost use Rattle.gib_syntax.specs.Words.{run_words, IsRunIn};
-    ghost use Rattle.gib_syntax.specs.GenericArena.{empty, PartsBelow, IsRunWithin, Opens, Grows, Makes};
+    ghost use Rattle.gib_syntax.specs.GenericArena.{empty, IsArena, PartsBelow, IsRunWithin, Opens, Grows, Makes};
 
     /// No expressions and no words.
     pub fn new(alloc: Global) -> GenericExprs
@@ -91,6 +91,14 @@ impl GenericExprs {
         ensures { result ≡ length self.now.nodes }
     {
         self.nodes.len()
+    }
+
+    /// The nodes alone, in their order.
+    pub fn into_nodes(self) -> Vec<GenericNode>
+        ensures nodes { result.items ≡ self.nodes }
+        ensures arena { IsArena self }
+    {
+        self.nodes
     }
 
     /// A node whose tree is the one of the number.

@@ -97,6 +97,14 @@ impl GenericProgram {
         &self.exprs
     }
 
+    /// The expressions alone.
+    pub fn into_exprs(self) -> GenericExprs
+        ensures value { result ≡ self.exprs }
+        ensures inside { AreInside self }
+    {
+        self.exprs
+    }
+
     /// The data declarations, in the order of the text.
     pub fn datas(&self) -> &[GenericData]
         ensures value { result.now ≡ self.now.datas }

@@ -11,4 +11,3 @@ pub mod Complete
 pub mod Agree
 pub mod OneText
 pub mod ReadText
-pub mod MadeTables
