@@ -1,4 +1,5 @@
 pub mod Runs
+pub mod WordLengths
 pub mod Value
 pub mod Numbers
 pub mod Cuts

@@ -1,4 +1,5 @@
 pub mod Reading
+pub mod WordLengths
 pub mod Faults
 pub mod NameFaults
 pub mod Refused

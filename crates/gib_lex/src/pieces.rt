@@ -6,6 +6,7 @@ ghost use Rattle.std.specs.Char.{is_ascii_digit, is_ascii_alphabetic};
 ghost use Rattle.gib_base.specs.Piece.{Class, is_blank, is_comment_byte, is_sign_byte, other_class};
 ghost use Rattle.gib_base.specs.Spelling.{words, place_words, word_among, word_by, name_piece, value_from, number_piece, dash_piece, equal_piece, single_of, piece_by};
 ghost use Rattle.gib_lex.specs.Reading.{dash_len, equal_len, longest};
+ghost use Rattle.gib_lex.specs.WordLengths.{of_length};
 
 use gib_base::letters::{digits_len, name_len};
 use gib_base::token::{Dialect, Piece, Sign, is_literal};
@@ -107,48 +108,89 @@ pub fn longest(dialect: Dialect, bytes: &[u8]) -> usize
     }
 }
 
-// The word of programs that a text is, where it is one.
-fn plain_word(text: &[u8]) -> Option<Sign>
-    ensures { result ≡ word_among words text.now }
+// The word of programs of two letters that a text is, where it is one.
+fn word_of_two(text: &[u8]) -> Option<Sign>
+    ensures { result ≡ word_among (of_length 2 words) text.now }
 {
-    if text == b"data".as_slice() {
-        Some(Sign::Data)
-    } else if text == b"fun".as_slice() {
+    if text == b"in".as_slice() {
+        Some(Sign::In)
+    } else if text == b"if".as_slice() {
+        Some(Sign::If)
+    } else if text == b"of".as_slice() {
+        Some(Sign::Of)
+    } else {
+        None
+    }
+}
+
+// The word of programs of three letters that a text is, where it is one.
+fn word_of_three(text: &[u8]) -> Option<Sign>
+    ensures { result ≡ word_among (of_length 3 words) text.now }
+{
+    if text == b"fun".as_slice() {
         Some(Sign::Fun)
-    } else if text == b"main".as_slice() {
-        Some(Sign::Main)
     } else if text == b"let".as_slice() {
         Some(Sign::Let)
     } else if text == b"par".as_slice() {
         Some(Sign::Par)
     } else if text == b"and".as_slice() {
         Some(Sign::And)
-    } else if text == b"in".as_slice() {
-        Some(Sign::In)
-    } else if text == b"if".as_slice() {
-        Some(Sign::If)
+    } else if text == b"Int".as_slice() {
+        Some(Sign::Int)
+    } else if text == b"rem".as_slice() {
+        Some(Sign::Remainder)
+    } else {
+        None
+    }
+}
+
+// The word of programs of four letters that a text is, where it is one.
+fn word_of_four(text: &[u8]) -> Option<Sign>
+    ensures { result ≡ word_among (of_length 4 words) text.now }
+{
+    if text == b"data".as_slice() {
+        Some(Sign::Data)
+    } else if text == b"main".as_slice() {
+        Some(Sign::Main)
     } else if text == b"then".as_slice() {
         Some(Sign::Then)
     } else if text == b"else".as_slice() {
         Some(Sign::Else)
     } else if text == b"case".as_slice() {
         Some(Sign::Case)
-    } else if text == b"of".as_slice() {
-        Some(Sign::Of)
     } else if text == b"True".as_slice() {
         Some(Sign::True)
-    } else if text == b"False".as_slice() {
-        Some(Sign::False)
-    } else if text == b"Int".as_slice() {
-        Some(Sign::Int)
     } else if text == b"Bool".as_slice() {
         Some(Sign::Bool)
     } else if text == b"quot".as_slice() {
         Some(Sign::Quotient)
-    } else if text == b"rem".as_slice() {
-        Some(Sign::Remainder)
     } else {
         None
+    }
+}
+
+// The word of programs of five letters that a text is, where it is one.
+fn word_of_five(text: &[u8]) -> Option<Sign>
+    ensures { result ≡ word_among (of_length 5 words) text.now }
+{
+    if text == b"False".as_slice() {
+        Some(Sign::False)
+    } else {
+        None
+    }
+}
+
+// The word of programs that a text is, where it is one. Most names are shorter than each of them, or longer.
+#[tactic(auto, using(crate::proofs::WordLengths::no_word))]
+fn plain_word(text: &[u8]) -> Option<Sign>
+    ensures { result ≡ word_among words text.now }
+{
+    match text.len() {
+        2 => word_of_two(text),
+        3 => word_of_three(text),
+        4 => word_of_four(text),
+        5 => word_of_five(text),
+        _ => None,
     }
 }
 
