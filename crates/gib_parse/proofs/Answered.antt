@@ -1,5 +1,5 @@
 -- What the parser answers, by what reading gives.
-use Rattle.std.proofs.Common.{◌≡◌, ℕ, ◌≤◌, List, [], Result, Ok, Err, refl, sym, ap, ◌∙◌, subst}
+use Rattle.std.proofs.Common.{◌≡◌, ℕ, ◌≤◌, List, [], Result, Ok, Err, refl, sym, ap, ◌∙◌, subst, ◌⊎◌, inl, inr}
 use Rattle.std.specs.Prelude.{IfOk, IfErr}
 use Rattle.gib_base.specs.declared.Span.{Span}
 use Rattle.gib_base.specs.declared.token.Token.{Token}
@@ -13,10 +13,12 @@ use Rattle.gib_parse.specs.declared.stop.Stop.{Stop}
 use Rattle.gib_parse.specs.declared.stop.Stop.TheVariants as stop
 use Rattle.gib_parse.specs.Reading.{Fault, At, Nested, Read, whole}
 use Rattle.gib_parse.specs.Parsing.{Fails}
-use Rattle.gib_parse.specs.Answers.{read_of, AnswersRead, IsBlamedAt, IsTooDeepAt, AnswersOnly, fault_of}
+use Rattle.gib_parse.specs.Answers.{read_of, AnswersRead, AnswersOnly, AnswersFault, fault_of}
+use Rattle.gib_parse.specs.Blaming.{place_of, IsBlamedAt, IsTooDeepAt}
 use Rattle.gib_parse.proofs.Tools.{done, failed}
 use Rattle.gib_parse.proofs.Local.{Refused, Deep}
 use Rattle.gib_parse.proofs.BeginProgram.{whole_begun}
+use Rattle.gib_parse.proofs.OneFault.{one_blamed, one_too_deep, not_both, not_blamed, not_too_deep}
 use Rattle.gib_parse.proofs.Sunk.{whole_begun_with, whole_sinks, whole_floats}
 use Rattle.gib_parse.proofs.Whole.{whole_reads, derived_is_read, placed_is_read, whole_blames, whole_deepens, whole_within}
 
@@ -87,6 +89,28 @@ too_deep l place a = record {
   sinks = whole_sinks (places_of l.spans) l.tokens a.left a.read;
   here = a.here;
 }
+
+-- ---- exactly what is refused
+
+pub blamed_answer : (l : Lexed) (r : Result GenericParts ParseFault) → AnswersRead l r → (place : ℕ) → IsBlamedAt l place → AnswersFault r (fault.At place)
+blamed_answer l (Ok p) a place h = not_blamed l place (generic_program_of p) (found l (Ok p) a) h
+blamed_answer l (Err fault.Memory) a place h = tt
+blamed_answer l (Err (fault.At other)) a place h = ap (λ (n : ℕ). fault.At n) (one_blamed l other place (blamed l other a) h)
+blamed_answer l (Err (fault.Nested other)) a place h = absurd (not_both l place other h (too_deep l other a))
+
+pub too_deep_answer : (l : Lexed) (r : Result GenericParts ParseFault) → AnswersRead l r → (place : ℕ) → IsTooDeepAt l place → AnswersFault r (fault.Nested place)
+too_deep_answer l (Ok p) a place h = not_too_deep l place (generic_program_of p) (found l (Ok p) a) (levels l (Ok p) a) h
+too_deep_answer l (Err fault.Memory) a place h = tt
+too_deep_answer l (Err (fault.At other)) a place h = absurd (not_both l other place (blamed l other a) h)
+too_deep_answer l (Err (fault.Nested other)) a place h = ap (λ (n : ℕ). fault.Nested n) (one_too_deep l other place (too_deep l other a) h)
+
+-- Tokens that spell no program of 200 levels have a fault.
+pub has_fault : (l : Lexed) → ((p : GenericProgramTree) → Derives l.tokens p → levels_program p ≤ 200 → ⊥) → (place : ℕ) × (IsBlamedAt l place ⊎ IsTooDeepAt l place)
+has_fault l none_fits = go (read_of l) refl where
+  go : (r : Read GenericProgramTree) → read_of l ≡ r → (place : ℕ) × (IsBlamedAt l place ⊎ IsTooDeepAt l place)
+  go (Ok x) e = let w = whole_reads 200 (places_of l.spans) l.tokens x.0 x.1 e in absurd (none_fits x.0 w.derived w.level)
+  go (Err (At left)) e = (place_of l left, inl (blamed l (place_of l left) (record { left = left; read = e; here = refl })))
+  go (Err (Nested left)) e = (place_of l left, inr (too_deep l (place_of l left) (record { left = left; read = e; here = refl })))
 
 -- ---- the same, of what the code sees
 

@@ -11,7 +11,8 @@ use Rattle.gib_syntax.specs.Forms.{WrittenType, WholeAt}
 use Rattle.gib_syntax.specs.GenericTree.{GenericExpression, GenericNum, GenericConstructorTree, GenericDataTree, GenericFunctionTree, GenericMainTree, GenericProgramTree, GenericParameterTree}
 use Rattle.gib_syntax.specs.GenericFine.{IsGenericFine, IsGenericFineFunction, IsGenericFineProgram, HasGenericConstructor}
 use Rattle.gib_syntax.specs.Spelling.{Places, Derives, spell_variables, spell_type_parameters, spell_type, spell_constructor, spell_more, spell_constructors, spell_data, spell_datas, spell_parameter, spell_parameters, spell_body, spell_function, spell_functions, spell_main, spell_program}
-use Rattle.gib_parse.specs.Reading.{At, Any, var_at, is_variable, many, is_sign, constructor_at, alternative_at, constructors_at, data_at, parameter_at, parameters_at, BodyTree, body_at, function_at, main_at, program_at, ends_at, whole_in, parse, Begun}
+use Rattle.gib_parse.specs.Reading.{At, Any, var_at, is_variable, many, is_sign, constructor_at, alternative_at, constructors_at, data_at, parameter_at, parameters_at, BodyTree, body_at, function_at, main_at, program_at, ends_at, whole_in, parse}
+use Rattle.gib_parse.specs.Blaming.{Begun}
 use Rattle.gib_parse.proofs.Tools.{done, failed}
 use Rattle.gib_parse.proofs.Many.{many_sound}
 use Rattle.gib_parse.proofs.Sound.{parse_sound}

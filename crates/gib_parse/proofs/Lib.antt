@@ -20,6 +20,7 @@ pub mod BeginWritten
 pub mod BeginExpression
 pub mod BeginProgram
 pub mod Sunk
+pub mod OneFault
 pub mod SoFar
 pub mod PartsSoFar
 pub mod Opening

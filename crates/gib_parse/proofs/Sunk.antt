@@ -5,8 +5,9 @@ use Rattle.std.proofs.lemmas.Bool.{cases_lt}
 use Rattle.gib_base.specs.declared.token.Token.{Token}
 use Rattle.gib_syntax.specs.GenericTree.{GenericProgramTree}
 use Rattle.gib_syntax.specs.Spelling.{Places, Derives}
-use Rattle.gib_parse.specs.Reading.{At, Nested, Read, whole_in, Begun}
-use Rattle.gib_parse.specs.Nesting.{below_program, NoneBefore, BegunWith, Sinks}
+use Rattle.gib_parse.specs.Reading.{At, Nested, Read, whole_in}
+use Rattle.gib_parse.specs.Nesting.{below_program}
+use Rattle.gib_parse.specs.Blaming.{Begun, NoneBefore, BegunWith, Sinks}
 use Rattle.gib_parse.proofs.Tools.{failed}
 use Rattle.gib_parse.proofs.Come.{Comes, Came, Sank}
 use Rattle.gib_parse.proofs.Local.{Deep, at_is_nested}
@@ -18,17 +19,24 @@ use Rattle.gib_parse.proofs.Whole.{whole_reads, derived_comes, whole_within, who
 
 -- ---- some program begins so
 
+-- What follows fewer of the tokens, where this follows more of them.
+abbrev pub following : List Token → ℕ → ℕ → List Token → List Token
+following ts j k more = drop (length ts - k) (take (length ts - j) ts) ++ more
+
 -- A program that begins with more of the tokens begins with fewer.
-fewer : (ts : List Token) (j k : ℕ) → j ≤ k → Begun ts j → Begun ts k
-fewer ts j k le b =
+pub fewer_derive : (ts : List Token) (j k : ℕ) → j ≤ k → (p : GenericProgramTree) (more : List Token) → Derives (take (length ts - j) ts ++ more) p → Derives (take (length ts - k) ts ++ following ts j k more) p
+fewer_derive ts j k le p more d =
     let shorter : length ts - k ≤ length ts - j = omega arith in
     let part = take (length ts - j) ts in
     let cut : take (length ts - k) part ≡ take (length ts - k) ts = take-take (length ts - k) (length ts - j) ts shorter in
-    let again : take (length ts - k) ts ++ (drop (length ts - k) part ++ b.1) ≡ part ++ b.1 =
-    sym (append_assoc (take (length ts - k) ts) (drop (length ts - k) part) b.1)
-    ∙ ap (λ (l : List Token). (l ++ drop (length ts - k) part) ++ b.1) (sym cut)
-    ∙ ap (λ (l : List Token). l ++ b.1) (take-append-drop (length ts - k) part) in
-    (b.0, drop (length ts - k) part ++ b.1, subst (λ (l : List Token). Derives l b.0) (sym again) b.2)
+    let again : take (length ts - k) ts ++ following ts j k more ≡ part ++ more =
+    sym (append_assoc (take (length ts - k) ts) (drop (length ts - k) part) more)
+    ∙ ap (λ (l : List Token). (l ++ drop (length ts - k) part) ++ more) (sym cut)
+    ∙ ap (λ (l : List Token). l ++ more) (take-append-drop (length ts - k) part) in
+    subst (λ (l : List Token). Derives l p) (sym again) d
+
+fewer : (ts : List Token) (j k : ℕ) → j ≤ k → Begun ts j → Begun ts k
+fewer ts j k le b = (b.0, following ts j k b.1, fewer_derive ts j k le b.0 b.1 b.2)
 
 -- A program begins with whatever stands at its front.
 front_begun : (ts : List Token) (k : ℕ) (p : GenericProgramTree) → Derives ts p → Begun ts k

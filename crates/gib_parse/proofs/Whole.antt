@@ -10,8 +10,9 @@ use Rattle.gib_syntax.specs.GenericTree.{GenericProgramTree}
 use Rattle.gib_syntax.specs.Source.{Spells}
 use Rattle.gib_syntax.specs.Spelling.{Places, places_of, IsPlacedProgram, levels_program, Derives, Blames}
 use Rattle.gib_lex.proofs.Cuts.{one_reading}
-use Rattle.gib_parse.specs.Reading.{At, Nested, Read, whole_in, Deepens}
-use Rattle.gib_parse.specs.Nesting.{below_program, IsFirst}
+use Rattle.gib_parse.specs.Reading.{At, Nested, Read, whole_in}
+use Rattle.gib_parse.specs.Nesting.{below_program}
+use Rattle.gib_parse.specs.Blaming.{Deepens, IsFirst}
 use Rattle.gib_parse.proofs.Tools.{done, failed}
 use Rattle.gib_parse.proofs.Nested.{flat_program}
 use Rattle.gib_parse.proofs.Come.{Comes, Came, Sank, comes_at}

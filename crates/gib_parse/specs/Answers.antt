@@ -1,25 +1,16 @@
 -- What parsing answers, by the tokens of a text, their spans and the text's length.
-use Rattle.std.specs.Prelude.{◌≡◌, ◌≤◌, ℕ, zero, suc, List, [], length, Result, Ok, Err}
+use Rattle.std.specs.Prelude.{◌≡◌, ℕ, List, [], Result, Ok, Err}
 use Rattle.gib_base.specs.declared.Span.{Span}
 use Rattle.gib_base.specs.Lexed.{Lexed}
 use Rattle.gib_syntax.specs.GenericTree.{GenericProgramTree}
-use Rattle.gib_syntax.specs.Spelling.{places_of, Blames}
+use Rattle.gib_syntax.specs.Spelling.{places_of}
 use Rattle.gib_syntax.specs.GenericParts.{GenericParts, generic_program_of}
 use Rattle.gib_parse.specs.declared.fault.ParseFault.{ParseFault}
 use Rattle.gib_parse.specs.declared.fault.ParseFault.TheVariants as fault
 use Rattle.gib_parse.specs.declared.stop.Stop.{Stop}
 use Rattle.gib_parse.specs.declared.stop.Stop.TheVariants as stop
-use Rattle.gib_parse.specs.Reading.{At, Nested, Read, whole, Deepens, Begun}
-use Rattle.gib_parse.specs.Nesting.{BegunWith, Sinks, Floats}
-
--- The place of the token from which so many are left: its first byte; with none left, the text's length.
-abbrev pub place_in : List Span → ℕ → ℕ → ℕ
-place_in spans len zero = len
-place_in spans len (suc k) = (places_of spans (suc k)).start
-
--- The same by what lexing made of the text.
-abbrev pub place_of : Lexed → ℕ → ℕ
-place_of l left = place_in l.spans l.len left
+use Rattle.gib_parse.specs.Reading.{At, Nested, Read, whole}
+pub use Rattle.gib_parse.specs.Blaming.{place_in, place_of}
 
 -- What is read of the tokens.
 abbrev pub read_of : Lexed → Read GenericProgramTree
@@ -44,32 +35,19 @@ AnswersRead l (Err fault.Memory) = Unit {0}
 AnswersRead l (Err (fault.At place)) = IsRefusedAt l place
 AnswersRead l (Err (fault.Nested place)) = IsNestedAt l place
 
--- At this place stands the first token such that no program's tokens begin with the tokens up to and
--- including it; or it is the text's length, and tokens are missing. No expression on level 201 begins before.
-pub record IsBlamedAt (l : Lexed) (place : ℕ) : Type 0 where
-  pub left : ℕ
-  pub within : left ≤ length l.tokens
-  pub blamed : Blames l.tokens left
-  pub first : Begun l.tokens left
-  pub floats : Floats l.tokens left
-  pub here : place ≡ place_of l left
-
--- At this place stands a token such that some program's tokens begin with the tokens up to and including it,
--- and in each such program, which so has more than 200 levels, it begins the first expression on level 201.
-pub record IsTooDeepAt (l : Lexed) (place : ℕ) : Type 0 where
-  pub left : ℕ
-  pub within : left ≤ length l.tokens
-  pub deep : Deepens l.tokens left
-  pub begun : BegunWith l.tokens left
-  pub sinks : Sinks l.tokens left
-  pub here : place ≡ place_of l left
-
 -- This program is the answer, unless memory ran out.
 abbrev pub AnswersOnly : Result GenericParts ParseFault → GenericProgramTree → Type 0
 AnswersOnly (Ok p) g = generic_program_of p ≡ g
 AnswersOnly (Err fault.Memory) g = Unit {0}
 AnswersOnly (Err (fault.At place)) g = ⊥
 AnswersOnly (Err (fault.Nested place)) g = ⊥
+
+-- This fault is the answer, unless memory ran out.
+abbrev pub AnswersFault : Result GenericParts ParseFault → ParseFault → Type 0
+AnswersFault (Ok p) f = ⊥
+AnswersFault (Err fault.Memory) f = Unit {0}
+AnswersFault (Err (fault.At place)) f = fault.At place ≡ f
+AnswersFault (Err (fault.Nested place)) f = fault.Nested place ≡ f
 
 -- The fault of a stop.
 abbrev pub fault_of : List Span → ℕ → Stop → ParseFault

@@ -1,5 +1,7 @@
+pub mod Readers
 pub mod Reading
 pub mod Parsing
 pub mod OpenTypes
 pub mod Answers
 pub mod Nesting
+pub mod Blaming

@@ -1,11 +1,10 @@
 -- Where the expressions of a level begin.
-use Rattle.std.specs.Prelude.{◌≡◌, ◌≤◌, ◌-◌, ℕ, zero, suc, List, [], ◌∷◌, ◌++◌, length, take}
+use Rattle.std.specs.Prelude.{ℕ, zero, suc, List, [], ◌∷◌, ◌++◌, length}
 use Rattle.gib_base.specs.declared.token.Sign.TheVariants as s
 use Rattle.gib_base.specs.declared.token.Token.{Token}
 use Rattle.gib_base.specs.declared.token.Token.TheVariants as t
 use Rattle.gib_syntax.specs.GenericTree.{GenericExpression, GenericArguments, GenericArms, GenericVar, GenericNum, GenericBit, GenericParen, GenericOp, GenericCall, GenericMake, GenericLet, GenericPar, GenericIf, GenericCase, GenericNoArgument, GenericArgument, GenericLastArm, GenericNextArm, GenericFunctionTree, GenericProgramTree}
-use Rattle.gib_syntax.specs.Spelling.{spell, spell_arguments, spell_arms, spell_operator, spell_functions, spell_main, Derives}
-use Rattle.gib_parse.specs.Reading.{Begun}
+use Rattle.gib_syntax.specs.Spelling.{spell, spell_arguments, spell_arms, spell_operator, spell_functions, spell_main}
 
 -- The expressions that stand so many levels below an expression, in the order of the text: of each, how many
 -- tokens are left from its first one on, where these tokens follow the whole.
@@ -21,8 +20,10 @@ abbrev mutual
   below (suc n) (GenericMake k ws xs) rest = below_arguments n xs rest
   below (suc n) (GenericLet p x a b) rest = below n a (t.Sign s.In ∷ spell b rest) ++ below n b rest
   below (suc n) (GenericPar p x a y b c) rest =
-      below n a (t.Sign s.And ∷ t.Variable y.name ∷ t.Sign s.Equals ∷ spell b (t.Sign s.In ∷ spell c rest)) ++ (below n b (t.Sign s.In ∷ spell c rest) ++ below n c rest)
-  below (suc n) (GenericIf p a b c) rest = below n a (t.Sign s.Then ∷ spell b (t.Sign s.Else ∷ spell c rest)) ++ (below n b (t.Sign s.Else ∷ spell c rest) ++ below n c rest)
+      below n a (t.Sign s.And ∷ t.Variable y.name ∷ t.Sign s.Equals ∷ spell b (t.Sign s.In ∷ spell c rest))
+      ++ (below n b (t.Sign s.In ∷ spell c rest) ++ below n c rest)
+  below (suc n) (GenericIf p a b c) rest =
+      below n a (t.Sign s.Then ∷ spell b (t.Sign s.Else ∷ spell c rest)) ++ (below n b (t.Sign s.Else ∷ spell c rest) ++ below n c rest)
   below (suc n) (GenericCase p x arms) rest = below_arms n arms (t.Sign s.CloseBrace ∷ rest)
 
   -- The same of the arguments of a call or of a constructor.
@@ -47,29 +48,3 @@ below_program n p = below_functions n p.functions (spell_main p.main []) ++ belo
 -- The expressions of a program on level 201, the first that is too deep: a body stands on level 1.
 abbrev pub too_deep : GenericProgramTree → List ℕ
 too_deep p = below_program 200 p
-
--- Some program's tokens begin with the tokens up to and including the one from which so many are left.
-abbrev pub BegunWith : List Token → ℕ → Type 0
-BegunWith tokens zero = ⊥
-BegunWith tokens (suc k) = Begun tokens k
-
--- The first of them begins with the token from which so many are left.
-abbrev pub IsFirst : ℕ → List ℕ → Type 0
-IsFirst k [] = ⊥
-IsFirst k (first ∷ more) = first ≡ k
-
--- None of them, so not the first, begins before the token from which so many are left.
-abbrev pub NoneBefore : ℕ → List ℕ → Type 0
-NoneBefore k [] = Unit {0}
-NoneBefore k (first ∷ more) = first ≤ k
-
--- In each program whose tokens begin with the tokens up to and including the one from which so many are
--- left, the first expression on level 201 begins with this token.
-abbrev pub Sinks : List Token → ℕ → Type 0
-Sinks tokens zero = ⊥
-Sinks tokens (suc k) = (p : GenericProgramTree) (more : List Token) → Derives (take (length tokens - k) tokens ++ more) p → IsFirst (suc (length more)) (too_deep p)
-
--- In no program whose tokens begin with the tokens before the one from which so many are left does an
--- expression on level 201 begin with one of those tokens.
-abbrev pub Floats : List Token → ℕ → Type 0
-Floats tokens left = (p : GenericProgramTree) (more : List Token) → Derives (take (length tokens - left) tokens ++ more) p → NoneBefore (length more) (too_deep p)

@@ -73,19 +73,23 @@ pub record AllStand {B : Type 0} (Inside : Arena → B → Type 0) (old new : Ar
 abbrev pub IsExpressionIn : Arena → ExprId → Type 0
 IsExpressionIn a id = id.0 < length a.nodes
 
--- A run is a type of the arena, or several; the types of a constructor, of a data declaration and of a parameter are.
+-- A run is a type of the arena.
 abbrev pub IsTypeIn : Arena → Run → Type 0
 IsTypeIn a run = IsTypeRun a.words run
 
+-- A run is several types of the arena.
 abbrev pub AreTypesIn : Arena → Run → Type 0
 AreTypesIn a run = IsTypesRun a.words run
 
+-- The types of a constructor's fields are types of the arena.
 abbrev pub IsConstructorIn : Arena → GenericConstructor → Type 0
 IsConstructorIn a c = IsConstructorInside a.words c
 
+-- The types of a data declaration are.
 abbrev pub IsDataIn : Arena → GenericData → Type 0
 IsDataIn a d = IsDataInside a.words d
 
+-- The type of a parameter is.
 abbrev pub IsParameterIn : Arena → GenericParameter → Type 0
 IsParameterIn a q = IsParameterInside a.words q
 
@@ -130,7 +134,8 @@ Follows at ts (next.Word w) rest =
     × ((p : Span) (k : Ident) (xs : List WrittenType) (os : List Opened) → inside at p k xs os ts ≡ inside at p k (xs ++ a ∷ []) os rest)
 Follows at ts (next.Open q d) rest =
     (type_at at ts ≡ inside at q d [] [] rest)
-    × ((p : Span) (k : Ident) (xs : List WrittenType) (os : List Opened) → inside at p k xs os ts ≡ inside at q d [] (record { place = p; name = k; arguments = xs } ∷ os) rest)
+    × ((p : Span) (k : Ident) (xs : List WrittenType) (os : List Opened)
+    → inside at p k xs os ts ≡ inside at q d [] (record { place = p; name = k; arguments = xs } ∷ os) rest)
 Follows at ts next.Close rest = ts ≡ t.Sign s.Close ∷ rest
 
 -- Neither a type nor more of one stands next.

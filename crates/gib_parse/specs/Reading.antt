@@ -1,6 +1,5 @@
--- Reading tokens from left to right, with the first fault that is met.
-use Rattle.std.specs.Prelude.{ℕ, zero, suc, ◌-◌, ◌^◌, ◌<◌, nat_lt, Bool, true, false, ◌==◌, List, [], ◌∷◌, ◌++◌, length, take, Option, Some, None, Result, Ok, Err}
-use Rattle.gib_base.specs.declared.name.Name.{Name}
+-- Reading a program's tokens from left to right, with the first fault that is met.
+use Rattle.std.specs.Prelude.{ℕ, zero, suc, ◌^◌, nat_lt, Bool, true, false, List, [], ◌∷◌, ◌++◌, length, Option, Some, None, Ok, Err}
 use Rattle.gib_base.specs.declared.Span.{Span}
 use Rattle.gib_base.specs.declared.token.Sign.{Sign}
 use Rattle.gib_base.specs.declared.token.Sign.TheVariants as s
@@ -13,18 +12,9 @@ use Rattle.gib_syntax.specs.GenericTree.{GenericExpression, GenericArguments, Ge
 use Rattle.gib_syntax.specs.GenericFine.{is_generic_application}
 use Rattle.gib_syntax.specs.Forms.{WrittenType, WrittenTypes, WholeAt, TruthAt, VariableAt, DataAt, NoType, MoreTypes}
 use Rattle.gib_syntax.specs.Words.{all_types}
-use Rattle.gib_syntax.specs.Spelling.{Places, Derives, levels_program}
-
--- A fault, and how many tokens are left from it on: a token that may not stand there, or an expression
--- nested too deep.
-pub data Fault : Type 0 where
-  At : ℕ → Fault
-  Nested : ℕ → Fault
-
--- How many tokens are left from a fault on.
-abbrev pub left_of : Fault → ℕ
-left_of (At left) = left
-left_of (Nested left) = left
+use Rattle.gib_syntax.specs.Spelling.{Places}
+pub use Rattle.gib_parse.specs.Readers.{Fault, At, Nested, left_of, Read, Reader, then_at, number_of, same, want_if, want, before, named, var_at, con_at, next_is, many_step, is_variable, is_sign, operator_of}
+unfoldable pub use Rattle.gib_parse.specs.Readers.{many_at, many}
 
 -- Which expressions may stand at a place: any, those that may be a side of an operation, or those that
 -- may be an argument.
@@ -32,126 +22,6 @@ pub data Mode : Type 0 where
   Any : Mode
   App : Mode
   Atom : Mode
-
--- What is read, and the tokens after it.
-abbrev pub Read : Type 0 → Type 0
-Read A = Result (A × List Token) Fault
-
--- A reader of tokens.
-abbrev pub Reader : Type 0 → Type 0
-Reader A = List Token → Read A
-
--- Read on behind what was read.
-abbrev pub then_at : {A B : Type 0} → Read A → (A → Reader B) → Read B
-then_at (Ok x) f = f x.0 x.1
-then_at (Err e) f = Err e
-
--- Signs by their numbers, to compare them.
-abbrev pub number_of : Sign → ℕ
-number_of s.Data = 0
-number_of s.Fun = 1
-number_of s.Main = 2
-number_of s.Let = 3
-number_of s.Par = 4
-number_of s.And = 5
-number_of s.In = 6
-number_of s.If = 7
-number_of s.Then = 8
-number_of s.Else = 9
-number_of s.Case = 10
-number_of s.Of = 11
-number_of s.True = 12
-number_of s.False = 13
-number_of s.Int = 14
-number_of s.Bool = 15
-number_of s.Quotient = 16
-number_of s.Remainder = 17
-number_of s.Equals = 18
-number_of s.Bar = 19
-number_of s.Semicolon = 20
-number_of s.Open = 21
-number_of s.Close = 22
-number_of s.Colon = 23
-number_of s.OpenBrace = 24
-number_of s.CloseBrace = 25
-number_of s.OpenBracket = 26
-number_of s.CloseBracket = 27
-number_of s.Arrow = 28
-number_of s.Plus = 29
-number_of s.Minus = 30
-number_of s.Times = 31
-number_of s.Same = 32
-number_of s.Less = 33
-number_of s.At = 34
-number_of s.Offsets = 35
-number_of s.LetRegion = 36
-number_of s.LetLocation = 37
-number_of s.Reach = 38
-number_of s.By = 39
-number_of s.Offset = 40
-number_of s.Skip = 41
-number_of s.End = 42
-number_of s.Give = 43
-number_of s.Point = 44
-number_of s.Start = 45
-number_of s.After = 46
-number_of s.Comma = 47
-
--- Whether two signs are one.
-abbrev pub same : Sign → Sign → Bool
-same a b = number_of a == number_of b
-
--- One token less where it is the wanted one, else a fault at it.
-abbrev pub want_if : Bool → Reader (Unit {0})
-want_if true ts = Ok (tt, ts)
-want_if false ts = Err (At (suc (length ts)))
-
--- One wanted sign.
-abbrev pub want : Sign → Reader (Unit {0})
-want a (t.Sign b ∷ ts) = want_if (same a b) ts
-want a ts = Err (At (length ts))
-
--- The span of the token that stands before these.
-abbrev pub before : Places → List Token → Span
-before at ts = at (suc (length ts))
-
--- The name that stands before these tokens.
-abbrev pub named : Places → Name → List Token → Ident
-named at x ts = record { name = x; span = before at ts }
-
--- A name that begins with a lower-case letter.
-abbrev pub var_at : Places → Reader Ident
-var_at at (t.Variable x ∷ ts) = Ok (named at x ts, ts)
-var_at at ts = Err (At (length ts))
-
--- A name that begins with an upper-case letter.
-abbrev pub con_at : Places → Reader Ident
-con_at at (t.Constructor k ∷ ts) = Ok (named at k ts, ts)
-con_at at ts = Err (At (length ts))
-
--- Whether the next token is one of these.
-abbrev pub next_is : (Token → Bool) → List Token → Bool
-next_is starts [] = false
-next_is starts (x ∷ ts) = starts x
-
--- One more and what follows it, where one begins.
-abbrev pub many_step : {A : Type 0} → Bool → Reader A → Reader (List A) → Reader (List A)
-many_step false p q ts = Ok ([], ts)
-many_step true p q ts = then_at (p ts) (λ a ts. then_at (q ts) (λ more ts. Ok (a ∷ more, ts)))
-
--- So many at most.
-unfoldable pub many_at : {A : Type 0} → ℕ → (Token → Bool) → Reader A → Reader (List A)
-many_at zero starts p ts = Ok ([], ts)
-many_at (suc n) starts p ts = many_step (next_is starts ts) p (many_at n starts p) ts
-
--- As many as begin, one after another.
-unfoldable pub many : {A : Type 0} → (Token → Bool) → Reader A → Reader (List A)
-many starts p ts = many_at (length ts) starts p ts
-
--- Whether a token is a name that begins with a lower-case letter.
-abbrev pub is_variable : Token → Bool
-is_variable (t.Variable x) = true
-is_variable x = false
 
 -- Whether a token begins a type.
 abbrev pub starts_type : Token → Bool
@@ -188,11 +58,6 @@ abbrev pub starts : Mode → Token → Bool
 starts Any = starts_expression
 starts App = starts_atom
 starts Atom = starts_atom
-
--- Whether a token is this sign.
-abbrev pub is_sign : Sign → Token → Bool
-is_sign a (t.Sign b) = same a b
-is_sign a x = false
 
 -- A declared type in parentheses that is not closed: the span of the parenthesis, its name, and its arguments so far.
 pub record Opened : Type 0 where
@@ -231,7 +96,8 @@ type_at at ts = Err (At (length ts))
 -- Behind an opening bracket: types, one at least, and the closing bracket.
 unfoldable pub bracket_at : Places → Reader WrittenTypes
 bracket_at at ts =
-    then_at (type_at at ts) (λ x ts. then_at (many starts_type (type_at at) ts) (λ xs ts. then_at (want s.CloseBracket ts) (λ _ ts. Ok (all_types (x ∷ xs), ts))))
+    then_at (type_at at ts)
+    (λ x ts. then_at (many starts_type (type_at at) ts) (λ xs ts. then_at (want s.CloseBracket ts) (λ _ ts. Ok (all_types (x ∷ xs), ts))))
 
 -- Type arguments, where a bracket is next.
 abbrev pub type_arguments_at : Places → Reader WrittenTypes
@@ -306,17 +172,6 @@ unfoldable pub case_at : Places → Parts → Span → Reader GenericExpression
 case_at at sub p ts =
     then_at (var_at at ts) (λ x ts. then_at (want s.Of ts) (λ _ ts. then_at (want s.OpenBrace ts) (λ _ ts.
     then_at (arms_at at (sub Any) ts) (λ arms ts. then_at (want s.CloseBrace ts) (λ _ ts. Ok (GenericCase p x arms, ts))))))
-
--- The operator of a sign.
-abbrev pub operator_of : Sign → Option Operator
-operator_of s.Plus = Some o.Add
-operator_of s.Minus = Some o.Subtract
-operator_of s.Times = Some o.Multiply
-operator_of s.Same = Some o.Equal
-operator_of s.Less = Some o.Less
-operator_of s.Quotient = Some o.Quotient
-operator_of s.Remainder = Some o.Remainder
-operator_of a = None
 
 -- Behind an operator: its second side. The sign itself is at fault where the first side is no application.
 abbrev pub side_at : Bool → Parts → Span → Operator → GenericExpression → Reader GenericExpression
@@ -486,13 +341,3 @@ whole_in n at ts = then_at (program_at at (parse at n Any) ts) ends_at
 -- All of the tokens, in as many levels as the language has; a body stands on level 1.
 abbrev pub whole : Places → Reader GenericProgramTree
 whole at ts = whole_in 200 at ts
-
--- Each program whose tokens begin with the tokens up to and including the one from which so many are left
--- has more than 200 levels; where none are left: each whose tokens these are.
-abbrev pub Deepens : List Token → ℕ → Type 0
-Deepens tokens zero = (p : GenericProgramTree) → Derives tokens p → 200 < levels_program p
-Deepens tokens (suc k) = (p : GenericProgramTree) (more : List Token) → Derives (take (length tokens - k) tokens ++ more) p → 200 < levels_program p
-
--- Some program's tokens begin with the tokens before the one from which so many are left.
-abbrev pub Begun : List Token → ℕ → Type 0
-Begun tokens left = (p : GenericProgramTree) × (more : List Token) × Derives (take (length tokens - left) tokens ++ more) p

@@ -1,14 +1,14 @@
 //! Laws of reading: functions that do nothing, whose contracts say what holds of every list of tokens.
 
-ghost use Rattle.std.specs.Prelude.{◌≡◌, ◌≤◌, ◌<◌, ℕ, List, [], Ok, Err, length};
+ghost use Rattle.std.specs.Prelude.{◌≡◌, ◌≤◌, ◌<◌, ◌⊎◌, ℕ, List, [], Ok, Err, length};
 ghost use Rattle.gib_base.specs.Lexed.{Lexed, IsLexed};
 ghost use Rattle.gib_base.specs.Spelling.{tokens_text};
 ghost use Rattle.gib_base.specs.declared.token.Token.{Token};
 ghost use Rattle.gib_syntax.specs.Source.{Spells};
 ghost use Rattle.gib_syntax.specs.GenericTree.{GenericProgramTree};
 ghost use Rattle.gib_syntax.specs.Spelling.{Places, spell_program, Derives, IsPlacedProgram, levels_program, Blames};
-ghost use Rattle.gib_parse.specs.Reading.{Fault, At, Nested, left_of, whole_in, whole, Deepens, Begun};
-ghost use Rattle.gib_parse.specs.Nesting.{BegunWith, Sinks, Floats};
+ghost use Rattle.gib_parse.specs.Reading.{Fault, At, Nested, left_of, whole_in, whole};
+ghost use Rattle.gib_parse.specs.Blaming.{Deepens, Begun, BegunWith, Sinks, Floats, IsBlamedAt, IsTooDeepAt};
 
 /// What is read is a program that the tokens spell, of at most 200 levels, with the spans of its
 /// tokens, and no token is left.
@@ -79,6 +79,17 @@ pub fn nested_sinks()
 /// it.
 pub fn none_sinks_before()
     ensures { (at : Places) (tokens : List Token) (left : ℕ) → whole at tokens ≡ Err (At left) → Floats tokens left }
+{}
+
+/// Tokens have one fault at most, at one place and of one kind; and one just where they spell no program of at most
+/// 200 levels.
+pub fn one_blame()
+    ensures blamed { (l : Lexed) (p q : ℕ) → IsBlamedAt l p → IsBlamedAt l q → p ≡ q }
+    ensures nested { (l : Lexed) (p q : ℕ) → IsTooDeepAt l p → IsTooDeepAt l q → p ≡ q }
+    ensures either { (l : Lexed) (p q : ℕ) → IsBlamedAt l p → IsTooDeepAt l q → ⊥ }
+    ensures not_blamed { (l : Lexed) (place : ℕ) (p : GenericProgramTree) → Derives l.tokens p → IsBlamedAt l place → ⊥ }
+    ensures not_nested { (l : Lexed) (place : ℕ) (p : GenericProgramTree) → Derives l.tokens p → levels_program p ≤ 200 → IsTooDeepAt l place → ⊥ }
+    ensures some { (l : Lexed) → ((p : GenericProgramTree) → Derives l.tokens p → levels_program p ≤ 200 → ⊥) → (place : ℕ) × (IsBlamedAt l place ⊎ IsTooDeepAt l place) }
 {}
 
 /// What a program that was read from a text's tokens is printed as, with the text's names, is lexed again: into the

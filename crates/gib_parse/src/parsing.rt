@@ -4,7 +4,8 @@ ghost use Rattle.std.specs.Prelude.{◌≡◌, ◌≤◌, ℕ, Err, IfOk, IfErr}
 ghost use Rattle.gib_syntax.specs.GenericTree.{GenericProgramTree};
 ghost use Rattle.gib_syntax.specs.Spelling.{Derives, IsPlacedProgram, places_of, levels_program};
 ghost use Rattle.gib_syntax.specs.GenericParts.{generic_program_of};
-ghost use Rattle.gib_parse.specs.Answers.{place_in, fault_of, AnswersRead, AnswersOnly, IsBlamedAt, IsTooDeepAt};
+ghost use Rattle.gib_parse.specs.Answers.{fault_of, AnswersRead, AnswersOnly, AnswersFault};
+ghost use Rattle.gib_parse.specs.Blaming.{place_in, IsBlamedAt, IsTooDeepAt};
 
 use crate::declarations::whole;
 use crate::fault::ParseFault;
@@ -50,9 +51,11 @@ pub fn parse(alloc: Global, tokens: &Tokens) -> Result<GenericProgram, ParseFaul
     ensures only { (g : GenericProgramTree) → Derives tokens.now.tokens g → levels_program g ≤ 200
         → IsPlacedProgram (places_of tokens.now.spans) g → AnswersOnly result g }
 
-    // The first fault is answered.
+    // The fault is answered; tokens have one, or they are a program's. Which one, by reading:
     ensures at { (place : ℕ) → result ≡ Err (ParseFault.At place) → IsBlamedAt tokens.now place }
     ensures nested { (place : ℕ) → result ≡ Err (ParseFault.Nested place) → IsTooDeepAt tokens.now place }
+    ensures blamed { (place : ℕ) → IsBlamedAt tokens.now place → AnswersFault result (ParseFault.At place) }
+    ensures too_deep { (place : ℕ) → IsTooDeepAt tokens.now place → AnswersFault result (ParseFault.Nested place) }
     ensures exact { AnswersRead tokens.now result }
 {
     match whole(alloc, tokens.spans(), tokens.tokens()) {
