@@ -1,193 +1,152 @@
 -- The plain expressions, types and declarations of a program without type parameters.
-use Rattle.std.proofs.Common.{◌≡◌, ℕ, zero, suc, ◌<◌, ◌≤◌, ◌-◌, ◌+◌, Bool, true, false, List, [], ◌∷◌, ◌++◌, map, length, take, drop, get_or, Option, Some, None, Result, Ok, Err, OnOk, slice_get, refl, sym, ap, ap₂, ◌∙◌, subst, arith, ◌⊎◌, inl, inr, ⊎_elim}
-use Rattle.std.specs.Global.{Vec}
+use Rattle.std.proofs.Common.{◌≡◌, ℕ, zero, suc, ◌<◌, ◌≤◌, List, [], ◌∷◌, ◌++◌, map, length, drop, Some, Result, Ok, Err, OnOk, slice_get, refl, sym, ap, ap₂, ◌∙◌, subst, arith, ◌⊎◌, inl, inr, ⊎_elim}
 use Rattle.std.specs.List.{AllByRecursion}
-use Rattle.std.proofs.lemmas.Option.{same_Some}
+use Rattle.std.proofs.lemmas.List.{append_assoc}
 use Rattle.gib_base.specs.declared.Span.{Span}
 use Rattle.gib_syntax.specs.declared.exprs.Arm.{Arm}
 use Rattle.gib_syntax.specs.declared.exprs.ExprId.{ExprId}
 use Rattle.gib_syntax.specs.declared.exprs.Node.{Node}
-use Rattle.gib_syntax.specs.declared.exprs.Node.TheVariants as n
 use Rattle.gib_syntax.specs.declared.generic.GenericNode.{GenericNode}
 use Rattle.gib_syntax.specs.declared.generic.GenericNode.TheVariants as g
+use Rattle.gib_syntax.specs.declared.program.GenericConstructor.{GenericConstructor}
 use Rattle.gib_syntax.specs.declared.program.GenericData.{GenericData}
 use Rattle.gib_syntax.specs.declared.program.GenericFunction.{GenericFunction}
+use Rattle.gib_syntax.specs.declared.program.GenericMain.{GenericMain}
+use Rattle.gib_syntax.specs.declared.tree.FunctionDecl.{FunctionDecl}
 use Rattle.gib_syntax.specs.declared.tree.Ident.{Ident}
 use Rattle.gib_syntax.specs.declared.tree.TypeName.{TypeName}
 use Rattle.gib_syntax.specs.declared.tree.TypeName.TheVariants as ty
 use Rattle.gib_syntax.specs.declared.written.Word.{Word}
 use Rattle.gib_syntax.specs.declared.written.Word.TheVariants as w
-use Rattle.gib_syntax.specs.Arena.{PartsBelow, ArmsBelow, IsArmBelow, arguments_from, arms_from, case_from, layer, tree_of, Grows, Makes}
-use Rattle.gib_syntax.specs.Forms.{WrittenType}
-use Rattle.gib_syntax.specs.GenericArena.{PartsBelow as GenericBelow, ArmsBelow as GenericArmsBelow, IsArmBelow as GenericArmBelow, arguments_from as generic_arguments, arms_from as generic_arms, case_from as generic_case, layer as generic_layer}
+use Rattle.gib_syntax.specs.Arena.{PartsBelow, ArmsBelow, IsArmBelow, arguments_from, arms_from, case_from, layer, tree_of, Makes}
+use Rattle.gib_syntax.specs.Declarations.{number_of}
+use Rattle.gib_syntax.specs.Forms.{WrittenType, NoForm}
+use Rattle.gib_syntax.specs.GenericArena.{Arena, IsArena, PartsBelow as GenericBelow, ArmsBelow as GenericArmsBelow, IsArmBelow as GenericArmBelow, arguments_from as generic_arguments, arms_from as generic_arms, case_from as generic_case, layer as generic_layer, tree_of as generic_of}
+use Rattle.gib_syntax.specs.GenericParts.{AreInside as GenericInside, GenericParts, constructor_in, data_in, function_in, generic_program_of, main_in}
 use Rattle.gib_syntax.specs.GenericTree.{GenericExpression, GenericCase, GenericConstructorTree, GenericDataTree}
-use Rattle.gib_syntax.specs.Parts.{Parts, data_tree, function_tree, main_tree, program_of}
-use Rattle.gib_syntax.specs.Tree.{DataTree, FunctionTree, MainTree, ProgramTree, Expression, Arguments, Arms, Op, Call, Make, Let, Par, If, Case, Paren, NoArgument, Argument, LastArm, NextArm}
+use Rattle.gib_syntax.specs.Parts.{AreInside, IsFunctionInside, Parts, data_tree, function_tree, main_tree, program_of}
+use Rattle.gib_syntax.specs.Tree.{DataTree, FunctionTree, MainTree, ProgramTree, Expression, Op, Call, Make, Let, Par, If, Case, Paren, Argument, LastArm, NextArm}
 use Rattle.gib_syntax.specs.Words.{left, read_word, stack_of}
-use Rattle.gib_mono.specs.Bare.{AreBare, ArmView, IsBareCall, IsBareCase, IsBareNode, IsPlainData, IsPlainFunction, IsPlainHere, IsPlainKept, IsPlainProgram, arm_at, arm_view, all_bare, arms_bare, bare, bare_constructor, bare_data, bare_function, bare_main, bare_program, bare_written, id_or, place_at}
-use Rattle.gib_syntax.specs.GenericParts.{GenericParts, data_in, function_in, generic_program_of, main_in}
-use Rattle.gib_syntax.specs.GenericArena.{Arena}
+use Rattle.gib_syntax.proofs.GenericLayers.{tree_of-node}
+use Rattle.gib_mono.specs.Bare.{AreBare, IsPlainData, IsPlainFunction, IsPlainHere, IsPlainKept, IsPlainProgram, all_bare, arms_bare, bare, bare_constructor, bare_data, bare_function, bare_main, bare_node, bare_program, bare_tree, bare_written, data_names, datas_names, function_names}
+use Rattle.gib_mono.specs.Copied.{Item}
+use Rattle.gib_mono.specs.Declaring.{own_entry}
+use Rattle.gib_mono.specs.Naming.{copy_entries, entries, entry, listed_entries, with_entries, with_entry}
+use Rattle.gib_mono.specs.Walk.{Copy, plain_copies, plain_data, plain_datas, plain_function, plain_functions}
 
--- Numbers
+-- Nodes over the same parts
 
-place_there : (places : List ExprId) (i : ℕ) → i < length places → slice_get places i ≡ Some (id_or (slice_get places i))
-place_there [] i l = absurd (omega (arith, l))
-place_there (p ∷ places) zero l = refl
-place_there (p ∷ places) (suc i) l = place_there places i (omega (arith, l))
+-- So many expressions are plain ones of these.
+abbrev Plain : (ℕ → GenericExpression) → (ℕ → Expression) → ℕ → Type 0
+Plain f h b = (i : ℕ) → i < b → h i ≡ bare (f i)
 
-place_below : (b : ℕ) (places : List ExprId) (i : ℕ) → AllByRecursion (λ (p : ExprId). p.0 < b) places → i < length places → (id_or (slice_get places i)).0 < b
-place_below b [] i h l = absurd (omega (arith, l))
-place_below b (p ∷ places) zero h l = h.0
-place_below b (p ∷ places) (suc i) h l = place_below b places i h.1 (omega (arith, l))
+arguments_bare : (f : ℕ → GenericExpression) (h : ℕ → Expression) (b : ℕ) (ids : List ExprId) → Plain f h b → AllByRecursion (λ (a : ExprId). a.0 < b) ids → arguments_from h ids ≡ all_bare (generic_arguments f ids)
+arguments_bare f h b [] e l = refl
+arguments_bare f h b (i ∷ ids) e l = ap₂ Argument (e i.0 l.0) (arguments_bare f h b ids e l.1)
 
--- The plain expression of a number.
-pub tree_at_place : (f : ℕ → GenericExpression) (nodes : List Node) (places : List ExprId) (id : ExprId) → AreBare f nodes places → id.0 < length places → tree_of nodes (place_at places id).0 ≡ bare (f id.0)
-tree_at_place f nodes places id h l = h.trees id.0 (place_at places id) (place_there places id.0 l)
+arms_plain : (f : ℕ → GenericExpression) (h : ℕ → Expression) (b : ℕ) (arm : Arm) (arms : List Arm) → Plain f h b → arm.body.0 < b → AllByRecursion (GenericArmBelow b) arms → arms_from h arm arms ≡ arms_bare (generic_arms f arm arms)
+arms_plain f h b arm [] e l k = ap (LastArm arm.constructor arm.variables.items) (e arm.body.0 l)
+arms_plain f h b arm (next ∷ arms) e l k = ap₂ (NextArm arm.constructor arm.variables.items) (e arm.body.0 l) (arms_plain f h b next arms e k.0 k.1)
 
-pub below_at_place : (f : ℕ → GenericExpression) (nodes : List Node) (places : List ExprId) (id : ExprId) → AreBare f nodes places → id.0 < length places → (place_at places id).0 < length nodes
-below_at_place f nodes places id h l = place_below (length nodes) places id.0 h.below l
+case_plain : (f : ℕ → GenericExpression) (h : ℕ → Expression) (b : ℕ) (arms : List Arm) (p : Span) (x : Ident) → Plain f h b → GenericArmsBelow arms b → case_from h arms (Case p x) ≡ bare (generic_case f arms (GenericCase p x))
+case_plain f h b [] p x e l = absurd l
+case_plain f h b (arm ∷ arms) p x e l = ap (Case p x) (arms_plain f h b arm arms e l.0 l.1)
 
-pub inside_of : (f : ℕ → GenericExpression) (nodes : List Node) (places ps : List ExprId) (id r : ExprId) → AreBare f nodes places → id.0 < length places → r ≡ place_at ps id → ps ≡ places → r.0 < length nodes
-inside_of f nodes places ps id r h l e q = subst (λ (x : ExprId). x.0 < length nodes) (sym (e ∙ ap (λ z. place_at z id) q)) (below_at_place f nodes places id h l)
+layer_bare : (f : ℕ → GenericExpression) (h : ℕ → Expression) (words : List Word) (b : ℕ) (node : GenericNode) → Plain f h b → GenericBelow node b → layer h (Some (bare_node node)) ≡ bare (generic_layer words f (Some node))
+layer_bare f h words b (g.Variable x) e l = refl
+layer_bare f h words b (g.Whole p v) e l = refl
+layer_bare f h words b (g.Truth p t) e l = refl
+layer_bare f h words b (g.Paren p a) e l = ap (Paren p) (e a.0 l)
+layer_bare f h words b (g.Operation p o a c) e l = ap₂ (Op p o) (e a.0 l.0) (e c.0 l.1)
+layer_bare f h words b (g.Call x ws ids) e l = ap (Call x) (arguments_bare f h b ids.items e l)
+layer_bare f h words b (g.Make x ws ids) e l = ap (Make x) (arguments_bare f h b ids.items e l)
+layer_bare f h words b (g.Let p x a c) e l = ap₂ (Let p x) (e a.0 l.0) (e c.0 l.1)
+layer_bare f h words b (g.LetPar p x a y c d) e l = ap (λ (u : Expression). Par p x u y (h c.0) (h d.0)) (e a.0 l.0) ∙ ap₂ (Par p x (bare (f a.0)) y) (e c.0 l.1) (e d.0 l.2)
+layer_bare f h words b (g.If p a c d) e l = ap (λ (u : Expression). If p u (h c.0) (h d.0)) (e a.0 l.0) ∙ ap₂ (If p (bare (f a.0))) (e c.0 l.1) (e d.0 l.2)
+layer_bare f h words b (g.Case p x arms) e l = case_plain f h b arms.items p x e l
 
--- Arguments
+ids_below : (b c : ℕ) (ids : List ExprId) → b ≤ c → AllByRecursion (λ (a : ExprId). a.0 < b) ids → AllByRecursion (λ (a : ExprId). a.0 < c) ids
+ids_below b c [] le h = tt {0}
+ids_below b c (i ∷ ids) le h = ((let l = h.0 in omega (arith, l, le)), ids_below b c ids le h.1)
 
-ids_below : (f : ℕ → GenericExpression) (nodes : List Node) (places ids : List ExprId) → AreBare f nodes places → AllByRecursion (λ (a : ExprId). a.0 < length places) ids → AllByRecursion (λ (a : ExprId). a.0 < length nodes) (map (place_at places) ids)
-ids_below f nodes places [] h l = tt {0}
-ids_below f nodes places (i ∷ ids) h l = (below_at_place f nodes places i h l.0, ids_below f nodes places ids h l.1)
+arms_below : (b c : ℕ) (arms : List Arm) → b ≤ c → AllByRecursion (GenericArmBelow b) arms → AllByRecursion (IsArmBelow c) arms
+arms_below b c [] le h = tt {0}
+arms_below b c (arm ∷ arms) le h = ((let l = h.0 in omega (arith, l, le)), arms_below b c arms le h.1)
 
-arguments_bare : (f : ℕ → GenericExpression) (nodes : List Node) (places ids : List ExprId) → AreBare f nodes places → AllByRecursion (λ (a : ExprId). a.0 < length places) ids → arguments_from (tree_of nodes) (map (place_at places) ids) ≡ all_bare (generic_arguments f ids)
-arguments_bare f nodes places [] h l = refl
-arguments_bare f nodes places (i ∷ ids) h l = ap₂ Argument (tree_at_place f nodes places i h l.0) (arguments_bare f nodes places ids h l.1)
+case_below : (b c : ℕ) (arms : List Arm) → b ≤ c → GenericArmsBelow arms b → ArmsBelow arms c
+case_below b c [] le h = absurd h
+case_below b c (arm ∷ arms) le h = ((let l = h.0 in omega (arith, l, le)), arms_below b c arms le h.1)
 
--- Arms
+parts_below : (b c : ℕ) (node : GenericNode) → b ≤ c → GenericBelow node b → PartsBelow (bare_node node) c
+parts_below b c (g.Variable x) le h = tt {0}
+parts_below b c (g.Whole p v) le h = h
+parts_below b c (g.Truth p t) le h = tt {0}
+parts_below b c (g.Paren p a) le h = omega (arith, h, le)
+parts_below b c (g.Operation p o x y) le h = let (l, k) = h in (omega (arith, l, le), omega (arith, k, le))
+parts_below b c (g.Call x ws ids) le h = ids_below b c ids.items le h
+parts_below b c (g.Make x ws ids) le h = ids_below b c ids.items le h
+parts_below b c (g.Let p x y z) le h = let l = h.0 in let k = h.1 in (omega (arith, l, le), omega (arith, k, le))
+parts_below b c (g.LetPar p x a y d e) le h = let l = h.0 in let k = h.1 in let m = h.2 in (omega (arith, l, le), omega (arith, k, le), omega (arith, m, le))
+parts_below b c (g.If p x y z) le h = let l = h.0 in let k = h.1 in let m = h.2 in (omega (arith, l, le), omega (arith, k, le), omega (arith, m, le))
+parts_below b c (g.Case p x arms) le h = case_below b c arms.items le h
 
-abbrev arm_from : (h : ℕ → Expression) → ArmView → List ArmView → Arms
-arm_from h v [] = LastArm v.constructor v.variables (h v.body.0)
-arm_from h v (next ∷ vs) = NextArm v.constructor v.variables (h v.body.0) (arm_from h next vs)
+-- All expressions, in their order
 
-arms_view : (h : ℕ → Expression) (arm : Arm) (arms : List Arm) → arms_from h arm arms ≡ arm_from h (arm_view arm) (map arm_view arms)
-arms_view h arm [] = refl
-arms_view h arm (next ∷ arms) = ap (NextArm arm.constructor arm.variables.items (h arm.body.0)) (arms_view h next arms)
+-- Expressions before a number were put, and the nodes from there on are left.
+pub record BareSoFar (a : Arena) (next : ℕ) (nodes : List Node) (left : List GenericNode) : Type 0 where
+  pub are : AreBare a next nodes
+  pub left_is : left ≡ drop next a.nodes
 
-arms_at : (f : ℕ → GenericExpression) (nodes : List Node) (places : List ExprId) (arm : Arm) (arms : List Arm) → AreBare f nodes places → arm.body.0 < length places → AllByRecursion (GenericArmBelow (length places)) arms
-    → arm_from (tree_of nodes) (arm_at places arm) (map (arm_at places) arms) ≡ arms_bare (generic_arms f arm arms)
-arms_at f nodes places arm [] h l k = ap (LastArm arm.constructor arm.variables.items) (tree_at_place f nodes places arm.body h l)
-arms_at f nodes places arm (next ∷ arms) h l k = ap₂ (NextArm arm.constructor arm.variables.items) (tree_at_place f nodes places arm.body h l) (arms_at f nodes places next arms h k.0 k.1)
+pub bare_none : (a : Arena) (nodes : List Node) (left : List GenericNode) → left ≡ a.nodes → BareSoFar a 0 nodes left
+bare_none a nodes left e = record { are = record { many = omega arith; trees = λ i l. absurd (omega (arith, l)) }; left_is = e }
 
-abbrev ViewBelow : ℕ → ArmView → Type 0
-ViewBelow b v = v.body.0 < b
+here : {X : Type 0} (xs : List X) (n : ℕ) (x : X) (rest : List X) → x ∷ rest ≡ drop n xs → slice_get xs n ≡ Some x
+here [] zero x rest e = absurd cc
+here [] (suc n) x rest e = absurd cc
+here (y ∷ xs) zero x rest e = cc
+here (y ∷ xs) (suc n) x rest e = here xs n x rest e
 
-views_below : (b : ℕ) (arms : List Arm) → AllByRecursion (ViewBelow b) (map arm_view arms) → AllByRecursion (IsArmBelow b) arms
-views_below b [] h = tt {0}
-views_below b (arm ∷ arms) h = (h.0, views_below b arms h.1)
+behind : {X : Type 0} (xs : List X) (n : ℕ) (x : X) (rest : List X) → x ∷ rest ≡ drop n xs → rest ≡ drop (suc n) xs
+behind [] zero x rest e = absurd cc
+behind [] (suc n) x rest e = absurd cc
+behind (y ∷ xs) zero x rest e = cc
+behind (y ∷ xs) (suc n) x rest e = behind xs n x rest e
 
-arms_below : (f : ℕ → GenericExpression) (nodes : List Node) (places : List ExprId) (arms : List Arm) → AreBare f nodes places → AllByRecursion (GenericArmBelow (length places)) arms → AllByRecursion (ViewBelow (length nodes)) (map (arm_at places) arms)
-arms_below f nodes places [] h l = tt {0}
-arms_below f nodes places (arm ∷ arms) h l = (below_at_place f nodes places arm.body h l.0, arms_below f nodes places arms h l.1)
+over : {X : Type 0} (xs : List X) (n : ℕ) → [] ≡ drop n xs → length xs ≤ n
+over [] n e = omega arith
+over (y ∷ xs) zero e = absurd cc
+over (y ∷ xs) (suc n) e = let l = over xs n e in omega (arith, l)
 
-pub all_arms_below : (b : ℕ) (arms : List Arm) → GenericArmsBelow arms b → AllByRecursion (GenericArmBelow b) arms
-all_arms_below b [] h = tt {0}
-all_arms_below b (arm ∷ arms) h = h
+pub next_below : (a : Arena) (next : ℕ) (nodes : List Node) (left after : List GenericNode) (node : GenericNode) → IsArena a → BareSoFar a next nodes left → left ≡ node ∷ after → PartsBelow (bare_node node) (length nodes)
+next_below a next nodes left after node arena h e = parts_below next (length nodes) node h.are.many (arena.below next node (here a.nodes next node after (sym e ∙ h.left_is)))
 
-case_below : (f : ℕ → GenericExpression) (nodes : List Node) (places : List ExprId) (arms made : List Arm) → AreBare f nodes places → GenericArmsBelow arms (length places) → map arm_view made ≡ map (arm_at places) arms → ArmsBelow made (length nodes)
-case_below f nodes places [] made h l e = absurd l
-case_below f nodes places (arm ∷ arms) [] h l e = absurd cc
-case_below f nodes places (arm ∷ arms) (m ∷ made) h l e =
-    views_below (length nodes) (m ∷ made) (subst (AllByRecursion (ViewBelow (length nodes))) (sym e) (arms_below f nodes places (arm ∷ arms) h l))
+pub bare_more : (a : Arena) (next : ℕ) (old new : List Node) (left after : List GenericNode) (node : GenericNode) → IsArena a → BareSoFar a next old left → left ≡ node ∷ after → Makes old new next (bare_node node) → BareSoFar a (suc next) new after
+bare_more a next old new left after node arena h e makes =
+    let at = here a.nodes next node after (sym e ∙ h.left_is) in
+    let made : tree_of new next ≡ bare_tree a next =
+    makes.tree ∙ layer_bare (generic_of a) (tree_of old) a.words next node h.are.trees (arena.below next node at) ∙ ap bare (sym (tree_of-node a next node arena at)) in
+    record {
+      are = record {
+        many = (let l = makes.inside in omega (arith, l));
+        trees = λ i l.
+            ⊎_elim (λ (b : i < next). makes.grows.same i (let m = h.are.many in omega (arith, b, m)) ∙ h.are.trees i b) (λ (s : i ≡ next). subst (λ n. tree_of new n ≡ bare_tree a n) (sym s) made) (before i next l);
+      };
+      left_is = behind a.nodes next node after (sym e ∙ h.left_is);
+    } where
+      before : (i n : ℕ) → i < suc n → (i < n) ⊎ (i ≡ n)
+      before zero zero l = inr refl
+      before zero (suc n) l = inl (omega arith)
+      before (suc i) zero l = absurd (omega (arith, l))
+      before (suc i) (suc n) l = ⊎_elim (λ (b : i < n). inl (omega (arith, b))) (λ (s : i ≡ n). inr (ap suc s)) (before i n (omega (arith, l)))
 
-abbrev views_from : (h : ℕ → Expression) → List ArmView → (Arms → Expression) → Expression
-views_from h [] make = Rattle.gib_syntax.specs.Arena.nothing
-views_from h (v ∷ vs) make = make (arm_from h v vs)
-
-case_view : (h : ℕ → Expression) (arms : List Arm) (make : Arms → Expression) → case_from h arms make ≡ views_from h (map arm_view arms) make
-case_view h [] make = refl
-case_view h (arm ∷ arms) make = ap make (arms_view h arm arms)
-
-case_at : (f : ℕ → GenericExpression) (nodes : List Node) (places : List ExprId) (arms : List Arm) (p : Span) (x : Ident) → AreBare f nodes places → GenericArmsBelow arms (length places) → views_from (tree_of nodes) (map (arm_at places) arms) (Case p x) ≡ bare (generic_case f arms (GenericCase p x))
-case_at f nodes places [] p x h l = absurd l
-case_at f nodes places (arm ∷ arms) p x h l = ap (Case p x) (arms_at f nodes places arm arms h l.0 l.1)
-
--- A node
-
--- What a plain node of a number needs, and what it is.
-pub record NodeBare (f : ℕ → GenericExpression) (words : List Word) (nodes : List Node) (node : GenericNode) (made : Node) : Type 0 where
-  pub below : PartsBelow made (length nodes)
-  pub layers : layer (tree_of nodes) (Some made) ≡ bare (generic_layer words f (Some node))
-
-pub node_bare : (f : ℕ → GenericExpression) (words : List Word) (nodes : List Node) (places : List ExprId) (node : GenericNode) (made : Node) → AreBare f nodes places → GenericBelow node (length places) → IsBareNode places node made → NodeBare f words nodes node made
-node_bare f words nodes places (g.Variable x) made h l e = subst (NodeBare f words nodes (g.Variable x)) (sym e) (record { below = tt {0}; layers = refl })
-node_bare f words nodes places (g.Whole p v) made h l e = subst (NodeBare f words nodes (g.Whole p v)) (sym e) (record { below = l; layers = refl })
-node_bare f words nodes places (g.Truth p b) made h l e = subst (NodeBare f words nodes (g.Truth p b)) (sym e) (record { below = tt {0}; layers = refl })
-node_bare f words nodes places (g.Paren p a) made h l e =
-    subst (NodeBare f words nodes (g.Paren p a)) (sym e) (record { below = below_at_place f nodes places a h l; layers = ap (Paren p) (tree_at_place f nodes places a h l) })
-node_bare f words nodes places (g.Operation p o a b) made h l e =
-    subst (NodeBare f words nodes (g.Operation p o a b)) (sym e) (record {
-      below = (below_at_place f nodes places a h l.0, below_at_place f nodes places b h l.1);
-      layers = ap₂ (Op p o) (tree_at_place f nodes places a h l.0) (tree_at_place f nodes places b h l.1);
-    })
-node_bare f words nodes places (g.Call x ws ids) made h l e =
-    subst (NodeBare f words nodes (g.Call x ws ids)) (sym e.1) (record {
-      below = subst (AllByRecursion (λ (a : ExprId). a.0 < length nodes)) (sym e.2) (ids_below f nodes places ids.items h l);
-      layers = ap (λ is. Call x (arguments_from (tree_of nodes) is)) e.2 ∙ ap (Call x) (arguments_bare f nodes places ids.items h l);
-    })
-node_bare f words nodes places (g.Make x ws ids) made h l e =
-    subst (NodeBare f words nodes (g.Make x ws ids)) (sym e.1) (record {
-      below = subst (AllByRecursion (λ (a : ExprId). a.0 < length nodes)) (sym e.2) (ids_below f nodes places ids.items h l);
-      layers = ap (λ is. Make x (arguments_from (tree_of nodes) is)) e.2 ∙ ap (Make x) (arguments_bare f nodes places ids.items h l);
-    })
-node_bare f words nodes places (g.Let p x a b) made h l e =
-    subst (NodeBare f words nodes (g.Let p x a b)) (sym e) (record {
-      below = (below_at_place f nodes places a h l.0, below_at_place f nodes places b h l.1);
-      layers = ap₂ (Let p x) (tree_at_place f nodes places a h l.0) (tree_at_place f nodes places b h l.1);
-    })
-node_bare f words nodes places (g.LetPar p x a y b c) made h l e =
-    subst (NodeBare f words nodes (g.LetPar p x a y b c)) (sym e) (record {
-      below = (below_at_place f nodes places a h l.0, below_at_place f nodes places b h l.1, below_at_place f nodes places c h l.2);
-      layers = ap (λ (u : Expression). Par p x u y (tree_of nodes (place_at places b).0) (tree_of nodes (place_at places c).0)) (tree_at_place f nodes places a h l.0)
-          ∙ ap₂ (Par p x (bare (f a.0)) y) (tree_at_place f nodes places b h l.1) (tree_at_place f nodes places c h l.2);
-    })
-node_bare f words nodes places (g.If p a b c) made h l e =
-    subst (NodeBare f words nodes (g.If p a b c)) (sym e) (record {
-      below = (below_at_place f nodes places a h l.0, below_at_place f nodes places b h l.1, below_at_place f nodes places c h l.2);
-      layers = ap (λ (u : Expression). If p u (tree_of nodes (place_at places b).0) (tree_of nodes (place_at places c).0)) (tree_at_place f nodes places a h l.0)
-          ∙ ap₂ (If p (bare (f a.0))) (tree_at_place f nodes places b h l.1) (tree_at_place f nodes places c h l.2);
-    })
-node_bare f words nodes places (g.Case p x arms) made h l e =
-    subst (NodeBare f words nodes (g.Case p x arms)) (sym e.1) (record {
-      below = case_below f nodes places arms.items (e.0).items h l e.2;
-      layers = case_view (tree_of nodes) (e.0).items (Case p x) ∙ ap (λ vs. views_from (tree_of nodes) vs (Case p x)) e.2 ∙ case_at f nodes places arms.items p x h l;
-    })
-
--- One more expression
-
-pub bare_none : (f : ℕ → GenericExpression) (nodes : List Node) (places : List ExprId) → places ≡ [] → AreBare f nodes places
-bare_none f nodes places e = subst (AreBare f nodes) (sym e) (record { below = tt {0}; trees = λ i id h. absurd cc })
-
-all_more : (a b : ℕ) (places : List ExprId) (last : ExprId) → a ≤ b → last.0 < b → AllByRecursion (λ (p : ExprId). p.0 < a) places → AllByRecursion (λ (p : ExprId). p.0 < b) (places ++ last ∷ [])
-all_more a b [] last le l h = (l, tt {0})
-all_more a b (p ∷ places) last le l h = ((let m = h.0 in omega (arith, m, le)), all_more a b places last le l h.1)
-
-last_at : (places : List ExprId) (last : ExprId) (i : ℕ) (id : ExprId) → slice_get (places ++ last ∷ []) i ≡ Some id → (slice_get places i ≡ Some id) ⊎ ((i ≡ length places) × (last ≡ id))
-last_at [] last zero id e = inr (refl, same_Some last id e)
-last_at [] last (suc i) id e = absurd cc
-last_at (p ∷ places) last zero id e = inl e
-last_at (p ∷ places) last (suc i) id e = ⊎_elim (λ (h : slice_get places i ≡ Some id). inl h) (λ (h : (i ≡ length places) × (last ≡ id)). inr (ap suc h.0, h.1)) (last_at places last i id e)
-
-below_of : (b : ℕ) (places : List ExprId) (i : ℕ) (id : ExprId) → AllByRecursion (λ (p : ExprId). p.0 < b) places → slice_get places i ≡ Some id → id.0 < b
-below_of b [] i id h e = absurd cc
-below_of b (p ∷ places) zero id h e = subst (λ (q : ExprId). q.0 < b) (same_Some p id e) h.0
-below_of b (p ∷ places) (suc i) id h e = below_of b places i id h.1 e
-
-pub bare_more : (f : ℕ → GenericExpression) (words : List Word) (old new : List Node) (places longer : List ExprId) (node : GenericNode) (made : Node) (id : ExprId) (i : ℕ) → AreBare f old places → length places ≡ i → NodeBare f words old node made → f i ≡ generic_layer words f (Some node) → Makes old new id.0 made
-    → longer ≡ places ++ id ∷ [] → AreBare f new longer
-bare_more f words old new places longer node made id i h l k opens makes e = subst (AreBare f new) (sym e) (record {
-  below = all_more (length old) (length new) places id makes.grows.longer makes.inside h.below;
-  trees = λ j p found.
-      ⊎_elim (λ (a : slice_get places j ≡ Some p). makes.grows.same p.0 (below_of (length old) places j p h.below a) ∙ h.trees j p a)
-      (λ (b : (j ≡ length places) × (id ≡ p)). ap (λ (q : ExprId). tree_of new q.0) (sym b.1) ∙ makes.tree ∙ k.layers ∙ ap bare (sym opens) ∙ ap (λ n. bare (f n)) (sym (b.0 ∙ l)))
-      (last_at places id j p found);
-})
+pub bare_over : (a : Arena) (next : ℕ) (nodes : List Node) (left : List GenericNode) → BareSoFar a next nodes left → length left ≡ 0 → AreBare a (length a.nodes) nodes
+bare_over a next nodes left h e =
+    let all : length a.nodes ≤ next = over a.nodes next (none left e ∙ h.left_is) in
+    let m = h.are.many in
+    record { many = omega (arith, all, m); trees = λ i l. h.are.trees i (omega (arith, all, l)) } where
+      none : (xs : List GenericNode) → length xs ≡ 0 → [] ≡ xs
+      none [] e = refl
+      none (x ∷ xs) e = absurd cc
 
 -- Types
 
@@ -263,8 +222,85 @@ have_constructors (d ∷ ds) h = (have_some d h.0, have_constructors ds h.1)
 
 -- A whole program
 
-pub whole_bare : (p : GenericParts) (made : Parts) → map data_tree made.data_decls ≡ map bare_data (map (data_in p.exprs.words) p.datas) → map (function_tree (tree_of made.exprs)) made.functions ≡ map bare_function (map (function_in p.exprs) p.functions) → main_tree (tree_of made.exprs) made.main ≡ bare_main (main_in p.exprs p.main)
-    → program_of made ≡ bare_program (generic_program_of p)
-whole_bare p made ds fs m =
-    ap (λ (a : List DataTree). let t : ProgramTree = record { datas = a; functions = map (function_tree (tree_of made.exprs)) made.functions; main = main_tree (tree_of made.exprs) made.main } in t) ds
-    ∙ ap₂ (λ (b : List FunctionTree) (c : MainTree). let t : ProgramTree = record { datas = map bare_data (map (data_in p.exprs.words) p.datas); functions = b; main = c } in t) fs m
+functions_there : (a : Arena) (nodes : List Node) (fs : List FunctionDecl) → AreBare a (length a.nodes) nodes → AllByRecursion (IsFunctionInside (length a.nodes)) fs → map (function_tree (tree_of nodes)) fs ≡ map (function_tree (bare_tree a)) fs
+functions_there a nodes [] h k = refl
+functions_there a nodes (f ∷ fs) h k =
+    ap₂ (λ (x : FunctionTree) (l : List FunctionTree). x ∷ l) (ap (λ (b : Expression). let t : FunctionTree = record { name = f.name; parameters = f.parameters.items; result = f.result; body = b } in t) (h.trees f.body.0 k.0)) (functions_there a nodes fs h k.1)
+
+functions_inside : (a : Arena) (nodes : List Node) (fs : List FunctionDecl) → AreBare a (length a.nodes) nodes → AllByRecursion (IsFunctionInside (length a.nodes)) fs → AllByRecursion (IsFunctionInside (length nodes)) fs
+functions_inside a nodes [] h k = tt {0}
+functions_inside a nodes (f ∷ fs) h k = ((let l = k.0 in let m = h.many in omega (arith, l, m)), functions_inside a nodes fs h k.1)
+
+-- The parts of the plain program, by what was made of each.
+pub record Bares (p : GenericParts) (made : Parts) : Type 0 where
+  pub exprs : AreBare p.exprs (length p.exprs.nodes) made.exprs
+  pub datas : map data_tree made.data_decls ≡ map bare_data (map (data_in p.exprs.words) p.datas)
+  pub functions : map (function_tree (bare_tree p.exprs)) made.functions ≡ map bare_function (map (function_in p.exprs) p.functions)
+  pub inside : AllByRecursion (IsFunctionInside (length p.exprs.nodes)) made.functions
+  pub main : main_tree (bare_tree p.exprs) made.main ≡ bare_main (main_in p.exprs p.main)
+  pub body : made.main.body ≡ p.main.body
+
+-- So they are, where each was made of what the program tells of it.
+pub bares_of : (p : GenericParts) (made : Parts) (a b c d : Arena) (ds : List GenericData) (fs : List GenericFunction) (m : GenericMain) → a ≡ p.exprs → b ≡ p.exprs → c ≡ p.exprs → d ≡ p.exprs → ds ≡ p.datas → fs ≡ p.functions → m ≡ p.main
+    → AreBare d (length d.nodes) made.exprs → map data_tree made.data_decls ≡ map bare_data (map (data_in a.words) ds) → map (function_tree (bare_tree b)) made.functions ≡ map bare_function (map (function_in b) fs) → AllByRecursion (IsFunctionInside (length b.nodes)) made.functions
+    → main_tree (bare_tree c) made.main ≡ bare_main (main_in c m) → made.main.body ≡ m.body → Bares p made
+bares_of p made a b c d ds fs m ea eb ec ed eds efs em exprs datas functions inside main body = record {
+  exprs = subst (λ (z : Arena). AreBare z (length z.nodes) made.exprs) ed exprs;
+  datas = datas ∙ ap₂ (λ (z : Arena) (l : List GenericData). map bare_data (map (data_in z.words) l)) ea eds;
+  functions = subst (λ (z : Arena). map (function_tree (bare_tree z)) made.functions ≡ map bare_function (map (function_in z) p.functions)) eb (functions ∙ ap (λ (l : List GenericFunction). map bare_function (map (function_in b) l)) efs);
+  inside = subst (λ (z : Arena). AllByRecursion (IsFunctionInside (length z.nodes)) made.functions) eb inside;
+  main = subst (λ (z : Arena). main_tree (bare_tree z) made.main ≡ bare_main (main_in z p.main)) ec (main ∙ ap (λ (f : GenericMain). bare_main (main_in c f)) em);
+  body = body ∙ ap (λ (f : GenericMain). f.body) em;
+}
+
+main_below : (p : GenericParts) (made : Parts) → GenericInside p → Bares p made → made.main.body.0 < length p.exprs.nodes
+main_below p made inside h = subst (λ (i : ExprId). i.0 < length p.exprs.nodes) (sym h.body) inside.main
+
+pub parts_inside : (p : GenericParts) (made : Parts) → GenericInside p → Bares p made → AreInside made
+parts_inside p made inside h = record {
+  functions = functions_inside p.exprs made.exprs made.functions h.exprs h.inside;
+  main = (let l = main_below p made inside h in let m = h.exprs.many in omega (arith, l, m));
+  constructors = subst (AllByRecursion Rattle.gib_syntax.specs.Fine.HasConstructor) (sym h.datas) (have_constructors (map (data_in p.exprs.words) p.datas) inside.constructors);
+}
+
+pub whole_bare : (p : GenericParts) (made : Parts) → GenericInside p → Bares p made → program_of made ≡ bare_program (generic_program_of p)
+whole_bare p made inside h =
+    ap (λ (a : List DataTree). let t : ProgramTree = record { datas = a; functions = map (function_tree (tree_of made.exprs)) made.functions; main = main_tree (tree_of made.exprs) made.main } in t) h.datas
+    ∙ ap₂ (λ (b : List FunctionTree) (c : MainTree). let t : ProgramTree = record { datas = map bare_data (map (data_in p.exprs.words) p.datas); functions = b; main = c } in t)
+    (functions_there p.exprs made.exprs made.functions h.exprs h.inside ∙ h.functions)
+    (ap (λ (b : Expression). let t : MainTree = record { parameter = made.main.parameter; result = made.main.result; body = b } in t) (h.exprs.trees made.main.body.0 (main_below p made inside h)) ∙ h.main)
+
+-- The names of its copies
+
+listed_more : (as' bs : List Copy) → listed_entries (as' ++ bs) ≡ listed_entries as' ++ listed_entries bs
+listed_more [] bs = refl
+listed_more (c ∷ as') bs = ap (λ l. copy_entries c ++ l) (listed_more as' bs) ∙ sym (append_assoc (copy_entries c) (listed_entries as') (listed_entries bs))
+
+constructor_names : (words : List Word) (cs : List GenericConstructor) → map (λ (k : GenericConstructorTree). entry (number_of k.name) NoForm) (map (constructor_in words) cs) ≡ map (own_entry NoForm) cs
+constructor_names words [] = refl
+constructor_names words (c ∷ cs) = ap (λ l. entry (number_of c.name) NoForm ∷ l) (constructor_names words cs)
+
+datas_listed : (words : List Word) (ds : List GenericData) → AllByRecursion IsPlainData (map (data_in words) ds) → listed_entries (plain_datas (map (data_in words) ds)) ≡ datas_names ds
+datas_listed words [] h = refl
+datas_listed words (d ∷ ds) h =
+    subst (λ (vs : List Ident). listed_entries (plain_data (data_in words d) vs (plain_datas (map (data_in words) ds))) ≡ datas_names (d ∷ ds)) (sym h.0)
+    (ap₂ (λ (ks rest : List Item). entry (number_of d.name) NoForm ∷ (ks ++ rest)) (constructor_names words d.constructors.items) (datas_listed words ds h.1))
+
+functions_listed : (a : Arena) (fs : List GenericFunction) → AllByRecursion IsPlainFunction (map (function_in a) fs) → listed_entries (plain_functions (map (function_in a) fs)) ≡ function_names fs
+functions_listed a [] h = refl
+functions_listed a (f ∷ fs) h =
+    subst (λ (vs : List Ident). listed_entries (plain_function (function_in a f) vs (plain_functions (map (function_in a) fs))) ≡ function_names (f ∷ fs)) (sym h.0)
+    (ap (λ (l : List Item). entry (number_of f.name) NoForm ∷ l) (functions_listed a fs h.1))
+
+pub with_more : (items xs ys : List Item) → with_entries items (xs ++ ys) ≡ with_entries (with_entries items xs) ys
+with_more items [] ys = refl
+with_more items (x ∷ xs) ys = with_more (with_entry items x) xs ys
+
+pub datas_next : (now new whole : List Item) (rest after : List GenericData) (d : GenericData) → rest ≡ d ∷ after → with_entries now (datas_names rest) ≡ whole → new ≡ with_entries now (data_names d) → with_entries new (datas_names after) ≡ whole
+datas_next now new whole rest after d e h k =
+    ap (λ (l : List Item). with_entries l (datas_names after)) k ∙ sym (with_more now (data_names d) (datas_names after)) ∙ ap (λ (l : List GenericData). with_entries now (datas_names l)) (sym e) ∙ h
+
+pub names_plain : (p : GenericParts) → IsPlainProgram (generic_program_of p) → with_entries (with_entries [] (datas_names p.datas)) (function_names p.functions) ≡ entries (plain_copies (generic_program_of p))
+names_plain p h =
+    sym (with_more [] (datas_names p.datas) (function_names p.functions))
+    ∙ ap (with_entries []) (sym (listed_more (plain_datas (generic_program_of p).datas) (plain_functions (generic_program_of p).functions) ∙ ap₂ (λ (a b : List Item). a ++ b) (datas_listed p.exprs.words p.datas h.datas) (functions_listed p.exprs p.functions h.functions)))

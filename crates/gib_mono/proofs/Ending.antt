@@ -1,6 +1,7 @@
 -- The copied program, from its copied declarations.
-use Rattle.std.proofs.Common.{◌≡◌, ℕ, List, [], ◌∷◌, length, map, Ok, refl, sym, ap, ap₂, ◌∙◌, arith, subst}
+use Rattle.std.proofs.Common.{◌≡◌, ℕ, List, [], ◌∷◌, length, map, Ok, Err, refl, sym, ap, ap₂, ◌∙◌, arith, subst}
 use Rattle.std.specs.List.{AllByRecursion}
+use Rattle.gib_base.specs.declared.Span.{Span}
 use Rattle.gib_types.specs.Form.{Forms}
 use Rattle.gib_types.specs.Types.{forms_of}
 use Rattle.gib_syntax.specs.declared.tree.DataDecl.{DataDecl}
@@ -14,7 +15,7 @@ use Rattle.gib_syntax.specs.Parts.{AreInside, program_of, data_tree, function_tr
 use Rattle.gib_syntax.specs.Typing.{IsTypedProgram}
 use Rattle.gib_syntax.specs.GenericFine.{HasGenericConstructor}
 use Rattle.gib_syntax.specs.GenericParts.{GenericParts, generic_program_of}
-use Rattle.gib_syntax.specs.GenericTree.{GenericConstructorTree, GenericGlobals}
+use Rattle.gib_syntax.specs.GenericTree.{GenericConstructorTree, GenericGlobals, GenericProgramTree}
 use Rattle.gib_syntax.specs.GenericTyping.{IsTypedGeneric}
 use Rattle.gib_mono.specs.declared.copier.Copier.{Copier}
 use Rattle.gib_mono.specs.declared.find.Asked.{Asked}
@@ -32,7 +33,6 @@ use Rattle.gib_mono.specs.Sources.{globals_in}
 use Rattle.gib_mono.specs.Walk.{Copy, DataOf, FunctionOf, DataCopy, FunctionCopy, datas_in, function_copies, plain_copies, copies_of, copied_program}
 use Rattle.gib_mono.proofs.Bared.{bare_copy, bare_walk}
 use Rattle.gib_mono.proofs.Below.{copies_below}
-use Rattle.gib_mono.proofs.Closing.{same_ok}
 use Rattle.gib_mono.proofs.Copies.{copies_closed}
 use Rattle.gib_mono.proofs.Named.{keys_inside, keys_copies}
 use Rattle.gib_mono.proofs.Names.{named}
@@ -113,40 +113,34 @@ ends p asked base s0 s1 s2 s3 keys ks ds fs main finds below typed fine start at
       same₃ : {A B C D : Type 0} (f : A → B → C → D) {x y : A} {u v : B} {s t : C} → x ≡ y → u ≡ v → s ≡ t → f x u s ≡ f y v t
       same₃ f {x} {y} {u} {v} {s} {t} e g h = ap (λ a. f a u s) e ∙ ap (λ b. f y b s) g ∙ ap (f y v) h
 
--- a program without type parameters is copied as it stands
+-- a program without type parameters is its own copy
 
-plain_naming : (base : ℕ) (names : List Item) → IsPlainNaming (naming_of base names)
-plain_naming base names = record { types = λ x. refl; constructors = λ x. refl; functions = λ x. refl }
+own_naming : (base : ℕ) (names : List Item) → IsPlainNaming (naming_of base names)
+own_naming base names = record { types = λ x. refl; constructors = λ x. refl; functions = λ x. refl }
 
-found_plain : (p : GenericParts) (asked : Asked) → (h : Finds p asked) → IsTypedGeneric (generic_program_of p) → IsPlainProgram (generic_program_of p) → plain_copies (generic_program_of p) ≡ h.copies
-found_plain p asked h typed plain = same_ok (plain_copies (generic_program_of p)) h.copies (sym (bare_walk (generic_program_of p) typed plain) ∙ h.are)
+pub plain_typed : (p : GenericProgramTree) (base : ℕ) → AreNamedBelow base p → IsTypedGeneric p → AllByRecursion HasGenericConstructor p.datas → IsPlainProgram p → IsTypedProgram (bare_program p)
+plain_typed p base below typed fine plain =
+    let found = plain_copies p in
+    let names = entries found in
+    let are = bare_walk p typed plain in
+    subst IsTypedProgram (bare_copy p (naming_of base names) (own_naming base names) typed plain)
+    (copied_typed p (naming_of base names) names found (set_made p (naming_of base names) names found fine typed are (named found base (copies_below p base found below typed fine are))))
 
-bare_found : (p : GenericParts) (asked : Asked) (base : ℕ) → (h : Finds p asked) → IsTypedGeneric (generic_program_of p) → IsPlainProgram (generic_program_of p) → bare_program (generic_program_of p) ≡ copied_program (generic_program_of p) (naming_of base (entries h.copies)) h.copies
-bare_found p asked base h typed plain =
-    sym (bare_copy (generic_program_of p) (naming_of base (entries h.copies)) (plain_naming base (entries h.copies)) typed plain)
-    ∙ ap (λ cs. copied_program (generic_program_of p) (naming_of base (entries h.copies)) cs) (found_plain p asked h typed plain)
-
-pub plain_typed : (p : GenericParts) (asked : Asked) (base : ℕ) → Finds p asked → AreNamedBelow base (generic_program_of p) → IsTypedGeneric (generic_program_of p) → AllByRecursion HasGenericConstructor (generic_program_of p).datas → IsPlainProgram (generic_program_of p) → IsTypedProgram (bare_program (generic_program_of p))
-plain_typed p asked base h below typed fine plain =
-    subst IsTypedProgram (sym (bare_found p asked base h typed plain))
-    (copied_typed (generic_program_of p) (naming_of base (entries h.copies)) (entries h.copies) h.copies
-    (set_made (generic_program_of p) (naming_of base (entries h.copies)) (entries h.copies) h.copies fine typed h.are (named h.copies base (copies_below (generic_program_of p) base h.copies below typed fine h.are))))
-
--- what a plain copy ends with
-pub record PlainEnds (p : GenericParts) (base : ℕ) (s : Copier) (made : ProgramTree) : Type 0 where
+-- what the copy of a program is
+pub record IsCopied (p : GenericProgramTree) (base : ℕ) (made : ProgramTree) (names : List Item) : Type 0 where
   pub found : List Copy
-  pub are : copies_of (generic_program_of p) ≡ Ok found
-  pub program : made ≡ copied_program (generic_program_of p) (naming_of base (entries found)) found
-  pub names : names_in s.scene ≡ entries found
+  pub are : copies_of p ≡ Ok found
+  pub program : made ≡ copied_program p (naming_of base (entries found)) found
+  pub names_are : names ≡ entries found
 
-pub plain_ends : (p : GenericParts) (asked : Asked) (base : ℕ) (s0 s1 : Copier) (keys : List CopyKey) (made : ProgramTree) → Finds p asked → IsTypedGeneric (generic_program_of p) → IsPlainProgram (generic_program_of p)
-    → s0.scene ≡ record { types = asked.context.types; variables = []; meant = []; scope = []; entries = [] } → keys ≡ asked.found.keys → Enters s0 s1 (with_entries (names_in s0.scene) (listed_entries (copies_from (globals_in p) (forms s0.scene) keys)))
-    → made ≡ bare_program (generic_program_of p) → PlainEnds p base s1 made
-plain_ends p asked base s0 s1 keys made finds typed plain start e enters is =
-    let types0 : s0.scene.types ≡ asked.context.types = ap (λ (k : Scenery). k.types) start in
-    record {
-      found = finds.copies;
-      are = finds.are;
-      program = is ∙ bare_found p asked base finds typed plain;
-      names = enters.names ∙ ap₂ (λ is cs. with_entries is (listed_entries cs)) (ap names_in start) (keys_found p asked s0 keys e types0 finds);
-    }
+pub plain_copied : (p : GenericProgramTree) (base : ℕ) (made : ProgramTree) (names : List Item) → IsTypedGeneric p → IsPlainProgram p → made ≡ bare_program p → names ≡ entries (plain_copies p) → IsCopied p base made names
+plain_copied p base made names typed plain e n = record {
+  found = plain_copies p;
+  are = bare_walk p typed plain;
+  program = e ∙ sym (bare_copy p (naming_of base (entries (plain_copies p))) (own_naming base (entries (plain_copies p))) typed plain);
+  names_are = n;
+}
+
+-- no use of a plain program is over a limit
+pub plain_within : (p : GenericProgramTree) (span : Span) → IsTypedGeneric p → IsPlainProgram p → copies_of p ≡ Err span → ⊥
+plain_within p span typed plain e = let same : Ok (plain_copies p) ≡ Err span = sym (bare_walk p typed plain) ∙ e in absurd cc

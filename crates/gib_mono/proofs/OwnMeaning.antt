@@ -10,12 +10,12 @@ use Rattle.gib_syntax.specs.declared.tree.TypeName.{TypeName}
 use Rattle.gib_syntax.specs.declared.tree.TypeName.TheVariants as ty
 use Rattle.gib_syntax.specs.declared.tree.Parameter.{Parameter}
 use Rattle.gib_syntax.specs.Tree.{Expression, Arguments, Arms, Var, Num, Bit, Paren, Op, Call, Make, Let, Par, If, Case, NoArgument, Argument, LastArm, NextArm, ConstructorTree, DataTree, FunctionTree, ProgramTree}
-use Rattle.gib_syntax.specs.Declarations.{number_of, place_of, type_names, type_of_name, type_or, tree_type, row_in, rows_from, table_of_program, constructor_named, function_named}
+use Rattle.gib_syntax.specs.Declarations.{number_of, place_of, type_names, type_of_name, type_or, tree_type, row_in, rows_from, table_of_program, constructor_names, constructor_named, function_named}
 use Rattle.gib_syntax.specs.Typing.{IsKnown, HasKnownFields, HasKnownConstructors, IsTypedProgram}
-use Rattle.gib_syntax.specs.Meaning.{Outcome, Gives, Stops, Environment, value_in, bind, with_value, with_values, is_true, is_made_by, parts, made, choose, eval, eval_all, eval_arms, names_of, of_function, calls, run}
+use Rattle.gib_syntax.specs.Meaning.{Outcome, Gives, Stops, Environment, value_in, bind, with_value, with_values, is_true, is_made_by, parts, made, choose, eval, eval_all, eval_arms, names_of, of_function, calls, means, run}
 use Rattle.gib_syntax.specs.Forms.{Forms, NoForm, Meant, formed, assign}
 use Rattle.gib_syntax.specs.GenericTree.{GenericFunctionTree, GenericRow, row_of, rows_of, globals_of_generic, place_named, generic_named}
-use Rattle.gib_syntax.specs.GenericMeaning.{kind_of, kinds_at, made_at, meant, meant_all, meant_arms, generic_names, of_generic, calls_meant, run_generic}
+use Rattle.gib_syntax.specs.GenericMeaning.{kind_of, kinds_at, made_at, meant, meant_all, meant_arms, generic_names, of_generic, calls_meant, means_generic, run_generic}
 use Rattle.gib_syntax.specs.Plain.{written_of, as_generic, all_as_generic, arms_as_generic, generic_constructor, generic_data, generic_parameter, generic_function, generic_of}
 use Rattle.gib_mono.proofs.Tables.{map_both}
 
@@ -67,15 +67,15 @@ rows_same types owner (d ∷ ds) known c = front_same types owner d d.constructo
 
 -- Names
 
-constructor_names : (types : List ℕ) (owner : ℕ) (d : DataTree) (cs : List ConstructorTree) → map (λ (r : GenericRow). r.name) (map (row_of (generic_data d)) (map generic_constructor cs)) ≡ map (λ (r : Row). r.name) (map (row_in types owner) cs)
-constructor_names types owner d [] = refl
-constructor_names types owner d (k ∷ cs) = ap (λ (ns : List ℕ). number_of k.name ∷ ns) (constructor_names types owner d cs)
+row_names : (types : List ℕ) (owner : ℕ) (d : DataTree) (cs : List ConstructorTree) → map (λ (r : GenericRow). r.name) (map (row_of (generic_data d)) (map generic_constructor cs)) ≡ map (λ (r : Row). r.name) (map (row_in types owner) cs)
+row_names types owner d [] = refl
+row_names types owner d (k ∷ cs) = ap (λ (ns : List ℕ). number_of k.name ∷ ns) (row_names types owner d cs)
 
 names_same : (types : List ℕ) (owner : ℕ) (ds : List DataTree) → map (λ (r : GenericRow). r.name) (rows_of (map generic_data ds)) ≡ map (λ (r : Row). r.name) (rows_from types owner ds)
 names_same types owner [] = refl
 names_same types owner (d ∷ ds) =
     map_both GenericRow ℕ (λ (r : GenericRow). r.name) (map (row_of (generic_data d)) (map generic_constructor d.constructors)) (rows_of (map generic_data ds))
-    ∙ ap (λ (ns : List ℕ). ns ++ map (λ (r : GenericRow). r.name) (rows_of (map generic_data ds))) (constructor_names types owner d d.constructors)
+    ∙ ap (λ (ns : List ℕ). ns ++ map (λ (r : GenericRow). r.name) (rows_of (map generic_data ds))) (row_names types owner d d.constructors)
     ∙ ap (λ (ns : List ℕ). map (λ (r : Row). r.name) (map (row_in types owner) d.constructors) ++ ns) (names_same types (suc owner) ds)
     ∙ sym (map_both Row ℕ (λ (r : Row). r.name) (map (row_in types owner) d.constructors) (rows_from types (suc owner) ds))
 
@@ -178,3 +178,11 @@ same_calls p typed (suc n) x vs =
 pub same_run : (p : ProgramTree) (depth : ℕ) (v : Datum) → IsTypedProgram p → run_generic (generic_of p) depth v ≡ run p depth v
 same_run p depth v typed =
     same_meant p typed (calls_meant (generic_of p) depth) (calls p depth) (same_calls p typed depth) (assign [] NoForm) p.main.body ((number_of p.main.parameter.name, v) ∷ [])
+
+-- Each expression.
+pub same_each : (p : ProgramTree) (n : ℕ) (m : Meant) (e : Expression) (env : Environment) → IsTypedProgram p → means_generic (generic_of p) n m env (as_generic e) ≡ means p n env e
+same_each p n m e env typed = same_meant p typed (calls_meant (generic_of p) n) (calls p n) (same_calls p typed n) m e env
+
+-- The names of constructors.
+pub same_names : (p : ProgramTree) → map (λ (r : GenericRow). r.name) (rows_of (generic_of p).datas) ≡ constructor_names (table_of_program p)
+same_names p = names_same (type_names p) 0 p.datas

@@ -9,11 +9,12 @@ use Rattle.gib_types.specs.declared.table.Ty.TheVariants.{Whole, Truth, Tree}
 use Rattle.gib_types.specs.Table.{Row, Table, con_at, fields_at, if_owned}
 use Rattle.gib_types.specs.Tree.{Datum, whole, truth, con, Data, none, more, HasType, HaveTypes}
 use Rattle.gib_syntax.specs.declared.tree.Ident.{Ident}
-use Rattle.gib_syntax.specs.Declarations.{number_of, place_of, table_of_program, input_type, output_type, type_names}
+use Rattle.gib_syntax.specs.Declarations.{AreDifferent, number_of, place_of, table_of_program, input_type, output_type, type_names}
 use Rattle.gib_syntax.specs.Meaning.{Outcome, Gives, Stops, run, OutcomeHas}
-use Rattle.gib_syntax.specs.Tree.{ProgramTree}
+use Rattle.gib_syntax.specs.Tree.{DataTree, FunctionTree, ProgramTree}
 use Rattle.gib_syntax.specs.Fine.{IsFineProgram}
 use Rattle.gib_syntax.specs.Typing.{IsTypedProgram}
+use Rattle.gib_syntax.specs.Plain.{generic_data, generic_function, generic_of}
 use Rattle.gib_syntax.proofs.Soundness.{place_found, run_has}
 use Rattle.gib_syntax.specs.Forms.{NoForm}
 use Rattle.gib_syntax.specs.GenericFine.{IsGenericFineProgram}
@@ -26,6 +27,7 @@ use Rattle.gib_mono.specs.Copying.{Naming, IsPlainNaming}
 use Rattle.gib_mono.specs.Walk.{Copy, DataCopy, datas_in, plain_data, plain_datas, plain_function, plain_functions, plain_copies, copied_program, Made, made_of, made_from, or_zero, base_at, base_of}
 use Rattle.gib_mono.proofs.Bared.{bare_copy}
 use Rattle.gib_mono.proofs.Here.{map_found}
+use Rattle.gib_mono.proofs.OwnMeaning.{same_names}
 use Rattle.gib_mono.proofs.Tables.{made_row, rows_made}
 use Rattle.gib_mono.proofs.Theorem.{copied_fine, copied_runs, copied_typed}
 use Rattle.gib_mono.proofs.Whole.{IsSet}
@@ -71,15 +73,18 @@ many f [] = refl
 many f (x ∷ xs) = ap suc (many f xs)
 
 -- Each constructor of the copy has the number of its own.
-pub number_own : (p : GenericProgramTree) (d : ℕ) → IsTypedGeneric p → IsPlainProgram p → d < length (rows_of p.datas) → base_of (rows_of p.datas) (plain_copies p) d ≡ d
-number_own p d typed plain l =
+number_alone : (p : GenericProgramTree) (d : ℕ) → AreDifferent (map row_number (rows_of p.datas)) → IsPlainProgram p → d < length (rows_of p.datas) → base_of (rows_of p.datas) (plain_copies p) d ≡ d
+number_alone p d differ plain l =
     let names = map row_number (rows_of p.datas) in
     let same : map made_name (made_from 0 (datas_in (plain_copies p))) ≡ names = ap (λ cs. map made_name (made_from 0 cs)) (datas_own p.datas p.functions plain.datas plain.functions) ∙ names_same 0 p.datas in
     let e = many row_number (rows_of p.datas) in
     let x = there names d (omega (arith, l, e)) in
     let m = map_found Made ℕ made_name (made_from 0 (datas_in (plain_copies p))) d x.0 (ap (λ ns. slice_get ns d) same ∙ x.1) in
-    let placed : place_of names x.0 ≡ Some d = place_found names x.0 d typed.constructors_differ x.1 in
+    let placed : place_of names x.0 ≡ Some d = place_found names x.0 d differ x.1 in
     ap (base_at (rows_of p.datas)) m.1 ∙ ap (λ n. or_zero (place_named (rows_of p.datas) n)) (sym m.2) ∙ ap or_zero placed
+
+pub number_own : (p : GenericProgramTree) (d : ℕ) → IsTypedGeneric p → IsPlainProgram p → d < length (rows_of p.datas) → base_of (rows_of p.datas) (plain_copies p) d ≡ d
+number_own p d typed plain l = number_alone p d typed.constructors_differ plain l
 
 -- Values
 
@@ -134,3 +139,29 @@ run_own p nm names depth v own fine typed plain is h =
     ∙ sym (copied_runs p nm names (plain_copies p) depth v fine is (subst (λ q. HasType (table_of_program q) v (input_type q)) (sym same) h))
     ∙ ap (λ q. shown_outcome base (run q depth v)) same
     ∙ outcome_own p nm (run (bare_program p) depth v) (output_type (bare_program p)) own typed plain (run_has (bare_program p) depth v bare_fine bare_typed h)
+
+-- A program of the language without type parameters
+
+datas_none : (ds : List DataTree) → AllByRecursion IsPlainData (map generic_data ds)
+datas_none [] = tt {0}
+datas_none (d ∷ ds) = (refl, datas_none ds)
+
+functions_none : (fs : List FunctionTree) → AllByRecursion IsPlainFunction (map generic_function fs)
+functions_none [] = tt {0}
+functions_none (f ∷ fs) = (refl, functions_none fs)
+
+pub plain_own : (p : ProgramTree) (v : Datum) (t : Ty) → IsTypedProgram p → HasType (table_of_program p) v t → shown (base_of (rows_of (generic_of p).datas) (plain_copies (generic_of p))) v ≡ v
+plain_own p v t typed h =
+    let q = generic_of p in
+    let plain : IsPlainProgram q = record { datas = datas_none p.datas; functions = functions_none p.functions } in
+    let names = same_names p in
+    let count : length (table_of_program p).rows ≡ length (rows_of q.datas) =
+    sym (many (λ (r : Row). r.name) (table_of_program p).rows) ∙ ap (λ (ns : List ℕ). length ns) (sym names) ∙ many row_number (rows_of q.datas) in
+    value_own (table_of_program p) (base_of (rows_of q.datas) (plain_copies q)) (λ k l. number_alone q k (subst AreDifferent (sym names) typed.constructors_differ) plain (omega (arith, l, count))) v t h
+
+-- Texts
+
+pub text_own : (names others : List (List ℕ)) (x : ℕ) → x < length names → slice_get (names ++ others) x ≡ slice_get names x
+text_own [] others x l = absurd (omega (arith, l))
+text_own (n ∷ names) others zero l = refl
+text_own (n ∷ names) others (suc x) l = text_own names others x (omega (arith, l))

@@ -1,24 +1,24 @@
 -- A program without type parameters as a plain one: type arguments, of which it has none, are left out.
-use Rattle.std.specs.Prelude.{◌≡◌, ℕ, ◌<◌, List, [], map, slice_get, Option, Some, None, length}
+use Rattle.std.specs.Prelude.{◌≡◌, ℕ, ◌<◌, ◌≤◌, List, [], ◌∷◌, ◌++◌, map, length}
 use Rattle.std.specs.List.{AllByRecursion}
-use Rattle.std.specs.Global.{Vec}
-use Rattle.gib_base.specs.declared.Span.{Span}
-use Rattle.gib_syntax.specs.declared.exprs.Arm.{Arm}
-use Rattle.gib_syntax.specs.declared.exprs.ExprId.{ExprId}
 use Rattle.gib_syntax.specs.declared.exprs.Node.{Node}
 use Rattle.gib_syntax.specs.declared.exprs.Node.TheVariants as n
 use Rattle.gib_syntax.specs.declared.generic.GenericNode.{GenericNode}
 use Rattle.gib_syntax.specs.declared.generic.GenericNode.TheVariants as g
 use Rattle.gib_syntax.specs.declared.program.GenericData.{GenericData}
 use Rattle.gib_syntax.specs.declared.program.GenericFunction.{GenericFunction}
-use Rattle.gib_syntax.specs.declared.tree.Ident.{Ident}
 use Rattle.gib_syntax.specs.declared.tree.Parameter.{Parameter}
 use Rattle.gib_syntax.specs.declared.tree.TypeName.{TypeName}
 use Rattle.gib_syntax.specs.declared.tree.TypeName.TheVariants as ty
 use Rattle.gib_syntax.specs.Arena.{tree_of}
+use Rattle.gib_syntax.specs.Declarations.{number_of}
+use Rattle.gib_syntax.specs.GenericArena.{Arena, tree_of as generic_of}
 use Rattle.gib_syntax.specs.Tree.{Expression, Arguments, Arms, Var, Num, Bit, Paren, Op, Call, Make, Let, Par, If, Case, NoArgument, Argument, LastArm, NextArm, ConstructorTree, DataTree, FunctionTree, MainTree, ProgramTree}
-use Rattle.gib_syntax.specs.Forms.{WrittenType, WholeAt, TruthAt, VariableAt, DataAt}
+use Rattle.gib_syntax.specs.Forms.{WrittenType, WholeAt, TruthAt, VariableAt, DataAt, NoForm}
 use Rattle.gib_syntax.specs.GenericTree.{GenericExpression, GenericArguments, GenericArms, GenericVar, GenericNum, GenericBit, GenericParen, GenericOp, GenericCall, GenericMake, GenericLet, GenericPar, GenericIf, GenericCase, GenericNoArgument, GenericArgument, GenericLastArm, GenericNextArm, GenericConstructorTree, GenericDataTree, GenericParameterTree, GenericFunctionTree, GenericMainTree, GenericProgramTree}
+use Rattle.gib_mono.specs.Copied.{Item}
+use Rattle.gib_mono.specs.Declaring.{own_entry}
+use Rattle.gib_mono.specs.Naming.{entry}
 
 -- No declaration has type variables.
 abbrev pub IsPlainData : GenericDataTree → Type 0
@@ -87,55 +87,56 @@ bare_main f = record { parameter = bare_parameter f.parameter; result = bare_wri
 abbrev pub bare_program : GenericProgramTree → ProgramTree
 bare_program p = record { datas = map bare_data p.datas; functions = map bare_function p.functions; main = bare_main p.main }
 
--- Plain expressions were put for the first generic ones: at the number of each stands the number of its plain one.
-pub record AreBare (tree : ℕ → GenericExpression) (nodes : List Node) (places : List ExprId) : Type 0 where
-  pub below : AllByRecursion (λ (i : ExprId). i.0 < length nodes) places
-  pub trees : (i : ℕ) (id : ExprId) → slice_get places i ≡ Some id → tree_of nodes id.0 ≡ bare (tree i)
+-- A node binds variables in front of what it is.
+abbrev pub IsLet : GenericNode → Type 0
+IsLet (g.Variable x) = ⊥
+IsLet (g.Whole p v) = ⊥
+IsLet (g.Truth p b) = ⊥
+IsLet (g.Paren p a) = ⊥
+IsLet (g.Operation p f a b) = ⊥
+IsLet (g.Call f ws xs) = ⊥
+IsLet (g.Make k ws xs) = ⊥
+IsLet (g.Let p x a b) = Unit {0}
+IsLet (g.LetPar p x a y b c) = Unit {0}
+IsLet (g.If p a b c) = ⊥
+IsLet (g.Case p x arms) = ⊥
 
--- The number at a place, that of no expression past the end.
-abbrev pub id_or : Option ExprId → ExprId
-id_or None = record { 0 = 0 }
-id_or (Some id) = id
+-- A node chooses among its parts.
+abbrev pub IsChoice : GenericNode → Type 0
+IsChoice (g.Variable x) = ⊥
+IsChoice (g.Whole p v) = ⊥
+IsChoice (g.Truth p b) = ⊥
+IsChoice (g.Paren p a) = ⊥
+IsChoice (g.Operation p f a b) = ⊥
+IsChoice (g.Call f ws xs) = ⊥
+IsChoice (g.Make k ws xs) = ⊥
+IsChoice (g.Let p x a b) = ⊥
+IsChoice (g.LetPar p x a y b c) = ⊥
+IsChoice (g.If p a b c) = Unit {0}
+IsChoice (g.Case p x arms) = Unit {0}
 
--- The number of the plain expression of a number.
-abbrev pub place_at : List ExprId → ExprId → ExprId
-place_at places id = id_or (slice_get places id.0)
+-- A node without its type arguments: its parts keep their numbers.
+abbrev pub bare_node : GenericNode → Node
+bare_node (g.Variable x) = n.Variable x
+bare_node (g.Whole p v) = n.Whole p v
+bare_node (g.Truth p b) = n.Truth p b
+bare_node (g.Paren p a) = n.Paren p a
+bare_node (g.Operation p f a b) = n.Operation p f a b
+bare_node (g.Call f ws xs) = n.Call f xs
+bare_node (g.Make k ws xs) = n.Make k xs
+bare_node (g.Let p x a b) = n.Let p x a b
+bare_node (g.LetPar p x a y b c) = n.LetPar p x a y b c
+bare_node (g.If p a b c) = n.If p a b c
+bare_node (g.Case p x arms) = n.Case p x arms
 
--- An arm with its variables as a list.
-pub record ArmView : Type 0 where
-  pub constructor : Ident
-  pub variables : List Ident
-  pub body : ExprId
+-- The expression of a number without its type arguments.
+abbrev pub bare_tree : Arena → ℕ → Expression
+bare_tree a i = bare (generic_of a i)
 
--- The arm that is kept.
-abbrev pub arm_view : Arm → ArmView
-arm_view arm = record { constructor = arm.constructor; variables = arm.variables.items; body = arm.body }
-
--- The arm with the plain number of its expression.
-abbrev pub arm_at : List ExprId → Arm → ArmView
-arm_at places arm = record { constructor = arm.constructor; variables = arm.variables.items; body = place_at places arm.body }
-
--- A plain node is one of another without its type arguments, its parts at their plain numbers.
-abbrev pub IsBareCall : List ExprId → (Vec ExprId → Node) → List ExprId → Node → Type 0
-IsBareCall places make ids made = (numbers : Vec ExprId) × (made ≡ make numbers) × (numbers.items ≡ map (place_at places) ids)
-
--- A `case`, with its arms.
-abbrev pub IsBareCase : List ExprId → Span → Ident → List Arm → Node → Type 0
-IsBareCase places p x arms made = (bared : Vec Arm) × (made ≡ n.Case p x bared) × (map arm_view bared.items ≡ map (arm_at places) arms)
-
--- A node, by its kind.
-abbrev pub IsBareNode : List ExprId → GenericNode → Node → Type 0
-IsBareNode places (g.Variable x) made = made ≡ n.Variable x
-IsBareNode places (g.Whole p v) made = made ≡ n.Whole p v
-IsBareNode places (g.Truth p b) made = made ≡ n.Truth p b
-IsBareNode places (g.Paren p a) made = made ≡ n.Paren p (place_at places a)
-IsBareNode places (g.Operation p f a b) made = made ≡ n.Operation p f (place_at places a) (place_at places b)
-IsBareNode places (g.Call f ws xs) made = IsBareCall places (n.Call f) xs.items made
-IsBareNode places (g.Make k ws xs) made = IsBareCall places (n.Make k) xs.items made
-IsBareNode places (g.Let p x a b) made = made ≡ n.Let p x (place_at places a) (place_at places b)
-IsBareNode places (g.LetPar p x a y b c) made = made ≡ n.LetPar p x (place_at places a) y (place_at places b) (place_at places c)
-IsBareNode places (g.If p a b c) made = made ≡ n.If p (place_at places a) (place_at places b) (place_at places c)
-IsBareNode places (g.Case p x arms) made = IsBareCase places p x arms.items made
+-- The first so many expressions stand without type arguments at their numbers.
+pub record AreBare (a : Arena) (count : ℕ) (nodes : List Node) : Type 0 where
+  pub many : count ≤ length nodes
+  pub trees : (i : ℕ) → i < count → tree_of nodes i ≡ bare_tree a i
 
 -- A declaration as the code keeps it has no type variables.
 abbrev pub IsPlainKept : GenericData → Type 0
@@ -144,3 +145,16 @@ IsPlainKept d = d.variables.items ≡ []
 -- A function as the code keeps it has none.
 abbrev pub IsPlainHere : GenericFunction → Type 0
 IsPlainHere f = f.variables.items ≡ []
+
+-- The names that a type brings, with those of its constructors, where it has no type variables.
+abbrev pub data_names : GenericData → List Item
+data_names d = entry (number_of d.name) NoForm ∷ map (own_entry NoForm) d.constructors.items
+
+-- Those of all types, in their order.
+abbrev pub datas_names : List GenericData → List Item
+datas_names [] = []
+datas_names (d ∷ ds) = data_names d ++ datas_names ds
+
+-- Those of functions.
+abbrev pub function_names : List GenericFunction → List Item
+function_names fs = map (λ (f : GenericFunction). entry (number_of f.name) NoForm) fs

@@ -18,7 +18,6 @@ ghost use Rattle.gib_mono.specs.Walk.{Copy, DataOf, FunctionOf, copies_of, copy_
 use crate::asks::ask_expression;
 use crate::context::Context;
 use crate::found::{CopyKey, Found, MonoFault};
-use crate::plain::is_plain;
 use crate::search::{Search, add, ask_types};
 use crate::source::Source;
 use gib_base::Memory;
@@ -275,15 +274,12 @@ fn walk(search: &mut Search, source: &Source, from: usize) -> Result<(), Memory>
     Ok(())
 }
 
-/// The search for all copies. Where no declaration has type variables, the plain ones are all.
+/// The search for all copies, the plain ones first.
 fn search_copies(search: &mut Search, source: &Source) -> Result<(), Memory>
     requires { IsAt (globals_in source.now) search.old (Ok []) }
     ensures { IfOk result (λ _. IsAt (globals_in source.now) search.new (copies_of (generic_program_of source.now))) }
 {
     add_plain(search, source)?;
-    if is_plain(source.program()) {
-        return Ok(());
-    }
     let plain = search.found.len();
     ask_plain(search, source)?;
     walk(search, source, plain)

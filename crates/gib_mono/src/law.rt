@@ -1,13 +1,13 @@
 //! Laws of copies: functions whose contracts are the laws.
 
-ghost use Rattle.std.specs.Prelude.{◌≡◌, ℕ, List, ◌∷◌, [], pos, Ok, Err, slice_get, Some, length, ◌<◌};
+ghost use Rattle.std.specs.Prelude.{◌≡◌, ℕ, List, ◌∷◌, [], pos, Ok, Err, slice_get, Some, length, map, ◌<◌};
 ghost use Rattle.std.specs.List.{AllByRecursion};
 ghost use Rattle.gib_base.specs.declared.Span.{Span};
 ghost use Rattle.gib_types.specs.Tree.{Datum, whole, HasType, IsTyped};
 ghost use Rattle.gib_types.specs.Table.{name_at};
-ghost use Rattle.gib_syntax.specs.Tree.{ProgramTree};
+ghost use Rattle.gib_syntax.specs.Tree.{Expression, ProgramTree};
 ghost use Rattle.gib_syntax.specs.Fine.{IsFineProgram};
-ghost use Rattle.gib_syntax.specs.Declarations.{number_of, table_of_program, input_type};
+ghost use Rattle.gib_syntax.specs.Declarations.{constructor_names, number_of, table_of_program, input_type};
 ghost use Rattle.gib_syntax.specs.Typing.{IsTypedProgram};
 ghost use Rattle.gib_syntax.specs.Meaning.{Gives, Environment, means, run};
 ghost use Rattle.gib_syntax.specs.Forms.{Form, Forms, Meant, formed, assign};
@@ -20,7 +20,7 @@ ghost use Rattle.gib_mono.specs.Copied.{Item, IsAsked, ScopeHere, plain_scope, s
 ghost use Rattle.gib_mono.specs.Walk.{Copy, DataOf, FunctionOf, DataCopy, datas_in, plain_copies, function_copies, copied_program, copies_of, base_of, IsNaming};
 ghost use Rattle.gib_mono.specs.Laws.{set_of, Agree};
 ghost use Rattle.gib_mono.specs.Naming.{entries, naming_of, number_with, AreBelow};
-ghost use Rattle.gib_syntax.specs.Plain.{generic_of};
+ghost use Rattle.gib_syntax.specs.Plain.{as_generic, generic_of};
 ghost use Rattle.gib_mono.specs.Showing.{source_text, long_text, long_texts, short_texts};
 ghost use Rattle.gib_mono.specs.Bare.{IsPlainProgram, bare_program};
 ghost use Rattle.gib_mono.specs.Examples.{list_data, len_function, len_program, growing_program, whole_only};
@@ -95,9 +95,15 @@ pub fn plain_copies_mean_the_same()
         → HasType (table_of_program (bare_program p)) v (input_type (bare_program p)) → run_generic p depth v ≡ run (bare_program p) depth v }
 {}
 
-/// A typed program without type parameters means what it means as one that may have some.
+/// A typed program without type parameters, read as one that may have some, is what it is without them. It means the same: as a whole
+/// at every depth, and each expression at every depth and in every environment. Its constructors have their numbers and names, and
+/// each value is itself; a name of the source has its text in values, cores, code and descriptions.
 pub fn plain_programs_mean_the_same()
-    ensures { (p : ProgramTree) (depth : ℕ) (v : Datum) → IsTypedProgram p → run_generic (generic_of p) depth v ≡ run p depth v }
+    ensures run { (p : ProgramTree) (depth : ℕ) (v : Datum) → IsTypedProgram p → run_generic (generic_of p) depth v ≡ run p depth v }
+    ensures each { (p : ProgramTree) (n : ℕ) (m : Meant) (e : Expression) (env : Environment) → IsTypedProgram p → means_generic (generic_of p) n m env (as_generic e) ≡ means p n env e }
+    ensures names { (p : ProgramTree) → map (λ (r : GenericRow). r.name) (rows_of (generic_of p).datas) ≡ constructor_names (table_of_program p) }
+    ensures value { (p : ProgramTree) (v : Datum) → IsTypedProgram p → IsTyped (table_of_program p) v → shown (base_of (rows_of (generic_of p).datas) (plain_copies (generic_of p))) v ≡ v }
+    ensures texts { (names : List (List ℕ)) (items : List Item) (x : ℕ) → x < length names → (slice_get (short_texts names items) x ≡ slice_get names x) × (slice_get (long_texts names items) x ≡ slice_get names x) }
 {}
 
 /// Two programs: one that takes the length of a list of one number, and one that asks for ever longer types.

@@ -14,6 +14,7 @@ pub mod found;
 pub mod law;
 pub mod naming;
 mod plain;
+mod plain_names;
 pub mod program_copy;
 pub mod reading;
 pub mod scene;

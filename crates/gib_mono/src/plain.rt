@@ -1,32 +1,23 @@
 //! The second phase for a program none of whose declarations has type variables: each expression and each declaration is
 //! copied as it stands, without a look at types.
 
-ghost use Rattle.std.specs.Prelude.{◌≡◌, ◌<◌, List, true, length, map, IfOk, OnOk};
+ghost use Rattle.std.specs.Prelude.{◌≡◌, List, true, length, map, IfOk, OnOk};
 ghost use Rattle.std.specs.List.{AllByRecursion};
-ghost use Rattle.gib_syntax.specs.Arena.{tree_of};
+ghost use Rattle.gib_syntax.specs.Arena.{Makes, PartsBelow};
 ghost use Rattle.gib_syntax.specs.Forms.{WrittenType};
-ghost use Rattle.gib_syntax.specs.GenericArena.{ArmsBelow, IsArmBelow, PartsBelow, tree_of as generic_of};
 ghost use Rattle.gib_syntax.specs.GenericParts.{IsFunctionInside, constructor_in, data_in, function_in, generic_program_of, main_in, parameter_in};
 ghost use Rattle.gib_syntax.specs.Parts.{constructor_tree, data_tree, function_tree, main_tree, program_of, IsFunctionInside as IsInside};
 ghost use Rattle.gib_syntax.specs.Words.{first_type, read_word, stack_of};
-ghost use Rattle.gib_check.specs.Judging.{IsWordedNode};
-ghost use Rattle.gib_mono.specs.Bare.{AreBare, IsBareNode, IsBareCase, IsPlainHere, IsPlainKept, IsPlainProgram, arm_at, arm_view, bare_constructor, bare_data, bare_function, bare_main, bare_parameter, bare_program, bare_written, place_at};
+ghost use Rattle.gib_mono.specs.Bare.{AreBare, IsChoice, IsLet, IsPlainHere, IsPlainKept, IsPlainProgram, bare_constructor, bare_data, bare_function, bare_main, bare_node, bare_parameter, bare_program, bare_tree, bare_written};
 
 use gib_base::{Memory, Span};
 use gib_check::Stack;
 use gib_syntax::{
-    Arm, ConstructorDecl, DataDecl, ExprId, Exprs, FunctionDecl, GenericConstructor, GenericData,
-    GenericExprs, GenericFunction, GenericMain, GenericNode, GenericParameter, GenericProgram,
-    Ident, MainDecl, Node, Parameter, Program, TypeName, Word,
+    ConstructorDecl, DataDecl, Exprs, FunctionDecl, GenericConstructor, GenericData, GenericExprs,
+    GenericFunction, GenericMain, GenericNode, GenericParameter, GenericProgram, Ident, MainDecl,
+    Node, Parameter, Program, TypeName, Word,
 };
 use std::alloc::{AllocError, Global};
-
-/// Plain expressions, and at the number of each generic one the number of its plain one.
-#[derive(Drop)]
-pub struct BareExprs {
-    pub exprs: Exprs,
-    pub places: Vec<ExprId>,
-}
 
 /// Whether no data declaration has type variables.
 fn are_plain_datas(datas: &[GenericData]) -> bool
@@ -66,81 +57,10 @@ pub fn is_plain(program: &GenericProgram) -> bool
     are_plain_functions(program.functions())
 }
 
-/// The number of the plain expression of a number.
-fn place(places: &[ExprId], id: ExprId) -> ExprId
-    requires { id.0 < length places.now }
-    ensures { result ≡ place_at places.now id }
-{
-    places[id.0 as usize]
-}
-
-/// The numbers of the plain expressions of numbers.
-fn all_places(alloc: Global, places: &[ExprId], ids: &[ExprId]) -> Result<Vec<ExprId>, Memory>
-    requires { AllByRecursion (λ i. i.0 < length places.now) ids.now }
-    ensures { IfOk result (λ found. found.items ≡ map (place_at places.now) ids.now) }
-{
-    let mut found = Vec::new(alloc);
-    let mut rest = ids;
-    'ids: while let [id, after @ ..] = rest {
-        found.push(place(places, *id))?;
-        rest = after;
-    }
-    Ok(found)
-}
-
-/// An arm, with the number of its plain expression.
-fn bare_arm(alloc: Global, places: &[ExprId], arm: &Arm) -> Result<Arm, Memory>
-    requires { arm.now.body.0 < length places.now }
-    ensures { IfOk result (λ made. arm_view made ≡ arm_at places.now arm.now) }
-{
-    let variables = Vec::from_slice(alloc, &arm.variables)?;
-    let body = place(places, arm.body);
-    Ok(Arm {
-        constructor: arm.constructor,
-        variables,
-        body,
-    })
-}
-
-/// Arms, with the numbers of their plain expressions.
-fn bare_arms(alloc: Global, places: &[ExprId], arms: &[Arm]) -> Result<Vec<Arm>, Memory>
-    requires { AllByRecursion (IsArmBelow (length places.now)) arms.now }
-    ensures { IfOk result (λ made. map arm_view made.items ≡ map (arm_at places.now) arms.now) }
-{
-    let mut made = Vec::new(alloc);
-    let mut rest = arms;
-    'arms: while let [arm, after @ ..] = rest {
-        let copied = bare_arm(alloc, places, arm)?;
-        made.push(copied)?;
-        rest = after;
-    }
-    Ok(made)
-}
-
-/// A `case`.
-fn bare_case(
-    alloc: Global,
-    places: &[ExprId],
-    span: Span,
-    variable: Ident,
-    arms: &[Arm],
-) -> Result<Node, Memory>
-    requires { ArmsBelow arms.now (length places.now) }
-    ensures { IfOk result (λ made. IsBareCase places.now span variable arms.now made) }
-{
-    let arms = bare_arms(alloc, places, arms)?;
-    Ok(Node::Case {
-        span,
-        variable,
-        arms,
-    })
-}
-
-/// The plain node of one that a word begins.
-fn bare_worded(alloc: Global, places: &[ExprId], node: &GenericNode) -> Result<Node, Memory>
-    requires below { PartsBelow node.now (length places.now) }
-    requires worded { IsWordedNode node.now }
-    ensures { IfOk result (λ made. IsBareNode places.now node.now made) }
+/// The plain node of one that binds variables of its own in front of what it is.
+fn bare_let(node: GenericNode) -> Node
+    requires { IsLet node }
+    ensures { result ≡ bare_node node }
 {
     match node {
         GenericNode::Let {
@@ -148,12 +68,12 @@ fn bare_worded(alloc: Global, places: &[ExprId], node: &GenericNode) -> Result<N
             name,
             bound,
             body,
-        } => Ok(Node::Let {
-            span: *span,
-            name: *name,
-            bound: place(places, *bound),
-            body: place(places, *body),
-        }),
+        } => Node::Let {
+            span,
+            name,
+            bound,
+            body,
+        },
         GenericNode::LetPar {
             span,
             left_name,
@@ -161,93 +81,103 @@ fn bare_worded(alloc: Global, places: &[ExprId], node: &GenericNode) -> Result<N
             right_name,
             right,
             body,
-        } => Ok(Node::LetPar {
-            span: *span,
-            left_name: *left_name,
-            left: place(places, *left),
-            right_name: *right_name,
-            right: place(places, *right),
-            body: place(places, *body),
-        }),
+        } => Node::LetPar {
+            span,
+            left_name,
+            left,
+            right_name,
+            right,
+            body,
+        },
+        _ => unreachable!(),
+    }
+}
+
+/// The plain node of one that chooses among its parts.
+fn bare_choice(node: GenericNode) -> Node
+    requires { IsChoice node }
+    ensures { result ≡ bare_node node }
+{
+    match node {
         GenericNode::If {
             span,
             condition,
             then_part,
             else_part,
-        } => Ok(Node::If {
-            span: *span,
-            condition: place(places, *condition),
-            then_part: place(places, *then_part),
-            else_part: place(places, *else_part),
-        }),
+        } => Node::If {
+            span,
+            condition,
+            then_part,
+            else_part,
+        },
         GenericNode::Case {
             span,
             variable,
             arms,
-        } => bare_case(alloc, places, *span, *variable, arms),
+        } => Node::Case {
+            span,
+            variable,
+            arms,
+        },
         _ => unreachable!(),
     }
 }
 
-/// The plain node of a node, whose type arguments are left out.
-fn bare_node(alloc: Global, places: &[ExprId], node: &GenericNode) -> Result<Node, Memory>
-    requires { PartsBelow node.now (length places.now) }
-    ensures { IfOk result (λ made. IsBareNode places.now node.now made) }
+/// The plain node of a node: its type arguments are left out, its parts keep their numbers.
+fn bare_node(node: GenericNode) -> Node
+    ensures { result ≡ bare_node node }
 {
     match node {
-        GenericNode::Variable(x) => Ok(Node::Variable(*x)),
-        GenericNode::Whole(span, number) => Ok(Node::Whole(*span, *number)),
-        GenericNode::Truth(span, truth) => Ok(Node::Truth(*span, *truth)),
-        GenericNode::Paren(span, inner) => Ok(Node::Paren(*span, place(places, *inner))),
+        GenericNode::Variable(x) => Node::Variable(x),
+        GenericNode::Whole(span, number) => Node::Whole(span, number),
+        GenericNode::Truth(span, truth) => Node::Truth(span, truth),
+        GenericNode::Paren(span, inner) => Node::Paren(span, inner),
         GenericNode::Operation {
             span,
             operator,
             left,
             right,
-        } => Ok(Node::Operation {
-            span: *span,
-            operator: *operator,
-            left: place(places, *left),
-            right: place(places, *right),
-        }),
-        GenericNode::Call(f, _, ids) => {
-            let ids = all_places(alloc, places, ids)?;
-            Ok(Node::Call(*f, ids))
-        }
-        GenericNode::Make(k, _, ids) => {
-            let ids = all_places(alloc, places, ids)?;
-            Ok(Node::Make(*k, ids))
-        }
-        GenericNode::Let { .. }
-        | GenericNode::LetPar { .. }
-        | GenericNode::If { .. }
-        | GenericNode::Case { .. } => bare_worded(alloc, places, node),
+        } => Node::Operation {
+            span,
+            operator,
+            left,
+            right,
+        },
+        GenericNode::Call(f, _, ids) => Node::Call(f, ids),
+        GenericNode::Make(k, _, ids) => Node::Make(k, ids),
+        GenericNode::Let { .. } | GenericNode::LetPar { .. } => bare_let(node),
+        GenericNode::If { .. } | GenericNode::Case { .. } => bare_choice(node),
     }
 }
 
-/// All expressions without their type arguments, in their order.
-fn bare_exprs(alloc: Global, exprs: &GenericExprs) -> Result<BareExprs, Memory>
-    ensures made { IfOk result (λ b. AreBare (generic_of exprs.now) b.exprs b.places.items) }
-    ensures all { IfOk result (λ b. length b.places.items ≡ length exprs.now.nodes) }
+/// One more expression, at the number that is due: `put` does not say which number it gives.
+fn put_next(made: &mut Exprs, next: u32, node: Node) -> Result<(), Memory>
+    requires { PartsBelow node (length made.old) }
+    ensures { IfOk result (λ _. Makes made.old made.new next node) }
 {
-    let count = exprs.len();
+    let id = made.put(node)?;
+    if id.0 == next {
+        Ok(())
+    } else {
+        Err(AllocError)
+    }
+}
+
+/// All expressions without their type arguments, each at the number that it has.
+fn bare_exprs(alloc: Global, exprs: GenericExprs) -> Result<Exprs, Memory>
+    ensures { IfOk result (λ made. AreBare exprs (length exprs.nodes) made) }
+{
     let mut made = Exprs::new(alloc);
-    let mut places = Vec::new(alloc);
-    let mut id = 0_u32;
-    'nodes: while (id as usize) < count {
-        let generic = exprs.node(ExprId(id));
-        let node = bare_node(alloc, &places, generic)?;
-        let number = made.put(node)?;
-        places.push(number)?;
-        let Some(next) = id.checked_add(1) else {
+    let mut left = exprs.into_nodes().into_iter();
+    let mut number = 0_u32;
+    'nodes: while let Some(node) = left.next() {
+        put_next(&mut made, number, bare_node(node))?;
+        let Some(following) = number.checked_add(1) else {
             return Err(AllocError);
         };
-        id = next;
+        number = following;
     }
-    Ok(BareExprs {
-        exprs: made,
-        places,
-    })
+    Ok(made)
 }
 
 /// A word of types as the name of its type, where it is written.
@@ -369,27 +299,22 @@ fn bare_parameters(
     Ok(made)
 }
 
-/// A function, whose body is the plain expression of its body.
+/// A function, whose body has the number that it has.
 fn bare_function(
     alloc: Global,
     exprs: &GenericExprs,
-    bared: &BareExprs,
     function: &GenericFunction,
 ) -> Result<FunctionDecl, Memory>
-    requires inside { IsFunctionInside exprs.now function.now }
-    requires bared { AreBare (generic_of exprs.now) bared.now.exprs bared.now.places.items }
-    requires all { length bared.now.places.items ≡ length exprs.now.nodes }
-    ensures tree { IfOk result (λ made. function_tree (tree_of bared.now.exprs) made ≡ bare_function (function_in exprs.now function.now)) }
-    ensures inside { IfOk result (λ made. IsInside (length bared.now.exprs) made) }
+    requires { IsFunctionInside exprs.now function.now }
+    ensures tree { IfOk result (λ made. function_tree (bare_tree exprs.now) made ≡ bare_function (function_in exprs.now function.now)) }
+    ensures inside { IfOk result (λ made. IsInside (length exprs.now.nodes) made) }
 {
     let parameters = bare_parameters(alloc, exprs, &function.parameters)?;
-    let result = bare_type(exprs.words(function.result));
-    let body = place(&bared.places, function.body);
     Ok(FunctionDecl {
         name: function.name,
         parameters,
-        result,
-        body,
+        result: bare_type(exprs.words(function.result)),
+        body: function.body,
     })
 }
 
@@ -397,37 +322,30 @@ fn bare_function(
 fn bare_functions(
     alloc: Global,
     exprs: &GenericExprs,
-    bared: &BareExprs,
     functions: &[GenericFunction],
 ) -> Result<Vec<FunctionDecl>, Memory>
-    requires inside { AllByRecursion (IsFunctionInside exprs.now) functions.now }
-    requires bared { AreBare (generic_of exprs.now) bared.now.exprs bared.now.places.items }
-    requires all { length bared.now.places.items ≡ length exprs.now.nodes }
-    ensures trees { IfOk result (λ made. map (function_tree (tree_of bared.now.exprs)) made.items ≡ map bare_function (map (function_in exprs.now) functions.now)) }
-    ensures inside { IfOk result (λ made. AllByRecursion (IsInside (length bared.now.exprs)) made.items) }
+    requires { AllByRecursion (IsFunctionInside exprs.now) functions.now }
+    ensures trees { IfOk result (λ made. map (function_tree (bare_tree exprs.now)) made.items ≡ map bare_function (map (function_in exprs.now) functions.now)) }
+    ensures inside { IfOk result (λ made. AllByRecursion (IsInside (length exprs.now.nodes)) made.items) }
 {
     let mut made = Vec::new(alloc);
     let mut rest = functions;
     'functions: while let [function, after @ ..] = rest {
-        let copied = bare_function(alloc, exprs, bared, function)?;
-        made.push(copied)?;
+        made.push(bare_function(alloc, exprs, function)?)?;
         rest = after;
     }
     Ok(made)
 }
 
-/// Main, whose body is the plain expression of its body.
-fn bare_main(exprs: &GenericExprs, bared: &BareExprs, main: GenericMain) -> MainDecl
-    requires inside { main.body.0 < length exprs.now.nodes }
-    requires bared { AreBare (generic_of exprs.now) bared.now.exprs bared.now.places.items }
-    requires all { length bared.now.places.items ≡ length exprs.now.nodes }
-    ensures tree { main_tree (tree_of bared.now.exprs) result ≡ bare_main (main_in exprs.now main) }
-    ensures inside { result.body.0 < length bared.now.exprs }
+/// Main, whose body has the number that it has.
+fn bare_main(exprs: &GenericExprs, main: GenericMain) -> MainDecl
+    ensures tree { main_tree (bare_tree exprs.now) result ≡ bare_main (main_in exprs.now main) }
+    ensures body { result.body ≡ main.body }
 {
     MainDecl {
         parameter: bare_parameter(exprs, main.parameter),
         result: bare_type(exprs.words(main.result)),
-        body: place(&bared.places, main.body),
+        body: main.body,
     }
 }
 
@@ -436,14 +354,13 @@ fn bare_main(exprs: &GenericExprs, bared: &BareExprs, main: GenericMain) -> Main
 /// # Errors
 ///
 /// Want of memory.
-pub fn bare_program(alloc: Global, program: &GenericProgram) -> Result<Program, Memory>
-    ensures { IfOk result (λ made. program_of made ≡ bare_program (generic_program_of program.now)) }
+pub fn bare_program(alloc: Global, program: GenericProgram) -> Result<Program, Memory>
+    ensures { IfOk result (λ made. program_of made ≡ bare_program (generic_program_of program)) }
 {
-    let exprs = program.exprs();
-    let bared = bare_exprs(alloc, exprs)?;
-    let datas = bare_datas(alloc, exprs, program.datas())?;
-    let functions = bare_functions(alloc, exprs, &bared, program.functions())?;
-    let main = bare_main(exprs, &bared, program.main());
-    let made = Program::new(bared.exprs, datas, functions, main);
+    let datas = bare_datas(alloc, program.exprs(), program.datas())?;
+    let functions = bare_functions(alloc, program.exprs(), program.functions())?;
+    let main = bare_main(program.exprs(), program.main());
+    let exprs = bare_exprs(alloc, program.into_exprs())?;
+    let made = Program::new(exprs, datas, functions, main);
     Ok(made)
 }

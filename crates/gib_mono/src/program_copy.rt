@@ -1,12 +1,13 @@
 //! The copy of a program with type parameters.
 
-ghost use Rattle.std.specs.Prelude.{◌≡◌, List, Ok, Err, IfOk, IfErr, MatchResult};
+ghost use Rattle.std.specs.Prelude.{◌≡◌, ℕ, List, Ok, Err, IfOk, IfErr, MatchResult};
 ghost use Rattle.gib_base.specs.declared.Span.{Span as SpanOf};
 ghost use Rattle.gib_syntax.specs.GenericParts.{generic_program_of};
+ghost use Rattle.gib_syntax.specs.GenericTyping.{IsTypedGeneric};
 ghost use Rattle.gib_syntax.specs.Parts.{program_of};
-ghost use Rattle.gib_mono.specs.Walk.{Copy, copies_of, copied_program};
+ghost use Rattle.gib_mono.specs.Walk.{Copy, copies_of, copied_program, plain_copies};
 ghost use Rattle.gib_mono.specs.Naming.{entries, naming_of, AreNamedBelow};
-ghost use Rattle.gib_mono.specs.Bare.{IsPlainProgram};
+ghost use Rattle.gib_mono.specs.Bare.{IsPlainProgram, bare_program};
 ghost use Rattle.gib_mono.specs.Declaring.{Finds};
 ghost use Rattle.gib_mono.specs.Entries.{items_of};
 ghost use Rattle.gib_mono.specs.Limits.{IsLimitOf, IsMemory, IsMemoryOr};
@@ -18,11 +19,12 @@ use crate::find::{Asked, find_copies};
 use crate::found::MonoFault;
 use crate::naming::name_copies;
 use crate::plain::{bare_program, is_plain};
+use crate::plain_names::plain_names;
 use crate::scene::Scene;
 use crate::source::Source;
 use gib_base::Memory;
 use gib_check::{Generic, Typed};
-use gib_syntax::{Exprs, Program};
+use gib_syntax::{Exprs, GenericProgram, Program};
 use std::alloc::Global;
 
 /// A program's copy, which is typed, and what its copies are called.
@@ -61,50 +63,38 @@ fn copy_asked(
     Ok(MonoProgram { typed, copies })
 }
 
-/// The copied program where no declaration has type variables: it is copied as it stands.
-fn copy_plain(
-    alloc: Global,
-    source: &Source,
-    asked: Asked,
-    base: u32,
-) -> Result<MonoProgram, Memory>
-    requires finds { Finds source.now asked }
-    requires plain { IsPlainProgram (generic_program_of source.now) }
-    requires below { AreNamedBelow base (generic_program_of source.now) }
-    ensures { IfOk result (λ m. (found : List Copy) × (copies_of (generic_program_of source.now) ≡ Ok found)
-        × (program_of m.typed ≡ copied_program (generic_program_of source.now) (naming_of base (entries found)) found) × (items_of m.copies ≡ entries found)) }
+/// The copied program where no declaration has type variables: it is the program as it stands.
+fn copy_plain(alloc: Global, program: GenericProgram) -> Result<MonoProgram, Memory>
+    requires typed { IsTypedGeneric (generic_program_of program) }
+    requires plain { IsPlainProgram (generic_program_of program) }
+    requires below { (base : ℕ) × AreNamedBelow base (generic_program_of program) }
+    ensures { IfOk result (λ m. (program_of m.typed ≡ bare_program (generic_program_of program)) × (items_of m.copies ≡ entries (plain_copies (generic_program_of program)))) }
 {
-    let _program = source.program();
-    let scene = Scene::new(alloc, asked.context.into_types());
-    let mut copier = Copier {
-        alloc,
-        scene,
-        base,
-        exprs: Exprs::new(alloc),
-    };
-    name_copies(&mut copier, source, asked.found.keys())?;
-    let program = bare_program(alloc, source.program())?;
+    let _inside = program.main();
+    let copies = plain_names(alloc, &program)?;
+    let program = bare_program(alloc, program)?;
     let typed = Typed::of(alloc, program)?;
-    let copies = copier.scene.into_copies();
     Ok(MonoProgram { typed, copies })
 }
 
-/// The copied program, for copies that were found: a look at the declarations tells whether any type is put anywhere.
-fn copy_found(
-    alloc: Global,
-    source: &Source,
-    asked: Asked,
-    base: u32,
-) -> Result<MonoProgram, Memory>
-    requires finds { Finds source.now asked }
-    requires below { AreNamedBelow base (generic_program_of source.now) }
-    ensures { IfOk result (λ m. (found : List Copy) × (copies_of (generic_program_of source.now) ≡ Ok found)
-        × (program_of m.typed ≡ copied_program (generic_program_of source.now) (naming_of base (entries found)) found) × (items_of m.copies ≡ entries found)) }
+/// The copied program where some declaration has type variables.
+fn copy_generic(alloc: Global, program: GenericProgram, base: u32) -> Result<MonoProgram, MonoFault>
+    requires typed { IsTypedGeneric (generic_program_of program) }
+    requires below { AreNamedBelow base (generic_program_of program) }
+    ensures copied { IfOk result (λ m. (found : List Copy) × (copies_of (generic_program_of program) ≡ Ok found)
+        × (program_of m.typed ≡ copied_program (generic_program_of program) (naming_of base (entries found)) found) × (items_of m.copies ≡ entries found)) }
+    ensures limit { IfErr result (IsLimitOf (copies_of (generic_program_of program))) }
+    ensures only { (found : List Copy) → copies_of (generic_program_of program) ≡ Ok found → IfErr result IsMemory }
+    ensures told { (span : SpanOf) → copies_of (generic_program_of program) ≡ Err span → MatchResult result (λ _. ⊥) (IsMemoryOr span) }
 {
-    if is_plain(source.program()) {
-        return copy_plain(alloc, source, asked, base);
+    let Ok(source) = Source::make(alloc, program) else {
+        return Err(MonoFault::Memory);
+    };
+    let asked = find_copies(alloc, &source)?;
+    match copy_asked(alloc, &source, asked, base) {
+        Ok(mono) => Ok(mono),
+        Err(_) => Err(MonoFault::Memory),
     }
-    copy_asked(alloc, source, asked, base)
 }
 
 /// The copy of a program, whose names are below a number, for the types with which its declarations are used.
@@ -122,11 +112,11 @@ pub fn mono(alloc: Global, generic: Generic, base: u32) -> Result<MonoProgram, M
     // Where one is not, the first one is answered.
     ensures told { (span : SpanOf) → copies_of (generic_program_of generic) ≡ Err span → MatchResult result (λ _. ⊥) (IsMemoryOr span) }
 {
-    let Ok(source) = Source::make(alloc, generic.into_program()) else {
-        return Err(MonoFault::Memory);
-    };
-    let asked = find_copies(alloc, &source)?;
-    match copy_found(alloc, &source, asked, base) {
+    let program = generic.into_program();
+    if !is_plain(&program) {
+        return copy_generic(alloc, program, base);
+    }
+    match copy_plain(alloc, program) {
         Ok(mono) => Ok(mono),
         Err(_) => Err(MonoFault::Memory),
     }

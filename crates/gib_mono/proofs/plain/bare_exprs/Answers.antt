@@ -1,21 +1,22 @@
-use Rattle.std.proofs.Common.{rules, arith, ap, ◌∙◌, sym, subst}
-use Rattle.gib_syntax.specs.GenericArena.{PartsBelow, tree_of}
-use Rattle.gib_mono.specs.Bare.{IsBareNode}
-use Rattle.gib_mono.proofs.Baring.{bare_more, bare_none, node_bare}
+use Rattle.std.proofs.Common.{suc, length, ◌≡◌, sym, ◌∙◌, arith, subst}
+use Rattle.gib_syntax.specs.Arena.{Makes, PartsBelow}
+use Rattle.gib_mono.proofs.Baring.{BareSoFar, bare_more, bare_none, bare_over, next_below}
 use Rattle.gib_mono.proofs.plain.bare_exprs.Goals as goal
 
-pub put-requires : goal.put-requires
-put-requires c =
-    let made = node_bare (tree_of c.args.exprs.now) c.args.exprs.now.words c.nodes.made c.nodes.places.items c.node-generic.result.now c.in_ok-node.node c.nodes.invariant.2
-    (subst (PartsBelow c.node-generic.result.now) (sym c.nodes.invariant.0) c.node-generic.ensures.opens.1) (subst (λ ps. IsBareNode ps c.node-generic.result.now c.in_ok-node.node) c.deref.ensures.value c.in_ok-node.ensures) in
-    made.below
+pub nodes-init : goal.nodes-init
+nodes-init c = bare_none c.args.exprs c.new-made.result c.into_iter-left.result.rest.items (c.into_iter-left.ensures.rest ∙ c.into_nodes.ensures.nodes)
+
+pub put_next-requires : goal.put_next-requires
+put_next-requires c =
+    subst (λ n. PartsBelow n (length c.nodes.made)) (sym c.bare_node.ensures)
+    (next_below c.args.exprs c.nodes.number c.nodes.made c.nodes.left.rest.items c.next.new.self.rest.items c.in-Some.node c.into_nodes.ensures.arena c.nodes.invariant c.in-Some.ensures.cases.0)
 
 pub nodes-preserved : goal.nodes-preserved
 nodes-preserved c =
-    let made = node_bare (tree_of c.args.exprs.now) c.args.exprs.now.words c.nodes.made c.nodes.places.items c.node-generic.result.now c.in_ok-node.node c.nodes.invariant.2
-    (subst (PartsBelow c.node-generic.result.now) (sym c.nodes.invariant.0) c.node-generic.ensures.opens.1) (subst (λ ps. IsBareNode ps c.node-generic.result.now c.in_ok-node.node) c.deref.ensures.value c.in_ok-node.ensures) in (
-      search rules,
-      omega (arith, c.in-Some.ensures, c.nodes-test.true, c.len-count.ensures),
-      bare_more (tree_of c.args.exprs.now) c.args.exprs.now.words c.nodes.made c.put.new.self c.nodes.places.items c.push.new.self.items c.node-generic.result.now c.in_ok-node.node c.in_ok-number.number c.nodes.id c.nodes.invariant.2 c.nodes.invariant.0 made c.node-generic.ensures.opens.0
-          c.in_ok-number.ensures.made c.in_ok-push.ensures.items,
-    )
+    let e : suc c.nodes.number ≡ c.in-Some-checked_add.following = omega (arith, c.in-Some-checked_add.ensures) in
+    subst (λ n. BareSoFar c.args.exprs n c.put_next.new.made c.next.new.self.rest.items) e
+    (bare_more c.args.exprs c.nodes.number c.nodes.made c.put_next.new.made c.nodes.left.rest.items c.next.new.self.rest.items c.in-Some.node c.into_nodes.ensures.arena c.nodes.invariant c.in-Some.ensures.cases.0
+    (subst (Makes c.nodes.made c.put_next.new.made c.nodes.number) c.bare_node.ensures c.in_ok-put_next.ensures))
+
+pub returns : goal.returns
+returns c = bare_over c.args.exprs c.nodes.number c.nodes.made c.nodes.left.rest.items c.nodes.invariant (sym c.nodes.left.rest.ok.0 ∙ c.in_default.ensures.cases.0)

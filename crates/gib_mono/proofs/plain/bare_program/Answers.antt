@@ -1,18 +1,19 @@
-use Rattle.std.proofs.Common.{List, map, sym, ap₂, ◌∙◌, subst}
-use Rattle.std.specs.List.{AllByRecursion}
-use Rattle.gib_syntax.specs.declared.program.GenericData.{GenericData}
-use Rattle.gib_syntax.specs.Fine.{HasConstructor}
-use Rattle.gib_syntax.specs.GenericArena.{Arena}
-use Rattle.gib_syntax.specs.GenericParts.{data_in}
-use Rattle.gib_mono.specs.Bare.{bare_data}
-use Rattle.gib_mono.proofs.Baring.{have_constructors}
+use Rattle.std.proofs.Common.{ap, ◌∙◌}
+use Rattle.gib_syntax.specs.Parts.{Parts, program_of}
+use Rattle.gib_mono.proofs.Baring.{bares_of, parts_inside, whole_bare}
 use Rattle.gib_mono.proofs.plain.bare_program.Goals as goal
 
 pub new-made-requires : goal.new-made-requires
-new-made-requires c = record {
-  functions = c.in_ok-functions.ensures.inside;
-  main = c.bare_main-main.ensures.inside;
-  constructors = subst (AllByRecursion HasConstructor)
-      (sym (c.in_ok-datas.ensures ∙ ap₂ (λ (a : Arena) (ds : List GenericData). map bare_data (map (data_in a.words) ds)) c.exprs-exprs.ensures.value c.datas.ensures.value))
-      (have_constructors (map (data_in c.args.program.now.exprs.words) c.args.program.now.datas) c.exprs-exprs.ensures.inside.constructors);
-}
+new-made-requires c =
+    let made : Parts = record { exprs = c.in_ok-exprs.exprs; data_decls = c.in_ok-datas.datas.items; functions = c.in_ok-functions.functions.items; main = c.bare_main-main.result } in
+    parts_inside c.args.program made c.exprs.ensures.inside
+    (bares_of c.args.program made c.exprs.result.now c.exprs-2.result.now c.exprs-3.result.now c.into_exprs.result c.datas.result.now c.functions.result.now c.main.result c.exprs.ensures.value c.exprs-2.ensures.value c.exprs-3.ensures.value c.into_exprs.ensures.value c.datas.ensures.value c.functions.ensures.value c.main.ensures.value
+    c.in_ok-exprs.ensures c.in_ok-datas.ensures c.in_ok-functions.ensures.trees c.in_ok-functions.ensures.inside c.bare_main-main.ensures.tree c.bare_main-main.ensures.body)
+
+pub returns : goal.returns
+returns c =
+    let made : Parts = record { exprs = c.in_ok-exprs.exprs; data_decls = c.in_ok-datas.datas.items; functions = c.in_ok-functions.functions.items; main = c.bare_main-main.result } in
+    ap program_of c.new-made.ensures
+    ∙ whole_bare c.args.program made c.exprs.ensures.inside
+    (bares_of c.args.program made c.exprs.result.now c.exprs-2.result.now c.exprs-3.result.now c.into_exprs.result c.datas.result.now c.functions.result.now c.main.result c.exprs.ensures.value c.exprs-2.ensures.value c.exprs-3.ensures.value c.into_exprs.ensures.value c.datas.ensures.value c.functions.ensures.value c.main.ensures.value
+    c.in_ok-exprs.ensures c.in_ok-datas.ensures c.in_ok-functions.ensures.trees c.in_ok-functions.ensures.inside c.bare_main-main.ensures.tree c.bare_main-main.ensures.body)
