@@ -1,4 +1,4 @@
--- How a job begins, and what its end is to whoever began it.
+-- How a task begins, and what its end is to whoever began it.
 use Rattle.std.proofs.Common.{◌≡◌, ℕ, ◌≤◌, List, [], refl, sym, ap, subst, ◌∙◌, arith}
 use Rattle.std.specs.Prelude.{Option, Err}
 use Rattle.std.specs.Vec.{vec_capacity}
@@ -35,9 +35,9 @@ use Rattle.gib_frame.specs.declared.due.Ending.TheVariants as ending
 use Rattle.gib_frame.specs.declared.ends.Frame.{Frame}
 use Rattle.gib_frame.specs.Answers.{IsEnding, IsPaid, drawn_by}
 use Rattle.gib_frame.specs.TaskParts.{TaskParts, IsTask}
-use Rattle.gib_pool.specs.declared.job.Job.{Job}
+use Rattle.gib_pool.specs.declared.active.ActiveTask.{ActiveTask}
 use Rattle.gib_pool.specs.Frames.{lent_of, AreHere}
-use Rattle.gib_pool.specs.Jobs.{Holds, IsHere, OwesStill, Settles}
+use Rattle.gib_pool.specs.Active.{Holds, IsHere, OwesStill, Settles}
 use Rattle.gib_pool.specs.Lent.{Lends}
 use Rattle.gib_pool.specs.Runs.{IsRun, outcome, pass_memory}
 use Rattle.gib_pool.specs.Turn.{owing, Works}
@@ -49,29 +49,29 @@ use Rattle.gib_pool.proofs.Fitting.{starts_within}
 use Rattle.gib_pool.proofs.Turns.{begins}
 use Rattle.gib_weave.proofs.Cells.{fresh_absent}
 
--- A job as it is made.
-pub record IsMade (j : Job) (m : State) (ts : List ℕ) (p : Pass) : Type 0 where
+-- A task as it is made.
+pub record IsMade (j : ActiveTask) (m : State) (ts : List ℕ) (p : Pass) : Type 0 where
   pub machine : j.machine ≡ m
   pub tails : j.tails ≡ ts
   pub pass : j.pass ≡ p
   pub frames : j.frames.items ≡ []
 
-pub job_owes : (l : LoweredParts) (d : Debt) (j : Job) (m : State) (ts : List ℕ) (p : Pass) → IsMade j m ts p → Works l d (cells p) (drawn_by p) (with_tails m ts) [] → OwesStill l d j
-job_owes l d j m ts p is w =
+pub active_owes : (l : LoweredParts) (d : Debt) (j : ActiveTask) (m : State) (ts : List ℕ) (p : Pass) → IsMade j m ts p → Works l d (cells p) (drawn_by p) (with_tails m ts) [] → OwesStill l d j
+active_owes l d j m ts p is w =
     let state : with_tails j.machine j.tails ≡ with_tails m ts = ap (λ (s : State). with_tails s j.tails) is.machine ∙ ap (with_tails m) is.tails in
     subst (λ (x : Pass). Works l d (cells x) (drawn_by x) (with_tails j.machine j.tails) (lent_of j.frames.items)) (sym is.pass)
     (subst (λ (xs : List (Option Frame)). Works l d (cells p) (drawn_by p) (with_tails j.machine j.tails) (lent_of xs)) (sym is.frames)
     (subst (λ (s : State). Works l d (cells p) (drawn_by p) s []) (sym state) w))
 
 -- A side that is begun owes what it owed when it was split.
-pub side_owes : (l : LoweredParts) (d : Debt) (due : Due) (code : CodeTree) (side : Side) (p : Pass) (m : State) (j : Job) → due.lowered.value ≡ l → code ≡ l.code → due.side.value ≡ side → due.pass.value ≡ p
+pub side_owes : (l : LoweredParts) (d : Debt) (due : Due) (code : CodeTree) (side : Side) (p : Pass) (m : State) (j : ActiveTask) → due.lowered.value ≡ l → code ≡ l.code → due.side.value ≡ side → due.pass.value ≡ p
     → m ≡ side_start code (waiting_of side) → IsMade j m [] p → IsSmall (cells p) → drawn_by p ≡ 0 → SideSafe (core_of due.lowered.value.core) due.lowered.value.code d (cells due.pass.value) (waiting_of due.side.value) → OwesStill l d j
 side_owes l d due code side p m j el ec es ep em is small none safe =
     let a = subst (λ (x : LoweredParts). SideSafe (core_of x.core) x.code d (cells due.pass.value) (waiting_of due.side.value)) el safe in
     let b = subst (λ (x : Pass). SideSafe (core_of l.core) l.code d (cells x) (waiting_of due.side.value)) ep a in
     let s = subst (λ (x : Side). SideSafe (core_of l.core) l.code d (cells p) (waiting_of x)) es b in
     let state : m ≡ side_start l.code (waiting_of side) = em ∙ ap (λ (x : CodeTree). side_start x (waiting_of side)) ec in
-    job_owes l d j m [] p is (subst (λ (x : State). Works l d (cells p) (drawn_by p) (with_tails x []) []) (sym state)
+    active_owes l d j m [] p is (subst (λ (x : State). Works l d (cells p) (drawn_by p) (with_tails x []) []) (sym state)
     (subst (λ (n : ℕ). Works l d (cells p) n (side_start l.code (waiting_of side)) []) (sym none) (begins l d (cells p) (waiting_of side) small s)))
 
 -- The side of a task that was opened owes something.
@@ -84,13 +84,13 @@ task_debt t due is e =
     let s = subst (λ (x : Side). SideSafe (core_of t.due.lowered.value.core) t.due.lowered.value.code d (cells t.due.pass.value) (waiting_of x)) (sym is.side) b in
     (d, subst (λ (u : Due). SafeIn u d) (sym e) s)
 
-pub side_ends : (due : Due) (l : LoweredParts) (j : Job) (e : Ending) (p : Pass) → due.lowered.value ≡ l
+pub side_ends : (due : Due) (l : LoweredParts) (j : ActiveTask) (e : Ending) (p : Pass) → due.lowered.value ≡ l
     → ((d : Debt) → SideSafe (core_of due.lowered.value.core) due.lowered.value.code d (cells due.pass.value) (waiting_of due.side.value) → OwesStill l d j) → Settles l (λ (d : Debt). OwesStill l d j) e p → IsEnding due p e
 side_ends due l j (ending.Answer a) p is owes s = ((λ d safe. subst (λ (x : LoweredParts). IsAnswer x.code.laid (cells p) d.ty d.owed a) (sym is) (s d (owes d safe)).0), λ d safe. (s d (owes d safe)).1)
 side_ends due l j ending.Full p is owes s = (s.0, λ d safe. s.1 d (owes d safe))
 side_ends due l j ending.NotRun p is owes s = absurd s
 
-pub made_holds : (a : Arena) (l : LoweredParts) (j : Job) (m : State) (ts : List ℕ) (p : Pass) → IsMade j m ts p → IsOf a p → (view p).branch.out ≡ [] → m.width ≡ widest l.code.functions → m.pars ≡ [] → m.level ≤ vec_capacity j.frames → Holds a l j
+pub made_holds : (a : Arena) (l : LoweredParts) (j : ActiveTask) (m : State) (ts : List ℕ) (p : Pass) → IsMade j m ts p → IsOf a p → (view p).branch.out ≡ [] → m.width ≡ widest l.code.functions → m.pars ≡ [] → m.level ≤ vec_capacity j.frames → Holds a l j
 made_holds a l j m ts p is of none made pars few = record {
   own = subst (IsOf a) (sym is.pass) of;
   lends = subst (λ (x : Pass). Lends x (lent_of j.frames.items)) (sym is.pass) (subst (λ (xs : List (Option Frame)). Lends p (lent_of xs)) (sym is.frames) record { splits = tt; out = none });
@@ -98,7 +98,7 @@ made_holds a l j m ts p is of none made pars few = record {
   within = starts_within (vec_capacity j.frames) (with_tails j.machine j.tails) (ap (λ (s : State). s.pars) is.machine ∙ pars) (let e : j.machine.level ≡ m.level = ap (λ (s : State). s.level) is.machine in omega (arith, e, few));
 }
 
-pub made_here : (j : Job) (mine : List Due) → j.frames.items ≡ [] → j.here ≡ 0 → IsHere j mine
+pub made_here : (j : ActiveTask) (mine : List Due) → j.frames.items ≡ [] → j.here ≡ 0 → IsHere j mine
 made_here j mine e z = subst (λ (xs : List (Option Frame)). AreHere (lent_of xs) j.here mine) (sym e) (subst (λ n. AreHere [] n mine) (sym z) tt)
 
 -- What the root owes.
@@ -129,7 +129,7 @@ full_drawn l Has (ending.Answer a) p p' is s same all = absurd cc
 full_drawn l Has ending.Full p p' is s same all = all ∙ (ap (λ (w : View). w.holding.seen) same ∙ (s.0 ∙ sym (ap (λ (w : View). w.branch.limit) same)))
 full_drawn l Has ending.NotRun p p' is s same all = absurd s
 
-pub root_ends : (l : LoweredParts) (depth level : ℕ) (d : Datum) (j : Job) (e : Ending) (v : Memory) (p p' : Pass) → OwesStill l (root_debt l depth level d) j → Settles l (λ (z : Debt). OwesStill l z j) e p
+pub root_ends : (l : LoweredParts) (depth level : ℕ) (d : Datum) (j : ActiveTask) (e : Ending) (v : Memory) (p p' : Pass) → OwesStill l (root_debt l depth level d) j → Settles l (λ (z : Debt). OwesStill l z j) e p
     → v.limit ≡ (view p').branch.limit → view p' ≡ view p → drawn_by p' ≡ (view p').holding.seen → IsRun l depth level d v (pass_memory p') (outcome e)
 root_ends l depth level d j (ending.Answer a) v p p' owes s limit same all =
     subst (λ (w : View). IsAnswer l.code.laid (cells_of w.holding) (core_of l.core).main.result (core_run (core_of l.core) depth d) a) (sym same) (s (root_debt l depth level d) owes).0

@@ -9,8 +9,8 @@ use Rattle.gib_machine.specs.Machine.{State, Waiting}
 use Rattle.gib_machine.proofs.Levels.{fork_is_within}
 use Rattle.gib_weave.specs.Owing.{Debt}
 use Rattle.gib_frame.specs.declared.due.Due.{Due}
-use Rattle.gib_pool.specs.declared.job.Job.{Job}
-use Rattle.gib_pool.specs.Jobs.{job_state}
+use Rattle.gib_pool.specs.declared.active.ActiveTask.{ActiveTask}
+use Rattle.gib_pool.specs.Active.{active_state}
 use Rattle.gib_pool.specs.Turn.{WorksOn}
 
 pub frames_fit : (l : LoweredParts) (d : Debt) (s : Store) (n : ℕ) (lent : List (Option Due)) (m left : State) (right : Waiting) (top : ℕ) → WorksOn l d s n lent m left right → 0 < m.level → IsWithin top m → length lent < top
@@ -21,5 +21,5 @@ pub starts_within : (n : ℕ) (s : State) → s.pars ≡ [] → s.level ≤ n �
 starts_within n s none h = record { level = (let z : lefts s.pars ≡ 0 = ap lefts none in omega (arith, z, h)); pars = subst (AreWithin n) (sym none) tt }
 
 -- The room for frames is as it was, and the machine is in another state.
-pub within_then : (old new : Job) (s : State) → vec_capacity new.frames ≡ vec_capacity old.frames → job_state new ≡ s → IsWithin (vec_capacity old.frames) s → IsWithin (vec_capacity new.frames) (job_state new)
-within_then old new s room is h = subst (λ (n : ℕ). IsWithin n (job_state new)) (sym room) (subst (IsWithin (vec_capacity old.frames)) (sym is) h)
+pub within_then : (old new : ActiveTask) (s : State) → vec_capacity new.frames ≡ vec_capacity old.frames → active_state new ≡ s → IsWithin (vec_capacity old.frames) s → IsWithin (vec_capacity new.frames) (active_state new)
+within_then old new s room is h = subst (λ (n : ℕ). IsWithin n (active_state new)) (sym room) (subst (IsWithin (vec_capacity old.frames)) (sym is) h)

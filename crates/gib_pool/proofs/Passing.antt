@@ -19,12 +19,12 @@ use Rattle.gib_frame.specs.declared.due.Ending.{Ending}
 use Rattle.gib_frame.specs.declared.due.Ending.TheVariants as ending
 use Rattle.gib_frame.specs.declared.ends.Frame.{Frame}
 use Rattle.gib_frame.specs.Answers.{drawn_by}
-use Rattle.gib_pool.specs.declared.job.Job.{Job}
+use Rattle.gib_pool.specs.declared.active.ActiveTask.{ActiveTask}
 use Rattle.gib_pool.specs.declared.workspace.Workspace.{Workspace}
 use Rattle.gib_pool.specs.Turn.{Wider}
 use Rattle.gib_pool.specs.Lent.{AreSplits, Lends}
 use Rattle.gib_pool.specs.Frames.{before, lent_of, due_maybe, AreHere}
-use Rattle.gib_pool.specs.Jobs.{Goes, IsSamePass, IsBackWhole, Settles}
+use Rattle.gib_pool.specs.Active.{Goes, IsSamePass, IsBackWhole, Settles}
 
 -- What a pass shows keeps what every memory keeps.
 pub pass_bounded : (a : Arena) (p : Pass) → IsOf a p → IsBounded (shown p.seat.table_id (view p))
@@ -103,7 +103,7 @@ settles_for l Has Had ending.Full p f s = (s.0, λ d h. s.1 d (f d h))
 settles_for l Has Had ending.NotRun p f s = s
 
 -- A task that stood again behind this goes on, or ends, from where it stood first.
-pub goes_for : (a : Arena) (l : LoweredParts) (Has Had : Debt → Type 0) (j k : Job) (mine : List Due) (r : Result Job (Ending × Pass × Workspace)) → IsSamePass j.pass k.pass → ((d : Debt) → Had d → Has d) → Goes a l Has k mine r → Goes a l Had j mine r
+pub goes_for : (a : Arena) (l : LoweredParts) (Has Had : Debt → Type 0) (j k : ActiveTask) (mine : List Due) (r : Result ActiveTask (Ending × Pass × Workspace)) → IsSamePass j.pass k.pass → ((d : Debt) → Had d → Has d) → Goes a l Has k mine r → Goes a l Had j mine r
 goes_for a l Has Had j k mine (Ok n) same f g = record { holds = g.holds; owes = λ d h. g.owes d (f d h); here = g.here; same = same_on j.pass k.pass n.pass same g.same }
 goes_for a l Has Had j k mine (Err r) same f g = record { back = back_on a j.pass k.pass r.1 same g.back; settles = settles_for l Has Had r.0 r.1 f g.settles }
 

@@ -5,7 +5,7 @@ pub mod Stacks
 pub mod Mine
 pub mod Backs
 pub mod Frames
-pub mod Jobs
+pub mod Active
 pub mod Runs
 pub mod Together
 pub mod Forking

@@ -11,8 +11,8 @@ ghost use Rattle.gib_pool.specs.Lent.{Lends, path};
 ghost use Rattle.gib_pool.specs.Mine.{IsMine};
 ghost use Rattle.gib_pool.specs.Backs.{IsBack, IsLatest};
 
-use crate::desks::Desk;
 use crate::forks::{Forks, take_back};
+use crate::permits::Permit;
 use gib_arena::{Arena, Pass};
 use gib_code::Answer;
 use gib_frame::{Ending, Frame};
@@ -29,7 +29,7 @@ pub(crate) enum Back {
     Full,
 }
 
-/// Takes the latest fork back, or waits for who stole it, while another worker runs at the desk. The pass then knows both sides. `here` is
+/// Takes the latest fork back, or waits for who stole it, while another worker runs with the permit. The pass then knows both sides. `here` is
 /// how many of the newest forks may still be in the deque: once one is gone all older ones are, so that none of them is looked for. It takes
 /// no memory.
 pub(crate) fn settle<'a, R: Wait>(
@@ -39,7 +39,7 @@ pub(crate) fn settle<'a, R: Wait>(
     frame: &Frame,
     forks: &mut Forks<'a>,
     here: &mut usize,
-    desk: &mut Desk<'_>,
+    permit: &mut Permit<'_>,
 ) -> Back
     requires own { IsOf arena.now pass.old × ((frame_due frame.now).pass.value.seat.table_id ≡ arena.now.table.shared.table_id) }
     requires out { 0 < times_path (path (frame_due frame.now)) (view pass.old).branch.out }
@@ -62,7 +62,7 @@ pub(crate) fn settle<'a, R: Wait>(
         }
         *here = 0;
     }
-    let (ending, his) = desk.wait_answer(rt, frame);
+    let (ending, his) = permit.wait_answer(rt, frame);
     pass.join(arena, his);
     match ending {
         Ending::Answer(answer) => Back::Answer(answer),

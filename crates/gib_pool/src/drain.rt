@@ -6,15 +6,15 @@ ghost use Rattle.gib_core.specs.Cost.{Cost};
 ghost use Rattle.gib_core.specs.LoweredParts.{LoweredParts};
 ghost use Rattle.gib_arena.specs.Passes.{view, IsOf};
 ghost use Rattle.gib_frame.specs.Answers.{IsPaid, drawn_by};
-ghost use Rattle.gib_pool.specs.Jobs.{IsSamePass};
+ghost use Rattle.gib_pool.specs.Active.{IsSamePass};
 ghost use Rattle.gib_pool.specs.Lent.{Lends};
 ghost use Rattle.gib_pool.specs.Mine.{IsMine};
 ghost use Rattle.gib_pool.specs.Frames.{lent_of, AreHere};
 ghost use Rattle.gib_pool.specs.Turn.{Pays};
 
 use crate::back::settle;
-use crate::desks::Desk;
 use crate::forks::Forks;
+use crate::permits::Permit;
 use gib_arena::{Arena, Pass};
 use gib_frame::Frame;
 use std::sync::Wait;
@@ -27,7 +27,7 @@ pub(crate) fn drain_frames<'a, R: Wait>(
     frames: &mut Vec<Option<Frame>>,
     forks: &mut Forks<'a>,
     here: &mut usize,
-    desk: &mut Desk<'_>,
+    permit: &mut Permit<'_>,
 )
     requires own { IsOf arena.now pass.old }
     requires lends { Lends pass.old (lent_of frames.old.items) }
@@ -44,7 +44,7 @@ pub(crate) fn drain_frames<'a, R: Wait>(
         match held {
             None => {}
             Some(frame) => {
-                settle(rt, arena, pass, &frame, forks, here, desk);
+                settle(rt, arena, pass, &frame, forks, here, permit);
             }
         }
     }

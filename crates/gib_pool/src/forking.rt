@@ -15,13 +15,13 @@ ghost use Rattle.gib_frame.specs.declared.due.Due.{Due};
 ghost use Rattle.gib_frame.specs.Answers.{drawn_by};
 ghost use Rattle.gib_frame.specs.Dues.{frame_due};
 ghost use Rattle.gib_pool.specs.Frames.{due_maybe, AreHere};
-ghost use Rattle.gib_pool.specs.Jobs.{Holds, IsHere, IsOn, IsSamePass, StandsAt};
+ghost use Rattle.gib_pool.specs.Active.{Holds, IsHere, IsOn, IsSamePass, StandsAt};
 ghost use Rattle.gib_pool.specs.Lent.{Lends};
 ghost use Rattle.gib_pool.specs.Mine.{IsMine};
 ghost use Rattle.gib_pool.specs.Turn.{IsFor};
 
+use crate::active::ActiveTask;
 use crate::forks::Forks;
-use crate::job::Job;
 use crate::offer::offer_side;
 use gib_arena::{Arena, Pass};
 use gib_core::Lowered;
@@ -70,26 +70,26 @@ pub(crate) fn fork_here<'a>(
     alloc: Global,
     arena: &'a Arena,
     lowered: &'a Lowered,
-    mut job: Job,
+    mut active: ActiveTask,
     forks: &mut Forks<'a>,
-) -> Job
-    requires holds { Holds arena.now lowered.now job }
-    requires stands { (d : Debt) × StandsAt lowered.now d job AtFork }
+) -> ActiveTask
+    requires holds { Holds arena.now lowered.now active }
+    requires stands { (d : Debt) × StandsAt lowered.now d active AtFork }
     requires mine { IsMine forks.old }
-    requires here { IsHere job (worker_view forks.old).mine }
+    requires here { IsHere active (worker_view forks.old).mine }
     ensures mine { IsMine forks.new × (worker_deque forks.new ≡ worker_deque forks.old) }
-    ensures on { IsOn arena.entry.now lowered.entry.now (λ (d : Debt). StandsAt lowered.entry.now d job AtFork) job (worker_view forks.new).mine result }
+    ensures on { IsOn arena.entry.now lowered.entry.now (λ (d : Debt). StandsAt lowered.entry.now d active AtFork) active (worker_view forks.new).mine result }
 {
     let frame = offer_here(
         alloc,
         arena,
         lowered,
-        &job.machine,
-        &mut job.pass,
+        &active.machine,
+        &mut active.pass,
         forks,
-        &mut job.here,
+        &mut active.here,
     );
-    job.machine.left(lowered.code());
-    job.frames.push_reserved(frame);
-    job
+    active.machine.left(lowered.code());
+    active.frames.push_reserved(frame);
+    active
 }

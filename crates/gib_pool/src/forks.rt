@@ -50,9 +50,9 @@ impl<'a> Outcome<Task<'a>, Stack> for Pop {
 }
 
 /// What another worker knows after a steal.
-pub(crate) struct Rob;
+pub(crate) struct StealOldest;
 
-impl<'a> Outcome<Task<'a>, Stack> for Rob {
+impl<'a> Outcome<Task<'a>, Stack> for StealOldest {
     ghost use Rattle.gib_pool.specs.Stacks.{Stole};
 
     ghost then = { Stole };
@@ -62,10 +62,10 @@ impl<'a> Outcome<Task<'a>, Stack> for Rob {
 pub(crate) type Forks<'a> = Worker<Task<'a>, Global, Stack, Stacking>;
 
 /// The forks of a worker, for others to steal.
-pub(crate) type Thief<'a> = Stealer<Task<'a>, Global, Stack, Stacking>;
+pub(crate) type ForkStealer<'a> = Stealer<Task<'a>, Global, Stack, Stacking>;
 
-/// What a thief takes to a deque.
-pub(crate) type Loot<'a> = Pass<Task<'a>, Stack>;
+/// What a worker that steals knows of a deque.
+pub(crate) type StealPass<'a> = Pass<Task<'a>, Stack>;
 
 /// The slots for forks that are taken at first: as many as may nest in a run of the command line, so that no push grows them.
 const SLOTS: usize = 64;
@@ -106,9 +106,9 @@ pub(crate) fn take_back<'a>(forks: &mut Forks<'a>) -> Option<Task<'a>>
 }
 
 /// The oldest task of another worker, where there is one.
-pub(crate) fn steal_fork<'a>(thief: &Thief<'a>, pass: &mut Loot<'a>) -> Steal<Task<'a>>
-    requires { IsPassOf (stealer_deque thief.now) pass.old × (view pass.old ≡ guest) }
-    ensures { IsPassOf (stealer_deque thief.now) pass.new × (view pass.new ≡ guest) }
+pub(crate) fn steal_fork<'a>(stealer: &ForkStealer<'a>, pass: &mut StealPass<'a>) -> Steal<Task<'a>>
+    requires { IsPassOf (stealer_deque stealer.now) pass.old × (view pass.old ≡ guest) }
+    ensures { IsPassOf (stealer_deque stealer.now) pass.new × (view pass.new ≡ guest) }
 {
-    thief.steal_as::<Rob>(pass)
+    stealer.steal_as::<StealOldest>(pass)
 }

@@ -4,13 +4,13 @@ ghost use Rattle.std.specs.Prelude.{◌≡◌};
 ghost use Rattle.crossbeam_deque.specs.Handles.{worker_deque};
 ghost use Rattle.gib_pool.specs.Mine.{IsMine};
 
-use crate::bell::Bell;
-use crate::desks::Desk;
+use crate::active::ActiveTask;
 use crate::forks::Forks;
-use crate::job::Job;
-use crate::post::Post;
-use crate::raid::Raid;
-use crate::worker::Member;
+use crate::hooks::Hooks;
+use crate::permits::Permit;
+use crate::sleep::Sleep;
+use crate::stealer::Stealer;
+use crate::worker::Worker;
 use crate::working::work;
 use crate::workspace::Workspace;
 use gib_edge::outside::Gate;
@@ -25,8 +25,8 @@ pub(crate) fn run_task<'a, R: Wait, G: Gate>(
     task: Task<'a>,
     mut workspace: Workspace,
     forks: &mut Forks<'a>,
-    post: &Post<'_, G>,
-    desk: &mut Desk<'_>,
+    hooks: &Hooks<'_, G>,
+    permit: &mut Permit<'_>,
 ) -> Workspace
     requires { IsMine forks.old }
     ensures { IsMine forks.new × (worker_deque forks.new ≡ worker_deque forks.old) }
@@ -36,17 +36,17 @@ pub(crate) fn run_task<'a, R: Wait, G: Gate>(
         put_answer(rt, reply, Ending::NotRun, pass);
         return workspace;
     }
-    let job = Job::make(workspace, Tails::new(), pass);
-    let (ending, pass, workspace) = work(rt, arena, lowered, job, forks, post, desk);
+    let active = ActiveTask::make(workspace, Tails::new(), pass);
+    let (ending, pass, workspace) = work(rt, arena, lowered, active, forks, hooks, permit);
     put_answer(rt, reply, ending, pass);
     workspace
 }
 
 /// A fork of any other worker. They are asked in turn from the one at this place on.
-fn steal_any<'a, R: Wait>(rt: &R, raids: &mut Vec<Raid<'a>>, from: u32) -> Option<Task<'a>> {
-    let count = raids.len();
+fn steal_any<'a, R: Wait>(rt: &R, stealers: &mut Vec<Stealer<'a>>, from: u32) -> Option<Task<'a>> {
+    let count = stealers.len();
     'steps: for step in 0..count {
-        let found = raids[(from as usize + step) % count].steal(rt);
+        let found = stealers[(from as usize + step) % count].steal(rt);
         if found.is_some() {
             return found;
         }
@@ -63,20 +63,20 @@ fn next_place(place: u32) -> u32 {
 /// said that it listens, so that it misses no fork, and who forks has nobody to wake while a look finds something.
 fn find_task<'a, R: Wait>(
     rt: &R,
-    raids: &mut Vec<Raid<'a>>,
-    bell: &Bell,
+    stealers: &mut Vec<Stealer<'a>>,
+    sleep: &Sleep,
     place: u32,
 ) -> Option<Task<'a>> {
     for _ in rt.forever() {
-        let first = steal_any(rt, raids, place >> 8);
+        let first = steal_any(rt, stealers, place >> 8);
         if first.is_some() {
             return first;
         }
-        let key = bell.listen();
-        if bell.is_over() {
+        let key = sleep.listen();
+        if sleep.is_over() {
             return None;
         }
-        let again = steal_any(rt, raids, place >> 8);
+        let again = steal_any(rt, stealers, place >> 8);
         if again.is_some() {
             return again;
         }
@@ -85,28 +85,28 @@ fn find_task<'a, R: Wait>(
     unreachable!()
 }
 
-/// Runs what others fork until the run is over, each at a desk.
-pub(crate) fn help<'a, R: Wait, G: Gate>(rt: &R, member: Member<'a>, post: &Post<'_, G>) {
-    let Member {
+/// Runs what others fork until the run is over, each with a permit.
+pub(crate) fn help<'a, R: Wait, G: Gate>(rt: &R, worker: Worker<'a>, hooks: &Hooks<'_, G>) {
+    let Worker {
         number,
         mut forks,
-        mut raids,
+        mut stealers,
         workspace,
-    } = member;
+    } = worker;
     let Some(mut workspace) = workspace else {
         return;
     };
     let mut place = number;
     'turns: for _ in rt.forever() {
         place = next_place(place);
-        let Some(task) = find_task(rt, &mut raids, post.bell, place) else {
+        let Some(task) = find_task(rt, &mut stealers, hooks.sleep, place) else {
             return;
         };
-        let mut desk = post.desks.take(rt);
-        post.stolen();
-        workspace = run_task(rt, task, workspace, &mut forks, post, &mut desk);
-        post.answered();
-        desk.leave(rt);
+        let mut permit = hooks.permits.acquire(rt);
+        hooks.stolen();
+        workspace = run_task(rt, task, workspace, &mut forks, hooks, &mut permit);
+        hooks.answered();
+        permit.release(rt);
     }
     unreachable!()
 }

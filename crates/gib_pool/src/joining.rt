@@ -6,14 +6,14 @@ ghost use Rattle.gib_code.specs.declared.answer.Reason.{Reason};
 ghost use Rattle.gib_machine.specs.Machine.{unwinding};
 ghost use Rattle.gib_machine.specs.declared.turn.Turn.TheVariants.{AtJoin};
 ghost use Rattle.gib_weave.specs.Owing.{Debt};
-ghost use Rattle.gib_pool.specs.Jobs.{Goes, Holds, IsHere, StandsAt};
+ghost use Rattle.gib_pool.specs.Active.{Goes, Holds, IsHere, StandsAt};
 ghost use Rattle.gib_pool.specs.Mine.{IsMine};
 
+use crate::active::ActiveTask;
 use crate::back::{Back, settle};
-use crate::desks::Desk;
 use crate::forks::Forks;
-use crate::job::Job;
 use crate::leaving::leave;
+use crate::permits::Permit;
 use crate::workspace::Workspace;
 use gib_arena::{Arena, Pass};
 use gib_core::Lowered;
@@ -30,40 +30,48 @@ pub(crate) fn join_here<'a, R: Wait>(
     rt: &R,
     arena: &'a Arena,
     lowered: &Lowered,
-    mut job: Job,
+    mut active: ActiveTask,
     forks: &mut Forks<'a>,
-    desk: &mut Desk<'_>,
-) -> Result<Job, (Ending, Pass, Workspace)>
-    requires holds { Holds arena.now lowered.now job }
-    requires stands { (d : Debt) × StandsAt lowered.now d job AtJoin }
+    permit: &mut Permit<'_>,
+) -> Result<ActiveTask, (Ending, Pass, Workspace)>
+    requires holds { Holds arena.now lowered.now active }
+    requires stands { (d : Debt) × StandsAt lowered.now d active AtJoin }
     requires mine { IsMine forks.old }
-    requires here { IsHere job (worker_view forks.old).mine }
+    requires here { IsHere active (worker_view forks.old).mine }
     ensures mine { IsMine forks.new × (worker_deque forks.new ≡ worker_deque forks.old) }
-    ensures goes { Goes arena.entry.now lowered.entry.now (λ (d : Debt). StandsAt lowered.entry.now d job AtJoin) job (worker_view forks.new).mine result }
-    ensures unwinds { (why : Reason) → unwinding job.machine.doing ≡ Some why → IsOk result }
+    ensures goes { Goes arena.entry.now lowered.entry.now (λ (d : Debt). StandsAt lowered.entry.now d active AtJoin) active (worker_view forks.new).mine result }
+    ensures unwinds { (why : Reason) → unwinding active.machine.doing ≡ Some why → IsOk result }
 {
     let code = lowered.code();
-    let Some(newest) = job.frames.pop() else {
+    let Some(newest) = active.frames.pop() else {
         unreachable!()
     };
     let Some(frame) = newest else {
-        job.machine.take(code);
-        return Ok(job);
+        active.machine.take(code);
+        return Ok(active);
     };
-    match settle(rt, arena, &mut job.pass, &frame, forks, &mut job.here, desk) {
+    match settle(
+        rt,
+        arena,
+        &mut active.pass,
+        &frame,
+        forks,
+        &mut active.here,
+        permit,
+    ) {
         Back::Take => {
-            job.machine.take(code);
-            Ok(job)
+            active.machine.take(code);
+            Ok(active)
         }
         Back::Answer(answer) => {
-            job.machine.join(answer);
-            Ok(job)
+            active.machine.join(answer);
+            Ok(active)
         }
-        Back::Full => match job.machine.unwinding() {
-            None => Err(leave(rt, arena, job, forks, desk)),
+        Back::Full => match active.machine.unwinding() {
+            None => Err(leave(rt, arena, active, forks, permit)),
             Some(_) => {
-                job.machine.take(code);
-                Ok(job)
+                active.machine.take(code);
+                Ok(active)
             }
         },
     }

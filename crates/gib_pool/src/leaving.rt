@@ -5,13 +5,13 @@ ghost use Rattle.crossbeam_deque.specs.Handles.{worker_deque, worker_view};
 ghost use Rattle.gib_arena.specs.Passes.{view};
 ghost use Rattle.gib_core.specs.LoweredParts.{LoweredParts};
 ghost use Rattle.gib_weave.specs.Owing.{Debt};
-ghost use Rattle.gib_pool.specs.Jobs.{Holds, IsHere, IsBackWhole, PaysStill, Settles};
+ghost use Rattle.gib_pool.specs.Active.{Holds, IsHere, IsBackWhole, PaysStill, Settles};
 ghost use Rattle.gib_pool.specs.Mine.{IsMine};
 
-use crate::desks::Desk;
+use crate::active::ActiveTask;
 use crate::drain::drain_frames;
 use crate::forks::Forks;
-use crate::job::Job;
+use crate::permits::Permit;
 use crate::workspace::Workspace;
 use gib_arena::{Arena, Pass};
 use gib_frame::Ending;
@@ -21,24 +21,24 @@ use std::sync::Wait;
 pub(crate) fn leave<'a, R: Wait>(
     rt: &R,
     arena: &'a Arena,
-    job: Job,
+    active: ActiveTask,
     forks: &mut Forks<'a>,
-    desk: &mut Desk<'_>,
+    permit: &mut Permit<'_>,
 ) -> (Ending, Pass, Workspace)
-    requires holds { (l : LoweredParts) × Holds arena.now l job }
+    requires holds { (l : LoweredParts) × Holds arena.now l active }
     requires mine { IsMine forks.old }
-    requires here { IsHere job (worker_view forks.old).mine }
+    requires here { IsHere active (worker_view forks.old).mine }
     ensures mine { IsMine forks.new × (worker_deque forks.new ≡ worker_deque forks.old) }
-    ensures back { IsBackWhole arena.entry.now job.pass result.1 }
-    ensures settles { (l : LoweredParts) → (view job.pass).holding.seen ≡ (view job.pass).branch.limit → Settles l (λ (d : Debt). PaysStill l d job) result.0 result.1 }
+    ensures back { IsBackWhole arena.entry.now active.pass result.1 }
+    ensures settles { (l : LoweredParts) → (view active.pass).holding.seen ≡ (view active.pass).branch.limit → Settles l (λ (d : Debt). PaysStill l d active) result.0 result.1 }
 {
-    let Job {
+    let ActiveTask {
         machine,
         tails: _,
         mut pass,
         mut frames,
         mut here,
-    } = job;
-    drain_frames(rt, arena, &mut pass, &mut frames, forks, &mut here, desk);
+    } = active;
+    drain_frames(rt, arena, &mut pass, &mut frames, forks, &mut here, permit);
     (Ending::Full, pass, Workspace { machine, frames })
 }

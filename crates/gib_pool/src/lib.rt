@@ -1,28 +1,28 @@
 //! Workers that run sides and steal them from one another: what each of them keeps, and how a fork begins and ends.
 #![tactic(auto)]
 
+mod active;
 mod back;
-mod bell;
-mod crew;
-mod desks;
 mod drain;
 mod forking;
 mod forks;
 mod going;
 mod helping;
-mod job;
+mod hooks;
 mod joining;
 pub mod law;
 mod leaving;
 mod offer;
-mod post;
-mod raid;
+mod permits;
 mod run;
 mod running;
 mod shared;
+mod sleep;
+mod stealer;
+mod threads;
 mod worker;
 mod working;
 mod workspace;
 
-pub use crew::Crew;
 pub use run::{Loaded, run_by};
+pub use threads::Config;

@@ -11,14 +11,14 @@ ghost use Rattle.gib_weave.specs.declared.root_run.RunFault.TheVariants.{Full};
 ghost use Rattle.gib_arena.specs.Passes.{view, IsOf};
 ghost use Rattle.gib_arena.specs.Tree.{IsAlone};
 ghost use Rattle.gib_frame.specs.Answers.{drawn_by};
-ghost use Rattle.gib_pool.specs.Jobs.{IsBackWhole};
+ghost use Rattle.gib_pool.specs.Active.{IsBackWhole};
 ghost use Rattle.gib_pool.specs.Runs.{pass_memory, outcome, IsRun};
 
-use crate::bell::Bell;
-use crate::crew::{Crew, count_workers, make_members, work_together};
-use crate::desks::Desks;
-use crate::job::Job;
+use crate::active::ActiveTask;
+use crate::permits::Permits;
 use crate::shared::Shared;
+use crate::sleep::Sleep;
+use crate::threads::{Config, count_workers, make_workers, work_together};
 use crate::workspace::Workspace;
 use crossbeam_utils::CachePadded;
 use gib_arena::{Arena, Pass, SoleMem};
@@ -62,13 +62,13 @@ fn root_workspace(
     alloc: Global,
     lowered: &Lowered,
     root: Root,
-    crew: Crew,
+    config: Config,
 ) -> Result<Workspace, AllocError>
-    ensures machine { IfOk result (λ w. (tails : List ℕ) → with_tails w.machine tails ≡ root_start (core_of lowered.now.core) lowered.now.code (word_of root) crew.depth crew.level tails) }
-    ensures room { IfOk result (λ w. crew.level ≤ vec_capacity w.frames) }
+    ensures machine { IfOk result (λ w. (tails : List ℕ) → with_tails w.machine tails ≡ root_start (core_of lowered.now.core) lowered.now.code (word_of root) config.depth config.forks tails) }
+    ensures room { IfOk result (λ w. config.forks ≤ vec_capacity w.frames) }
 {
-    let machine = root_machine(alloc, lowered, root, crew.depth, crew.level)?;
-    let frames = Vec::with_capacity(alloc, crew.level as usize)?;
+    let machine = root_machine(alloc, lowered, root, config.depth, config.forks)?;
+    let frames = Vec::with_capacity(alloc, config.forks as usize)?;
     Ok(Workspace { machine, frames })
 }
 
@@ -96,32 +96,32 @@ fn run_in<'a, R: Threads + Wait + Sync, G: Gate + Sync>(
     first: Pass,
     tails: Tails,
     root: Root,
-    crew: Crew,
+    config: Config,
 ) -> (Result<Answer, RunFault>, Pass)
     requires own { IsOf shared.now.arena.now first }
     requires alone { IsAlone (view first).branch }
     requires starts { (d : Datum) × IsStart shared.now.lowered.now root tails (pass_memory first) d }
     ensures back { IsBackWhole shared.entry.now.arena.now first result.1 }
     ensures ends { (d : Datum) → IsStart shared.entry.now.lowered.now root tails (pass_memory first) d
-        → IsRun shared.entry.now.lowered.now crew.depth crew.level d (pass_memory first) (pass_memory result.1) result.0 }
+        → IsRun shared.entry.now.lowered.now config.depth config.forks d (pass_memory first) (pass_memory result.1) result.0 }
     ensures full { IsErrOf result.0 Full → (pass_memory result.1).share ≡ (pass_memory result.1).limit }
 {
     shared.lowered.core();
     let code = shared.lowered.code();
-    let Ok(workspace) = root_workspace(alloc, shared.lowered, root, crew) else {
+    let Ok(workspace) = root_workspace(alloc, shared.lowered, root, config) else {
         return (Err(RunFault::Memory), first);
     };
-    let workers = count_workers(code, crew);
-    let Ok(mut members) = make_members(alloc, code, crew, workers) else {
+    let count = count_workers(code, config);
+    let Ok(mut workers) = make_workers(alloc, code, config, count) else {
         return (Err(RunFault::Memory), first);
     };
-    let Some(member) = members.pop() else {
+    let Some(worker) = workers.pop() else {
         unreachable!()
     };
     let mut pass = first;
     count_all(shared.arena, &mut pass);
-    let job = Job::make(workspace, tails, pass);
-    let (ending, mut last) = work_together(rt, alloc, shared, job, member, members);
+    let active = ActiveTask::make(workspace, tails, pass);
+    let (ending, mut last) = work_together(rt, alloc, shared, active, worker, workers);
     count_all(shared.arena, &mut last);
     (outcome_of(ending), last)
 }
@@ -137,12 +137,12 @@ pub fn run_by<R: Threads + Wait + Sync, G: Gate + Sync>(
     alloc: Global,
     lowered: &Lowered,
     loaded: Loaded,
-    crew: Crew,
+    config: Config,
     gate: &G,
 ) -> (Result<Answer, RunFault>, SoleMem)
     requires starts { (d : Datum) × IsStart lowered.now loaded.root loaded.tails (⟦<SoleMem as Mem>⟧.view loaded.memory) d }
     ensures ends { (d : Datum) → IsStart lowered.entry.now loaded.root loaded.tails (⟦<SoleMem as Mem>⟧.view loaded.memory) d
-        → IsRun lowered.entry.now crew.depth crew.level d (⟦<SoleMem as Mem>⟧.view loaded.memory) (⟦<SoleMem as Mem>⟧.view result.1) result.0 }
+        → IsRun lowered.entry.now config.depth config.forks d (⟦<SoleMem as Mem>⟧.view loaded.memory) (⟦<SoleMem as Mem>⟧.view result.1) result.0 }
     ensures kept { Kept (⟦<SoleMem as Mem>⟧.view loaded.memory) (⟦<SoleMem as Mem>⟧.view result.1) }
     ensures full { IsErrOf result.0 Full → (⟦<SoleMem as Mem>⟧.view result.1).share ≡ (⟦<SoleMem as Mem>⟧.view result.1).limit }
 {
@@ -152,15 +152,15 @@ pub fn run_by<R: Threads + Wait + Sync, G: Gate + Sync>(
         root,
     } = loaded;
     let (arena, first) = memory.into_parts();
-    let bell = CachePadded::new(Bell::new());
-    let desks = CachePadded::new(Desks::new(crew.workers.max(1)));
+    let sleep = CachePadded::new(Sleep::new());
+    let permits = CachePadded::new(Permits::new(config.workers.max(1)));
     let shared = Shared {
         arena: &arena,
         lowered,
-        bell: &bell,
-        desks: &desks,
+        sleep: &sleep,
+        permits: &permits,
         gate,
     };
-    let (end, last) = run_in(rt, alloc, &shared, first, tails, root, crew);
+    let (end, last) = run_in(rt, alloc, &shared, first, tails, root, config);
     (end, SoleMem::of_parts(arena, last))
 }

@@ -1,18 +1,18 @@
 //! What the workers of a run share.
 
-use crate::bell::Bell;
-use crate::desks::Desks;
+use crate::permits::Permits;
+use crate::sleep::Sleep;
 use gib_arena::Arena;
 use gib_core::Lowered;
 use gib_edge::outside::Gate;
 
-/// What all workers of a run share: the arena of their passes, the code, the bell that they hear, the desks at which
-/// they run, and the gate.
+/// What all workers of a run share: the arena of their passes, the code, where they sleep, the permits with
+/// which they run, and the gate.
 #[derive(Drop)]
 pub(crate) struct Shared<'a, G: Gate> {
     pub(crate) arena: &'a Arena,
     pub(crate) lowered: &'a Lowered,
-    pub(crate) bell: &'a Bell,
-    pub(crate) desks: &'a Desks,
+    pub(crate) sleep: &'a Sleep,
+    pub(crate) permits: &'a Permits,
     pub(crate) gate: &'a G,
 }

@@ -3,16 +3,16 @@
 ghost use Rattle.std.specs.Prelude.{◌≡◌};
 ghost use Rattle.crossbeam_deque.specs.Handles.{worker_deque, worker_view};
 ghost use Rattle.gib_weave.specs.Owing.{Debt};
-ghost use Rattle.gib_pool.specs.Jobs.{Goes, Holds, IsHere, IsOver, OwesStill};
+ghost use Rattle.gib_pool.specs.Active.{Goes, Holds, IsHere, IsOver, OwesStill};
 ghost use Rattle.gib_pool.specs.Mine.{IsMine};
 
-use crate::desks::Desk;
+use crate::active::ActiveTask;
 use crate::forking::fork_here;
 use crate::forks::Forks;
-use crate::job::Job;
+use crate::hooks::Hooks;
 use crate::joining::join_here;
 use crate::leaving::leave;
-use crate::post::Post;
+use crate::permits::Permit;
 use crate::running::run_on;
 use crate::workspace::Workspace;
 use gib_arena::{Arena, Pass};
@@ -27,40 +27,40 @@ fn stand_once<'a, R: Wait, G: Gate>(
     rt: &R,
     arena: &'a Arena,
     lowered: &'a Lowered,
-    job: Job,
+    active: ActiveTask,
     forks: &mut Forks<'a>,
-    post: &Post<'_, G>,
-    desk: &mut Desk<'_>,
-) -> Result<Job, (Ending, Pass, Workspace)>
-    requires holds { Holds arena.now lowered.now job }
-    requires owes { (d : Debt) × OwesStill lowered.now d job }
+    hooks: &Hooks<'_, G>,
+    permit: &mut Permit<'_>,
+) -> Result<ActiveTask, (Ending, Pass, Workspace)>
+    requires holds { Holds arena.now lowered.now active }
+    requires owes { (d : Debt) × OwesStill lowered.now d active }
     requires mine { IsMine forks.old }
-    requires here { IsHere job (worker_view forks.old).mine }
+    requires here { IsHere active (worker_view forks.old).mine }
     ensures mine { IsMine forks.new × (worker_deque forks.new ≡ worker_deque forks.old) }
-    ensures goes { Goes arena.entry.now lowered.entry.now (λ (d : Debt). OwesStill lowered.entry.now d job) job (worker_view forks.new).mine result }
+    ensures goes { Goes arena.entry.now lowered.entry.now (λ (d : Debt). OwesStill lowered.entry.now d active) active (worker_view forks.new).mine result }
 {
-    let (job, turn) = run_on(rt, arena, lowered, job);
+    let (active, turn) = run_on(rt, arena, lowered, active);
     match turn {
         Turn::Went => unreachable!(),
         Turn::Ended(answer) => {
-            let Job {
+            let ActiveTask {
                 machine,
                 tails: _,
                 pass,
                 frames,
                 here: _,
-            } = job;
+            } = active;
             Err((Ending::Answer(answer), pass, Workspace { machine, frames }))
         }
-        Turn::Full => Err(leave(rt, arena, job, forks, desk)),
+        Turn::Full => Err(leave(rt, arena, active, forks, permit)),
         Turn::AtFork => {
-            let job = fork_here(post.alloc, arena, lowered, job, forks);
-            if job.is_offered() {
-                post.forked();
+            let active = fork_here(hooks.alloc, arena, lowered, active, forks);
+            if active.is_offered() {
+                hooks.forked();
             }
-            Ok(job)
+            Ok(active)
         }
-        Turn::AtJoin => join_here(rt, arena, lowered, job, forks, desk),
+        Turn::AtJoin => join_here(rt, arena, lowered, active, forks, permit),
     }
 }
 
@@ -70,21 +70,21 @@ pub(crate) fn work<'a, R: Wait, G: Gate>(
     rt: &R,
     arena: &'a Arena,
     lowered: &'a Lowered,
-    job: Job,
+    active: ActiveTask,
     forks: &mut Forks<'a>,
-    post: &Post<'_, G>,
-    desk: &mut Desk<'_>,
+    hooks: &Hooks<'_, G>,
+    permit: &mut Permit<'_>,
 ) -> (Ending, Pass, Workspace)
-    requires holds { Holds arena.now lowered.now job }
-    requires owes { (d : Debt) × OwesStill lowered.now d job }
+    requires holds { Holds arena.now lowered.now active }
+    requires owes { (d : Debt) × OwesStill lowered.now d active }
     requires mine { IsMine forks.old }
-    requires here { IsHere job (worker_view forks.old).mine }
+    requires here { IsHere active (worker_view forks.old).mine }
     ensures mine { IsMine forks.new × (worker_deque forks.new ≡ worker_deque forks.old) }
-    ensures over { IsOver arena.entry.now lowered.entry.now (λ (d : Debt). OwesStill lowered.entry.now d job) job result.0 result.1 }
+    ensures over { IsOver arena.entry.now lowered.entry.now (λ (d : Debt). OwesStill lowered.entry.now d active) active result.0 result.1 }
 {
-    let mut current = job;
+    let mut current = active;
     'turns: for _ in rt.forever() {
-        match stand_once(rt, arena, lowered, current, forks, post, desk) {
+        match stand_once(rt, arena, lowered, current, forks, hooks, permit) {
             Ok(next) => current = next,
             Err(end) => return end,
         }

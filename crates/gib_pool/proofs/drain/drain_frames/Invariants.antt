@@ -4,7 +4,7 @@ use Rattle.gib_core.specs.Cost.{Cost}
 use Rattle.gib_core.specs.LoweredParts.{LoweredParts}
 use Rattle.gib_arena.specs.Passes.{view, IsOf}
 use Rattle.gib_frame.specs.Answers.{drawn_by}
-use Rattle.gib_pool.specs.Jobs.{IsSamePass}
+use Rattle.gib_pool.specs.Active.{IsSamePass}
 use Rattle.gib_pool.specs.Lent.{Lends}
 use Rattle.gib_pool.specs.Mine.{IsMine}
 use Rattle.gib_pool.specs.Frames.{lent_of, AreHere}

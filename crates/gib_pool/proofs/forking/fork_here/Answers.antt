@@ -14,8 +14,8 @@ use Rattle.gib_frame.specs.declared.ends.Frame.{Frame}
 use Rattle.gib_frame.specs.Answers.{drawn_by}
 use Rattle.gib_frame.specs.Dues.{frame_due}
 use Rattle.gib_pool.specs.Frames.{AreHere}
-use Rattle.gib_pool.specs.declared.job.Job.{Job}
-use Rattle.gib_pool.specs.Jobs.{job_state, job_lent}
+use Rattle.gib_pool.specs.declared.active.ActiveTask.{ActiveTask}
+use Rattle.gib_pool.specs.Active.{active_state, active_lent}
 use Rattle.gib_pool.specs.Lent.{Lends}
 use Rattle.gib_pool.specs.Turn.{Works, IsFor}
 use Rattle.gib_pool.proofs.Draining.{now_lent}
@@ -26,17 +26,17 @@ use Rattle.gib_pool.proofs.forking.fork_here.Goals as goal
 
 pub offer_here-frame-requires-clause-few : goal.offer_here-frame-requires-clause-few
 offer_here-frame-requires-clause-few c =
-    let few = here_few (job_lent c.args.job) c.args.job.here (worker_view c.args.forks.now).mine c.requires.here in
-    let long = lent_long c.args.job.frames.items in
-    omega (arith, few, long, c.args.job.frames.ok)
+    let few = here_few (active_lent c.args.active) c.args.active.here (worker_view c.args.forks.now).mine c.requires.here in
+    let long = lent_long c.args.active.frames.items in
+    omega (arith, few, long, c.args.active.frames.ok)
 
 pub push_reserved-requires : goal.push_reserved-requires
 push_reserved-requires c =
     let l = c.args.lowered.now in
-    let j = c.args.job in
+    let j = c.args.active in
     let w = c.requires.stands in
     let level = fork_has_level l.code j.machine j.tails w.1.0 in
-    let fit = frames_fit l w.0 (cells j.pass) (drawn_by j.pass) (job_lent j) (job_state j) _ _ (vec_capacity j.frames) w.1.1 level c.requires.holds.within in
+    let fit = frames_fit l w.0 (cells j.pass) (drawn_by j.pass) (active_lent j) (active_state j) _ _ (vec_capacity j.frames) w.1.1 level c.requires.holds.within in
     let long = lent_long j.frames.items in
     omega (arith, fit, long)
 
@@ -44,24 +44,24 @@ pub returns-clause-on : goal.returns-clause-on
 returns-clause-on c =
     let l = c.args.lowered.now in
     let o = c.offer_here-frame.ensures in
-    let old = c.args.job.pass in
+    let old = c.args.active.pass in
     let new = c.offer_here-frame.new.pass in
-    let m = job_state c.args.job in
-    let are = now_lent c.push_reserved.new.self.items c.args.job.frames.items c.offer_here-frame.result c.offer_here-frame.result c.push_reserved.ensures.items refl in
-    let width = ap (λ (s : State). s.width) (c.left.ensures c.args.job.tails) ∙ left_keeps_width m (slice_get c.code.result.now.instructions m.ip) in
-    let left = c.left.ensures c.args.job.tails ∙ ap (λ (x : CodeTree). left_starts m (slice_get x.instructions m.ip)) c.code.ensures.value in
+    let m = active_state c.args.active in
+    let are = now_lent c.push_reserved.new.self.items c.args.active.frames.items c.offer_here-frame.result c.offer_here-frame.result c.push_reserved.ensures.items refl in
+    let width = ap (λ (s : State). s.width) (c.left.ensures c.args.active.tails) ∙ left_keeps_width m (slice_get c.code.result.now.instructions m.ip) in
+    let left = c.left.ensures c.args.active.tails ∙ ap (λ (x : CodeTree). left_starts m (slice_get x.instructions m.ip)) c.code.ensures.value in
     let right = right_of m (slice_get l.code.instructions m.ip) in
     let w = c.requires.stands in
-    let level = fork_has_level l.code c.args.job.machine c.args.job.tails w.1.0 in
-    let next : Job = record { machine = c.left.new.self; tails = c.args.job.tails; pass = new; frames = c.push_reserved.new.self; here = c.offer_here-frame.new.here } in
-    let within = within_then c.args.job next (left_starts m (slice_get l.code.instructions m.ip)) c.push_reserved.ensures.capacity left (left_stays_within (vec_capacity c.args.job.frames) m (slice_get l.code.instructions m.ip) level c.requires.holds.within) in
+    let level = fork_has_level l.code c.args.active.machine c.args.active.tails w.1.0 in
+    let next : ActiveTask = record { machine = c.left.new.self; tails = c.args.active.tails; pass = new; frames = c.push_reserved.new.self; here = c.offer_here-frame.new.here } in
+    let within = within_then c.args.active next (left_starts m (slice_get l.code.instructions m.ip)) c.push_reserved.ensures.capacity left (left_stays_within (vec_capacity c.args.active.frames) m (slice_get l.code.instructions m.ip) level c.requires.holds.within) in
     record {
-      holds = record { own = o.own; lends = subst (Lends new) (sym are) (o.lends (job_lent c.args.job) c.requires.holds.lends); made = width ∙ c.requires.holds.made; within = within };
+      holds = record { own = o.own; lends = subst (Lends new) (sym are) (o.lends (active_lent c.args.active) c.requires.holds.lends); made = width ∙ c.requires.holds.made; within = within };
       owes = λ d w.
-          let side = some_at l d c.offer_here-frame.result (λ (ts : List ℕ) (f : Frame). IsFor l (cells old) (right_of (with_tails c.args.job.machine ts) (slice_get l.code.instructions m.ip)) (frame_due f)) c.args.job.tails o.side in
-          subst (Works l d (cells new) (drawn_by new) (with_tails c.left.new.self c.args.job.tails)) (sym are)
-          (goes_left l d (cells old) (cells new) (drawn_by old) (drawn_by new) (job_lent c.args.job) m (left_starts m (slice_get l.code.instructions m.ip)) (with_tails c.left.new.self c.args.job.tails) right c.offer_here-frame.result w.1 side left o.drawn
+          let side = some_at l d c.offer_here-frame.result (λ (ts : List ℕ) (f : Frame). IsFor l (cells old) (right_of (with_tails c.args.active.machine ts) (slice_get l.code.instructions m.ip)) (frame_due f)) c.args.active.tails o.side in
+          subst (Works l d (cells new) (drawn_by new) (with_tails c.left.new.self c.args.active.tails)) (sym are)
+          (goes_left l d (cells old) (cells new) (drawn_by old) (drawn_by new) (active_lent c.args.active) m (left_starts m (slice_get l.code.instructions m.ip)) (with_tails c.left.new.self c.args.active.tails) right c.offer_here-frame.result w.1 side left o.drawn
           (wider c.args.arena.now old new o.own o.same.known o.free));
-      here = subst (λ (es : List (Option Due)). AreHere es c.offer_here-frame.new.here (worker_view c.offer_here-frame.new.forks).mine) (sym are) (o.here (job_lent c.args.job) c.requires.here);
+      here = subst (λ (es : List (Option Due)). AreHere es c.offer_here-frame.new.here (worker_view c.offer_here-frame.new.forks).mine) (sym are) (o.here (active_lent c.args.active) c.requires.here);
       same = o.same;
     }

@@ -13,10 +13,10 @@ use Rattle.gib_arena.specs.Passes.{view, cells}
 use Rattle.gib_arena.specs.Shown.{shown_alone}
 use Rattle.gib_frame.specs.Answers.{drawn_by}
 use Rattle.gib_weave.specs.Owing.{Debt}
-use Rattle.gib_pool.specs.Jobs.{OwesStill}
+use Rattle.gib_pool.specs.Active.{OwesStill}
 use Rattle.gib_pool.specs.Runs.{pass_memory, IsRun}
 use Rattle.gib_pool.specs.Turn.{Works}
-use Rattle.gib_pool.proofs.Beginnings.{IsMade, job_owes, made_holds, root_debt, root_owes, root_ends, full_drawn}
+use Rattle.gib_pool.proofs.Beginnings.{IsMade, active_owes, made_holds, root_debt, root_owes, root_ends, full_drawn}
 use Rattle.gib_pool.proofs.Passing.{root_bounded}
 use Rattle.gib_pool.proofs.Standing.{whole}
 use Rattle.gib_pool.proofs.run.run_in.Goals as goal
@@ -27,14 +27,14 @@ work_together-ending-requires-clause-holds g c κs within =
     let a = c.args.shared.now.arena.now in
     let tails = c.args.tails in
     let pass = c.count_all.new.pass in
-    let depth = c.args.crew.depth in
-    let level = c.args.crew.level in
+    let depth = c.args.config.depth in
+    let level = c.args.config.forks in
     let counted = c.count_all.ensures in
-    let job = c.make-job.ensures in
-    let made : IsMade c.make-job.result c.in-Ok.workspace.machine tails pass = record { machine = job.machine.0; tails = job.machine.1; pass = job.pass; frames = job.frames.0 } in
+    let active = c.make-active.ensures in
+    let made : IsMade c.make-active.result c.in-Ok.workspace.machine tails pass = record { machine = active.machine.0; tails = active.machine.1; pass = active.pass; frames = active.frames.0 } in
     let start = c.in-Ok.ensures.machine tails in
-    made_holds a l c.make-job.result c.in-Ok.workspace.machine tails pass made counted.own (ap (λ (v : View). v.branch.out) counted.same ∙ c.requires.alone.2) (ap (λ (s : State). s.width) start) (ap (λ (s : State). s.pars) start)
-    (let few = c.in-Ok.ensures.room in let at : c.in-Ok.workspace.machine.level ≡ level = ap (λ (s : State). s.level) start in let room = job.room in omega (arith, few, at, room))
+    made_holds a l c.make-active.result c.in-Ok.workspace.machine tails pass made counted.own (ap (λ (v : View). v.branch.out) counted.same ∙ c.requires.alone.2) (ap (λ (s : State). s.width) start) (ap (λ (s : State). s.pars) start)
+    (let few = c.in-Ok.ensures.room in let at : c.in-Ok.workspace.machine.level ≡ level = ap (λ (s : State). s.level) start in let room = active.room in omega (arith, few, at, room))
 
 pub work_together-ending-requires-clause-owes : goal.work_together-ending-requires-clause-owes
 work_together-ending-requires-clause-owes g c κs within =
@@ -42,15 +42,15 @@ work_together-ending-requires-clause-owes g c κs within =
     let a = c.args.shared.now.arena.now in
     let tails = c.args.tails in
     let pass = c.count_all.new.pass in
-    let depth = c.args.crew.depth in
-    let level = c.args.crew.level in
+    let depth = c.args.config.depth in
+    let level = c.args.config.forks in
     let counted = c.count_all.ensures in
-    let job = c.make-job.ensures in
-    let made : IsMade c.make-job.result c.in-Ok.workspace.machine tails pass = record { machine = job.machine.0; tails = job.machine.1; pass = job.pass; frames = job.frames.0 } in
+    let active = c.make-active.ensures in
+    let made : IsMade c.make-active.result c.in-Ok.workspace.machine tails pass = record { machine = active.machine.0; tails = active.machine.1; pass = active.pass; frames = active.frames.0 } in
     let start = c.in-Ok.ensures.machine tails in
     let ok = whole l c.code-code.ensures.lowered c.core.ensures.fits c.code-code.ensures.runs in
-    let owes : (d : Datum) → IsStart l c.args.root tails (pass_memory c.args.first) d → OwesStill l (root_debt l depth level d) c.make-job.result = λ d st.
-    job_owes l (root_debt l depth level d) c.make-job.result c.in-Ok.workspace.machine tails pass made
+    let owes : (d : Datum) → IsStart l c.args.root tails (pass_memory c.args.first) d → OwesStill l (root_debt l depth level d) c.make-active.result = λ d st.
+    active_owes l (root_debt l depth level d) c.make-active.result c.in-Ok.workspace.machine tails pass made
     (subst (λ (s : State). Works l (root_debt l depth level d) (cells pass) (drawn_by pass) s []) (sym start)
     (subst (λ (n : ℕ). Works l (root_debt l depth level d) (cells pass) n (root_start (core_of l.core) l.code (word_of c.args.root) depth level tails) []) (sym counted.all)
     (root_owes l (pass_memory pass) c.args.root tails depth level d ok (root_bounded a pass counted.own)
@@ -65,27 +65,27 @@ returns-clause-ends g c = λ d st.
     let a = c.args.shared.now.arena.now in
     let tails = c.args.tails in
     let pass = c.count_all.new.pass in
-    let depth = c.args.crew.depth in
-    let level = c.args.crew.level in
+    let depth = c.args.config.depth in
+    let level = c.args.config.forks in
     let counted = c.count_all.ensures in
-    let job = c.make-job.ensures in
-    let made : IsMade c.make-job.result c.in-Ok.workspace.machine tails pass = record { machine = job.machine.0; tails = job.machine.1; pass = job.pass; frames = job.frames.0 } in
+    let active = c.make-active.ensures in
+    let made : IsMade c.make-active.result c.in-Ok.workspace.machine tails pass = record { machine = active.machine.0; tails = active.machine.1; pass = active.pass; frames = active.frames.0 } in
     let start = c.in-Ok.ensures.machine tails in
     let ok = whole l c.code-code.ensures.lowered c.core.ensures.fits c.code-code.ensures.runs in
-    let owes : (d : Datum) → IsStart l c.args.root tails (pass_memory c.args.first) d → OwesStill l (root_debt l depth level d) c.make-job.result = λ d st.
-    job_owes l (root_debt l depth level d) c.make-job.result c.in-Ok.workspace.machine tails pass made
+    let owes : (d : Datum) → IsStart l c.args.root tails (pass_memory c.args.first) d → OwesStill l (root_debt l depth level d) c.make-active.result = λ d st.
+    active_owes l (root_debt l depth level d) c.make-active.result c.in-Ok.workspace.machine tails pass made
     (subst (λ (s : State). Works l (root_debt l depth level d) (cells pass) (drawn_by pass) s []) (sym start)
     (subst (λ (n : ℕ). Works l (root_debt l depth level d) (cells pass) n (root_start (core_of l.core) l.code (word_of c.args.root) depth level tails) []) (sym counted.all)
     (root_owes l (pass_memory pass) c.args.root tails depth level d ok (root_bounded a pass counted.own)
     (subst (λ (v : View). IsStart l c.args.root tails (shown_alone v) d) (sym counted.same) st))))
     in
     let last = c.count_all-2 in
-    let limit = ap (λ (v : View). v.branch.limit) last.ensures.same ∙ (c.work_together-ending.ensures.over.back.same.limit ∙ (ap (λ (p : Pass). (view p).branch.limit) job.pass ∙ ap (λ (v : View). v.branch.limit) counted.same)) in
+    let limit = ap (λ (v : View). v.branch.limit) last.ensures.same ∙ (c.work_together-ending.ensures.over.back.same.limit ∙ (ap (λ (p : Pass). (view p).branch.limit) active.pass ∙ ap (λ (v : View). v.branch.limit) counted.same)) in
     subst (λ (o : Result Answer RunFault). IsRun l depth level d (pass_memory c.args.first) (pass_memory last.new.pass) o) (sym c.outcome_of.ensures)
-    (root_ends l depth level d c.make-job.result c.work_together-ending.result.0 (pass_memory c.args.first) c.work_together-ending.result.1 last.new.pass (owes d st) c.work_together-ending.ensures.over.settles (sym limit) last.ensures.same last.ensures.all)
+    (root_ends l depth level d c.make-active.result c.work_together-ending.result.0 (pass_memory c.args.first) c.work_together-ending.result.1 last.new.pass (owes d st) c.work_together-ending.ensures.over.settles (sym limit) last.ensures.same last.ensures.all)
 
 pub returns-clause-full : goal.returns-clause-full
 returns-clause-full g c = λ e.
     let l = c.args.shared.now.lowered.now in
     let last = c.count_all-2 in
-    full_drawn l (λ (d : Debt). OwesStill l d c.make-job.result) c.work_together-ending.result.0 c.work_together-ending.result.1 last.new.pass (sym c.outcome_of.ensures ∙ e) c.work_together-ending.ensures.over.settles last.ensures.same last.ensures.all
+    full_drawn l (λ (d : Debt). OwesStill l d c.make-active.result) c.work_together-ending.result.0 c.work_together-ending.result.1 last.new.pass (sym c.outcome_of.ensures ∙ e) c.work_together-ending.ensures.over.settles last.ensures.same last.ensures.all

@@ -8,19 +8,19 @@ use Rattle.gib_arena.specs.Shown.{shown}
 use Rattle.gib_frame.specs.Answers.{drawn_by}
 use Rattle.gib_pool.specs.Turn.{Works}
 use Rattle.gib_pool.specs.Going.{Comes}
-use Rattle.gib_pool.specs.Jobs.{job_state, job_lent}
+use Rattle.gib_pool.specs.Active.{active_state, active_lent}
 use Rattle.gib_pool.proofs.Passing.{lends_on}
 use Rattle.gib_pool.proofs.running.run_on.Goals as goal
 
 pub returns-clause-holds : goal.returns-clause-holds
 returns-clause-holds g c =
     let holder : Pass → Holder = λ p. (shown p.seat.table_id (view p)).holder in
-    let e : holder c.into_pass-pass.result.1 ≡ holder c.args.job.pass = ap holder c.into_pass-pass.ensures.pass ∙ (c.go_on-turn.ensures.same.holder ∙ ap holder c.make-mem.ensures.pass) in
+    let e : holder c.into_pass-pass.result.1 ≡ holder c.args.active.pass = ap holder c.into_pass-pass.ensures.pass ∙ (c.go_on-turn.ensures.same.holder ∙ ap holder c.make-mem.ensures.pass) in
     let h = c.requires.holds in
-    let own = c.names_tell.ensures c.args.arena.now c.args.job.pass c.into_pass-pass.result.1 h.own (ap (λ (x : Holder). x.arena) e) in
-    record { own = own; lends = lends_on c.args.job.pass c.into_pass-pass.result.1 (job_lent c.args.job) (own ∙ sym h.own) e h.lends; made = c.go_on-turn.ensures.made ∙ h.made; within = c.go_on-turn.ensures.within (vec_capacity c.args.job.frames) h.within }
+    let own = c.names_tell.ensures c.args.arena.now c.args.active.pass c.into_pass-pass.result.1 h.own (ap (λ (x : Holder). x.arena) e) in
+    record { own = own; lends = lends_on c.args.active.pass c.into_pass-pass.result.1 (active_lent c.args.active) (own ∙ sym h.own) e h.lends; made = c.go_on-turn.ensures.made ∙ h.made; within = c.go_on-turn.ensures.within (vec_capacity c.args.active.frames) h.within }
 
 pub returns-clause-stands : goal.returns-clause-stands
 returns-clause-stands g c = λ d w.
-    subst (λ (p : Pass). Comes c.args.lowered.now d (job_lent c.args.job) (shown p.seat.table_id (view p)) (with_tails c.go_on-turn.new.machine c.go_on-turn.new.tails) c.go_on-turn.result) (sym c.into_pass-pass.ensures.pass)
-    (c.go_on-turn.ensures.comes d (job_lent c.args.job) (subst (λ (p : Pass). Works c.args.lowered.now d (cells p) (drawn_by p) (job_state c.args.job) (job_lent c.args.job)) (sym c.make-mem.ensures.pass) w))
+    subst (λ (p : Pass). Comes c.args.lowered.now d (active_lent c.args.active) (shown p.seat.table_id (view p)) (with_tails c.go_on-turn.new.machine c.go_on-turn.new.tails) c.go_on-turn.result) (sym c.into_pass-pass.ensures.pass)
+    (c.go_on-turn.ensures.comes d (active_lent c.args.active) (subst (λ (p : Pass). Works c.args.lowered.now d (cells p) (drawn_by p) (active_state c.args.active) (active_lent c.args.active)) (sym c.make-mem.ensures.pass) w))

@@ -3,48 +3,48 @@ use Rattle.std.specs.Prelude.{Ok}
 use Rattle.crossbeam_deque.specs.Handles.{worker_view}
 use Rattle.gib_machine.specs.declared.turn.Turn.TheVariants.{AtFork, AtJoin}
 use Rattle.gib_weave.specs.Owing.{Debt}
-use Rattle.gib_pool.specs.Jobs.{OwesStill, PaysStill, StandsAt}
+use Rattle.gib_pool.specs.Active.{OwesStill, PaysStill, StandsAt}
 use Rattle.gib_pool.specs.Lent.{lent_paths}
 use Rattle.gib_pool.proofs.Passing.{back_on, goes_for, settles_for}
 use Rattle.gib_pool.proofs.working.stand_once.Goals as goal
 
 pub unreachable-requires : goal.unreachable-requires
-unreachable-requires g c = let w = c.requires.owes in subst (StandsAt c.args.lowered.now w.0 c.run_on-job.result.0) c.in-Went.is (c.run_on-job.ensures.stands w.0 w.1)
+unreachable-requires g c = let w = c.requires.owes in subst (StandsAt c.args.lowered.now w.0 c.run_on-active.result.0) c.in-Went.is (c.run_on-active.ensures.stands w.0 w.1)
 
-pub fork_here-job-requires-clause-stands : goal.fork_here-job-requires-clause-stands
-fork_here-job-requires-clause-stands g c = let w = c.requires.owes in (w.0, subst (StandsAt c.args.lowered.now w.0 c.run_on-job.result.0) c.in-AtFork.is (c.run_on-job.ensures.stands w.0 w.1))
+pub fork_here-active-requires-clause-stands : goal.fork_here-active-requires-clause-stands
+fork_here-active-requires-clause-stands g c = let w = c.requires.owes in (w.0, subst (StandsAt c.args.lowered.now w.0 c.run_on-active.result.0) c.in-AtFork.is (c.run_on-active.ensures.stands w.0 w.1))
 
 pub join_here-requires-clause-stands : goal.join_here-requires-clause-stands
-join_here-requires-clause-stands g c = let w = c.requires.owes in (w.0, subst (StandsAt c.args.lowered.now w.0 c.run_on-job.result.0) c.in-AtJoin.is (c.run_on-job.ensures.stands w.0 w.1))
+join_here-requires-clause-stands g c = let w = c.requires.owes in (w.0, subst (StandsAt c.args.lowered.now w.0 c.run_on-active.result.0) c.in-AtJoin.is (c.run_on-active.ensures.stands w.0 w.1))
 
 pub returns-in-Ended-clause-goes : goal.returns-in-Ended-clause-goes
 returns-in-Ended-clause-goes g c =
-    let at = λ (d : Debt) (h : OwesStill c.args.lowered.now d c.args.job). subst (StandsAt c.args.lowered.now d c.run_on-job.result.0) c.in-Ended.is (c.run_on-job.ensures.stands d h) in
+    let at = λ (d : Debt) (h : OwesStill c.args.lowered.now d c.args.active). subst (StandsAt c.args.lowered.now d c.run_on-active.result.0) c.in-Ended.is (c.run_on-active.ensures.stands d h) in
     let w = c.requires.owes in
-    let h = c.run_on-job.ensures.holds in
+    let h = c.run_on-active.ensures.holds in
     record {
-      back = record { own = h.own; same = c.run_on-job.ensures.same; none_out = h.lends.out ∙ ap lent_paths (at w.0 w.1).0 };
+      back = record { own = h.own; same = c.run_on-active.ensures.same; none_out = h.lends.out ∙ ap lent_paths (at w.0 w.1).0 };
       settles = λ d h. let e = at d h in (e.1, e.2);
     }
 
 pub returns-in-Full-clause-goes : goal.returns-in-Full-clause-goes
 returns-in-Full-clause-goes g c =
     let l = c.args.lowered.now in
-    let full = λ (d : Debt) (h : OwesStill l d c.args.job). subst (StandsAt l d c.run_on-job.result.0) c.in-Full.is (c.run_on-job.ensures.stands d h) in
+    let full = λ (d : Debt) (h : OwesStill l d c.args.active). subst (StandsAt l d c.run_on-active.result.0) c.in-Full.is (c.run_on-active.ensures.stands d h) in
     let w = c.requires.owes in
     record {
-      back = back_on c.args.arena.now c.args.job.pass c.run_on-job.result.0.pass c.leave.result.1 c.run_on-job.ensures.same c.leave.ensures.back;
-      settles = settles_for l (λ (d : Debt). PaysStill l d c.run_on-job.result.0) (λ (d : Debt). OwesStill l d c.args.job) c.leave.result.0 c.leave.result.1 (λ d h. (full d h).3) (c.leave.ensures.settles l (full w.0 w.1).2);
+      back = back_on c.args.arena.now c.args.active.pass c.run_on-active.result.0.pass c.leave.result.1 c.run_on-active.ensures.same c.leave.ensures.back;
+      settles = settles_for l (λ (d : Debt). PaysStill l d c.run_on-active.result.0) (λ (d : Debt). OwesStill l d c.args.active) c.leave.result.0 c.leave.result.1 (λ d h. (full d h).3) (c.leave.ensures.settles l (full w.0 w.1).2);
     }
 
 pub returns-after-is_offered-clause-goes : goal.returns-after-is_offered-clause-goes
 returns-after-is_offered-clause-goes g c =
     let l = c.args.lowered.now in
-    goes_for c.args.arena.now l (λ (d : Debt). StandsAt l d c.run_on-job.result.0 AtFork) (λ (d : Debt). OwesStill l d c.args.job) c.args.job c.run_on-job.result.0 (worker_view c.fork_here-job.new.forks).mine (Ok c.fork_here-job.result) c.run_on-job.ensures.same
-    (λ d w. subst (StandsAt l d c.run_on-job.result.0) c.in-AtFork.is (c.run_on-job.ensures.stands d w)) c.fork_here-job.ensures.on
+    goes_for c.args.arena.now l (λ (d : Debt). StandsAt l d c.run_on-active.result.0 AtFork) (λ (d : Debt). OwesStill l d c.args.active) c.args.active c.run_on-active.result.0 (worker_view c.fork_here-active.new.forks).mine (Ok c.fork_here-active.result) c.run_on-active.ensures.same
+    (λ d w. subst (StandsAt l d c.run_on-active.result.0) c.in-AtFork.is (c.run_on-active.ensures.stands d w)) c.fork_here-active.ensures.on
 
 pub returns-in-AtJoin-clause-goes : goal.returns-in-AtJoin-clause-goes
 returns-in-AtJoin-clause-goes g c =
     let l = c.args.lowered.now in
-    goes_for c.args.arena.now l (λ (d : Debt). StandsAt l d c.run_on-job.result.0 AtJoin) (λ (d : Debt). OwesStill l d c.args.job) c.args.job c.run_on-job.result.0 (worker_view c.join_here.new.forks).mine c.join_here.result c.run_on-job.ensures.same
-    (λ d w. subst (StandsAt l d c.run_on-job.result.0) c.in-AtJoin.is (c.run_on-job.ensures.stands d w)) c.join_here.ensures.goes
+    goes_for c.args.arena.now l (λ (d : Debt). StandsAt l d c.run_on-active.result.0 AtJoin) (λ (d : Debt). OwesStill l d c.args.active) c.args.active c.run_on-active.result.0 (worker_view c.join_here.new.forks).mine c.join_here.result c.run_on-active.ensures.same
+    (λ d w. subst (StandsAt l d c.run_on-active.result.0) c.in-AtJoin.is (c.run_on-active.ensures.stands d w)) c.join_here.ensures.goes

@@ -17,7 +17,7 @@ use Rattle.gib_frame.specs.declared.due.Due.{Due}
 use Rattle.gib_frame.specs.declared.due.Ending.{Ending}
 use Rattle.gib_frame.specs.declared.due.Ending.TheVariants as ending
 use Rattle.gib_frame.specs.Answers.{IsPaid, drawn_by}
-use Rattle.gib_pool.specs.declared.job.Job.{Job}
+use Rattle.gib_pool.specs.declared.active.ActiveTask.{ActiveTask}
 use Rattle.gib_pool.specs.declared.workspace.Workspace.{Workspace}
 use Rattle.gib_pool.specs.Turn.{Pays, Works}
 use Rattle.gib_pool.specs.Going.{Comes}
@@ -25,36 +25,36 @@ use Rattle.gib_pool.specs.Lent.{Lends}
 use Rattle.gib_pool.specs.Frames.{lent_of, AreHere}
 
 -- The state of its machine, with the tails of its task.
-abbrev pub job_state : Job → State
-job_state j = with_tails j.machine j.tails
+abbrev pub active_state : ActiveTask → State
+active_state j = with_tails j.machine j.tails
 
 -- What its frames were made for, the newest first.
-abbrev pub job_lent : Job → List (Option Due)
-job_lent j = lent_of j.frames.items
+abbrev pub active_lent : ActiveTask → List (Option Due)
+active_lent j = lent_of j.frames.items
 
 -- Its pass as a memory.
-abbrev pub job_memory : Job → Memory
-job_memory j = shown j.pass.seat.table_id (view j.pass)
+abbrev pub active_memory : ActiveTask → Memory
+active_memory j = shown j.pass.seat.table_id (view j.pass)
 
 -- It owes this, in what its pass knows.
-abbrev pub OwesStill : LoweredParts → Debt → Job → Type 0
-OwesStill l d j = Works l d (cells j.pass) (drawn_by j.pass) (job_state j) (job_lent j)
+abbrev pub OwesStill : LoweredParts → Debt → ActiveTask → Type 0
+OwesStill l d j = Works l d (cells j.pass) (drawn_by j.pass) (active_state j) (active_lent j)
 
 -- It owes this, and its machine stands.
-abbrev pub StandsAt : LoweredParts → Debt → Job → Turn → Type 0
-StandsAt l d j turn = Comes l d (job_lent j) (job_memory j) (job_state j) turn
+abbrev pub StandsAt : LoweredParts → Debt → ActiveTask → Turn → Type 0
+StandsAt l d j turn = Comes l d (active_lent j) (active_memory j) (active_state j) turn
 
 -- Its pass is of the arena, and no pass is split off it but those of its frames; its machine was made for the code; and there is room for a
 -- frame for each fork that is open or may nest yet.
-pub record Holds (a : Arena) (l : LoweredParts) (j : Job) : Type 0 where
+pub record Holds (a : Arena) (l : LoweredParts) (j : ActiveTask) : Type 0 where
   pub own : IsOf a j.pass
-  pub lends : Lends j.pass (job_lent j)
+  pub lends : Lends j.pass (active_lent j)
   pub made : j.machine.width ≡ widest l.code.functions
-  pub within : IsWithin (vec_capacity j.frames) (job_state j)
+  pub within : IsWithin (vec_capacity j.frames) (active_state j)
 
 -- So many of its newest forks may still be among those of its worker.
-abbrev pub IsHere : Job → List Due → Type 0
-IsHere j mine = AreHere (job_lent j) j.here mine
+abbrev pub IsHere : ActiveTask → List Due → Type 0
+IsHere j mine = AreHere (active_lent j) j.here mine
 
 -- The pass is the same one of an arena with as many chunks, and knows what it knew.
 pub record IsSamePass (old new : Pass) : Type 0 where
@@ -68,9 +68,9 @@ pub record IsBackWhole (a : Arena) (old new : Pass) : Type 0 where
   pub same : IsSamePass old new
   pub none_out : (view new).branch.out ≡ []
 
--- What a pass drew and the right sides of a job are paid for by what this debt may cost.
-abbrev pub PaysStill : LoweredParts → Debt → Job → Type 0
-PaysStill l d j = Pays l d.most (drawn_by j.pass) (job_lent j)
+-- What a pass drew and the right sides of a task are paid for by what this debt may cost.
+abbrev pub PaysStill : LoweredParts → Debt → ActiveTask → Type 0
+PaysStill l d j = Pays l d.most (drawn_by j.pass) (active_lent j)
 
 -- How a task ends, whichever debt of these it has: its answer is what was owed, or its pass saw that all chunks are drawn, and what was
 -- drawn is paid for.
@@ -80,18 +80,18 @@ Settles l Has ending.Full p = ((view p).holding.seen ≡ (view p).branch.limit) 
 Settles l Has ending.NotRun p = ⊥
 
 -- A task that stood goes on: the worker holds and owes what it should, its forks are these, and the pass is the same one.
-pub record IsOn (a : Arena) (l : LoweredParts) (Has : Debt → Type 0) (old : Job) (mine : List Due) (new : Job) : Type 0 where
+pub record IsOn (a : Arena) (l : LoweredParts) (Has : Debt → Type 0) (old : ActiveTask) (mine : List Due) (new : ActiveTask) : Type 0 where
   pub holds : Holds a l new
   pub owes : (d : Debt) → Has d → OwesStill l d new
   pub here : IsHere new mine
   pub same : IsSamePass old.pass new.pass
 
 -- A task has come to its end: its pass is back, and how it ended is settled.
-pub record IsOver (a : Arena) (l : LoweredParts) (Has : Debt → Type 0) (old : Job) (e : Ending) (p : Pass) : Type 0 where
+pub record IsOver (a : Arena) (l : LoweredParts) (Has : Debt → Type 0) (old : ActiveTask) (e : Ending) (p : Pass) : Type 0 where
   pub back : IsBackWhole a old.pass p
   pub settles : Settles l Has e p
 
 -- A task that stood goes on, or has come to its end.
-abbrev pub Goes : Arena → LoweredParts → (Debt → Type 0) → Job → List Due → Result Job (Ending × Pass × Workspace) → Type 0
+abbrev pub Goes : Arena → LoweredParts → (Debt → Type 0) → ActiveTask → List Due → Result ActiveTask (Ending × Pass × Workspace) → Type 0
 Goes a l Has old mine (Ok j) = IsOn a l Has old mine j
 Goes a l Has old mine (Err r) = IsOver a l Has old r.0 r.1

@@ -7,41 +7,41 @@ use gib_arena::Pass;
 use gib_frame::{Ending, Frame, wait_answer};
 use std::sync::{Condvar, Mutex, Wait};
 
-/// The desks of a run. A worker runs at a desk and gives it up where it waits, so that as many run at a time as there are desks.
+/// The permits of a run. A worker runs while it has one and gives it up where it waits, so that as many run at a time as there are permits.
 #[derive(Drop)]
-pub(crate) struct Desks {
+pub(crate) struct Permits {
     free: Mutex<u32>,
     freed: Condvar,
 }
 
-/// A desk that a worker has taken. It can't be dropped, and to leave it takes it: so it is left once.
-pub(crate) struct Desk<'a> {
-    of: &'a Desks,
+/// A permit that a worker has acquired. It can't be dropped, and to release it takes it: so it is released once.
+pub(crate) struct Permit<'a> {
+    of: &'a Permits,
 }
 
-impl Desks {
-    /// So many desks, all of them free.
-    pub(crate) fn new(count: u32) -> Desks {
-        Desks {
+impl Permits {
+    /// So many permits, all of them free.
+    pub(crate) fn new(count: u32) -> Permits {
+        Permits {
             free: Mutex::new(count),
             freed: Condvar::new(),
         }
     }
 
-    /// Takes a desk, and sleeps until one is free.
-    pub(crate) fn take<R: Wait>(&self, rt: &R) -> Desk<'_> {
+    /// Acquires a permit, and sleeps until one is free.
+    pub(crate) fn acquire<R: Wait>(&self, rt: &R) -> Permit<'_> {
         self.lose_one(rt);
-        Desk { of: self }
+        Permit { of: self }
     }
 
-    /// One free desk fewer. It sleeps until there is one.
+    /// One free permit fewer. It sleeps until there is one.
     fn lose_one<R: Wait>(&self, rt: &R) {
         let free = self.free.lock(rt);
         let mut free = self.freed.wait_while(rt, free, |free| *free == 0);
         *free -= 1;
     }
 
-    /// One free desk more: wakes one worker that sleeps until there is one.
+    /// One free permit more: wakes one worker that sleeps until there is one.
     fn gain_one<R: Wait>(&self, rt: &R) {
         let mut free = self.free.lock(rt);
         *free = free.saturating_add(1);
@@ -49,14 +49,14 @@ impl Desks {
     }
 }
 
-impl Desk<'_> {
-    /// Gives the desk up, to whoever sleeps until one is free.
-    pub(crate) fn leave<R: Wait>(self, rt: &R) {
-        let Desk { of } = self;
+impl Permit<'_> {
+    /// Releases the permit, to whoever sleeps until one is free.
+    pub(crate) fn release<R: Wait>(self, rt: &R) {
+        let Permit { of } = self;
         of.gain_one(rt);
     }
 
-    /// Waits for what comes to a frame. Meanwhile another worker may run at the desk.
+    /// Waits for what comes to a frame. Meanwhile another worker may run with the permit.
     pub(crate) fn wait_answer<R: Wait>(&mut self, rt: &R, frame: &Frame) -> (Ending, Pass)
         ensures { Delivers (frame_due frame.now) result.0 result.1 }
     {

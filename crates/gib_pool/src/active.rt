@@ -12,7 +12,7 @@ use gib_region::Tails;
 
 /// A task that a worker is at: its machine with its tails, and the pass over whose bytes it works.
 #[derive(Drop)]
-pub(crate) struct Job {
+pub(crate) struct ActiveTask {
     pub(crate) machine: Machine,
     pub(crate) tails: Tails,
     pub(crate) pass: Pass,
@@ -23,9 +23,9 @@ pub(crate) struct Job {
     pub(crate) here: usize,
 }
 
-impl Job {
+impl ActiveTask {
     /// A task at its begin, with no right sides: its machine and the room for its frames are those of the workspace.
-    pub(crate) fn make(workspace: Workspace, tails: Tails, pass: Pass) -> Job
+    pub(crate) fn make(workspace: Workspace, tails: Tails, pass: Pass) -> ActiveTask
         ensures machine { (result.machine ≡ workspace.machine) × (result.tails ≡ tails) }
         ensures pass { result.pass ≡ pass }
         ensures frames { (result.frames.items ≡ []) × (result.here ≡ 0) }
@@ -36,7 +36,7 @@ impl Job {
             mut frames,
         } = workspace;
         frames.clear();
-        Job {
+        ActiveTask {
             machine,
             tails,
             pass,

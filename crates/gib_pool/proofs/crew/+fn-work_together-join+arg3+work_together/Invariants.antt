@@ -1,8 +1,0 @@
-use Rattle.std.proofs.Common.{◌*◌, ◌+◌, length}
-use Rattle.gib_pool.proofs.crew.+fn-work_together-join+arg3+work_together.Given as goal
-
-abbrev pub decreases-join+arg3 : goal.decreases-join+arg3
-decreases-join+arg3 g l = 2 * length l.members.items + 2
-
-abbrev pub decreases-work_together : goal.decreases-work_together
-decreases-work_together g l = 2 * length l.members.items + 1
