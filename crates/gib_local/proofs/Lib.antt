@@ -53,3 +53,6 @@ pub mod DeclaredTables
 pub mod TextNames
 pub mod ScopeNames
 pub mod LineNames
+pub mod PutLines
+pub mod DatasBack
+pub mod NamedApart

@@ -26,3 +26,5 @@ pub mod Builds
 pub mod Bodied
 pub mod Knowing
 pub mod CountingSteps
+pub mod LocatedText
+pub mod LineTokens

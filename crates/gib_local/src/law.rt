@@ -15,6 +15,7 @@ ghost use Rattle.gib_local.specs.Building.{Around, Passed, Termed, Program, buil
 ghost use Rattle.gib_syntax.specs.Tree.{DataTree};
 ghost use Rattle.gib_local.specs.Printing.{Naming, Apart, local_of};
 ghost use Rattle.gib_local.specs.HasText.{HasCore, with_ends};
+ghost use Rattle.gib_local.specs.LocatedText.{numbered, given, datas_of, located_tree};
 ghost use Rattle.gib_local.specs.HasShape.{HasShape, AreShaped};
 ghost use Rattle.std.specs.List.{AllByRecursion};
 ghost use Rattle.gib_types.specs.Table.{Table, IsTable};
@@ -165,6 +166,30 @@ pub fn built_core_is_made()
         → SignaturesDeclared core → AllTypesDeclared core → AreNumbered core → AreNatural core → AreShaped core → AllByRecursion (IsFound core.table) core.offsets → AreBuilt core
         → build_core (local_of nm datas core) ≡ Ok (with_ends core) }
 {}
+
+/// The names that a printed text gives are told apart.
+#[tactic(auto, using(crate::proofs::NamedApart::numbered_apart))]
+pub fn given_names_are_apart()
+    ensures { (base : ℕ) → Apart (numbered base) }
+{}
+
+/// The data declarations of a table declare that table.
+pub fn declarations_are_the_tables()
+    ensures { (nm : Naming) (core : CoreTree) → IsTable core.table → table_of_program (declared (local_of nm (datas_of core.table) core)) ≡ core.table }
+{}
+
+/// The tree whose tokens are printed of a core makes that core, in which ends of values are told, where the core meets the build rules, is numbered in the
+/// order of the text, has no negative literal and no marks, fills a head without packed fields at once, and names declared types alone.
+pub fn located_core_is_made()
+    ensures text { (core : CoreTree) → HasCore given (datas_of core.table) core → build_core (located_tree core) ≡ Ok (with_ends core) }
+    ensures built { (core : CoreTree) → IsTable core.table → SignaturesDeclared core → AllTypesDeclared core → AreNumbered core → AreNatural core → AreShaped core
+        → AllByRecursion (IsFound core.table) core.offsets → AreBuilt core → build_core (located_tree core) ≡ Ok (with_ends core) }
+{
+    given_names_are_apart();
+    declarations_are_the_tables();
+    printed_core_is_made();
+    built_core_is_made();
+}
 
 /// A core has the text that it has with its marks.
 pub fn marks_have_no_text()

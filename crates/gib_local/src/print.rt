@@ -1,0 +1,556 @@
+//! Cores as LoCal text.
+//!
+//! Tokens are put from the last one to the first: each part goes before what follows it.
+
+ghost use Rattle.std.specs.Prelude.{◌≡◌, ◌<◌, ◌+◌, ◌++◌, ◌∷◌, [], None, Some, true, false, length, map, IfOk, OnOk};
+ghost use Rattle.std.specs.List.{AllByRecursion};
+ghost use Rattle.std.specs.Result.{IsErrOf};
+ghost use Rattle.gib_core.specs.Arena.{IsBindingBelow, IsBranchBelow, IsEnd, term_of, side_from, bind_from, binds_from, branches_from};
+ghost use Rattle.gib_core.specs.Parts.{IsFunctionInside, function_term, main_term, core_of};
+ghost use Rattle.gib_core.specs.Met.{result_place};
+ghost use Rattle.gib_types.specs.Table.{fields_at, merge};
+ghost use Rattle.gib_local.specs.Tree.{Made, PrimIn, ReachIn};
+ghost use Rattle.gib_syntax.specs.Typing.{operator_type};
+ghost use Rattle.gib_local.specs.Builds.{destination_of};
+ghost use Rattle.gib_local.specs.Building.{is_flat};
+ghost use Rattle.gib_local.specs.Printing.{ident, mark, named, operand, type_text, con_text, way, are_fields, side_place, side_text, branches_text, arms_or, text_of, behind_bind, function_text, result_mark};
+ghost use Rattle.gib_local.specs.Grammar.{spell_line, spell_arms, spell_between, spell_bound};
+ghost use Rattle.gib_local.specs.Texts.{spell_body, spell_function, spell_list, spell_main};
+ghost use Rattle.gib_local.specs.LineTokens.{put_in, put_room, put_bind, put_sides, put_branch, before_each, behind_all, main_text};
+ghost use Rattle.gib_local.specs.LocatedText.{given, located_text, located_tokens};
+
+use crate::destination::{Destination, is_flat};
+use crate::located_text::bytes_of;
+use crate::print_fault::PrintFault;
+use crate::put::{
+    merged, put_before, put_call_mark, put_constructor, put_mark, put_name, put_operand,
+    put_operands, put_operator, put_result_mark, put_side_mark, put_type, put_variables, put_way,
+    side_number,
+};
+use crate::put_declarations::{put_datas, put_offsets, put_parameter, put_parameters};
+use crate::spelled::Spelled;
+use gib_base::token::{Sign, Token};
+use gib_base::{Memory, Name, Texts};
+use gib_core::{
+    Access, Atom, Binding, BoundTerm, Branch, Core, CoreFunction, CoreMain, Kind, Node, TermId,
+    Terms, Variable,
+};
+use gib_syntax::Operator;
+use gib_types::{ConId, Ty, TypeTable};
+use std::alloc::Global;
+
+/// What terms are printed of.
+#[derive(Clone, Copy)]
+struct Printed<'a> {
+    alloc: Global,
+    types: &'a TypeTable,
+    terms: &'a Terms,
+}
+
+/// Where a value is put: the destination, and the number by which its location is named.
+#[derive(Drop)]
+struct Target {
+    destination: Destination,
+    at: u32,
+}
+
+/// The end of a case that no branch is left of.
+fn put_no_branch(out: &mut Spelled) -> Result<(), Memory>
+    ensures { OnOk result (out.new ≡ spell_arms (arms_or None) out.old) }
+{
+    out.put_sign(Sign::False)?;
+    out.put_sign(Sign::Give)?;
+    out.put_sign(Sign::Arrow)?;
+    out.put(Token::Constructor(Name(0)))
+}
+
+/// The destination behind a binding.
+fn pass(from: &Printed, destination: &mut Destination, binding: Binding) -> Result<(), Memory>
+    ensures { OnOk result (destination_of destination.new ≡ behind_bind (destination_of destination.old) (bind_from (term_of from.now.terms.now) binding)) }
+{
+    match binding {
+        Binding::Past { head, constructor } => {
+            *destination = Destination::Open {
+                head,
+                constructor,
+                standing: Vec::new(from.alloc),
+            };
+            Ok(())
+        }
+        Binding::One(side) => destination.stand(side.kind, side.variable),
+        Binding::Par { left, right, .. } => {
+            destination.stand(left.kind, left.variable)?;
+            destination.stand(right.kind, right.variable)
+        }
+        Binding::Prim { .. } => Ok(()),
+        Binding::Reach { .. } => Ok(()),
+    }
+}
+
+/// A copy of a destination goes behind others.
+fn push_copy(found: &mut Vec<Destination>, destination: &Destination) -> Result<(), Memory>
+    ensures items { OnOk result (map destination_of found.new.items ≡ map destination_of found.old.items ++ destination_of destination.now ∷ []) }
+    ensures count { OnOk result (length found.new.items ≡ length found.old.items + 1) }
+{
+    let copy = destination.copy()?;
+    found.push(copy)?;
+    Ok(())
+}
+
+/// The destination before each of some bindings; the one given is then that behind them all.
+fn before_each(
+    from: &Printed,
+    destination: &mut Destination,
+    bindings: &[Binding],
+) -> Result<Vec<Destination>, Memory>
+    ensures each { IfOk result (λ found. map destination_of found.items ≡ before_each (destination_of destination.old) (binds_from (term_of from.now.terms.now) bindings.now)) }
+    ensures count { IfOk result (λ found. length found.items ≡ length bindings.now) }
+    ensures behind { OnOk result (destination_of destination.new ≡ behind_all (destination_of destination.old) (binds_from (term_of from.now.terms.now) bindings.now)) }
+{
+    let mut found = Vec::new(from.alloc);
+    let mut rest = bindings;
+    'bindings: while let [binding, after @ ..] = rest {
+        push_copy(&mut found, destination)?;
+        pass(from, destination, *binding)?;
+        rest = after;
+    }
+    Ok(found)
+}
+
+/// The room of a head, before the rest of its line; that of a constructor without packed fields has no text of its own.
+fn put_room(
+    types: &TypeTable,
+    at: u32,
+    head: Variable,
+    constructor: ConId,
+    out: &mut Spelled,
+) -> Result<(), Memory>
+    ensures { OnOk result (out.new ≡ put_room (is_flat types.now constructor) given at head (con_text types.now constructor) out.old) }
+{
+    if is_flat(types, constructor) {
+        return Ok(());
+    }
+    out.put_sign(Sign::In)?;
+    put_constructor(types, constructor, out)?;
+    out.put_sign(Sign::Plus)?;
+    out.put_location(at)?;
+    out.put_sign(Sign::Equals)?;
+    out.put_location(head.0)?;
+    out.put_sign(Sign::LetLocation)
+}
+
+/// An operation.
+#[derive(Clone, Copy)]
+struct Operation {
+    variable: Variable,
+    operator: Operator,
+    left: Atom,
+    right: Atom,
+}
+
+/// An operation, before the rest of its line.
+fn put_operation(types: &TypeTable, operation: Operation, out: &mut Spelled) -> Result<(), Memory>
+    ensures { OnOk result (out.new ≡ put_in (PrimIn (named given operation.variable) (type_text types.now (operator_type operation.operator)) (operand given operation.left) operation.operator (operand given operation.right)) out.old) }
+{
+    out.put_sign(Sign::In)?;
+    out.put_sign(Sign::Close)?;
+    put_operand(operation.right, out)?;
+    put_operator(operation.operator, out)?;
+    put_operand(operation.left, out)?;
+    out.put_sign(Sign::Open)?;
+    out.put_sign(Sign::Equals)?;
+    put_type(types, operation.operator.result(), out)?;
+    out.put_sign(Sign::Colon)?;
+    out.put_variable(operation.variable)?;
+    out.put_sign(Sign::Let)
+}
+
+/// How a field is reached, before the rest of its line.
+fn put_reach(field: Variable, access: Access, out: &mut Spelled) -> Result<(), Memory>
+    ensures { OnOk result (out.new ≡ put_in (ReachIn (named given field) (way given access)) out.old) }
+{
+    out.put_sign(Sign::In)?;
+    put_way(access, out)?;
+    out.put_sign(Sign::By)?;
+    out.put_variable(field)?;
+    out.put_sign(Sign::Reach)
+}
+
+/// Between two sides: the location of the right one's variable is behind the left one's.
+fn put_between(right: Variable, left: Variable, out: &mut Spelled) -> Result<(), Memory>
+    ensures { OnOk result (out.new ≡ spell_between (Some (ident (given.location right.0), ident (given.variable left.0))) out.old) }
+{
+    out.put_sign(Sign::In)?;
+    out.put_variable(left)?;
+    out.put_sign(Sign::After)?;
+    out.put_sign(Sign::Equals)?;
+    out.put_location(right.0)?;
+    out.put_sign(Sign::LetLocation)
+}
+
+/// Whether both sides are fields.
+fn are_fields(left: Kind, right: Kind) -> bool
+    ensures { result ≡ are_fields left right }
+{
+    match (left, right) {
+        (Kind::Here, Kind::Here) => true,
+        _ => false,
+    }
+}
+
+/// Where a side's term is put.
+fn side_target(kind: Kind, at: u32) -> Target
+    ensures place { destination_of result.destination ≡ side_place kind }
+    ensures at { result.at ≡ at }
+{
+    let destination = match kind {
+        Kind::Here => Destination::Empty,
+        Kind::Region => Destination::Empty,
+        Kind::Scalar => Destination::Nowhere,
+    };
+    Target { destination, at }
+}
+
+/// A head is filled.
+fn put_write(
+    from: &Printed,
+    at: u32,
+    constructor: ConId,
+    scalars: &[Atom],
+    packed: &[Atom],
+    out: &mut Spelled,
+) -> Result<(), Memory>
+    ensures { OnOk result (out.new ≡ spell_line (Made (con_text from.now.types.now constructor) (mark given at) (map (operand given) (merge (fields_at from.now.types.now constructor.0) scalars.now packed.now))) out.old) }
+{
+    let fields = merged(from.alloc, from.types.fields(constructor), scalars, packed)?;
+    put_operands(&fields, out)?;
+    put_mark(at, out)?;
+    put_constructor(from.types, constructor, out)
+}
+
+/// A term at a target. This recurses as deep as terms are nested in bindings and branches, and not along a line.
+#[cycle(terms)]
+fn put_term(from: &Printed, target: &Target, id: TermId, out: &mut Spelled) -> Result<(), Memory>
+    requires inside { id.0 < length from.now.terms.now }
+    ensures { OnOk result (out.new ≡ spell_line (text_of given from.now.types.now (term_of from.now.terms.now id.0) (destination_of target.now.destination) target.now.at) out.old) }
+{
+    let (bindings, last) = from.terms.line(from.alloc, id)?;
+    let mut destination = target.destination.copy()?;
+    let befores = before_each(from, &mut destination, &bindings)?;
+    let behind = Target {
+        destination,
+        at: target.at,
+    };
+    put_end(from, &behind, last, out)?;
+    let mut i = bindings.len();
+    'bindings: while i > 0 {
+        i -= 1;
+        put_binding(from, &befores[i], target.at, id, bindings[i], out)?;
+    }
+    Ok(())
+}
+
+/// The end of a line.
+#[cycle(terms)]
+fn put_end(from: &Printed, target: &Target, id: TermId, out: &mut Spelled) -> Result<(), Memory>
+    requires inside { id.0 < length from.now.terms.now }
+    requires last { IsEnd (term_of from.now.terms.now id.0) }
+    ensures { OnOk result (out.new ≡ spell_line (text_of given from.now.types.now (term_of from.now.terms.now id.0) (destination_of target.now.destination) target.now.at) out.old) }
+{
+    match from.terms.node(id) {
+        Node::Then(_, _) => unreachable!(),
+        Node::Write {
+            constructor,
+            scalars,
+            packed,
+            ..
+        } => put_write(from, target.at, *constructor, scalars, packed, out),
+        Node::Point(atom) => {
+            put_mark(target.at, out)?;
+            put_name(*atom, out)?;
+            out.put_sign(Sign::Point)
+        }
+        Node::Call(name, arguments) => {
+            put_call_mark(&target.destination, target.at, out)?;
+            put_operands(arguments, out)?;
+            out.put(Token::Variable(*name))
+        }
+        Node::Give(atom) => {
+            put_operand(*atom, out)?;
+            out.put_sign(Sign::Give)
+        }
+        Node::Case { subject, branches } => {
+            out.put_sign(Sign::CloseBrace)?;
+            put_branches(from, target, id, branches, out)?;
+            out.put_sign(Sign::OpenBrace)?;
+            out.put_sign(Sign::Of)?;
+            put_name(*subject, out)?;
+            out.put_sign(Sign::Case)
+        }
+        Node::If {
+            condition,
+            then_part,
+            else_part,
+        } => {
+            put_term(from, target, *else_part, out)?;
+            out.put_sign(Sign::Else)?;
+            put_term(from, target, *then_part, out)?;
+            out.put_sign(Sign::Then)?;
+            put_operand(*condition, out)?;
+            out.put_sign(Sign::If)
+        }
+    }
+}
+
+/// A binding of the term of a number, whose terms stand below it, with the destination before it.
+#[cycle(terms)]
+fn put_binding(
+    from: &Printed,
+    before: &Destination,
+    at: u32,
+    parent: TermId,
+    binding: Binding,
+    out: &mut Spelled,
+) -> Result<(), Memory>
+    requires inside { parent.0 < length from.now.terms.now }
+    requires below { IsBindingBelow parent.0 binding }
+    ensures { OnOk result (out.new ≡ put_bind given from.now.types.now (bind_from (term_of from.now.terms.now) binding) (destination_of before.now) at out.old) }
+{
+    match binding {
+        Binding::Past { head, constructor } => put_room(from.types, at, head, constructor, out),
+        Binding::One(side) => {
+            out.put_sign(Sign::In)?;
+            put_side(
+                from,
+                side,
+                side_number(before, side.kind, side.variable),
+                out,
+            )?;
+            out.put_sign(Sign::Let)?;
+            put_before(before, side.kind, side.variable, out)
+        }
+        Binding::Par { left, right, .. } => {
+            if are_fields(left.kind, right.kind) {
+                put_fields(from, before, parent, left, right, out)
+            } else {
+                put_sides(from, before, parent, left, right, out)
+            }
+        }
+        Binding::Prim {
+            variable,
+            operator,
+            left,
+            right,
+        } => {
+            let operation = Operation {
+                variable,
+                operator,
+                left,
+                right,
+            };
+            put_operation(from.types, operation, out)
+        }
+        Binding::Reach { field, access } => put_reach(field, access, out),
+    }
+}
+
+/// Two sides that are fields, of the term of a number.
+#[cycle(terms)]
+fn put_fields(
+    from: &Printed,
+    before: &Destination,
+    parent: TermId,
+    left: BoundTerm,
+    right: BoundTerm,
+    out: &mut Spelled,
+) -> Result<(), Memory>
+    requires inside { parent.0 < length from.now.terms.now }
+    requires below { (left.term.0 < parent.0) × (right.term.0 < parent.0) }
+    ensures { OnOk result (out.new ≡ put_sides true given (destination_of before.now) left.kind left.variable.0 right.kind right.variable.0 (side_text given from.now.types.now (side_from (term_of from.now.terms.now) left)) (side_text given from.now.types.now (side_from (term_of from.now.terms.now) right)) out.old) }
+{
+    out.put_sign(Sign::In)?;
+    put_side(from, right, right.variable.0, out)?;
+    put_between(right.variable, left.variable, out)?;
+    out.put_sign(Sign::And)?;
+    put_side(
+        from,
+        left,
+        side_number(before, left.kind, left.variable),
+        out,
+    )?;
+    out.put_sign(Sign::Par)?;
+    out.put_sign(Sign::Let)?;
+    put_before(before, left.kind, left.variable, out)
+}
+
+/// Two other sides of the term of a number.
+#[cycle(terms)]
+fn put_sides(
+    from: &Printed,
+    before: &Destination,
+    parent: TermId,
+    left: BoundTerm,
+    right: BoundTerm,
+    out: &mut Spelled,
+) -> Result<(), Memory>
+    requires inside { parent.0 < length from.now.terms.now }
+    requires below { (left.term.0 < parent.0) × (right.term.0 < parent.0) }
+    ensures { OnOk result (out.new ≡ put_sides false given (destination_of before.now) left.kind left.variable.0 right.kind right.variable.0 (side_text given from.now.types.now (side_from (term_of from.now.terms.now) left)) (side_text given from.now.types.now (side_from (term_of from.now.terms.now) right)) out.old) }
+{
+    out.put_sign(Sign::In)?;
+    put_side(
+        from,
+        right,
+        side_number(before, right.kind, right.variable),
+        out,
+    )?;
+    out.put_sign(Sign::And)?;
+    put_side(
+        from,
+        left,
+        side_number(before, left.kind, left.variable),
+        out,
+    )?;
+    out.put_sign(Sign::Par)?;
+    out.put_sign(Sign::Let)?;
+    put_before(before, right.kind, right.variable, out)?;
+    put_before(before, left.kind, left.variable, out)
+}
+
+/// A variable with its type, its place, and the term that it is bound to.
+#[cycle(terms)]
+fn put_side(from: &Printed, side: BoundTerm, at: u32, out: &mut Spelled) -> Result<(), Memory>
+    requires inside { side.term.0 < length from.now.terms.now }
+    ensures { OnOk result (out.new ≡ spell_bound (side_text given from.now.types.now (side_from (term_of from.now.terms.now) side) at) out.old) }
+{
+    put_term(from, &side_target(side.kind, at), side.term, out)?;
+    out.put_sign(Sign::Equals)?;
+    put_side_mark(side.kind, at, out)?;
+    put_type(from.types, side.ty, out)?;
+    out.put_sign(Sign::Colon)?;
+    out.put_variable(side.variable)
+}
+
+/// A branch.
+#[cycle(terms)]
+fn put_branch(
+    from: &Printed,
+    target: &Target,
+    branch: &Branch,
+    out: &mut Spelled,
+) -> Result<(), Memory>
+    requires inside { branch.now.term.0 < length from.now.terms.now }
+    ensures { OnOk result (out.new ≡ put_branch given from.now.types.now (term_of from.now.terms.now) branch.now (destination_of target.now.destination) target.now.at out.old) }
+{
+    put_term(from, target, branch.term, out)?;
+    out.put_sign(Sign::Arrow)?;
+    put_variables(&branch.variables, out)?;
+    put_constructor(from.types, branch.constructor, out)
+}
+
+/// The branches of the case of a number, whose terms stand below it, with a semicolon between two.
+#[cycle(terms)]
+fn put_branches(
+    from: &Printed,
+    target: &Target,
+    parent: TermId,
+    branches: &[Branch],
+    out: &mut Spelled,
+) -> Result<(), Memory>
+    requires inside { parent.0 < length from.now.terms.now }
+    requires below { AllByRecursion (IsBranchBelow parent.0) branches.now }
+    ensures { OnOk result (out.new ≡ spell_arms (arms_or (branches_text given from.now.types.now (branches_from (term_of from.now.terms.now) branches.now) (destination_of target.now.destination) target.now.at)) out.old) }
+{
+    if branches.is_empty() {
+        return put_no_branch(out);
+    }
+    let mut i = branches.len();
+    'branches: while i > 1 {
+        i -= 1;
+        put_branch(from, target, &branches[i], out)?;
+        out.put_sign(Sign::Semicolon)?;
+    }
+    put_branch(from, target, &branches[0], out)
+}
+
+/// The type of a result, its place, and the body.
+fn put_body(from: &Printed, ty: Ty, body: TermId, out: &mut Spelled) -> Result<(), Memory>
+    requires inside { body.0 < length from.now.terms.now }
+    ensures { OnOk result (out.new ≡ spell_body (type_text from.now.types.now ty) (result_mark given ty) (text_of given from.now.types.now (term_of from.now.terms.now body.0) (result_place ty) 0) out.old) }
+{
+    let target = Target {
+        destination: Destination::of_result(ty),
+        at: 0,
+    };
+    out.put_sign(Sign::Semicolon)?;
+    put_term(from, &target, body, out)?;
+    out.put_sign(Sign::Equals)?;
+    put_result_mark(ty, out)?;
+    put_type(from.types, ty, out)?;
+    out.put_sign(Sign::Colon)
+}
+
+fn put_function(from: &Printed, function: &CoreFunction, out: &mut Spelled) -> Result<(), Memory>
+    requires inside { function.now.body.0 < length from.now.terms.now }
+    ensures { OnOk result (out.new ≡ spell_function (function_text given from.now.types.now (function_term (term_of from.now.terms.now) function.now)) out.old) }
+{
+    put_body(from, function.result, function.body, out)?;
+    put_parameters(from.types, &function.parameters, out)?;
+    out.put(Token::Variable(function.name))?;
+    out.put_sign(Sign::Fun)
+}
+
+fn put_functions(
+    from: &Printed,
+    functions: &[CoreFunction],
+    out: &mut Spelled,
+) -> Result<(), Memory>
+    requires inside { AllByRecursion (IsFunctionInside (length from.now.terms.now)) functions.now }
+    ensures { OnOk result (out.new ≡ spell_list spell_function (map (function_text given from.now.types.now) (map (function_term (term_of from.now.terms.now)) functions.now)) out.old) }
+{
+    let mut i = functions.len();
+    'functions: while i > 0 {
+        i -= 1;
+        put_function(from, &functions[i], out)?;
+    }
+    Ok(())
+}
+
+fn put_main(from: &Printed, main: CoreMain, out: &mut Spelled) -> Result<(), Memory>
+    requires inside { main.body.0 < length from.now.terms.now }
+    ensures { OnOk result (out.new ≡ spell_main (main_text given from.now.types.now (main_term (term_of from.now.terms.now) main)) out.old) }
+{
+    put_body(from, main.result, main.body, out)?;
+    put_parameter(from.types, Variable(0), main.parameter, out)?;
+    out.put_sign(Sign::Main)
+}
+
+/// The tokens of a core's text.
+fn tokens_of(alloc: Global, core: &Core) -> Result<Vec<Token>, Memory>
+    ensures { IfOk result (λ tokens. tokens.items ≡ located_tokens (core_of core.now)) }
+{
+    let from = Printed {
+        alloc,
+        types: core.types(),
+        terms: core.terms(),
+    };
+    let mut out = Spelled::new(alloc);
+    put_main(&from, core.main(), &mut out)?;
+    put_functions(&from, core.functions(), &mut out)?;
+    put_offsets(core.types(), core.offsets(), &mut out)?;
+    put_datas(core.types(), &mut out)?;
+    Ok(out.into_tokens())
+}
+
+/// The LoCal text of a core, with the names of its program.
+///
+/// # Errors
+///
+/// `NoText` where one of these names is none of LoCal text; `Memory`.
+pub fn print_located(alloc: Global, core: &Core, names: &Texts) -> Result<Vec<u8>, PrintFault>
+    ensures text { IfOk result (λ out. located_text names.now.long (core_of core.now) ≡ Some out.items) }
+    ensures none { IsErrOf result PrintFault.NoText → located_text names.now.long (core_of core.now) ≡ None }
+{
+    let tokens = tokens_of(alloc, core)?;
+    bytes_of(alloc, &tokens, names)
+}
