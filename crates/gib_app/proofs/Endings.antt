@@ -1,6 +1,6 @@
 -- From the stop of a call to its answer, and from the status that is due to the one that is answered.
 use Rattle.gib_base.specs.Texts.{TextsView, plain_texts}
-use Rattle.std.proofs.Common.{◌≡◌, ◌∙◌, refl, ap, ap₂, ℕ, List, [], ◌∷◌, length, Option, Some, None, MatchOption, ◌⊎◌, inl, inr, subst, sym, arith, ◌≤◌, ◌<◌, ◌++◌, Bool, true, false, subst₂, Ok, Result}
+use Rattle.std.proofs.Common.{◌≡◌, ◌∙◌, refl, ap, ap₂, ℕ, List, [], ◌∷◌, length, Option, Some, None, MatchOption, ◌⊎◌, inl, inr, subst, sym, arith, ◌++◌, Bool, true, false, subst₂, Ok, Result}
 use Rattle.gib_base.specs.Lexed.{Lexed, IsLexed, IsLexedIn}
 use Rattle.gib_base.specs.declared.token.Dialect.{Dialect}
 use Rattle.gib_base.specs.declared.token.Dialect.TheVariants as dialect
@@ -36,29 +36,31 @@ use Rattle.gib_app.specs.declared.status.Status.TheVariants as status
 use Rattle.gib_app.specs.declared.stop.Stop.{Stop}
 use Rattle.gib_app.specs.declared.stop.Stop.TheVariants.{Usage, Source, Unread, Input, NoValue, Memory, Unwritten, Unput}
 use Rattle.gib_app.specs.declared.plan.Job.{Job}
-use Rattle.gib_app.specs.declared.plan.Job.TheVariants.{Run, Plain, Check, Core, Code, Pack, Show, Gen, Trace, Replay, Local}
+use Rattle.gib_app.specs.declared.plan.Format.{Format}
+use Rattle.gib_app.specs.declared.plan.Format.TheVariants.{Packed, Packable, Shown, Journaled}
 use Rattle.gib_app.specs.declared.plan.Options.{Options}
 use Rattle.gib_app.specs.declared.made.Reason.{Reason}
 use Rattle.gib_app.specs.declared.made.Reason.TheVariants.{Meant, Full, Long}
+use Rattle.gib_app.specs.Rows.{Way, Plainly, ForFiles, ForSummary, ForJournal, ForPlaces, Row, Says, Evaluates, PacksValue, ShowsFile, FollowsJournal, row}
 use Rattle.gib_app.specs.Plan.{Document, Write, Plan, Files, bytes_in, Contents}
-use Rattle.gib_app.specs.Writes.{at_reading, with_write, writes_of, job_writes, IsStuckIn, IsNamedIn}
+use Rattle.gib_app.specs.Writes.{at_reading, with_write, writes_of, IsStuckIn, IsNamedIn}
 use Rattle.gib_app.specs.Words.{asked}
 use Rattle.gib_app.specs.Running.{IsCopy, IsInput, IsProgram, IsLocated, IsProgramIn, IsSourceIn, IsNoProgramIn, Program, IsOutput, IsSummary, IsPackedResult, IsLongResult, MeansNone, IsShownValue}
 use Rattle.gib_app.specs.Replaying.{journal_in}
 use Rattle.gib_app.specs.Packing.{IsPackedBy}
 use Rattle.gib_app.specs.SourceFaults.{IsSourceFaultIn}
-use Rattle.gib_app.specs.Formats.{inputs_of, dialect_of, Accepts, Refuses}
+use Rattle.gib_app.specs.Formats.{format_by, format_of, inputs_of, dialect_of, Accepts, Refuses}
 use Rattle.gib_app.specs.Formats.{Input as PlanInput}
-use Rattle.gib_app.specs.Jobs.{End, Prints, Does, DoesPack, DoesAll, PacksResult, without_image}
+use Rattle.gib_app.specs.Jobs.{End, Prints, Does, DoesBy, DoesPack, IsSaid, PacksResult, packs_of, without_image}
 use Rattle.gib_app.specs.Jobs.{NoValue as Without}
 use Rattle.gib_app.specs.Causes.{AreFurther, AreGiven, AreReached, AreUnread, first_of, further_of, OnProgram, OnSource, OnBoth, OnReached, IsMade, HasNoValue, EndsWithout, AsksSource, AsksProgram, IsPrinted, IsPrintedInPart, IsUnwritten, FailsToRead, FailsToWrite}
 use Rattle.gib_app.specs.Lines.{line}
-use Rattle.gib_app.specs.Ending.{IsEnding, ends_as, HasText, AreFurtherTold, AreTold, IsMissing, FirstWritten, DueOfSource, DueOfFiles, DueOfFirst, DueMissing, DueRefused, RefusesFirst, DueWithout, TakesAll, IsDue, AsksRun, IsDueOrScarce}
+use Rattle.gib_app.specs.Ending.{IsEnding, ends_as, ends_in, HasText, AreFurtherTold, AreTold, IsMissing, FirstWritten, DueOfSource, DueOfFiles, DueOfFirst, DueMissing, DueRefused, RefusesFirst, DueWithout, TakesAll, IsDue, AsksRun, IsDueOrScarce}
 use Rattle.gib_app.specs.Stopping.{answer_for}
 use Rattle.gib_app.specs.Performing.{IsCallStop}
 use Rattle.gib_app.proofs.Performing.{map_both}
 use Rattle.gib_app.proofs.Replays.{OneValue, gives_or_stops, some_or_none, one_reason, one_why, shown_or_valueless, shown_or_full, one_valueless, valueless_or_full}
-use Rattle.gib_app.proofs.Doing.{does_accepts, full_runs}
+use Rattle.gib_app.proofs.Doing.{AcceptsBy, RunsACore, does_accepts, full_runs, row_accepts}
 use Rattle.gib_app.proofs.Fitting.{valueless_packs}
 use Rattle.gib_app.proofs.Making.{reached_all}
 
@@ -282,21 +284,18 @@ module _ (options : Options) (p : Program) (names : TextsView) (a b : Contents) 
   packed_again : ((v : Datum) × IsInput p.tree names v a.second) → (v : Datum) × IsInput p.tree names v b.second
   packed_again h = let P : List ℕ → Type 0 = λ bytes. (v : Datum) × IsInput p.tree names v bytes in subst P (sym second) h
 
-  accepted_again : (job : Job) → Accepts job options p names a → Accepts job options p names b
-  accepted_again Run h = packed_again h
-  accepted_again Plain h = packed_again h
-  accepted_again Check h = h
-  accepted_again Core h = h
-  accepted_again Code h = h
-  accepted_again Pack h = let P : List ℕ → Type 0 = λ bytes. (packed : List ℕ) × IsPackedBy options.repacks options.first_version p.tree names bytes packed in subst P (sym second) h
-  accepted_again Show h = let P : List ℕ → Type 0 = λ bytes. (v : Datum) × IsShownValue p.tree names options.skips v bytes in subst P (sym second) h
-  accepted_again Gen h = packed_again h
-  accepted_again Trace h = packed_again h
-  accepted_again Replay h =
+  accepted_by : (o : Option Format) → AcceptsBy o options p names a → AcceptsBy o options p names b
+  accepted_by None h = h
+  accepted_by (Some Packed) h = packed_again h
+  accepted_by (Some Packable) h = let P : List ℕ → Type 0 = λ bytes. (packed : List ℕ) × IsPackedBy options.repacks options.first_version p.tree names bytes packed in subst P (sym second) h
+  accepted_by (Some Shown) h = let P : List ℕ → Type 0 = λ bytes. (v : Datum) × IsShownValue p.tree names options.skips v bytes in subst P (sym second) h
+  accepted_by (Some Journaled) h =
       let same : b ≡ a = same_parts a b second (behind (packed_again (h.value, h.is_input))) in
-      let P : Contents → Type 0 = Accepts Replay options p names in
+      let P : Contents → Type 0 = AcceptsBy (Some Journaled) options p names in
       subst P (sym same) h
-  accepted_again Local h = packed_again h
+
+  accepted_again : (job : Job) → Accepts job options p names a → Accepts job options p names b
+  accepted_again job h = accepted_by (format_of job) h
 
 -- what is due is accepted, and what was read is not
 fit_or_unfit : Laws → (tells : Bool) (before now : ShelfView) (r : Plan) (P : Program → TextsView → Contents → Type 0) →
@@ -400,6 +399,13 @@ sums_well laws p number levels depth input output meant o d =
     let S : Datum → Type 0 = λ x. run p depth x ≡ Stops meant in
     gives_or_stops (run p depth o.value) o.result meant o.means (subst S v d.means)
 
+said_well : Laws → (way : Way) (p : ProgramTree) (names : TextsView) (o : Options) (input text : List ℕ) (meant : Meaning) → IsSaid way p names o input text → MeansNone p names o.depth input meant → ⊥
+said_well laws Plainly p names o input text meant h k = runs_well laws p names o.depth input text meant h k
+said_well laws ForFiles p names o input text meant h k = runs_well laws p names o.depth input text meant h k
+said_well laws ForSummary p names o input text meant h k = sums_well laws p o.number o.levels o.depth input text meant h k
+said_well laws ForJournal p names o input text meant h k = runs_well laws p names o.depth input text meant h k
+said_well laws ForPlaces p names o input text meant h k = runs_well laws p names o.depth input text meant h k
+
 -- a program means none for one reason
 pub one_meaning : Laws → (p : ProgramTree) (names : TextsView) (depth : ℕ) (input : List ℕ) (x y : Meaning) → MeansNone p names depth input x → MeansNone p names depth input y → x ≡ y
 one_meaning laws p names depth input x y a b =
@@ -433,19 +439,16 @@ packed_or_long laws p names depth input bytes a b =
 
 -- where a text is due with a packed file that is asked for, that file is not too long
 packs_or_long : Laws → (job : Job) (o : Options) (p : Program) (names : TextsView) (given : Contents) (text : List ℕ) (packed file : Option (List ℕ)) → DoesPack job o p names given packed (Prints text) → Does job o p names given file (Without Long) → ⊥
-packs_or_long laws Run o p names given text packed file h k =
-    let d = subst (λ (b : Bool). PacksResult b p.tree names o.depth given.second packed (Prints text)) k.2 h in
-    packed_or_long laws p.tree names o.depth given.second d.0 d.2 k.1
-packs_or_long laws Plain o p names given text packed file h k = k
-packs_or_long laws Check o p names given text packed file h k = k
-packs_or_long laws Core o p names given text packed file h k = k
-packs_or_long laws Code o p names given text packed file h k = k
-packs_or_long laws Pack o p names given text packed file h k = k
-packs_or_long laws Show o p names given text packed file h k = k
-packs_or_long laws Gen o p names given text packed file h k = k
-packs_or_long laws Trace o p names given text packed file h k = k
-packs_or_long laws Replay o p names given text packed file h k = k
-packs_or_long laws Local o p names given text packed file h k = k
+packs_or_long laws job o p names given text packed file h k = go (row job) h k
+  where
+    go : (r : Row) → PacksResult (packs_of r o) p.tree names o.depth given.second packed (Prints text) → DoesBy r o p names given file (Without Long) → ⊥
+    go (Says said) h k = k
+    go (Evaluates way) h k =
+        let d = subst (λ (b : Bool). PacksResult b p.tree names o.depth given.second packed (Prints text)) k.2 h in
+        packed_or_long laws p.tree names o.depth given.second d.0 d.2 k.1
+    go PacksValue h k = k
+    go ShowsFile h k = k
+    go FollowsJournal h k = k
 
 -- a packed file is made where there is a text
 packed_text : (job : Job) (o : Options) (p : Program) (names : TextsView) (given : Contents) (bytes : List ℕ) (e : End) → DoesPack job o p names given (Some bytes) e → (text : List ℕ) × (e ≡ Prints text)
@@ -453,124 +456,85 @@ packed_text job o p names given bytes (Prints text) h = (text, refl)
 packed_text job o p names given bytes (Without reason) h = absurd (some_or_none bytes (valueless_packs job o p names given (Some bytes) reason h))
 
 -- without chunks no file is made
-full_no_file : (job : Job) (o : Options) (p : Program) (names : TextsView) (given : Contents) (bytes : List ℕ) → Does job o p names given (Some bytes) (Without Full) → ⊥
-full_no_file Run o p names given bytes h = some_or_none bytes h.0
-full_no_file Plain o p names given bytes h = h
-full_no_file Check o p names given bytes h = h
-full_no_file Core o p names given bytes h = h
-full_no_file Code o p names given bytes h = h
-full_no_file Pack o p names given bytes h = h
-full_no_file Show o p names given bytes h = h
-full_no_file Gen o p names given bytes h = some_or_none bytes h.0
-full_no_file Trace o p names given bytes h = some_or_none bytes h.0
-full_no_file Replay o p names given bytes h = some_or_none bytes h.0
-full_no_file Local o p names given bytes h = some_or_none bytes h.0
+full_no_file : (r : Row) (o : Options) (p : Program) (names : TextsView) (given : Contents) (bytes : List ℕ) → DoesBy r o p names given (Some bytes) (Without Full) → ⊥
+full_no_file (Says said) o p names given bytes h = h
+full_no_file (Evaluates way) o p names given bytes h = some_or_none bytes h.0
+full_no_file PacksValue o p names given bytes h = h
+full_no_file ShowsFile o p names given bytes h = h
+full_no_file FollowsJournal o p names given bytes h = some_or_none bytes h.0
 
 -- how a job ends and how it is due to end: of text, a reason without a value and want of chunks only one
 
 module _ (laws : Laws) (o : Options) (p : Program) (names : TextsView) (given : Contents) where
-  text_or_none : (job : Job) (text : List ℕ) (x : Why) (file other : Option (List ℕ)) → Does (ends_as job) (without_image o) p names given file (Prints text) → Does job o p names given other (Without (Meant x)) → ⊥
-  text_or_none Run text x file other h k = runs_well laws p.tree names o.depth given.second text (means_why x) h.1 k.1
-  text_or_none Plain text x file other h k = runs_well laws p.tree names o.depth given.second text (means_why x) h.1 k.1
-  text_or_none Check text x file other h k = k
-  text_or_none Core text x file other h k = k
-  text_or_none Code text x file other h k = k
-  text_or_none Pack text x file other h k = k
-  text_or_none Show text x file other h k = k
-  text_or_none Gen text x file other h k = sums_well laws p.tree o.number o.levels o.depth given.second text (means_why x) h.1 k.1
-  text_or_none Trace text x file other h k = runs_well laws p.tree names o.depth given.second text (means_why x) h.1 k.1
-  text_or_none Replay text x file other h k = shown_or_valueless laws.filed p.tree names given.second (journal_in given) false file text x h k.1
-  text_or_none Local text x file other h k = runs_well laws p.tree names o.depth given.second text (means_why x) h.1 k.1
+  text_or_none : (r : Row) (text : List ℕ) (x : Why) (file other : Option (List ℕ)) → DoesBy (ends_as r) (without_image o) p names given file (Prints text) → DoesBy r o p names given other (Without (Meant x)) → ⊥
+  text_or_none (Says said) text x file other h k = k
+  text_or_none (Evaluates way) text x file other h k = said_well laws (ends_in way) p.tree names (without_image o) given.second text (means_why x) h.1 k.1
+  text_or_none PacksValue text x file other h k = k
+  text_or_none ShowsFile text x file other h k = k
+  text_or_none FollowsJournal text x file other h k = shown_or_valueless laws.filed p.tree names given.second (journal_in given) false file text x h k.1
 
-  none_or_text : (job : Job) (x : Why) (text : List ℕ) (file other : Option (List ℕ)) → Does (ends_as job) (without_image o) p names given file (Without (Meant x)) → Does job o p names given other (Prints text) → ⊥
-  none_or_text Run x text file other h k = runs_well laws p.tree names o.depth given.second text (means_why x) k.1 h.1
-  none_or_text Plain x text file other h k = runs_well laws p.tree names o.depth given.second text (means_why x) k.1 h.1
-  none_or_text Check x text file other h k = h
-  none_or_text Core x text file other h k = h
-  none_or_text Code x text file other h k = h
-  none_or_text Pack x text file other h k = h
-  none_or_text Show x text file other h k = h
-  none_or_text Gen x text file other h k = sums_well laws p.tree o.number o.levels o.depth given.second text (means_why x) k.1 h.1
-  none_or_text Trace x text file other h k = runs_well laws p.tree names o.depth given.second text (means_why x) k.1 h.1
-  none_or_text Replay x text file other h k = shown_or_valueless laws.filed p.tree names given.second (journal_in given) o.image other text x k h.1
-  none_or_text Local x text file other h k = runs_well laws p.tree names o.depth given.second text (means_why x) k.1 h.1
+  none_or_text : (r : Row) (x : Why) (text : List ℕ) (file other : Option (List ℕ)) → DoesBy (ends_as r) (without_image o) p names given file (Without (Meant x)) → DoesBy r o p names given other (Prints text) → ⊥
+  none_or_text (Says said) x text file other h k = h
+  none_or_text (Evaluates way) x text file other h k = said_well laws way p.tree names o given.second text (means_why x) k.1 h.1
+  none_or_text PacksValue x text file other h k = h
+  none_or_text ShowsFile x text file other h k = h
+  none_or_text FollowsJournal x text file other h k = shown_or_valueless laws.filed p.tree names given.second (journal_in given) o.image other text x k h.1
 
   -- without a value, the reason is one
-  one_end : (job : Job) (x y : Why) (file other : Option (List ℕ)) → Does (ends_as job) (without_image o) p names given file (Without (Meant x)) → Does job o p names given other (Without (Meant y)) → x ≡ y
-  one_end Run x y file other h k = one_cause laws p.tree names o.depth given.second x y h.1 k.1
-  one_end Plain x y file other h k = one_cause laws p.tree names o.depth given.second x y h.1 k.1
-  one_end Check x y file other h k = absurd h
-  one_end Core x y file other h k = absurd h
-  one_end Code x y file other h k = absurd h
-  one_end Pack x y file other h k = absurd h
-  one_end Show x y file other h k = absurd h
-  one_end Gen x y file other h k = one_cause laws p.tree names o.depth given.second x y h.1 k.1
-  one_end Trace x y file other h k = one_cause laws p.tree names o.depth given.second x y h.1 k.1
-  one_end Replay x y file other h k = one_valueless laws.filed p.tree names given.second (journal_in given) x y h.1 k.1
-  one_end Local x y file other h k = one_cause laws p.tree names o.depth given.second x y h.1 k.1
+  one_end : (r : Row) (x y : Why) (file other : Option (List ℕ)) → DoesBy (ends_as r) (without_image o) p names given file (Without (Meant x)) → DoesBy r o p names given other (Without (Meant y)) → x ≡ y
+  one_end (Says said) x y file other h k = absurd h
+  one_end (Evaluates way) x y file other h k = one_cause laws p.tree names o.depth given.second x y h.1 k.1
+  one_end PacksValue x y file other h k = absurd h
+  one_end ShowsFile x y file other h k = absurd h
+  one_end FollowsJournal x y file other h k = one_valueless laws.filed p.tree names given.second (journal_in given) x y h.1 k.1
 
   -- a result with too long a packed file is a value
-  long_or_none : (job : Job) (x : Why) (file other : Option (List ℕ)) → Does (ends_as job) (without_image o) p names given file (Without (Meant x)) → Does job o p names given other (Without Long) → ⊥
-  long_or_none Run x file other h k = long_well laws p.tree names o.depth given.second (means_why x) k.1 h.1
-  long_or_none Plain x file other h k = k
-  long_or_none Check x file other h k = k
-  long_or_none Core x file other h k = k
-  long_or_none Code x file other h k = k
-  long_or_none Pack x file other h k = k
-  long_or_none Show x file other h k = k
-  long_or_none Gen x file other h k = k
-  long_or_none Trace x file other h k = k
-  long_or_none Replay x file other h k = k
-  long_or_none Local x file other h k = k
+  long_or_none : (r : Row) (x : Why) (file other : Option (List ℕ)) → DoesBy (ends_as r) (without_image o) p names given file (Without (Meant x)) → DoesBy r o p names given other (Without Long) → ⊥
+  long_or_none (Says said) x file other h k = k
+  long_or_none (Evaluates way) x file other h k = long_well laws p.tree names o.depth given.second (means_why x) k.1 h.1
+  long_or_none PacksValue x file other h k = k
+  long_or_none ShowsFile x file other h k = k
+  long_or_none FollowsJournal x file other h k = k
 
   -- where a file is made, there is a value, or the file is one without
-  file_or_none : (job : Job) (x : Why) (bytes : List ℕ) (e : End) (file : Option (List ℕ)) → Does job o p names given (Some bytes) e → Does (ends_as job) (without_image o) p names given file (Without (Meant x)) → e ≡ Without (Meant x)
-  file_or_none job x bytes (Prints text) file h k = absurd (none_or_text job x text file (Some bytes) k h)
-  file_or_none job x bytes (Without (Meant y)) file h k = ap (λ (z : Why). Without (Meant z)) (sym (one_end job x y file (Some bytes) k h))
-  file_or_none job x bytes (Without Full) file h k = absurd (full_no_file job o p names given bytes h)
-  file_or_none job x bytes (Without Long) file h k = absurd (long_or_none job x file (Some bytes) k h)
+  file_or_none : (r : Row) (x : Why) (bytes : List ℕ) (e : End) (file : Option (List ℕ)) → DoesBy r o p names given (Some bytes) e → DoesBy (ends_as r) (without_image o) p names given file (Without (Meant x)) → e ≡ Without (Meant x)
+  file_or_none r x bytes (Prints text) file h k = absurd (none_or_text r x text file (Some bytes) k h)
+  file_or_none r x bytes (Without (Meant y)) file h k = ap (λ (z : Why). Without (Meant z)) (sym (one_end r x y file (Some bytes) k h))
+  file_or_none r x bytes (Without Full) file h k = absurd (full_no_file r o p names given bytes h)
+  file_or_none r x bytes (Without Long) file h k = absurd (long_or_none r x file (Some bytes) k h)
 
   -- a replay that prints, or that ends without a value, has its chunks
-  text_or_full : (any : Options) (text : List ℕ) (file other : Option (List ℕ)) → Does Replay any p names given file (Prints text) → Does Replay o p names given other (Without Full) → ⊥
+  text_or_full : (any : Options) (text : List ℕ) (file other : Option (List ℕ)) → DoesBy FollowsJournal any p names given file (Prints text) → DoesBy FollowsJournal o p names given other (Without Full) → ⊥
   text_or_full any text file other h k = shown_or_full laws.filed p.tree names given.second (journal_in given) any.image file text h k.1
 
-  none_or_full : (x : Why) (file other : Option (List ℕ)) → Does Replay o p names given file (Without (Meant x)) → Does Replay o p names given other (Without Full) → ⊥
+  none_or_full : (x : Why) (file other : Option (List ℕ)) → DoesBy FollowsJournal o p names given file (Without (Meant x)) → DoesBy FollowsJournal o p names given other (Without Full) → ⊥
   none_or_full x file other h k = valueless_or_full laws.filed p.tree names given.second (journal_in given) x h.1 k.1
 
   -- where chunks run out, no file is made
-  file_or_full : (bytes : List ℕ) (e : End) (other : Option (List ℕ)) → Does Replay o p names given (Some bytes) e → Does Replay o p names given other (Without Full) → ⊥
+  file_or_full : (bytes : List ℕ) (e : End) (other : Option (List ℕ)) → DoesBy FollowsJournal o p names given (Some bytes) e → DoesBy FollowsJournal o p names given other (Without Full) → ⊥
   file_or_full bytes (Prints text) other h k = text_or_full o text (Some bytes) other h k
   file_or_full bytes (Without (Meant x)) other h k = some_or_none bytes h.0
   file_or_full bytes (Without Full) other h k = some_or_none bytes h.0
   file_or_full bytes (Without Long) other h k = h
 
 -- a job accepts what it is due to end with
-ends_accept : (job : Job) (o : Options) (p : Program) (names : TextsView) (given : Contents) (file : Option (List ℕ)) (e : End) → Does (ends_as job) o p names given file e → Accepts job o p names given
-ends_accept Run o p names given file e h = does_accepts Run o p names given file e h
-ends_accept Plain o p names given file e h = does_accepts Plain o p names given file e h
-ends_accept Check o p names given file e h = does_accepts Check o p names given file e h
-ends_accept Core o p names given file e h = does_accepts Core o p names given file e h
-ends_accept Code o p names given file e h = does_accepts Code o p names given file e h
-ends_accept Pack o p names given file e h = does_accepts Pack o p names given file e h
-ends_accept Show o p names given file e h = does_accepts Show o p names given file e h
-ends_accept Gen o p names given file e h = does_accepts Gen o p names given file e h
-ends_accept Trace o p names given file e h = does_accepts Run o p names given file e h
-ends_accept Replay o p names given file e h = does_accepts Replay o p names given file e h
-ends_accept Local o p names given file e h = does_accepts Local o p names given file e h
+ends_accept : (r : Row) (o : Options) (p : Program) (names : TextsView) (given : Contents) (file : Option (List ℕ)) (e : End) → DoesBy (ends_as r) o p names given file e → AcceptsBy (format_by r) o p names given
+ends_accept (Says said) o p names given file e h = row_accepts (Says said) o p names given file e h
+ends_accept (Evaluates way) o p names given file e h = row_accepts (Evaluates (ends_in way)) o p names given file e h
+ends_accept PacksValue o p names given file e h = row_accepts PacksValue o p names given file e h
+ends_accept ShowsFile o p names given file e h = row_accepts ShowsFile o p names given file e h
+ends_accept FollowsJournal o p names given file e h = row_accepts FollowsJournal o p names given file e h
 
 -- what it accepts does not hang on an image
 accepts_without : (job : Job) (o : Options) (p : Program) (names : TextsView) (given : Contents) → Accepts job (without_image o) p names given → Accepts job o p names given
-accepts_without Run o p names given h = h
-accepts_without Plain o p names given h = h
-accepts_without Check o p names given h = h
-accepts_without Core o p names given h = h
-accepts_without Code o p names given h = h
-accepts_without Pack o p names given h = h
-accepts_without Show o p names given h = h
-accepts_without Gen o p names given h = h
-accepts_without Trace o p names given h = h
-accepts_without Replay o p names given h = h
-accepts_without Local o p names given h = h
+accepts_without job o p names given h = go (format_of job) h
+  where
+    go : (f : Option Format) → AcceptsBy f (without_image o) p names given → AcceptsBy f o p names given
+    go None h = h
+    go (Some Packed) h = h
+    go (Some Packable) h = h
+    go (Some Shown) h = h
+    go (Some Journaled) h = h
 
 -- The status that is due
 
@@ -615,7 +579,7 @@ done_or_none : Laws → (tells : Bool) (words : List (List ℕ)) (before now : S
 done_or_none laws tells words before now a b x due h =
     let k = both_asked (asked words) (DueAll tells before now a b) (Lacking tells before x) due h in
     let both = clash laws tells before now k.0 (HasText k.0) (Valueless x k.0) k.1.0 k.2 in
-    text_or_none laws k.0.options both.0 both.1 both.2 k.0.job both.3.1 x both.3.0 both.4.0 both.3.2 both.4.1
+    text_or_none laws k.0.options both.0 both.1 both.2 (row k.0.job) both.3.1 x both.3.0 both.4.0 both.3.2 both.4.1
 
 done_due : Laws → (tells : Bool) (words : List (List ℕ)) (before now : ShelfView) (a b : SinkView) → MatchOption (asked words) ⊥ (DueAll tells before now a b) → (end' : Status) → IsCause tells words before now a b end' → (end' ≡ status.Done) ⊎ (end' ≡ status.Memory) ⊎ (end' ≡ status.Full)
 done_due laws tells words before now a b due status.Done h = inl refl
@@ -646,7 +610,7 @@ done_due laws tells words before now a b due status.WriteFault (inr h) =
     absurd (k.1.1.out h.1)
 done_due laws tells words before now a b due status.Input h =
     let k = both_asked (asked words) (DueAll tells before now a b) (λ r. OnReached (K tells before r) r (Unfit r)) due h in
-    absurd (fit_or_unfit laws tells before now k.0 (HasText k.0) (λ p names given d. accepts_without k.0.job k.0.options p names given (ends_accept k.0.job (without_image k.0.options) p names given d.0 (Prints d.1) d.2)) k.1.0 k.2)
+    absurd (fit_or_unfit laws tells before now k.0 (HasText k.0) (λ p names given d. accepts_without k.0.job k.0.options p names given (ends_accept (row k.0.job) (without_image k.0.options) p names given d.0 (Prints d.1) d.2)) k.1.0 k.2)
 
 -- a job that accepts its inputs is due: it ends with a text, or without a value
 
@@ -732,13 +696,13 @@ none_or_none : Laws → (tells : Bool) (words : List (List ℕ)) (before now : S
 none_or_none laws tells words before now x y due h =
     let k = both_asked (asked words) (DueNone tells before now x) (Lacking tells before y) due h in
     let both = clash laws tells before now k.0 (DueWithout before now (Meant x) k.0) (Valueless y k.0) k.1 k.2 in
-    one_end laws k.0.options both.0 both.1 both.2 k.0.job x y both.3.0.0 both.4.0 both.3.0.1 both.4.1
+    one_end laws k.0.options both.0 both.1 both.2 (row k.0.job) x y both.3.0.0 both.4.0 both.3.0.1 both.4.1
 
 pub none_due : Laws → (tells : Bool) (words : List (List ℕ)) (before now : ShelfView) (a b : SinkView) (x : Why) → MatchOption (asked words) ⊥ (DueNone tells before now x) → (end' : Status) → IsCause tells words before now a b end' → (end' ≡ told_by x) ⊎ (end' ≡ status.Memory) ⊎ (end' ≡ status.Full)
 none_due laws tells words before now a b x due status.Done h =
     let k = both_asked (asked words) (DueNone tells before now x) (λ r. OnBoth (K tells before r) r (Whole tells before now a b r)) due h in
     let both = clash laws tells before now k.0 (DueWithout before now (Meant x) k.0) (Whole tells before now a b k.0) k.1 k.2 in
-    absurd (none_or_text laws k.0.options both.0 both.1 both.2 k.0.job x both.4.0 both.3.0.0 both.4.1.ended.file both.3.0.1 both.4.1.ended.does)
+    absurd (none_or_text laws k.0.options both.0 both.1 both.2 (row k.0.job) x both.4.0 both.3.0.0 both.4.1.ended.file both.3.0.1 both.4.1.ended.does)
 none_due laws tells words before now a b x due status.Source h =
     let k = both_asked (asked words) (DueNone tells before now x) (λ r. OnSource (K tells before r) r.source (IsNoProgramIn (dialect_of r.job))) due h in
     absurd (no_program tells before now k.0 (DueWithout before now (Meant x) k.0) k.1 k.2)
@@ -749,7 +713,7 @@ none_due laws tells words before now a b x due status.Memory h = inr (inl refl)
 none_due laws tells words before now a b x due status.Long h =
     let k = both_asked (asked words) (DueNone tells before now x) (λ r. OnBoth (K tells before r) r (HasNoValue Long r)) due h in
     let both = clash laws tells before now k.0 (DueWithout before now (Meant x) k.0) (HasNoValue Long k.0) k.1 k.2 in
-    absurd (long_or_none laws k.0.options both.0 both.1 both.2 k.0.job x both.3.0.0 both.4.0 both.3.0.1 both.4.1)
+    absurd (long_or_none laws k.0.options both.0 both.1 both.2 (row k.0.job) x both.3.0.0 both.4.0 both.3.0.1 both.4.1)
 none_due laws tells words before now a b x due status.ReadFault h =
     let k = both_asked (asked words) (DueNone tells before now x) (Fails tells before now) due h in
     absurd (read_both tells before now k.0 (DueWithout before now (Meant x) k.0) k.2.0 k.1 k.2.1)
@@ -762,40 +726,40 @@ none_due laws tells words before now a b x due status.WriteFault (inl h) =
       | inl found ↦
           let made = subst (λ (f : Option (List ℕ)). Does k.0.job k.0.options both.0 both.1 both.2 f u.ending) found.1 u.does.0 in
           let D : End → Type 0 = Does k.0.job k.0.options both.0 both.1 both.2 (Some found.0) in
-          let valueless = subst D (file_or_none laws k.0.options both.0 both.1 both.2 k.0.job x found.0 u.ending both.3.0.0 made both.3.0.1) made in
+          let valueless = subst D (file_or_none laws k.0.options both.0 both.1 both.2 (row k.0.job) x found.0 u.ending both.3.0.0 made both.3.0.1) made in
           both.3.1 k.2.0 found.0 found.2 valueless found.3
       | inr found ↦
           let text = packed_text k.0.job k.0.options both.0 both.1 both.2 found.0 u.ending (subst (λ (f : Option (List ℕ)). DoesPack k.0.job k.0.options both.0 both.1 both.2 f u.ending) found.1 u.does.1) in
-          none_or_text laws k.0.options both.0 both.1 both.2 k.0.job x text.0 both.3.0.0 u.file both.3.0.1 (subst (Does k.0.job k.0.options both.0 both.1 both.2 u.file) text.1 u.does.0)
+          none_or_text laws k.0.options both.0 both.1 both.2 (row k.0.job) x text.0 both.3.0.0 u.file both.3.0.1 (subst (Does k.0.job k.0.options both.0 both.1 both.2 u.file) text.1 u.does.0)
     ])
 none_due laws tells words before now a b x due status.WriteFault (inr h) =
     let k = both_asked (asked words) (DueNone tells before now x) (λ r. OnBoth (K tells before r) r (Front tells before now a b r)) due h.0 in
     let both = clash laws tells before now k.0 (DueWithout before now (Meant x) k.0) (Front tells before now a b k.0) k.1 k.2 in
-    absurd (none_or_text laws k.0.options both.0 both.1 both.2 k.0.job x both.4.0 both.3.0.0 both.4.1.ended.file both.3.0.1 both.4.1.ended.does)
+    absurd (none_or_text laws k.0.options both.0 both.1 both.2 (row k.0.job) x both.4.0 both.3.0.0 both.4.1.ended.file both.3.0.1 both.4.1.ended.does)
 none_due laws tells words before now a b x due status.Input h =
     let k = both_asked (asked words) (DueNone tells before now x) (λ r. OnReached (K tells before r) r (Unfit r)) due h in
-    absurd (fit_or_unfit laws tells before now k.0 (DueWithout before now (Meant x) k.0) (λ p names given d. accepts_without k.0.job k.0.options p names given (ends_accept k.0.job (without_image k.0.options) p names given d.0.0 (Without (Meant x)) d.0.1)) k.1 k.2)
+    absurd (fit_or_unfit laws tells before now k.0 (DueWithout before now (Meant x) k.0) (λ p names given d. accepts_without k.0.job k.0.options p names given (ends_accept (row k.0.job) (without_image k.0.options) p names given d.0.0 (Without (Meant x)) d.0.1)) k.1 k.2)
 none_due laws tells words before now a b x due status.Trap h = inl (ap told_by (sym (none_or_none laws tells words before now x why.Trap due h)))
 
 -- want of chunks is due, which a replay tells
 
 abbrev DueFull : Bool → ShelfView → ShelfView → Plan → Type 0
-DueFull tells before now r = (r.job ≡ Replay) × DueOfFiles tells before now r (DueWithout before now Full r)
+DueFull tells before now r = (row r.job ≡ FollowsJournal) × DueOfFiles tells before now r (DueWithout before now Full r)
 
 -- what a job does, where it is a replay
-as_replay : (job : Job) (o : Options) (p : Program) (names : TextsView) (given : Contents) (file : Option (List ℕ)) (e : End) → job ≡ Replay → Does job o p names given file e → Does Replay o p names given file e
-as_replay job o p names given file e is h = let P : Job → Type 0 = λ j. Does j o p names given file e in subst P is h
+as_replay : (r : Row) (o : Options) (p : Program) (names : TextsView) (given : Contents) (file : Option (List ℕ)) (e : End) → r ≡ FollowsJournal → DoesBy r o p names given file e → DoesBy FollowsJournal o p names given file e
+as_replay r o p names given file e is h = let P : Row → Type 0 = λ x. DoesBy x o p names given file e in subst P is h
 
-ends_replay : (job : Job) (o : Options) (p : Program) (names : TextsView) (given : Contents) (file : Option (List ℕ)) (e : End) → job ≡ Replay → Does (ends_as job) o p names given file e → Does Replay o p names given file e
-ends_replay job o p names given file e is h = let P : Job → Type 0 = λ j. Does (ends_as j) o p names given file e in subst P is h
+ends_replay : (r : Row) (o : Options) (p : Program) (names : TextsView) (given : Contents) (file : Option (List ℕ)) (e : End) → r ≡ FollowsJournal → DoesBy (ends_as r) o p names given file e → DoesBy FollowsJournal o p names given file e
+ends_replay r o p names given file e is h = let P : Row → Type 0 = λ x. DoesBy (ends_as x) o p names given file e in subst P is h
 
 full_or_none : Laws → (tells : Bool) (words : List (List ℕ)) (before now : ShelfView) (x : Why) → MatchOption (asked words) ⊥ (DueFull tells before now) → MatchOption (asked words) ⊥ (Lacking tells before x) → ⊥
 full_or_none laws tells words before now x due h =
     let k = both_asked (asked words) (DueFull tells before now) (Lacking tells before x) due h in
     let r = k.0 in
     let both = clash laws tells before now r (DueWithout before now Full r) (Valueless x r) k.1.1 k.2 in
-    let full = ends_replay r.job (without_image r.options) both.0 both.1 both.2 both.3.0.0 (Without Full) k.1.0 both.3.0.1 in
-    let valueless = as_replay r.job r.options both.0 both.1 both.2 both.4.0 (Without (Meant x)) k.1.0 both.4.1 in
+    let full = ends_replay (row r.job) (without_image r.options) both.0 both.1 both.2 both.3.0.0 (Without Full) k.1.0 both.3.0.1 in
+    let valueless = as_replay (row r.job) r.options both.0 both.1 both.2 both.4.0 (Without (Meant x)) k.1.0 both.4.1 in
     none_or_full laws r.options both.0 both.1 both.2 x both.4.0 both.3.0.0 valueless full
 
 full_due : Laws → (tells : Bool) (words : List (List ℕ)) (before now : ShelfView) (a b : SinkView) → MatchOption (asked words) ⊥ (DueFull tells before now) → (end' : Status) → IsCause tells words before now a b end' → (end' ≡ status.Full) ⊎ (end' ≡ status.Memory) ⊎ (end' ≡ status.Full)
@@ -803,8 +767,8 @@ full_due laws tells words before now a b due status.Done h =
     let k = both_asked (asked words) (DueFull tells before now) (λ r. OnBoth (K tells before r) r (Whole tells before now a b r)) due h in
     let r = k.0 in
     let both = clash laws tells before now r (DueWithout before now Full r) (Whole tells before now a b r) k.1.1 k.2 in
-    let full = ends_replay r.job (without_image r.options) both.0 both.1 both.2 both.3.0.0 (Without Full) k.1.0 both.3.0.1 in
-    let text = as_replay r.job r.options both.0 both.1 both.2 both.4.1.ended.file (Prints both.4.0) k.1.0 both.4.1.ended.does in
+    let full = ends_replay (row r.job) (without_image r.options) both.0 both.1 both.2 both.3.0.0 (Without Full) k.1.0 both.3.0.1 in
+    let text = as_replay (row r.job) r.options both.0 both.1 both.2 both.4.1.ended.file (Prints both.4.0) k.1.0 both.4.1.ended.does in
     absurd (text_or_full laws r.options both.0 both.1 both.2 r.options both.4.0 both.4.1.ended.file both.3.0.0 text full)
 full_due laws tells words before now a b due status.Source h =
     let k = both_asked (asked words) (DueFull tells before now) (λ r. OnSource (K tells before r) r.source (IsNoProgramIn (dialect_of r.job))) due h in
@@ -817,7 +781,7 @@ full_due laws tells words before now a b due status.Memory h = inr (inl refl)
 full_due laws tells words before now a b due status.Long h =
     let k = both_asked (asked words) (DueFull tells before now) (λ r. OnBoth (K tells before r) r (HasNoValue Long r)) due h in
     let both = clash laws tells before now k.0 (DueWithout before now Full k.0) (HasNoValue Long k.0) k.1.1 k.2 in
-    absurd (as_replay k.0.job k.0.options both.0 both.1 both.2 both.4.0 (Without Long) k.1.0 both.4.1)
+    absurd (as_replay (row k.0.job) k.0.options both.0 both.1 both.2 both.4.0 (Without Long) k.1.0 both.4.1)
 full_due laws tells words before now a b due status.ReadFault h =
     let k = both_asked (asked words) (DueFull tells before now) (Fails tells before now) due h in
     absurd (read_both tells before now k.0 (DueWithout before now Full k.0) k.2.0 k.1.1 k.2.1)
@@ -826,26 +790,26 @@ full_due laws tells words before now a b due status.WriteFault (inl h) =
     let r = k.0 in
     let on = of_job tells before now r k.2.0 k.1.1.first_written k.2.1 in
     let both = clash laws tells before now r (DueWithout before now Full r) (λ p names given. IsUnwritten tells before now r p names given k.2.0) k.1.1 on in
-    let full = ends_replay r.job (without_image r.options) both.0 both.1 both.2 both.3.0.0 (Without Full) k.1.0 both.3.0.1 in
+    let full = ends_replay (row r.job) (without_image r.options) both.0 both.1 both.2 both.3.0.0 (Without Full) k.1.0 both.3.0.1 in
     let u = both.4 in
     absurd (elim (of_two tells before now r both.0 both.1 both.2 k.2.0 u) [
       | inl found ↦
           let made = subst (λ (f : Option (List ℕ)). Does r.job r.options both.0 both.1 both.2 f u.ending) found.1 u.does.0 in
-          file_or_full laws r.options both.0 both.1 both.2 found.0 u.ending both.3.0.0 (as_replay r.job r.options both.0 both.1 both.2 (Some found.0) u.ending k.1.0 made) full
+          file_or_full laws r.options both.0 both.1 both.2 found.0 u.ending both.3.0.0 (as_replay (row r.job) r.options both.0 both.1 both.2 (Some found.0) u.ending k.1.0 made) full
       | inr found ↦
-          let packs = subst (λ (j : Job). DoesPack j r.options both.0 both.1 both.2 u.packed u.ending) k.1.0 u.does.1 in
+          let packs = subst (λ (x : Row). PacksResult (packs_of x r.options) both.0.tree both.1 r.options.depth both.2.second u.packed u.ending) k.1.0 u.does.1 in
           some_or_none found.0 (sym found.1 ∙ packs)
     ])
 full_due laws tells words before now a b due status.WriteFault (inr h) =
     let k = both_asked (asked words) (DueFull tells before now) (λ r. OnBoth (K tells before r) r (Front tells before now a b r)) due h.0 in
     let r = k.0 in
     let both = clash laws tells before now r (DueWithout before now Full r) (Front tells before now a b r) k.1.1 k.2 in
-    let full = ends_replay r.job (without_image r.options) both.0 both.1 both.2 both.3.0.0 (Without Full) k.1.0 both.3.0.1 in
-    let text = as_replay r.job r.options both.0 both.1 both.2 both.4.1.ended.file (Prints both.4.0) k.1.0 both.4.1.ended.does in
+    let full = ends_replay (row r.job) (without_image r.options) both.0 both.1 both.2 both.3.0.0 (Without Full) k.1.0 both.3.0.1 in
+    let text = as_replay (row r.job) r.options both.0 both.1 both.2 both.4.1.ended.file (Prints both.4.0) k.1.0 both.4.1.ended.does in
     absurd (text_or_full laws r.options both.0 both.1 both.2 r.options both.4.0 both.4.1.ended.file both.3.0.0 text full)
 full_due laws tells words before now a b due status.Input h =
     let k = both_asked (asked words) (DueFull tells before now) (λ r. OnReached (K tells before r) r (Unfit r)) due h in
-    absurd (fit_or_unfit laws tells before now k.0 (DueWithout before now Full k.0) (λ p names given d. accepts_without k.0.job k.0.options p names given (ends_accept k.0.job (without_image k.0.options) p names given d.0.0 (Without Full) d.0.1)) k.1.1 k.2)
+    absurd (fit_or_unfit laws tells before now k.0 (DueWithout before now Full k.0) (λ p names given d. accepts_without k.0.job k.0.options p names given (ends_accept (row k.0.job) (without_image k.0.options) p names given d.0.0 (Without Full) d.0.1)) k.1.1 k.2)
 
 -- a refusal of the inputs is due
 
@@ -859,8 +823,11 @@ same_alone kept [] first given e h = h.0 ∙ sym e.0
 same_alone kept (i ∷ is) first given e h = same_bytes (bytes_in kept i.document) first given.second e.0 h.0
 
 -- what a replay accepts begins with a packed file
-accepts_packed : (job : Job) (options : Options) (p : Program) (names : TextsView) (given : Contents) → job ≡ Replay → Accepts job options p names given → (v : Datum) × IsInput p.tree names v given.second
-accepts_packed job options p names given is h = let P : Job → Type 0 = λ j. Accepts j options p names given in let a : Accepts Replay options p names given = subst P is h in (a.value, a.is_input)
+accepts_packed : (job : Job) (options : Options) (p : Program) (names : TextsView) (given : Contents) → row job ≡ FollowsJournal → Accepts job options p names given → (v : Datum) × IsInput p.tree names v given.second
+accepts_packed job options p names given is h =
+    let P : Row → Type 0 = λ r. AcceptsBy (format_by r) options p names given in
+    let a : AcceptsBy (Some Journaled) options p names given = subst P is h in
+    (a.value, a.is_input)
 
 -- the first is no packed file, and is one
 module _ (laws : Laws) (tells : Bool) (before now : ShelfView) (r : Plan) (due : DueOfSource tells before now r (RefusesFirst tells before now r)) where
@@ -881,7 +848,7 @@ module _ (laws : Laws) (tells : Bool) (before now : ShelfView) (r : Plan) (due :
   refused_read name (inr (inr h)) =
       refused_and_taken h.1.source h.1.given h.1.source_held (same_alone (K tells before r) (inputs_of r) due.holds.holds.first h.1.given due.holds.holds.first_told h.1.given_held) h.1.holds
 
-  refused_both : (Q : Program → TextsView → Contents → Type 0) → r.job ≡ Replay → ((p : Program) (names : TextsView) (given : Contents) → Q p names given → Accepts r.job r.options p names given) →
+  refused_both : (Q : Program → TextsView → Contents → Type 0) → row r.job ≡ FollowsJournal → ((p : Program) (names : TextsView) (given : Contents) → Q p names given → Accepts r.job r.options p names given) →
       OnBoth (K tells before r) r Q → ⊥
   refused_both Q is accepts end' =
       let given = end'.given in
@@ -1064,56 +1031,53 @@ usage_due tells words before now a b due status.Input h = absurd (none_asked (as
 -- too long a result is due
 
 abbrev pub DueLong : Bool → ShelfView → ShelfView → Plan → Type 0
-DueLong tells before now r = (r.job ≡ Run) × DueOfFiles tells before now r (DueWithout before now Long r)
+DueLong tells before now r = (row r.job ≡ Evaluates ForFiles) × DueOfFiles tells before now r (DueWithout before now Long r)
 
 -- what a job does and makes, where it is a run
-as_run : (job : Job) (o : Options) (p : Program) (names : TextsView) (given : Contents) (file : Option (List ℕ)) (e : End) → job ≡ Run → Does job o p names given file e → Does Run o p names given file e
-as_run job o p names given file e is h = let P : Job → Type 0 = λ j. Does j o p names given file e in subst P is h
-
-packs_run : (job : Job) (o : Options) (p : Program) (names : TextsView) (given : Contents) (packed : Option (List ℕ)) (e : End) → job ≡ Run → DoesPack job o p names given packed e → DoesPack Run o p names given packed e
-packs_run job o p names given packed e is h = let P : Job → Type 0 = λ j. DoesPack j o p names given packed e in subst P is h
+as_run : (r : Row) (o : Options) (p : Program) (names : TextsView) (given : Contents) (file : Option (List ℕ)) (e : End) → r ≡ Evaluates ForFiles → DoesBy r o p names given file e → DoesBy (Evaluates ForFiles) o p names given file e
+as_run r o p names given file e is h = let P : Row → Type 0 = λ x. DoesBy x o p names given file e in subst P is h
 
 -- so it is with a run, where it may leave out an image
 abbrev LongRun : Options → Program → TextsView → Contents → Type 0
 LongRun o p names given = IsLongResult p.tree names o.depth given.second × (o.packs ≡ true)
 
-long_run : (job : Job) (o : Options) (p : Program) (names : TextsView) (given : Contents) (file : Option (List ℕ)) → job ≡ Run → Does (ends_as job) (without_image o) p names given file (Without Long) → LongRun o p names given
-long_run job o p names given file is h =
-    let P : Job → Type 0 = λ j. Does (ends_as j) (without_image o) p names given file (Without Long) in
+long_run : (r : Row) (o : Options) (p : Program) (names : TextsView) (given : Contents) (file : Option (List ℕ)) → r ≡ Evaluates ForFiles → DoesBy (ends_as r) (without_image o) p names given file (Without Long) → LongRun o p names given
+long_run r o p names given file is h =
+    let P : Row → Type 0 = λ x. DoesBy (ends_as x) (without_image o) p names given file (Without Long) in
     let k = subst P is h in
     (k.1, k.2)
 
 module _ (laws : Laws) (o : Options) (p : Program) (names : TextsView) (given : Contents) (long : LongRun o p names given) where
-  long_or_text : (job : Job) → job ≡ Run → (text : List ℕ) (packed : Option (List ℕ)) → DoesPack job o p names given packed (Prints text) → ⊥
-  long_or_text job is text packed d =
-      let k = subst (λ (b : Bool). PacksResult b p.tree names o.depth given.second packed (Prints text)) long.1 (packs_run job o p names given packed (Prints text) is d) in
+  long_or_text : (r : Row) → r ≡ Evaluates ForFiles → (text : List ℕ) (packed : Option (List ℕ)) → PacksResult (packs_of r o) p.tree names o.depth given.second packed (Prints text) → ⊥
+  long_or_text r is text packed d =
+      let k = subst (λ (b : Bool). PacksResult b p.tree names o.depth given.second packed (Prints text)) (ap (λ (x : Row). packs_of x o) is ∙ long.1) d in
       packed_or_long laws p.tree names o.depth given.second k.0 k.2 long.0
 
-  long_lacks : (job : Job) → job ≡ Run → (x : Why) (file : Option (List ℕ)) → Does job o p names given file (Without (Meant x)) → ⊥
-  long_lacks job is x file d = long_well laws p.tree names o.depth given.second (means_why x) long.0 (as_run job o p names given file (Without (Meant x)) is d).1
+  long_lacks : (r : Row) → r ≡ Evaluates ForFiles → (x : Why) (file : Option (List ℕ)) → DoesBy r o p names given file (Without (Meant x)) → ⊥
+  long_lacks r is x file d = long_well laws p.tree names o.depth given.second (means_why x) long.0 (as_run r o p names given file (Without (Meant x)) is d).1
 
   -- where it makes a file, it ends so
-  long_file : (job : Job) → job ≡ Run → (bytes : List ℕ) (packed : Option (List ℕ)) (e : End) → Does job o p names given (Some bytes) e → DoesPack job o p names given packed e → e ≡ Without Long
-  long_file job is bytes packed (Prints text) h d = absurd (long_or_text job is text packed d)
-  long_file job is bytes packed (Without (Meant x)) h d = absurd (long_lacks job is x (Some bytes) h)
-  long_file job is bytes packed (Without Full) h d = absurd (full_no_file job o p names given bytes h)
-  long_file job is bytes packed (Without Long) h d = refl
+  long_file : (r : Row) → r ≡ Evaluates ForFiles → (bytes : List ℕ) (packed : Option (List ℕ)) (e : End) → DoesBy r o p names given (Some bytes) e → PacksResult (packs_of r o) p.tree names o.depth given.second packed e → e ≡ Without Long
+  long_file r is bytes packed (Prints text) h d = absurd (long_or_text r is text packed d)
+  long_file r is bytes packed (Without (Meant x)) h d = absurd (long_lacks r is x (Some bytes) h)
+  long_file r is bytes packed (Without Full) h d = absurd (full_no_file r o p names given bytes h)
+  long_file r is bytes packed (Without Long) h d = refl
 
 long_or_lacking : Laws → (tells : Bool) (words : List (List ℕ)) (before now : ShelfView) (x : Why) → MatchOption (asked words) ⊥ (DueLong tells before now) → MatchOption (asked words) ⊥ (Lacking tells before x) → ⊥
 long_or_lacking laws tells words before now x due h =
     let k = both_asked (asked words) (DueLong tells before now) (Lacking tells before x) due h in
     let r = k.0 in
     let both = clash laws tells before now r (DueWithout before now Long r) (Valueless x r) k.1.1 k.2 in
-    let long = long_run r.job r.options both.0 both.1 both.2 both.3.0.0 k.1.0 both.3.0.1 in
-    long_lacks laws r.options both.0 both.1 both.2 long r.job k.1.0 x both.4.0 both.4.1
+    let long = long_run (row r.job) r.options both.0 both.1 both.2 both.3.0.0 k.1.0 both.3.0.1 in
+    long_lacks laws r.options both.0 both.1 both.2 long (row r.job) k.1.0 x both.4.0 both.4.1
 
 pub long_due : Laws → (tells : Bool) (words : List (List ℕ)) (before now : ShelfView) (a b : SinkView) → MatchOption (asked words) ⊥ (DueLong tells before now) → (end' : Status) → IsCause tells words before now a b end' → (end' ≡ status.Long) ⊎ (end' ≡ status.Memory) ⊎ (end' ≡ status.Full)
 long_due laws tells words before now a b due status.Done h =
     let k = both_asked (asked words) (DueLong tells before now) (λ r. OnBoth (K tells before r) r (Whole tells before now a b r)) due h in
     let r = k.0 in
     let both = clash laws tells before now r (DueWithout before now Long r) (Whole tells before now a b r) k.1.1 k.2 in
-    let long = long_run r.job r.options both.0 both.1 both.2 both.3.0.0 k.1.0 both.3.0.1 in
-    absurd (long_or_text laws r.options both.0 both.1 both.2 long r.job k.1.0 both.4.0 both.4.1.ended.packed both.4.1.ended.packs)
+    let long = long_run (row r.job) r.options both.0 both.1 both.2 both.3.0.0 k.1.0 both.3.0.1 in
+    absurd (long_or_text laws r.options both.0 both.1 both.2 long (row r.job) k.1.0 both.4.0 both.4.1.ended.packed both.4.1.ended.packs)
 long_due laws tells words before now a b due status.Source h =
     let k = both_asked (asked words) (DueLong tells before now) (λ r. OnSource (K tells before r) r.source (IsNoProgramIn (dialect_of r.job))) due h in
     absurd (no_program tells before now k.0 (DueWithout before now Long k.0) k.1.1 k.2)
@@ -1131,26 +1095,26 @@ long_due laws tells words before now a b due status.WriteFault (inl h) =
     let r = k.0 in
     let on = of_job tells before now r k.2.0 k.1.1.first_written k.2.1 in
     let both = clash laws tells before now r (DueWithout before now Long r) (λ p names given. IsUnwritten tells before now r p names given k.2.0) k.1.1 on in
-    let long = long_run r.job r.options both.0 both.1 both.2 both.3.0.0 k.1.0 both.3.0.1 in
+    let long = long_run (row r.job) r.options both.0 both.1 both.2 both.3.0.0 k.1.0 both.3.0.1 in
     let u = both.4 in
     absurd (elim (of_two tells before now r both.0 both.1 both.2 k.2.0 u) [
       | inl found ↦
           let made = subst (λ (f : Option (List ℕ)). Does r.job r.options both.0 both.1 both.2 f u.ending) found.1 u.does.0 in
           let D : End → Type 0 = Does r.job r.options both.0 both.1 both.2 (Some found.0) in
-          both.3.1 k.2.0 found.0 found.2 (subst D (long_file laws r.options both.0 both.1 both.2 long r.job k.1.0 found.0 u.packed u.ending made u.does.1) made) found.3
+          both.3.1 k.2.0 found.0 found.2 (subst D (long_file laws r.options both.0 both.1 both.2 long (row r.job) k.1.0 found.0 u.packed u.ending made u.does.1) made) found.3
       | inr found ↦
           let text = packed_text r.job r.options both.0 both.1 both.2 found.0 u.ending (subst (λ (f : Option (List ℕ)). DoesPack r.job r.options both.0 both.1 both.2 f u.ending) found.1 u.does.1) in
-          long_or_text laws r.options both.0 both.1 both.2 long r.job k.1.0 text.0 u.packed (subst (DoesPack r.job r.options both.0 both.1 both.2 u.packed) text.1 u.does.1)
+          long_or_text laws r.options both.0 both.1 both.2 long (row r.job) k.1.0 text.0 u.packed (subst (DoesPack r.job r.options both.0 both.1 both.2 u.packed) text.1 u.does.1)
     ])
 long_due laws tells words before now a b due status.WriteFault (inr h) =
     let k = both_asked (asked words) (DueLong tells before now) (λ r. OnBoth (K tells before r) r (Front tells before now a b r)) due h.0 in
     let r = k.0 in
     let both = clash laws tells before now r (DueWithout before now Long r) (Front tells before now a b r) k.1.1 k.2 in
-    let long = long_run r.job r.options both.0 both.1 both.2 both.3.0.0 k.1.0 both.3.0.1 in
-    absurd (long_or_text laws r.options both.0 both.1 both.2 long r.job k.1.0 both.4.0 both.4.1.ended.packed both.4.1.ended.packs)
+    let long = long_run (row r.job) r.options both.0 both.1 both.2 both.3.0.0 k.1.0 both.3.0.1 in
+    absurd (long_or_text laws r.options both.0 both.1 both.2 long (row r.job) k.1.0 both.4.0 both.4.1.ended.packed both.4.1.ended.packs)
 long_due laws tells words before now a b due status.Input h =
     let k = both_asked (asked words) (DueLong tells before now) (λ r. OnReached (K tells before r) r (Unfit r)) due h in
-    absurd (fit_or_unfit laws tells before now k.0 (DueWithout before now Long k.0) (λ p names given d. accepts_without k.0.job k.0.options p names given (ends_accept k.0.job (without_image k.0.options) p names given d.0.0 (Without Long) d.0.1)) k.1.1 k.2)
+    absurd (fit_or_unfit laws tells before now k.0 (DueWithout before now Long k.0) (λ p names given d. accepts_without k.0.job k.0.options p names given (ends_accept (row k.0.job) (without_image k.0.options) p names given d.0.0 (Without Long) d.0.1)) k.1.1 k.2)
 
 pub due_ends : Laws → (tells : Bool) (words : List (List ℕ)) (before now : ShelfView) (a b : SinkView) (end' : Status) → IsCause tells words before now a b end' → (due : Status) → IsDue tells words before now a b due → (end' ≡ due) ⊎ (end' ≡ status.Memory) ⊎ (end' ≡ status.Full)
 due_ends laws tells words before now a b end' h status.Done due = done_due laws tells words before now a b due end' h
@@ -1168,7 +1132,7 @@ due_ends laws tells words before now a b end' h status.Input due = input_due law
 -- chunks run out in a run alone, or where that is due
 
 abbrev Scarce : Plan → Type 0
-Scarce r = (r.job ≡ Run) ⊎ (r.job ≡ Gen) ⊎ (r.job ≡ Trace) ⊎ (r.job ≡ Local)
+Scarce r = RunsACore (row r.job)
 
 abbrev Drained : Bool → ShelfView → Plan → Type 0
 Drained tells before r = OnBoth (K tells before r) r (HasNoValue Full r)
@@ -1178,7 +1142,7 @@ map_two : (o : Option Plan) (P Q R : Plan → Type 0) → ((r : Plan) → P r �
 map_two None P Q R go h k = absurd h
 map_two (Some r) P Q R go h k = go r h k
 
-run_or_replay : (r : Plan) (p : Program) (names : TextsView) (given : Contents) (file : Option (List ℕ)) → Does r.job r.options p names given file (Without Full) → Scarce r ⊎ (r.job ≡ Replay)
+run_or_replay : (r : Plan) (p : Program) (names : TextsView) (given : Contents) (file : Option (List ℕ)) → Does r.job r.options p names given file (Without Full) → Scarce r ⊎ (row r.job ≡ FollowsJournal)
 run_or_replay r p names given file h = full_runs r.job r.options p names given file h
 
 module _ (laws : Laws) (tells : Bool) (before now : ShelfView) where
@@ -1192,8 +1156,8 @@ module _ (laws : Laws) (tells : Bool) (before now : ShelfView) where
       let full = both.4 in
       elim (run_or_replay r p names given full.0 full.1) [
         | inl run ↦ run
-        | inr is ↦ absurd (text_or_full laws r.options p names given (without_image r.options) text.1 text.0 full.0 (ends_replay r.job (without_image r.options) p names given text.0 (Prints text.1) is text.2)
-            (as_replay r.job r.options p names given full.0 (Without Full) is full.1))
+        | inr is ↦ absurd (text_or_full laws r.options p names given (without_image r.options) text.1 text.0 full.0 (ends_replay (row r.job) (without_image r.options) p names given text.0 (Prints text.1) is text.2)
+            (as_replay (row r.job) r.options p names given full.0 (Without Full) is full.1))
       ]
 
   none_or_scarce : (x : Why) (r : Plan) → DueNone tells before now x r → Drained tells before r → Scarce r
@@ -1206,8 +1170,8 @@ module _ (laws : Laws) (tells : Bool) (before now : ShelfView) where
       let full = both.4 in
       elim (run_or_replay r p names given full.0 full.1) [
         | inl run ↦ run
-        | inr is ↦ absurd (none_or_full laws r.options p names given x valueless.0 full.0 (ends_replay r.job (without_image r.options) p names given valueless.0 (Without (Meant x)) is valueless.1)
-            (as_replay r.job r.options p names given full.0 (Without Full) is full.1))
+        | inr is ↦ absurd (none_or_full laws r.options p names given x valueless.0 full.0 (ends_replay (row r.job) (without_image r.options) p names given valueless.0 (Without (Meant x)) is valueless.1)
+            (as_replay (row r.job) r.options p names given full.0 (Without Full) is full.1))
       ]
 
 -- chunks ran out: that is due, or it is a run
@@ -1221,7 +1185,7 @@ scarce laws tells words before now a b status.Depth due h = inr (map_two (asked 
 scarce laws tells words before now a b status.Trap due h = inr (map_two (asked words) (DueNone tells before now why.Trap) (Drained tells before) Scarce (none_or_scarce laws tells before now why.Trap) due h)
 scarce laws tells words before now a b status.Full due h = inl refl
 scarce laws tells words before now a b status.Memory due h = absurd due
-scarce laws tells words before now a b status.Long due h = inr (map_two (asked words) (DueLong tells before now) (Drained tells before) Scarce (λ r d full. inl d.0) due h)
+scarce laws tells words before now a b status.Long due h = inr (map_two (asked words) (DueLong tells before now) (Drained tells before) Scarce (λ r d full. (ForFiles, d.0, (λ e. cc))) due h)
 scarce laws tells words before now a b status.ReadFault due h =
     let k = both_asked (asked words) (DueMissing tells before now) (Drained tells before) due h in
     absurd (missing_both tells before now k.0 (HasNoValue Full k.0) k.1 k.2)

@@ -1,6 +1,6 @@
 -- Inputs are refused for one fault, and then they are not accepted.
 use Rattle.gib_base.specs.Texts.{TextsView}
-use Rattle.std.proofs.Common.{◌≡◌, ◌∙◌, refl, Bool, true, false, ℕ, ◌≤◌, List, length, Err, inl, inr, sym, subst, ap, arith}
+use Rattle.std.proofs.Common.{◌≡◌, ◌∙◌, refl, Bool, true, false, ℕ, ◌≤◌, List, length, Option, None, Some, Err, inl, inr, sym, subst, ap, arith}
 use Rattle.gib_types.specs.declared.table.Ty.{Ty}
 use Rattle.gib_types.specs.Table.{Table}
 use Rattle.gib_types.specs.Tree.{Datum}
@@ -27,17 +27,19 @@ use Rattle.gib_app.specs.declared.input_fault.ImageFault.{ImageFault}
 use Rattle.gib_app.specs.declared.input_fault.ImageFault.TheVariants as image
 use Rattle.gib_app.specs.declared.input_fault.PackedFault.{PackedFault}
 use Rattle.gib_app.specs.declared.input_fault.PackedFault.TheVariants.{Header, Types, Short, Tag, Truth, Trailing}
+use Rattle.gib_app.specs.declared.plan.Format.{Format}
+use Rattle.gib_app.specs.declared.plan.Format.TheVariants as format
 use Rattle.gib_app.specs.declared.plan.Job.{Job}
 use Rattle.gib_app.specs.declared.plan.Options.{Options}
 use Rattle.gib_app.specs.declared.input_fault.JournalFault.{JournalFault}
 use Rattle.gib_app.specs.declared.input_fault.JournalFault.TheVariants as journal
-use Rattle.gib_app.specs.declared.plan.Job.TheVariants.{Run, Plain, Check, Core, Code, Pack, Show, Gen, Trace, Replay, Local}
 use Rattle.gib_app.specs.InputFaults.{IsTypesFault, IsPayloadFault, IsFileFault, IsInputFault, IsImageFault, IsJournalFault, IsReplayFault, IsShowFault, IsPackFault}
 use Rattle.gib_app.specs.Plan.{Contents}
 use Rattle.gib_app.specs.Replaying.{Happens, IsJournal, IsNotEnabled, IsNotEnded, OnJournal, code_for, journal_in, start_for}
-use Rattle.gib_app.specs.Formats.{Accepts, Refuses}
+use Rattle.gib_app.specs.Formats.{format_of, Accepts, Refuses}
 use Rattle.gib_app.specs.Packing.{without_feed, IsPackable, IsPackedBy}
 use Rattle.gib_app.specs.Running.{sourced, IsInput, IsShownValue}
+use Rattle.gib_app.proofs.Doing.{AcceptsBy, RefusesBy}
 use Rattle.gib_app.proofs.Doing.{shown_short}
 use Rattle.gib_app.proofs.Signs.{signs_differ, formed_sign, fault_sign, no_packed_value, no_sign_value, ReadOrRefused, no_image_value}
 use Rattle.gib_app.proofs.Refusals.{HeaderRefuses, TypesRefuse, PayloadRefuses, no_file}
@@ -384,28 +386,22 @@ module _ (p : ProgramTree) (names : TextsView) (laws : Laws (table_of_program p)
 
 -- The inputs of a job.
 module _ (p : ProgramTree) (names : TextsView) (laws : Laws (table_of_program p) names.short) (options : Options) (given : Contents) where
+  refusal_by : (o : Option Format) (f g : InputFault) → RefusesBy o options (sourced p) names given f → RefusesBy o options (sourced p) names given g → f ≡ g
+  refusal_by None f g h k = absurd h
+  refusal_by (Some format.Packed) f g h k = one_input p names laws options.skips given.second f g h k
+  refusal_by (Some format.Packable) f g h k = one_pack p names laws options.skips given.second options.repacks options.first_version f g h k
+  refusal_by (Some format.Shown) f g h k = one_show p names laws options.skips given.second f g h k
+  refusal_by (Some format.Journaled) f g h k = one_replay p names laws options.skips given.second (journal_in given) f g h k
+
   pub one_refusal : (job : Job) (f g : InputFault) → Refuses job options (sourced p) names given f → Refuses job options (sourced p) names given g → f ≡ g
-  one_refusal Run f g h k = one_input p names laws options.skips given.second f g h k
-  one_refusal Plain f g h k = one_input p names laws options.skips given.second f g h k
-  one_refusal Check f g h k = absurd h
-  one_refusal Core f g h k = absurd h
-  one_refusal Code f g h k = absurd h
-  one_refusal Pack f g h k = one_pack p names laws options.skips given.second options.repacks options.first_version f g h k
-  one_refusal Show f g h k = one_show p names laws options.skips given.second f g h k
-  one_refusal Gen f g h k = one_input p names laws options.skips given.second f g h k
-  one_refusal Trace f g h k = one_input p names laws options.skips given.second f g h k
-  one_refusal Replay f g h k = one_replay p names laws options.skips given.second (journal_in given) f g h k
-  one_refusal Local f g h k = one_input p names laws options.skips given.second f g h k
+  one_refusal job f g h k = refusal_by (format_of job) f g h k
+
+  accepted_by : (o : Option Format) (f : InputFault) → RefusesBy o options (sourced p) names given f → AcceptsBy o options (sourced p) names given → ⊥
+  accepted_by None f h a = h
+  accepted_by (Some format.Packed) f h a = not_input p names laws options.skips given.second f a.0 h a.1
+  accepted_by (Some format.Packable) f h a = not_packable p names laws options.skips given.second options.repacks options.first_version f a.0 h a.1
+  accepted_by (Some format.Shown) f h a = not_shown p names laws options.skips given.second f a.0 h a.1
+  accepted_by (Some format.Journaled) f h a = not_replayed p names laws options.skips given.second (journal_in given) f h a
 
   pub not_accepted : (job : Job) (f : InputFault) → Refuses job options (sourced p) names given f → Accepts job options (sourced p) names given → ⊥
-  not_accepted Run f h a = not_input p names laws options.skips given.second f a.0 h a.1
-  not_accepted Plain f h a = not_input p names laws options.skips given.second f a.0 h a.1
-  not_accepted Check f h a = h
-  not_accepted Core f h a = h
-  not_accepted Code f h a = h
-  not_accepted Pack f h a = not_packable p names laws options.skips given.second options.repacks options.first_version f a.0 h a.1
-  not_accepted Show f h a = not_shown p names laws options.skips given.second f a.0 h a.1
-  not_accepted Gen f h a = not_input p names laws options.skips given.second f a.0 h a.1
-  not_accepted Trace f h a = not_input p names laws options.skips given.second f a.0 h a.1
-  not_accepted Replay f h a = not_replayed p names laws options.skips given.second (journal_in given) f h a
-  not_accepted Local f h a = not_input p names laws options.skips given.second f a.0 h a.1
+  not_accepted job f h a = accepted_by (format_of job) f h a

@@ -18,9 +18,7 @@ use Rattle.gib_core.specs.Parts.{core_of}
 use Rattle.gib_core.specs.Tight.{Tight}
 use Rattle.gib_core.specs.Tree.{CoreTree}
 use Rattle.gib_code.specs.declared.answer.Answer.{Answer}
-use Rattle.gib_code.specs.declared.answer.Answer.TheVariants as answer
 use Rattle.gib_code.specs.declared.answer.Reason.{Reason as Why}
-use Rattle.gib_code.specs.declared.answer.Reason.TheVariants as why
 use Rattle.gib_code.specs.Program.{CodeTree}
 use Rattle.gib_lower.specs.Lowering.{lower_program}
 use Rattle.gib_load.specs.Placement.{Placement}
@@ -44,6 +42,7 @@ use Rattle.gib_app.specs.Running.{FillsUp, IsInput, MeansNone}
 use Rattle.gib_app.specs.Stops.{IsRunStop}
 use Rattle.gib_app.specs.Workers.{Engine, engine_for, engine_of, start_by, IsEndBy, IsLoaded, IsTraced, IsTraceStop, IsWorkersStop, OnlyFull}
 use Rattle.gib_app.proofs.Imaged.{stands_again}
+use Rattle.gib_app.proofs.Replays.{stopped_so}
 use Rattle.gib_app.proofs.Roots.{answered, input_of, table_laid}
 use Rattle.gib_app.proofs.Stopped.{stops_with}
 
@@ -89,13 +88,7 @@ end_stands p input v settings lines m a place is ended there =
 -- Where there is none, the program means none, for the answer's reason.
 pub end_stopped : (p : ProgramTree) (v : Datum) (settings : Settings) (lines : List Line) (m : Memory) (a : Answer) (other : Why) → IsEndOf p v settings lines m a → root_in a ≡ Err other
     → (a ≡ stopped other) × (run p settings.depth v ≡ Stops (means_why other))
-end_stopped p v settings lines m (answer.Whole z) other ended nowhere = absurd cc
-end_stopped p v settings lines m (answer.Truth b) other ended nowhere = absurd cc
-end_stopped p v settings lines m (answer.At a) other ended nowhere = absurd cc
-end_stopped p v settings lines m answer.Deep why.Deep ended nowhere = (refl, ended.means)
-end_stopped p v settings lines m answer.Deep why.Trap ended nowhere = absurd cc
-end_stopped p v settings lines m answer.Trap why.Deep ended nowhere = absurd cc
-end_stopped p v settings lines m answer.Trap why.Trap ended nowhere = (refl, ended.means)
+end_stopped p v settings lines m a other ended nowhere = stopped_so (layouts_of settings.skips p) m.cells (output_type p) (run p settings.depth v) a ended.means other nowhere
 
 -- What becomes of a value that was loaded.
 pub loaded_end : (l : LoweredParts) (v : Datum) (settings js : Settings) (chunks : ℕ) (lines : List Line) (m1 m2 : Memory) (place : Root) (tails : List ℕ) (a : Answer) → js ≡ settings → settings.chunks ≡ chunks

@@ -1,12 +1,14 @@
 mod SpelledNames
 mod Held
 mod Told
+mod StopMaps
 mod Doing
 mod AfterReads
 mod Replays
 mod Packs
 mod Repeats
 mod Making
+mod Finishing
 mod Decimals
 mod Performing
 mod Endings
@@ -19,6 +21,7 @@ mod Filling
 mod Asking
 mod Entering
 mod Signs
+mod Forms
 mod Fitting
 mod Imaged
 mod Summed

@@ -1,7 +1,7 @@
 -- The promise of `local`, from how a call ends.
 use Rattle.gib_base.specs.Texts.{TextsView, plain_texts}
 use Rattle.gib_base.specs.declared.token.Dialect.TheVariants as dialect
-use Rattle.std.proofs.Common.{◌≡◌, ◌∙◌, refl, ℕ, List, [], ◌∷◌, ◌++◌, Option, Some, None, IfSome, MatchOption, ◌⊎◌, inl, inr, subst, sym, ap, Bool}
+use Rattle.std.proofs.Common.{◌≡◌, ◌∙◌, refl, ℕ, List, [], ◌++◌, Option, Some, None, IfSome, MatchOption, ◌⊎◌, inl, inr, subst, sym, ap, Bool, true≢false}
 use Rattle.gib_types.specs.Tree.{Datum}
 use Rattle.gib_core.specs.Marking.{mark_core}
 use Rattle.gib_syntax.specs.Declarations.{table_of_program, input_type}
@@ -11,7 +11,6 @@ use Rattle.gib_code.specs.declared.answer.Reason.TheVariants as why
 use Rattle.gib_weave.specs.Sound.{means_why}
 use Rattle.gib_edge.specs.Views.{ShelfView, SinkView}
 use Rattle.gib_app.specs.declared.made.Reason.TheVariants.{Meant, Full, Long}
-use Rattle.gib_app.specs.declared.plan.Job.TheVariants.{Local}
 use Rattle.gib_app.specs.declared.plan.Options.{Options}
 use Rattle.gib_app.specs.declared.status.Status.{Status}
 use Rattle.gib_app.specs.declared.status.Status.TheVariants as status
@@ -21,10 +20,10 @@ use Rattle.gib_app.specs.Formats.{dialect_of, inputs_of, Accepts}
 use Rattle.gib_app.specs.Words.{asked}
 use Rattle.gib_app.specs.Jobs.{run_forks}
 use Rattle.gib_app.specs.Running.{Program, IsInput, IsLocated, IsNoProgramIn, IsOutput, MeansNone, text_line}
-use Rattle.gib_app.specs.Causes.{OnProgram, OnBoth, OnSource, AsksProgram, EndsWithout, HasNoValue, IsUnread}
+use Rattle.gib_app.specs.Causes.{OnProgram, OnBoth, OnSource, AsksProgram, EndsWithout, IsUnread}
 use Rattle.gib_app.specs.Ending.{IsEnding, HasText, DueOfFiles, DueOfSource, DueWithout, TakesAll}
-use Rattle.gib_app.specs.LocalHeadline.{IsLocalRun, MakesCore, LocalGiven, IsLocalResult, HasNoLocalResult, IsLocalTooBig, NoReadFailed, local_meant, local_plan, program_in}
-use Rattle.gib_app.proofs.Endings.{IsCause, Laws, Whole, DueAll, DueFit, DueNone, cause_of, due_ends, fit_ends, none_due, one_given, one_meaning, runs_well, same_bytes, same_given, together, told_by}
+use Rattle.gib_app.specs.LocalHeadline.{IsLocalRun, MakesCore, LocalGiven, IsLocalResult, HasNoLocalResult, IsLocalTooBig, NoReadFailed, local_plan, program_in}
+use Rattle.gib_app.proofs.Endings.{Laws, Whole, DueAll, DueFit, DueNone, cause_of, due_ends, fit_ends, none_due, one_given, one_meaning, runs_well, same_bytes, same_given, together, told_by}
 use Rattle.gib_app.proofs.Performing.{asked_of}
 use Rattle.gib_app.proofs.Replays.{some_or_none}
 
@@ -180,7 +179,7 @@ module _ (tells : Bool) (words : List (List ℕ)) (before now : ShelfView) (out 
   long_never : (said : List ℕ) → IsEnding tells words before now out out_now status.Long said → ⊥
   long_never said h =
       let P : Plan → Type 0 = λ q. OnBoth (at_reading tells before.kept q) q (EndsWithout tells before now Long q) in
-      (of_files (EndsWithout tells before now Long plan) (asked_is (asked words) plan P r.asks h.0)).holds.does
+      true≢false (sym (of_files (EndsWithout tells before now Long plan) (asked_is (asked words) plan P r.asks h.0)).holds.does.2)
 
   -- ---- The other way round
 

@@ -16,7 +16,7 @@ use Rattle.gib_syntax.specs.Tree.{ProgramTree}
 use Rattle.gib_lex.specs.declared.fault.LexFault.{LexFault}
 use Rattle.gib_lex.specs.declared.fault.LexFault.TheVariants as lexing
 use Rattle.gib_lex.specs.Refused.{IsRefusedIn}
-use Rattle.gib_parse.specs.Answers.{place_of}
+use Rattle.gib_parse.specs.Blaming.{place_of}
 use Rattle.gib_parse.specs.Reading as reading
 use Rattle.gib_check.specs.declared.fault.Fault.{Fault}
 use Rattle.gib_core.specs.Erasing.{erase_core}

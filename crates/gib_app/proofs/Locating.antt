@@ -1,31 +1,28 @@
--- From a source that writes its places out to what is made of a plan's files.
+-- From a core that a source writes out to what is made of a plan's files.
 use Rattle.gib_base.specs.Texts.{TextsView}
-use Rattle.gib_base.specs.declared.token.Dialect.{Dialect}
 use Rattle.gib_base.specs.declared.token.Dialect.TheVariants as dialect
-use Rattle.std.proofs.Common.{◌≡◌, ◌∙◌, refl, sym, ap, subst, ℕ, ◌≤◌, List, [], ◌∷◌, length, Option, Some, None, Result, Ok, Err, IfOk, IfErr}
+use Rattle.std.proofs.Common.{◌≡◌, ◌∙◌, refl, sym, ap, subst, ℕ, ◌≤◌, List, [], Option, None, Result, Ok, Err, IfOk, IfErr, Some}
 use Rattle.std.specs.Option.{option_map_or}
 use Rattle.gib_edge.specs.Views.{ShelfView}
-use Rattle.gib_core.specs.Numbering.{AreNumbered}
-use Rattle.gib_core.specs.Tree.{CoreTree}
 use Rattle.gib_app.specs.declared.made.Finished.{Finished}
 use Rattle.gib_app.specs.declared.made.Made.{Made}
 use Rattle.gib_app.specs.declared.plan.Job.{Job}
-use Rattle.gib_app.specs.declared.plan.Job.TheVariants.{Run, Plain, Check, Core, Code, Pack, Show, Gen, Trace, Replay, Local}
+use Rattle.gib_app.specs.declared.plan.Job.TheVariants.{Local}
 use Rattle.gib_app.specs.declared.plan.Options.{Options}
 use Rattle.gib_app.specs.declared.stop.Stop.{Stop}
 use Rattle.gib_app.specs.Calls.{input_calls}
-use Rattle.gib_app.specs.Causes.{AreFurther, AreGiven, OnSource, first_of, further_of}
-use Rattle.gib_app.specs.Formats.{dialect_of, format_of, inputs_of, limits_of, most_of, with_limits}
+use Rattle.gib_app.specs.Causes.{AreFurther, AreGiven, first_of, further_of, OnSource}
+use Rattle.gib_app.specs.Formats.{dialect_of, format_of, inputs_of, limits_of, most_of, with_limits, dialect_by, format_by, limit_of}
 use Rattle.gib_app.specs.Formats.{Input as PlanInput}
-use Rattle.gib_app.specs.Jobs.{DoesAll, End, RunsLocated}
+use Rattle.gib_app.specs.Rows.{Plainly, ForFiles, ForSummary, ForJournal, ForPlaces, Row, Says, Evaluates, PacksValue, ShowsFile, FollowsJournal, row}
+use Rattle.gib_app.specs.Jobs.{DoesAll, DoesBy, End, PacksResult, RunsLocated, packs_of}
 use Rattle.gib_app.specs.Kept.{EndsBy, EndsByBoth, file_of, packed_of}
-use Rattle.gib_app.specs.Located.{IsWritten}
-use Rattle.gib_app.specs.MachineRun.{RunsFor}
-use Rattle.gib_app.specs.Plan.{Contents, Document, Files, Plan}
+use Rattle.gib_app.specs.Plan.{Contents, Files, Plan}
 use Rattle.gib_app.specs.Readings.{HasRead}
 use Rattle.gib_app.specs.Running.{Program, IsProgramIn}
-use Rattle.gib_app.specs.Stops.{FailsTo, IsRunStop}
+use Rattle.gib_app.specs.Stops.{FailsTo, IsRunStop, IsRefusal}
 use Rattle.gib_app.proofs.AfterReads.{inputs_read, none_read}
+use Rattle.gib_app.proofs.Doing.{AcceptsBy, RefusesBy}
 use Rattle.gib_app.proofs.Making.{inputs_given, only_first}
 use Rattle.gib_app.proofs.PackedRuns.{finished_alone, stopped_alone}
 
@@ -37,27 +34,28 @@ two_dialects e = cc
 pub not_local : (job : Job) → dialect_of job ≡ dialect.Source → job ≡ Local → ⊥
 not_local job e is = two_dialects (sym e ∙ ap dialect_of is)
 
-pub is_local : (job : Job) → dialect_of job ≡ dialect.Located → job ≡ Local
-is_local Run e = absurd (two_dialects e)
-is_local Plain e = absurd (two_dialects e)
-is_local Check e = absurd (two_dialects e)
-is_local Core e = absurd (two_dialects e)
-is_local Code e = absurd (two_dialects e)
-is_local Pack e = absurd (two_dialects e)
-is_local Show e = absurd (two_dialects e)
-is_local Gen e = absurd (two_dialects e)
-is_local Trace e = absurd (two_dialects e)
-is_local Replay e = absurd (two_dialects e)
-is_local Local e = refl
+located_row : (r : Row) → dialect_by r ≡ dialect.Located → r ≡ Evaluates ForPlaces
+located_row (Says said) e = absurd (two_dialects e)
+located_row (Evaluates Plainly) e = absurd (two_dialects e)
+located_row (Evaluates ForFiles) e = absurd (two_dialects e)
+located_row (Evaluates ForSummary) e = absurd (two_dialects e)
+located_row (Evaluates ForJournal) e = absurd (two_dialects e)
+located_row (Evaluates ForPlaces) e = refl
+located_row PacksValue e = absurd (two_dialects e)
+located_row ShowsFile e = absurd (two_dialects e)
+located_row FollowsJournal e = absurd (two_dialects e)
 
-pub local_most : (job : Job) (n : ℕ) → job ≡ Local → n ≤ most_of job → n ≤ 16777216
-local_most job n is h = let P : Job → Type 0 = λ j. n ≤ most_of j in subst P is h
+pub is_local : (job : Job) → dialect_of job ≡ dialect.Located → row job ≡ Evaluates ForPlaces
+is_local job e = located_row (row job) e
+
+pub local_most : (job : Job) (n : ℕ) → row job ≡ Evaluates ForPlaces → n ≤ most_of job → n ≤ 16777216
+local_most job n is h = let P : Row → Type 0 = λ r. n ≤ option_map_or limit_of (format_by r) 0 in subst P is h
 
 -- It has one input.
-no_further : (r : Plan) → r.job ≡ Local → further_of (inputs_of r) ≡ []
-no_further r e = let P : Job → Type 0 = λ j. further_of (with_limits (option_map_or limits_of (format_of j) []) r.inputs) ≡ [] in subst P (sym e) (only_first 16777216 r.inputs)
+no_further : (r : Plan) → row r.job ≡ Evaluates ForPlaces → further_of (inputs_of r) ≡ []
+no_further r e = let P : Row → Type 0 = λ x. further_of (with_limits (option_map_or limits_of (format_by x) []) r.inputs) ≡ [] in subst P (sym e) (only_first 16777216 r.inputs)
 
-module _ (r : Plan) (is : r.job ≡ Local) where
+module _ (r : Plan) (is : row r.job ≡ Evaluates ForPlaces) where
   pub one_given : (mid : Files) (first : List ℕ) → AreGiven mid (first_of (inputs_of r)) (record { second = first; further = [] })
       → AreGiven mid (inputs_of r) (record { second = first; further = [] })
   one_given mid first h =
@@ -69,24 +67,6 @@ module _ (r : Plan) (is : r.job ≡ Local) where
       let P : List PlanInput → Type 0 = λ i. HasRead now now (input_calls i) in
       inputs_read before now now (inputs_of r) h (subst P (sym (no_further r is)) (none_read now))
 
--- What was written out, as a program of its source.
-
-pub record IsFound (kept : Files) (d : Document) (core : CoreTree) (names : TextsView) : Type 0 where
-  pub program : Program
-  pub on : OnSource kept d (λ source. IsProgramIn dialect.Located source names program)
-  pub located : program.located ≡ Some core
-  pub runs : RunsFor core program.tree names
-  pub numbered : AreNumbered core
-
-abbrev pub found : (kept : Files) (d : Document) (core : CoreTree) (names : TextsView) → OnSource kept d (λ source. IsWritten source core names) → IsFound kept d core names
-found kept d core names h = record {
-  program = h.holds.program;
-  on = record { source = h.source; source_held = h.source_held; holds = h.holds.is_program };
-  located = h.holds.located;
-  runs = h.holds.runs;
-  numbered = h.holds.numbered;
-}
-
 -- What holds of an answer holds of what it is.
 
 pub ok_here : {T E : Type 0} (r : Result T E) (x : T) (P : T → Type 0) → r ≡ Ok x → IfOk r P → P x
@@ -97,16 +77,16 @@ err_here r e P is h = subst (λ s. IfErr s P) is h
 
 -- What the job makes of it.
 
-module _ (job : Job) (is : job ≡ Local) (o : Options) (p : Program) (names : TextsView) (given : Contents) where
+module _ (job : Job) (is : row job ≡ Evaluates ForPlaces) (o : Options) (p : Program) (names : TextsView) (given : Contents) where
   does_located : (f : Option (List ℕ)) (x : End) → RunsLocated p names o given.second f x → DoesAll job o p names given f None x
-  does_located f x h = let P : Job → Type 0 = λ j. DoesAll j o p names given f None x in subst P (sym is) (h, refl)
+  does_located f x h = let P : Row → Type 0 = λ r. DoesBy r o p names given f x × PacksResult (packs_of r o) p.tree names o.depth given.second None x in subst P (sym is) (h, refl)
 
   pub located_made : (made : Result Made Stop) (r : Result Finished Stop) → IfOk r (λ finished. (made ≡ Ok finished.made) × (finished.packed ≡ None)) → IfOk made (λ m. EndsBy (file_of m) m.end (RunsLocated p names o given.second))
       → IfOk r (λ finished. EndsByBoth (file_of finished.made) (packed_of finished) finished.made.end (DoesAll job o p names given))
   located_made made r alone h = finished_alone made r (RunsLocated p names o given.second) (DoesAll job o p names given) alone does_located h
 
   fails_located : (stop : Stop) → IsRunStop p.tree names given.second stop → FailsTo job o p names given stop
-  fails_located stop h = let P : Job → Type 0 = λ j. FailsTo j o p names given stop in subst P (sym is) h
+  fails_located stop h = let P : Row → Type 0 = λ r. IsRefusal (λ fault. RefusesBy (format_by r) o p names given fault × (AcceptsBy (format_by r) o p names given → ⊥)) stop in subst P (sym is) h
 
   pub located_stop : (made : Result Made Stop) (r : Result Finished Stop) → IfErr r (λ stop. made ≡ Err stop) → IfErr made (IsRunStop p.tree names given.second) → IfErr r (FailsTo job o p names given)
   located_stop made (Ok finished) alone h = tt {0}

@@ -1,6 +1,6 @@
 -- From the parts of making to the whole.
 use Rattle.gib_base.specs.Texts.{TextsView}
-use Rattle.std.proofs.Common.{◌≡◌, ◌∙◌, Bool, refl, ap, ℕ, ◌<◌, ◌≤◌, List, [], ◌∷◌, length, Option, Some, None, MatchOption, option_map, option_to_list, subst, sym, inl, inr, arith}
+use Rattle.std.proofs.Common.{◌≡◌, ◌∙◌, Bool, refl, ap, ℕ, ◌<◌, ◌≤◌, List, [], ◌∷◌, length, Option, Some, None, MatchOption, option_map, option_to_list, subst, sym, ◌⊎◌, inl, inr, arith}
 use Rattle.std.specs.Option.{option_map_or}
 use Rattle.gib_edge.specs.Causes.{Rose}
 use Rattle.gib_edge.specs.Views.{ShelfView}
@@ -8,7 +8,7 @@ use Rattle.gib_types.specs.declared.table.Ty.{Ty}
 use Rattle.gib_types.specs.Table.{Table}
 use Rattle.gib_types.specs.Tree.{Datum}
 use Rattle.gib_file.specs.Framed.{File}
-use Rattle.gib_file.specs.Packed.{Packed}
+use Rattle.gib_file.specs.Packed.{Packed as IsPackedIn}
 use Rattle.gib_syntax.specs.Declarations.{table_of_program, input_type}
 use Rattle.gib_base.specs.declared.token.Dialect.{Dialect}
 use Rattle.gib_base.specs.declared.token.Dialect.TheVariants as dialect
@@ -16,25 +16,28 @@ use Rattle.gib_app.specs.declared.input_fault.InputFault.{InputFault}
 use Rattle.gib_app.specs.declared.input_fault.InputFault.TheVariants as input
 use Rattle.gib_app.specs.declared.source_fault.SourceFault.TheVariants as source
 use Rattle.gib_app.specs.declared.stop.Stop.{Stop}
-use Rattle.gib_app.specs.declared.stop.Stop.TheVariants.{Usage, Source, Unread, Input, NoValue, Memory, Unwritten, Unput}
+use Rattle.gib_app.specs.declared.stop.Stop.TheVariants.{Source, Input}
 use Rattle.gib_app.specs.declared.plan.Input.{Input as KeptInput}
 use Rattle.gib_app.specs.Kept.{document_of, input_of}
-use Rattle.gib_app.specs.declared.plan.Job.{Job}
 use Rattle.gib_app.specs.declared.plan.Options.{Options}
-use Rattle.gib_app.specs.declared.plan.Job.TheVariants.{Run, Plain, Check, Core, Code, Pack, Show, Gen, Trace, Replay, Local}
+use Rattle.gib_app.specs.declared.plan.Format.{Format}
+use Rattle.gib_app.specs.declared.plan.Format.TheVariants.{Packed, Packable, Shown, Journaled}
+use Rattle.gib_app.specs.Rows.{Row, Says, Evaluates, PacksValue, ShowsFile, FollowsJournal, row}
 use Rattle.gib_app.specs.Plan.{Document, BuiltIn, Named, Plan, Files, Contents}
-use Rattle.gib_app.specs.Running.{Program, sourced, IsProgramIn, IsInput, IsSourceIn, IsNoProgram, IsNoProgramIn}
+use Rattle.gib_app.specs.Running.{Program, IsProgramIn, IsInput, IsSourceIn, IsNoProgram, IsNoProgramIn}
 use Rattle.gib_app.specs.SourceFaults.{IsSourceFaultIn}
 use Rattle.gib_app.specs.InputFaults.{IsInputFault, IsReplayFault}
-use Rattle.gib_app.specs.Formats.{dialect_of, format_of, inputs_of, limits_of, most_of, with_limits, Accepts, Refuses}
+use Rattle.gib_app.specs.Formats.{dialect_of, format_by, format_of, inputs_of, limit_of, limits_of, most_of, with_limits, Accepts, Refuses}
 use Rattle.gib_app.specs.Formats.{Input as PlanInput}
 use Rattle.gib_app.specs.Causes.{Holds, AreFurther, AreGiven, AreReached, OnSource, OnBoth, OnReached, IsUnread, AreUnread, FailsToRead, TakesFirst, first_of, further_of}
-use Rattle.gib_app.specs.Stops.{IsCompileStop, IsReadStop, IsSourceStop, IsInputStop, IsLongFurther, IsFurtherStop, IsInputsStop, IsPackedStop, IsRunStop, FailsTo, IsMakeStop, IsStop}
+use Rattle.gib_app.specs.Stops.{IsCompileStop, IsReadStop, IsSourceStop, IsInputStop, IsLongFurther, IsFurtherStop, IsInputsStop, IsPackedStop, IsRunStop, FailsTo, IsMakeStop, IsStop, IsLongInput}
+use Rattle.gib_app.specs.FromSource.{IsTakingStop}
 use Rattle.gib_app.specs.Located.{IsLocatedStop}
 use Rattle.gib_app.specs.Writes.{at_reading}
 use Rattle.gib_app.proofs.Told.{document_before, further_before, held_before}
-use Rattle.gib_app.proofs.Doing.{shown_short}
+use Rattle.gib_app.proofs.Doing.{AcceptsBy, RefusesBy, shown_short}
 use Rattle.gib_app.proofs.Refusals.{run_stop}
+use Rattle.gib_app.proofs.StopMaps.{never, stays, stops_map}
 
 -- what holds of the compiled program and the inputs holds of the plan's files
 pub on_both : (kept : Files) (r : Plan) (d : Document) (p : Program) (names : TextsView) (given : Contents) (P : Program → TextsView → Contents → Type 0) → d ≡ r.source →
@@ -98,38 +101,21 @@ stop_in before now r d stop dl e h = let P : Dialect → Type 0 = λ x. IsSource
 -- why a source is not read, or not compiled
 
 pub read_source : (dl : Dialect) (before now : ShelfView) (d : Document) (stop : Stop) → IsReadStop before now d stop → IsSourceStop dl before now d stop
-read_source dl before now d Usage h = h
-read_source dl before now d (Source fault) h = absurd h
-read_source dl before now d (Unread name) h = h
-read_source dl before now d (Input fault) h = h
-read_source dl before now d (NoValue reason) h = h
-read_source dl before now d Memory h = h
-read_source dl before now d (Unwritten name) h = h
-read_source dl before now d Unput h = h
+read_source dl before now d stop h = stops_map _ _ _ _ _ _ _ _ _ _ stop h (never _) (stays _) (never _) (never _) (never _)
 
 -- a source is no program in its dialect where it spells none
 pub none_in : (source : List ℕ) → IsNoProgram source → IsNoProgramIn dialect.Source source
 none_in source h texts p is = h texts p.tree is.0
 
-pub compile_source : (before now : ShelfView) (d : Document) (source : List ℕ) → Holds before.kept d source → (stop : Stop) → IsCompileStop source stop → IsSourceStop dialect.Source before now d stop
-compile_source before now d source held Usage h = h
-compile_source before now d source held (Source fault) h = record { source = source; source_held = held; holds = (h.0, none_in source h.1) }
-compile_source before now d source held (Unread name) h = absurd h
-compile_source before now d source held (Input fault) h = h
-compile_source before now d source held (NoValue reason) h = h
-compile_source before now d source held Memory h = h
-compile_source before now d source held (Unwritten name) h = h
-compile_source before now d source held Unput h = h
+compile_source : (before now : ShelfView) (d : Document) (source : List ℕ) → Holds before.kept d source → (stop : Stop) → IsCompileStop source stop → IsSourceStop dialect.Source before now d stop
+compile_source before now d source held stop h = stops_map _ _ _ _ _ _ _ _ _ _ stop h (λ fault c. record { source = source; source_held = held; holds = (c.0, none_in source c.1) }) (never _) (never _) (never _) (never _)
 
-pub locate_source : (before now : ShelfView) (d : Document) (source : List ℕ) → Holds before.kept d source → (stop : Stop) → IsLocatedStop source stop → IsSourceStop dialect.Located before now d stop
-locate_source before now d source held Usage h = h
-locate_source before now d source held (Source fault) h = record { source = source; source_held = held; holds = h }
-locate_source before now d source held (Unread name) h = absurd h
-locate_source before now d source held (Input fault) h = h
-locate_source before now d source held (NoValue reason) h = h
-locate_source before now d source held Memory h = h
-locate_source before now d source held (Unwritten name) h = h
-locate_source before now d source held Unput h = h
+locate_source : (before now : ShelfView) (d : Document) (source : List ℕ) → Holds before.kept d source → (stop : Stop) → IsLocatedStop source stop → IsSourceStop dialect.Located before now d stop
+locate_source before now d source held stop h = stops_map _ _ _ _ _ _ _ _ _ _ stop h (λ fault c. record { source = source; source_held = held; holds = c }) (never _) (never _) (never _) (never _)
+
+pub taking_source : (dl : Dialect) (before now : ShelfView) (d : Document) (source : List ℕ) → Holds before.kept d source → (stop : Stop) → IsTakingStop dl source stop → IsSourceStop dl before now d stop
+taking_source dialect.Source before now d source held stop h = compile_source before now d source held stop h
+taking_source dialect.Located before now d source held stop h = locate_source before now d source held stop h
 
 -- a source with too many bytes is no program
 pub long_source : (dl : Dialect) (before now : ShelfView) (d : Document) → OnSource before.kept d (λ bytes. 1048576 < length bytes) → IsSourceStop dl before now d (Source source.Long)
@@ -181,15 +167,8 @@ module _ (o : Option KeptInput) (r : Plan) (same : option_to_list (option_map in
 
   -- why it is not read
   pub read_input_stop : (before now : ShelfView) (i : KeptInput) → o ≡ Some i → (stop : Stop) → IsReadStop before now (document_of i.document) stop → IsInputStop before now r stop
-  read_input_stop before now i e Usage h = h
-  read_input_stop before now i e (Source fault) h = h
-  read_input_stop before now i e (Unread name) h =
-      let P : List PlanInput → Type 0 = λ is. AreUnread before now is name.now in subst P (one_input i e) (inl h)
-  read_input_stop before now i e (Input fault) h = absurd h
-  read_input_stop before now i e (NoValue reason) h = h
-  read_input_stop before now i e Memory h = h
-  read_input_stop before now i e (Unwritten name) h = h
-  read_input_stop before now i e Unput h = h
+  read_input_stop before now i e stop h =
+      stops_map _ _ _ _ _ _ _ _ _ _ stop h (never _) (λ name c. let P : List PlanInput → Type 0 = λ is. AreUnread before now is name in subst P (one_input i e) (inl c)) (never _) (never _) (never _)
 
 -- The input behind it, or none
 
@@ -198,18 +177,12 @@ pub only_first : (most : ℕ) (documents : List Document) → further_of (with_l
 only_first most [] = refl
 only_first most (d ∷ documents) = refl
 
-is_replay : (job : Job) (documents : List Document) → (further_of (with_limits (option_map_or limits_of (format_of job) []) documents) ≡ [] → ⊥) → job ≡ Replay
-is_replay Run documents some = absurd (some (only_first 16777216 documents))
-is_replay Plain documents some = absurd (some (only_first 16777216 documents))
-is_replay Check documents some = absurd (some refl)
-is_replay Core documents some = absurd (some refl)
-is_replay Code documents some = absurd (some refl)
-is_replay Pack documents some = absurd (some (only_first 16777216 documents))
-is_replay Show documents some = absurd (some (only_first 268435480 documents))
-is_replay Gen documents some = absurd (some (only_first 16777216 documents))
-is_replay Trace documents some = absurd (some (only_first 16777216 documents))
-is_replay Replay documents some = refl
-is_replay Local documents some = absurd (some (only_first 16777216 documents))
+follows : (r : Row) (documents : List Document) → (further_of (with_limits (option_map_or limits_of (format_by r) []) documents) ≡ [] → ⊥) → r ≡ FollowsJournal
+follows (Says said) documents some = absurd (some refl)
+follows (Evaluates way) documents some = absurd (some (only_first 16777216 documents))
+follows PacksValue documents some = absurd (some (only_first 16777216 documents))
+follows ShowsFile documents some = absurd (some (only_first 268435480 documents))
+follows FollowsJournal documents some = refl
 
 not_none : {X : Type 0} (x : X) (xs : List X) → x ∷ xs ≡ [] → ⊥
 not_none x xs e = cc
@@ -218,8 +191,8 @@ module _ (o : Option KeptInput) (r : Plan) (same : option_to_list (option_map in
   one_further : (i : KeptInput) → o ≡ Some i → input_of i ∷ [] ≡ further_of (inputs_of r)
   one_further i e = let Q : Option KeptInput → Type 0 = λ x. option_to_list (option_map input_of x) ≡ further_of (inputs_of r) in subst Q e same
 
-  replays : (i : KeptInput) → o ≡ Some i → r.job ≡ Replay
-  replays i e = is_replay r.job r.inputs (λ none'. not_none (input_of i) [] (one_further i e ∙ none'))
+  replays : (i : KeptInput) → o ≡ Some i → row r.job ≡ FollowsJournal
+  replays i e = follows (row r.job) r.inputs (λ none'. not_none (input_of i) [] (one_further i e ∙ none'))
 
   pub further_none : (kept : Files) → o ≡ None → AreFurther kept (further_of (inputs_of r)) []
   further_none kept e =
@@ -232,11 +205,11 @@ module _ (o : Option KeptInput) (r : Plan) (same : option_to_list (option_map in
 
   -- the first one has no more bytes than a packed file
   first_short : (i : KeptInput) → o ≡ Some i → (first : List ℕ) → length first ≤ most_of r.job → length first ≤ 16777216
-  first_short i e first few = let P : Job → Type 0 = λ job. length first ≤ most_of job in subst P (replays i e) few
+  first_short i e first few = let P : Row → Type 0 = λ x. length first ≤ option_map_or limit_of (format_by x) 0 in subst P (replays i e) few
 
   -- it was looked over, and is a packed file
-  pub first_taken : {names : TextsView} (i : KeptInput) → o ≡ Some i → (p : Program) (first : List ℕ) (table : Table) (ty : Ty) (payload : List ℕ) → length first ≤ most_of r.job → ((v : Datum) × Packed table ty v payload) →
-      ((v : Datum) → Packed table ty v payload → File (table_of_program p.tree) names.long (input_type p.tree) v first) → (v : Datum) × IsInput p.tree names v first
+  pub first_taken : {names : TextsView} (i : KeptInput) → o ≡ Some i → (p : Program) (first : List ℕ) (table : Table) (ty : Ty) (payload : List ℕ) → length first ≤ most_of r.job → ((v : Datum) × IsPackedIn table ty v payload) →
+      ((v : Datum) → IsPackedIn table ty v payload → File (table_of_program p.tree) names.long (input_type p.tree) v first) → (v : Datum) × IsInput p.tree names v first
   first_taken i e p first table ty payload few packed file = (packed.0, record { short = first_short i e first few; file = file packed.0 packed.1 })
 
   pub long_further : {names : TextsView} (before now : ShelfView) (i : KeptInput) → o ≡ Some i → i.most ≡ 16777216 → (p : Program) (first : List ℕ) → ((v : Datum) × IsInput p.tree names v first) →
@@ -251,14 +224,7 @@ module _ (o : Option KeptInput) (r : Plan) (same : option_to_list (option_map in
 
   -- why it is not read: the first one is refused
   refused_first : (before now : ShelfView) (i : KeptInput) → o ≡ Some i → (p : Program) (names : TextsView) (first : List ℕ) (stop : Stop) → IsRunStop p.tree names first stop → IsFurtherStop before now r p names first stop
-  refused_first before now i e p names first Usage h = h
-  refused_first before now i e p names first (Source fault) h = h
-  refused_first before now i e p names first (Unread name) h = absurd h
-  refused_first before now i e p names first (Input fault) h = inl (replays i e, h.0, h.1)
-  refused_first before now i e p names first (NoValue reason) h = h
-  refused_first before now i e p names first Memory h = h
-  refused_first before now i e p names first (Unwritten name) h = h
-  refused_first before now i e p names first Unput h = h
+  refused_first before now i e p names first stop h = stops_map _ _ _ _ _ _ _ _ _ _ stop h (never _) (never _) (λ fault c. inl (replays i e, c.0, c.1)) (never _) (never _)
 
   pub unsurveyed : (before now : ShelfView) (i : KeptInput) → o ≡ Some i → (p : Program) (names : TextsView) (first : List ℕ) (stop : Stop) → length first ≤ most_of r.job →
       IsPackedStop (table_of_program p.tree) names.long (input_type p.tree) first stop → IsFurtherStop before now r p names first stop
@@ -267,15 +233,8 @@ module _ (o : Option KeptInput) (r : Plan) (same : option_to_list (option_map in
   -- or its own file is not read
   pub read_further_stop : {names : TextsView} (before now : ShelfView) (i : KeptInput) → o ≡ Some i → (p : Program) (first : List ℕ) → ((v : Datum) × IsInput p.tree names v first) → (stop : Stop) →
       IsReadStop before now (document_of i.document) stop → IsFurtherStop before now r p names first stop
-  read_further_stop before now i e p first taken Usage h = h
-  read_further_stop before now i e p first taken (Source fault) h = h
-  read_further_stop before now i e p first taken (Unread name) h =
-      let P : List PlanInput → Type 0 = λ is. AreUnread before now is name.now in (subst P (one_further i e) (inl h), taken)
-  read_further_stop before now i e p first taken (Input fault) h = absurd h
-  read_further_stop before now i e p first taken (NoValue reason) h = h
-  read_further_stop before now i e p first taken Memory h = h
-  read_further_stop before now i e p first taken (Unwritten name) h = h
-  read_further_stop before now i e p first taken Unput h = h
+  read_further_stop before now i e p first taken stop h =
+      stops_map _ _ _ _ _ _ _ _ _ _ stop h (never _) (λ name c. let P : List PlanInput → Type 0 = λ is. AreUnread before now is name in (subst P (one_further i e) (inl c), taken)) (never _) (never _) (never _)
 
 -- counts that stayed in the first part
 
@@ -293,10 +252,10 @@ inputs_unread_before before mid now (i ∷ is) name e (inr h) = inr (inputs_unre
 
 -- a first input that is too long is refused, and what is behind it is not reached
 
-record IsLongFirst (kept : Files) (job : Job) (options : Options) (documents : List Document) (p : Program) (names : TextsView) (given : Contents) : Type 0 where
-  reached : AreReached kept p names (with_limits (option_map_or limits_of (format_of job) []) documents) given
-  refused : Refuses job options p names given (input.Long (most_of job))
-  not_accepted : Accepts job options p names given → ⊥
+record IsLongFirst (kept : Files) (format : Option Format) (options : Options) (documents : List Document) (p : Program) (names : TextsView) (given : Contents) : Type 0 where
+  reached : AreReached kept p names (with_limits (option_map_or limits_of format []) documents) given
+  refused : RefusesBy format options p names given (input.Long (option_map_or limit_of format 0))
+  not_accepted : AcceptsBy format options p names given → ⊥
 
 long_reached : (kept : Files) (p : Program) (names : TextsView) (most : ℕ) (limits : List ℕ) (documents : List Document) (given : Contents) → 16777216 ≤ most → most < length given.second →
     AreGiven kept (first_of (with_limits (most ∷ limits) documents)) given → AreReached kept p names (with_limits (most ∷ limits) documents) given
@@ -307,64 +266,38 @@ module _ (kept : Files) (options : Options) (documents : List Document) (p : Pro
   long_packed : (most : ℕ) → 16777216 ≤ most → most < length given.second → (v : Datum) → IsInput p.tree names v given.second → ⊥
   long_packed most room many v is = let short = is.short in omega (arith, room, many, short)
 
-  long_first : (job : Job) → AreGiven kept (first_of (with_limits (option_map_or limits_of (format_of job) []) documents)) given → most_of job < length given.second →
-      IsLongFirst kept job options documents p names given
-  long_first Run h many = record {
+  long_first : (format : Option Format) → AreGiven kept (first_of (with_limits (option_map_or limits_of format []) documents)) given → option_map_or limit_of format 0 < length given.second →
+      IsLongFirst kept format options documents p names given
+  long_first None h many = absurd (omega (arith, many, ap length h.0))
+  long_first (Some Packed) h many = record {
     reached = long_reached kept p names 16777216 [] documents given (omega arith) many h;
     refused = (refl, many);
     not_accepted = λ a. long_packed 16777216 (omega arith) many a.0 a.1;
   }
-  long_first Plain h many = record {
-    reached = long_reached kept p names 16777216 [] documents given (omega arith) many h;
-    refused = (refl, many);
-    not_accepted = λ a. long_packed 16777216 (omega arith) many a.0 a.1;
-  }
-  long_first Check h many = absurd (omega (arith, many, ap length h.0))
-  long_first Core h many = absurd (omega (arith, many, ap length h.0))
-  long_first Code h many = absurd (omega (arith, many, ap length h.0))
-  long_first Pack h many = record {
+  long_first (Some Packable) h many = record {
     reached = long_reached kept p names 16777216 [] documents given (omega arith) many h;
     refused = (refl, inl many);
     not_accepted = λ a. let short = a.1.short in absurd (omega (arith, many, short));
   }
-  long_first Show h many = record {
+  long_first (Some Shown) h many = record {
     reached = long_reached kept p names 268435480 [] documents given (omega arith) many h;
     refused = inl (refl, many);
     not_accepted = λ a. let short = shown_short p.tree options.skips a.0 given.second a.1 in absurd (omega (arith, many, short));
   }
-  long_first Gen h many = record {
-    reached = long_reached kept p names 16777216 [] documents given (omega arith) many h;
-    refused = (refl, many);
-    not_accepted = λ a. long_packed 16777216 (omega arith) many a.0 a.1;
-  }
-  long_first Trace h many = record {
-    reached = long_reached kept p names 16777216 [] documents given (omega arith) many h;
-    refused = (refl, many);
-    not_accepted = λ a. long_packed 16777216 (omega arith) many a.0 a.1;
-  }
-  long_first Replay h many = record {
+  long_first (Some Journaled) h many = record {
     reached = long_reached kept p names 16777216 (16777216 ∷ []) documents given (omega arith) many h;
     refused = inl (refl, many);
     not_accepted = λ a. long_packed 16777216 (omega arith) many a.value a.is_input;
   }
-  long_first Local h many = record {
-    reached = long_reached kept p names 16777216 [] documents given (omega arith) many h;
-    refused = (refl, many);
-    not_accepted = λ a. long_packed 16777216 (omega arith) many a.0 a.1;
-  }
 
 pub first_stops : (before now : ShelfView) (r : Plan) (p : Program) (names : TextsView) (stop : Stop) → IsInputStop before now r stop → IsInputsStop before now r p names stop
-first_stops before now r p names Usage h = h
-first_stops before now r p names (Source fault) h = h
-first_stops before now r p names (Unread name) h = inl h
-first_stops before now r p names (Input fault) h =
-    let long = long_first before.kept r.options r.inputs p names h.given r.job h.given_held h.many in
-    let P : InputFault → Type 0 = λ f. Refuses r.job r.options p names h.given f in
-    (h.given, long.reached, subst P (sym h.is) long.refused, long.not_accepted)
-first_stops before now r p names (NoValue reason) h = h
-first_stops before now r p names Memory h = h
-first_stops before now r p names (Unwritten name) h = h
-first_stops before now r p names Unput h = h
+first_stops before now r p names stop h = stops_map _ _ _ _ _ _ _ _ _ _ stop h (never _) (λ name c. inl c) refused (never _) (never _)
+  where
+    refused : (fault : InputFault) → IsLongInput before.kept r fault → IsInputsStop before now r p names (Input fault)
+    refused fault c =
+        let long = long_first before.kept r.options r.inputs p names c.given (format_of r.job) c.given_held c.many in
+        let P : InputFault → Type 0 = λ f. Refuses r.job r.options p names c.given f in
+        (c.given, long.reached, subst P (sym c.is) long.refused, long.not_accepted)
 
 -- a replay whose first input is refused
 replay_fault : (p : Program) (names : TextsView) (first journal : List ℕ) (fault : InputFault) → IsInputFault p.tree names first fault → IsReplayFault p.tree names first journal fault
@@ -377,10 +310,10 @@ replay_fault p names first journal (input.Journal fault) h = absurd h
 module _ (before mid now : ShelfView) (r : Plan) (p : Program) (names : TextsView) (first : List ℕ)
     (same : (name : List ℕ) → mid.kept name ≡ before.kept name) (reads : (name : List ℕ) → mid.reads name ≡ before.reads name)
     (held : AreGiven before.kept (first_of (inputs_of r)) (record { second = first; further = [] })) where
-  refused_there : (fault : InputFault) → (r.job ≡ Replay) × IsInputFault p.tree names first fault × (((v : Datum) × IsInput p.tree names v first) → ⊥) → IsInputsStop before now r p names (Input fault)
+  refused_there : (fault : InputFault) → (row r.job ≡ FollowsJournal) × IsInputFault p.tree names first fault × (((v : Datum) × IsInput p.tree names v first) → ⊥) → IsInputsStop before now r p names (Input fault)
   refused_there fault h =
       let given : Contents = record { second = first; further = [] } in
-      let R : Job → Type 0 = λ job. Refuses job r.options p names given fault × (Accepts job r.options p names given → ⊥) in
+      let R : Row → Type 0 = λ x. RefusesBy (format_by x) r.options p names given fault × (AcceptsBy (format_by x) r.options p names given → ⊥) in
       let refused = subst R (sym h.0) (replay_fault p names first [] fault h.1, λ a. h.2 (a.value, a.is_input)) in
       (given, reached_first {names = names} before.kept p (inputs_of r) first h.2 held, refused.0, refused.1)
 
@@ -389,50 +322,36 @@ module _ (before mid now : ShelfView) (r : Plan) (p : Program) (names : TextsVie
       let given : Contents = record { second = first; further = h.bytes ∷ [] } in
       let behind = further_before before.kept mid.kept (further_of (inputs_of r)) (h.bytes ∷ []) same h.held in
       let F : List PlanInput → Type 0 = λ is. AreFurther before.kept is (h.bytes ∷ []) in
-      let replay = is_replay r.job r.inputs (λ none'. not_none h.bytes [] (subst F none' behind)) in
-      let R : Job → Type 0 = λ job. Refuses job r.options p names given fault × (Accepts job r.options p names given → ⊥) in
+      let replay = follows (row r.job) r.inputs (λ none'. not_none h.bytes [] (subst F none' behind)) in
+      let R : Row → Type 0 = λ x. RefusesBy (format_by x) r.options p names given fault × (AcceptsBy (format_by x) r.options p names given → ⊥) in
       let L : InputFault → Type 0 = λ f. IsReplayFault p.tree names first h.bytes f in
       let many = h.many in
       let refused = subst R (sym replay) (subst L (sym h.is) (inr (h.taken, refl, many)), λ a. let short = a.is_journal.short in absurd (omega (arith, many, short))) in
       (given, reached_all before.kept p names (inputs_of r) given (joined before.kept (inputs_of r) first (h.bytes ∷ []) held behind), refused.0, refused.1)
 
   pub further_stops : (stop : Stop) → IsFurtherStop mid now r p names first stop → IsInputsStop before now r p names stop
-  further_stops Usage h = h
-  further_stops (Source fault) h = h
-  further_stops (Unread name) h = inr (inputs_unread_before before mid now (further_of (inputs_of r)) name.now reads h.0, (record { second = first; further = [] }, held, h.1))
-  further_stops (Input fault) (inl h) = refused_there fault h
-  further_stops (Input fault) (inr h) = long_there fault h
-  further_stops (NoValue reason) h = h
-  further_stops Memory h = h
-  further_stops (Unwritten name) h = h
-  further_stops Unput h = h
+  further_stops stop h = stops_map _ _ _ _ _ _ _ _ _ _ stop h (never _) unread refused (never _) (never _)
+    where
+      unread : (name : List ℕ) → AreUnread mid now (further_of (inputs_of r)) name × ((v : Datum) × IsInput p.tree names v first)
+          → AreUnread before now (first_of (inputs_of r)) name ⊎ (AreUnread before now (further_of (inputs_of r)) name × ((given : Contents) × AreGiven before.kept (first_of (inputs_of r)) given × ((v : Datum) × IsInput p.tree names v given.second)))
+      unread name c = inr (inputs_unread_before before mid now (further_of (inputs_of r)) name reads c.0, (record { second = first; further = [] }, held, c.1))
+
+      refused : (fault : InputFault) → ((row r.job ≡ FollowsJournal) × IsInputFault p.tree names first fault × (((v : Datum) × IsInput p.tree names v first) → ⊥)) ⊎ IsLongFurther mid.kept r p names first fault
+          → IsInputsStop before now r p names (Input fault)
+      refused fault (inl c) = refused_there fault c
+      refused fault (inr c) = long_there fault c
 
 -- what a job does not make of its inputs
-pub job_stop : (before now : ShelfView) (r : Plan) (p : Program) (names : TextsView) (given : Contents) → OnSource before.kept r.source (λ source. IsProgramIn (dialect_of r.job) source names p) →
-    AreGiven before.kept (inputs_of r) given → (stop : Stop) → FailsTo r.job r.options p names given stop → IsMakeStop before now r stop
-job_stop before now r p names given on held Usage h = h
-job_stop before now r p names given on held (Source fault) h = absurd h
-job_stop before now r p names given on held (Unread name) h = absurd h
-job_stop before now r p names given on held (Input fault) h =
-    on_reached before.kept r r.source p names given (λ q ns bytes. Refuses r.job r.options q ns bytes fault × (Accepts r.job r.options q ns bytes → ⊥)) refl on
-    (reached_all before.kept p names (inputs_of r) given held) h
-job_stop before now r p names given on held (NoValue reason) h = absurd h
-job_stop before now r p names given on held Memory h = h
-job_stop before now r p names given on held (Unwritten name) h = absurd h
-job_stop before now r p names given on held Unput h = h
+pub inputs_refused : (before now : ShelfView) (r : Plan) (p : Program) (names : TextsView) (given : Contents) → AreGiven before.kept (inputs_of r) given → (stop : Stop) → FailsTo r.job r.options p names given stop → IsInputsStop before now r p names stop
+inputs_refused before now r p names given held stop h =
+    stops_map _ _ _ _ _ _ _ _ _ _ stop h (never _) (never _) (λ fault c. (given, reached_all before.kept p names (inputs_of r) given held, c.0, c.1)) (never _) (never _)
 
 -- a stop at the source is one of the request
 pub source_stop : (before now : ShelfView) (r : Plan) (d : Document) → d ≡ r.source → (stop : Stop) → IsSourceStop (dialect_of r.job) before now d stop → IsMakeStop before now r stop
-source_stop before now r d e Usage h = h
-source_stop before now r d e (Source fault) h =
-    let P : Document → Type 0 = λ x. OnSource before.kept x (λ bytes. IsSourceFaultIn (dialect_of r.job) bytes fault × IsNoProgramIn (dialect_of r.job) bytes) in subst P e h
-source_stop before now r d e (Unread name) h =
-    let P : Document → Type 0 = λ x. IsUnread before now x name.now in inl (subst P e h)
-source_stop before now r d e (Input fault) h = absurd h
-source_stop before now r d e (NoValue reason) h = absurd h
-source_stop before now r d e Memory h = h
-source_stop before now r d e (Unwritten name) h = absurd h
-source_stop before now r d e Unput h = h
+source_stop before now r d e stop h =
+    stops_map _ _ _ _ _ _ _ _ _ _ stop h
+    (λ fault c. let P : Document → Type 0 = λ x. OnSource before.kept x (λ bytes. IsSourceFaultIn (dialect_of r.job) bytes fault × IsNoProgramIn (dialect_of r.job) bytes) in subst P e c)
+    (λ name c. let P : Document → Type 0 = λ x. IsUnread before now x name in inl (subst P e c)) (never _) (never _) (never _)
 
 -- what the inputs are in a later view, they are in the one before
 reached_before : (kept now : Files) (p : Program) (names : TextsView) (is : List PlanInput) (given : Contents) → ((name : List ℕ) → now name ≡ kept name) → AreReached now p names is given → AreReached kept p names is given
@@ -454,17 +373,18 @@ takes_first kept mid r d p names e same on h =
 module _ (before mid now : ShelfView) (r : Plan) (d : Document) (p : Program) (names : TextsView) (e : d ≡ r.source)
     (same : (name : List ℕ) → mid.kept name ≡ before.kept name) (reads : (name : List ℕ) → mid.reads name ≡ before.reads name) (on : OnSource before.kept d (λ source. IsProgramIn (dialect_of r.job) source names p)) where
   pub inputs_stop : (stop : Stop) → IsInputsStop mid now r p names stop → IsMakeStop before now r stop
-  inputs_stop Usage h = h
-  inputs_stop (Source fault) h = absurd h
-  inputs_stop (Unread name) (inl h) = inr (inl (inputs_unread_before before mid now (first_of (inputs_of r)) name.now reads h, source_here before.kept r d p names e on))
-  inputs_stop (Unread name) (inr h) = inr (inr (inputs_unread_before before mid now (further_of (inputs_of r)) name.now reads h.0, takes_first before.kept mid.kept r d p names e same on h.1))
-  inputs_stop (Input fault) h =
-      on_reached before.kept r d p names h.0 (λ q ns given. Refuses r.job r.options q ns given fault × (Accepts r.job r.options q ns given → ⊥)) e on
-      (reached_before before.kept mid.kept p names (inputs_of r) h.0 same h.1) (h.2, h.3)
-  inputs_stop (NoValue reason) h = absurd h
-  inputs_stop Memory h = h
-  inputs_stop (Unwritten name) h = absurd h
-  inputs_stop Unput h = h
+  inputs_stop stop h = stops_map _ _ _ _ _ _ _ _ _ _ stop h (never _) unread refused (never _) (never _)
+    where
+      unread : (name : List ℕ) → AreUnread mid now (first_of (inputs_of r)) name
+          ⊎ (AreUnread mid now (further_of (inputs_of r)) name × ((given : Contents) × AreGiven mid.kept (first_of (inputs_of r)) given × ((v : Datum) × IsInput p.tree names v given.second))) → FailsToRead before.kept before now r name
+      unread name (inl c) = inr (inl (inputs_unread_before before mid now (first_of (inputs_of r)) name reads c, source_here before.kept r d p names e on))
+      unread name (inr c) = inr (inr (inputs_unread_before before mid now (further_of (inputs_of r)) name reads c.0, takes_first before.kept mid.kept r d p names e same on c.1))
+
+      refused : (fault : InputFault) → ((given : Contents) × AreReached mid.kept p names (inputs_of r) given × Refuses r.job r.options p names given fault × (Accepts r.job r.options p names given → ⊥))
+          → OnReached before.kept r (λ q ns given. Refuses r.job r.options q ns given fault × (Accepts r.job r.options q ns given → ⊥))
+      refused fault c =
+          on_reached before.kept r d p names c.0 (λ q ns given. Refuses r.job r.options q ns given fault × (Accepts r.job r.options q ns given → ⊥)) e on
+          (reached_before before.kept mid.kept p names (inputs_of r) c.0 same c.1) (c.2, c.3)
 
 -- What is made of files, and why it is not, after the first writes
 
@@ -509,12 +429,7 @@ module _ (tells : Bool) (before start now : ShelfView) (r : Plan) (same : (name 
   fails_from name (inr (inr h)) = inr (inr (inputs_unread_before before start now (further_of (inputs_of r)) name reads h.0, takes_from (at_reading tells before.kept r) start.kept r same h.1))
 
   pub make_stop : (stop : Stop) → IsMakeStop start now r stop → IsStop tells before now r stop
-  make_stop Usage h = h
-  make_stop (Source fault) h = source_from (at_reading tells before.kept r) start.kept r.source (λ bytes. IsSourceFaultIn (dialect_of r.job) bytes fault × IsNoProgramIn (dialect_of r.job) bytes) same h
-  make_stop (Unread name) h = fails_from name.now h
-  make_stop (Input fault) h =
-      reached_from (at_reading tells before.kept r) start.kept r (λ p names given. Refuses r.job r.options p names given fault × (Accepts r.job r.options p names given → ⊥)) same h
-  make_stop (NoValue reason) h = h
-  make_stop Memory h = h
-  make_stop (Unwritten name) h = absurd h
-  make_stop Unput h = h
+  make_stop stop h =
+      stops_map _ _ _ _ _ _ _ _ _ _ stop h
+      (λ fault c. source_from (at_reading tells before.kept r) start.kept r.source (λ bytes. IsSourceFaultIn (dialect_of r.job) bytes fault × IsNoProgramIn (dialect_of r.job) bytes) same c) fails_from
+      (λ fault c. reached_from (at_reading tells before.kept r) start.kept r (λ p names given. Refuses r.job r.options p names given fault × (Accepts r.job r.options p names given → ⊥)) same c) (never _) (never _)

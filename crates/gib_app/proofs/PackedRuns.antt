@@ -1,12 +1,9 @@
 -- What a run makes whose result is packed.
 use Rattle.gib_base.specs.Texts.{TextsView}
 use Rattle.std.proofs.Common.{◌≡◌, ◌∙◌, ◌≤◌, ◌<◌, refl, ap, sym, subst, subst₂, ℕ, List, length, Option, Some, None, Bool, true, false, Result, Ok, Err, IfOk, IfErr}
-use Rattle.gib_types.specs.Layout.{LaidOut}
 use Rattle.gib_types.specs.Table.{Table}
-use Rattle.gib_types.specs.Tree.{Datum}
 use Rattle.gib_value.specs.Text.{AreHeld}
 use Rattle.gib_file.specs.Framed.{File2}
-use Rattle.gib_mem.specs.Memory.{Memory, Store, Grows}
 use Rattle.gib_packed.specs.Stands.{Stands}
 use Rattle.gib_packed.specs.declared.root.Root.{Root}
 use Rattle.gib_packed.proofs.Grow.{Stands-grows}
@@ -25,13 +22,13 @@ use Rattle.gib_app.specs.declared.stop.Stop.{Stop}
 use Rattle.gib_app.specs.Cores.{layouts_of}
 use Rattle.gib_app.specs.Imaging.{IsShownWith}
 use Rattle.gib_app.specs.declared.plan.Job.{Job}
-use Rattle.gib_app.specs.declared.plan.Job.TheVariants.{Run, Plain, Check, Core, Code, Pack, Show, Gen, Trace, Replay, Local}
+use Rattle.gib_app.specs.Rows.{row}
 use Rattle.gib_app.specs.Plan.{Contents}
-use Rattle.gib_app.specs.Jobs.{End, Prints, NoValue, Does, DoesAll, PacksResult, Runs, RunsBoth}
+use Rattle.gib_app.specs.Jobs.{End, Prints, NoValue, Does, DoesAll, PacksResult, Runs, RunsBoth, packs_of}
 use Rattle.gib_app.specs.Kept.{EndsBy, EndsByBoth, StandsAgain, file_of, packed_of}
 use Rattle.gib_app.specs.MachineRun.{StandsMeant, cells_of}
 use Rattle.gib_app.specs.Replaying.{IsImageFile}
-use Rattle.gib_app.specs.Running.{Program, text_line, IsInput}
+use Rattle.gib_app.specs.Running.{Program, IsInput}
 use Rattle.gib_app.proofs.Imaged.{image_made, shown_runs}
 
 -- What holds where a call is well, holds of what it gives.
@@ -155,16 +152,6 @@ runs_valueless p names o input f (NoValue reason) h = (h, go o.packs)
     go false = refl
     go true = refl
 
--- Of the jobs a run alone makes one.
-pub does_alone : (job : Job) (o : Options) (p : Program) (names : TextsView) (given : Contents) → (job ≡ Run → ⊥) → (f : Option (List ℕ)) (x : End) → Does job o p names given f x → DoesAll job o p names given f None x
-does_alone Run o p names given other f x h = absurd (other refl)
-does_alone Plain o p names given other f x h = (h, refl)
-does_alone Check o p names given other f x h = (h, refl)
-does_alone Core o p names given other f x h = (h, refl)
-does_alone Code o p names given other f x h = (h, refl)
-does_alone Pack o p names given other f x h = (h, refl)
-does_alone Show o p names given other f x h = (h, refl)
-does_alone Gen o p names given other f x h = (h, refl)
-does_alone Trace o p names given other f x h = (h, refl)
-does_alone Replay o p names given other f x h = (h, refl)
-does_alone Local o p names given other f x h = (h, refl)
+-- Nor does a job that makes none.
+pub does_alone : (job : Job) (o : Options) (p : Program) (names : TextsView) (given : Contents) → packs_of (row job) o ≡ false → (f : Option (List ℕ)) (x : End) → Does job o p names given f x → DoesAll job o p names given f None x
+does_alone job o p names given off f x h = (h, let P : Bool → Type 0 = λ b. PacksResult b p.tree names o.depth given.second None x in subst P (sym off) refl)

@@ -12,11 +12,12 @@ use Rattle.gib_syntax.specs.Tree.{ProgramTree}
 use Rattle.gib_syntax.specs.Declarations.{table_of_program, input_type}
 use Rattle.gib_app.specs.declared.input_fault.InputFault.TheVariants as input
 use Rattle.gib_app.specs.declared.stop.Stop.{Stop}
-use Rattle.gib_app.specs.declared.stop.Stop.TheVariants.{Usage, Source, Unread, Input, NoValue, Memory, Unwritten, Unput}
+use Rattle.gib_app.specs.declared.stop.Stop.TheVariants.{Input}
 use Rattle.gib_app.specs.InputFaults.{HasLongFile}
 use Rattle.gib_app.specs.Packing.{without_feed, IsTextLine, IsPackable, IsFileOf, IsPackedBy}
 use Rattle.gib_app.specs.Stops.{IsPackedStop, IsPackStop}
 use Rattle.gib_app.proofs.Replays.{OneValue}
+use Rattle.gib_app.proofs.StopMaps.{never, only_packed, stops_map}
 
 -- The laws that these rest on, of one table and its names.
 pub record PackLaws (table : Table) (names : List (List ℕ)) : Type 0 where
@@ -69,18 +70,9 @@ second_made true p names v file e h = let f : ◌≡◌ {A = Bool} true false = 
 -- Why no file is made: the packed file is refused, or the text is, or the file that would be made has too many bytes.
 module _ (repacks first : Bool) (p : ProgramTree) (names : TextsView) (bytes : List ℕ) (short : length bytes ≤ 16777216) where
   pub packed_stop_packs : repacks ≡ true → (stop : Stop) → IsPackedStop (table_of_program p) names.long (input_type p) bytes stop → IsPackStop repacks first p names bytes stop
-  packed_stop_packs e Usage h = h
-  packed_stop_packs e (Source fault) h = h
-  packed_stop_packs e (Unread name) h = h
-  packed_stop_packs e (Input (input.Long most)) h = absurd h
-  packed_stop_packs e (Input (input.Packed fault)) h = let V : Datum → Bool → Type 0 = λ v b. IsPackable b p names v bytes in ((e, (short, h.0)), λ a. h.1 a.1.value (subst (V a.1.value) e a.1.packable))
-  packed_stop_packs e (Input (input.Image fault)) h = absurd h
-  packed_stop_packs e (Input (input.Text place)) h = absurd h
-  packed_stop_packs e (Input (input.Journal fault)) h = absurd h
-  packed_stop_packs e (NoValue reason) h = h
-  packed_stop_packs e Memory h = h
-  packed_stop_packs e (Unwritten name) h = h
-  packed_stop_packs e Unput h = h
+  packed_stop_packs e stop h =
+      stops_map _ _ _ _ _ _ _ _ _ _ stop h (never _) (never _)
+      (only_packed _ _ (λ fault c. let V : Datum → Bool → Type 0 = λ v b. IsPackable b p names v bytes in ((e, (short, c.0)), λ a. c.1 a.1.value (subst (V a.1.value) e a.1.packable)))) (never _) (never _)
 
   pub text_stop_packs : repacks ≡ false → (place : ℕ) → IsRefusedAt (table_of_program p) names.short (input_type p) (without_feed bytes) place → ((v : Datum) → IsTextLine p names v bytes → ⊥) → IsPackStop repacks first p names bytes (Input (input.Text place))
   text_stop_packs e place refused none' = let V : Datum → Bool → Type 0 = λ v b. IsPackable b p names v bytes in ((e, short, refused), λ a. none' a.1.value (subst (V a.1.value) e a.1.packable))

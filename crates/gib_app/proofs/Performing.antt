@@ -1,9 +1,9 @@
 -- From the parts of a call to the whole.
 use Rattle.gib_base.specs.Texts.{TextsView}
-use Rattle.std.proofs.Common.{◌≡◌, ◌∙◌, refl, ap, ◌⊎◌, inl, inr, ℕ, List, [], length, Option, Some, None, MatchOption, subst, subst₂, sym, Bool}
+use Rattle.std.proofs.Common.{◌≡◌, ◌∙◌, refl, ap, inl, inr, ℕ, List, [], length, Option, Some, None, MatchOption, subst, subst₂, sym, Bool}
 use Rattle.std.specs.Prelude.{⊤}
 use Rattle.std.specs.Option.{option_map_or}
-use Rattle.gib_edge.specs.Causes.{Rose, Appends, AppendsPart, PutsPieces, PutsSomePieces}
+use Rattle.gib_edge.specs.Causes.{Appends, AppendsPart, PutsPieces, PutsSomePieces}
 use Rattle.gib_edge.specs.Views.{ShelfView, SinkView}
 use Rattle.gib_app.specs.declared.status.Status.{Status}
 use Rattle.gib_app.specs.declared.status.Status.TheVariants as status
@@ -13,8 +13,6 @@ use Rattle.gib_app.specs.declared.stop.Stop.TheVariants.{NoValue as Stopped}
 use Rattle.gib_app.specs.declared.made.End.{End as KeptEnd}
 use Rattle.gib_app.specs.declared.made.End.TheVariants as ends
 use Rattle.gib_app.specs.declared.made.Reason.{Reason}
-use Rattle.gib_code.specs.declared.answer.Reason.TheVariants as why
-use Rattle.gib_app.specs.declared.made.Reason.TheVariants.{Meant, Full, Long}
 use Rattle.gib_app.specs.declared.made.Valued.{Valued}
 use Rattle.gib_app.specs.Kept.{EndsByBoth, IsTextOf}
 use Rattle.gib_app.specs.Plan.{Write, Plan, Files, Contents}
@@ -28,7 +26,7 @@ use Rattle.gib_app.specs.Stops.{IsStop}
 use Rattle.gib_app.specs.Stopping.{answer_for}
 use Rattle.gib_app.specs.Performing.{IsDone, IsPerformed, OthersStay, StopFiles, IsCallStop}
 use Rattle.gib_app.proofs.FirstWriting.{Cause, stuck_from}
-use Rattle.gib_app.proofs.Writing.{made_from, all_stay}
+use Rattle.gib_app.proofs.Writing.{made_from, all_stay, valueless_stay}
 use Rattle.gib_app.proofs.Fitting.{is_made, some_end}
 
 pub map_both : (kept : Files) (r : Plan) (P Q : Program → TextsView → Contents → Type 0) → ((p : Program) (names : TextsView) (given : Contents) → P p names given → Q p names given) → OnBoth kept r P → OnBoth kept r Q
@@ -113,10 +111,7 @@ pub value_files : (tells : Bool) (words : List (List ℕ)) (r : Plan) (before no
 value_files tells words r before now end' e others h = stays tells words r before now end' e others (all_stay tells r.first before now end' h)
 
 pub valueless_files : (tells : Bool) (words : List (List ℕ)) (r : Plan) (before now : Files) (reason : Reason) → asked words ≡ Some r → OthersStay r before now → FilesStay tells words before now (answer_for (Stopped reason)).status
-valueless_files tells words r before now (Meant why.Deep) e others = stays tells words r before now status.Depth e others tt
-valueless_files tells words r before now (Meant why.Trap) e others = stays tells words r before now status.Trap e others tt
-valueless_files tells words r before now Full e others = stays tells words r before now status.Full e others tt
-valueless_files tells words r before now Long e others = stays tells words r before now status.Long e others tt
+valueless_files tells words r before now reason e others = stays tells words r before now (answer_for (Stopped reason)).status e others (valueless_stay tells r.first before now reason)
 
 pub prints : (tells : Bool) (words : List (List ℕ)) (before now : ShelfView) (out_before out_now : SinkView) (r : Plan) (e : KeptEnd) (text : List ℕ) → asked words ≡ Some r →
     ((file packed : Option (List ℕ)) (P : Option (List ℕ) → Option (List ℕ) → End → Type 0) → EndsByBoth file packed e P → P file packed (Prints text)) → IsPerformed tells before.kept now.kept r e →

@@ -21,12 +21,13 @@ use Rattle.gib_app.specs.declared.input_fault.InputFault.TheVariants as input
 use Rattle.gib_app.specs.declared.input_fault.PackedFault.{PackedFault}
 use Rattle.gib_app.specs.declared.input_fault.PackedFault.TheVariants.{Header, Types, Short, Tag, Truth, Trailing}
 use Rattle.gib_app.specs.declared.stop.Stop.{Stop}
-use Rattle.gib_app.specs.declared.stop.Stop.TheVariants.{Usage, Source, Unread, Input, NoValue, Memory, Unwritten, Unput}
-use Rattle.gib_app.specs.InputFaults.{IsFileFault, IsPayloadFault}
+use Rattle.gib_app.specs.InputFaults.{IsFileFault, IsPayloadFault, IsShowFault}
+use Rattle.gib_app.specs.Running.{IsShownValue}
 use Rattle.gib_app.specs.PassFaults.{packed_stop, payload_stop, schema_stop}
 use Rattle.gib_app.specs.MachineRun.{IsMachineStopBy}
 use Rattle.gib_app.specs.Stops.{IsPackedStop, IsRunStop, IsShowStop}
 use Rattle.gib_app.proofs.Signs.{no_packed_value}
+use Rattle.gib_app.proofs.StopMaps.{never, only_packed, stays, stops_map}
 
 abbrev pub HeaderRefuses : Type 0
 HeaderRefuses = (table : Table) (names : List (List ℕ)) (ty : Ty) (v : Datum) (bytes : List ℕ) (fault : HeadFault) → IsFirstFault bytes fault → File table names ty v bytes → ⊥
@@ -70,49 +71,24 @@ module _ (headers : HeaderRefuses) (types : TypesRefuse) (payloads : PayloadRefu
 
 module _ (p : ProgramTree) (names : TextsView) (bytes : List ℕ) (short : length bytes ≤ 16777216) where
   pub run_stop : (stop : Stop) → IsPackedStop (table_of_program p) names.long (input_type p) bytes stop → IsRunStop p names bytes stop
-  run_stop Usage h = h
-  run_stop (Source fault) h = h
-  run_stop (Unread name) h = h
-  run_stop (Input (input.Long most)) h = absurd h
-  run_stop (Input (input.Packed fault)) h = ((short, h.0), λ a. h.1 a.0 a.1.file)
-  run_stop (Input (input.Image fault)) h = absurd h
-  run_stop (Input (input.Text place)) h = absurd h
-  run_stop (Input (input.Journal fault)) h = absurd h
-  run_stop (NoValue reason) h = h
-  run_stop Memory h = h
-  run_stop (Unwritten name) h = h
-  run_stop Unput h = h
+  run_stop stop h = stops_map _ _ _ _ _ _ _ _ _ _ stop h (never _) (never _) (only_packed _ _ (λ fault c. ((short, c.0), λ a. c.1 a.0 a.1.file))) (never _) (never _)
 
 -- The same where a file that begins as a packed one is shown.
 module _ (p : ProgramTree) (names : TextsView) (skips : Bool) (bytes : List ℕ) (short : length bytes ≤ 16777216) (magic : HasMagic bytes) where
   pub show_stop : (stop : Stop) → IsPackedStop (table_of_program p) names.long (input_type p) bytes stop → IsShowStop p names skips bytes stop
-  show_stop Usage h = h
-  show_stop (Source fault) h = h
-  show_stop (Unread name) h = h
-  show_stop (Input (input.Long most)) h = absurd h
-  show_stop (Input (input.Packed (Header header.Magic))) h = absurd (h.0 magic)
-  show_stop (Input (input.Packed (Header (header.Version v)))) h = ((short, h.0), no_packed_value p skips bytes magic h.1)
-  show_stop (Input (input.Packed (Header header.Reserved))) h = ((short, h.0), no_packed_value p skips bytes magic h.1)
-  show_stop (Input (input.Packed (Header header.Length))) h = ((short, h.0), no_packed_value p skips bytes magic h.1)
-  show_stop (Input (input.Packed (Types place))) h = ((short, h.0), no_packed_value p skips bytes magic h.1)
-  show_stop (Input (input.Packed (Short place))) h = ((short, h.0), no_packed_value p skips bytes magic h.1)
-  show_stop (Input (input.Packed (Tag place))) h = ((short, h.0), no_packed_value p skips bytes magic h.1)
-  show_stop (Input (input.Packed (Truth place))) h = ((short, h.0), no_packed_value p skips bytes magic h.1)
-  show_stop (Input (input.Packed (Trailing place))) h = ((short, h.0), no_packed_value p skips bytes magic h.1)
-  show_stop (Input (input.Image fault)) h = absurd h
-  show_stop (Input (input.Text place)) h = absurd h
-  show_stop (Input (input.Journal fault)) h = absurd h
-  show_stop (NoValue reason) h = h
-  show_stop Memory h = h
-  show_stop (Unwritten name) h = h
-  show_stop Unput h = h
+  show_stop stop h = stops_map _ _ _ _ _ _ _ _ _ _ stop h (never _) (never _) (only_packed _ _ refused) (never _) (never _)
+    where
+      refused : (fault : PackedFault) → IsFileFault (table_of_program p) names.long (input_type p) bytes fault × ((v : Datum) → File (table_of_program p) names.long (input_type p) v bytes → ⊥)
+          → IsShowFault p names skips bytes (input.Packed fault) × (((v : Datum) × IsShownValue p names skips v bytes) → ⊥)
+      refused (Header header.Magic) c = absurd (c.0 magic)
+      refused (Header (header.Version v)) c = ((short, c.0), no_packed_value p skips bytes magic c.1)
+      refused (Header header.Reserved) c = ((short, c.0), no_packed_value p skips bytes magic c.1)
+      refused (Header header.Length) c = ((short, c.0), no_packed_value p skips bytes magic c.1)
+      refused (Types place) c = ((short, c.0), no_packed_value p skips bytes magic c.1)
+      refused (Short place) c = ((short, c.0), no_packed_value p skips bytes magic c.1)
+      refused (Tag place) c = ((short, c.0), no_packed_value p skips bytes magic c.1)
+      refused (Truth place) c = ((short, c.0), no_packed_value p skips bytes magic c.1)
+      refused (Trailing place) c = ((short, c.0), no_packed_value p skips bytes magic c.1)
 
 pub machine_stop : (core : CoreTree) (p : ProgramTree) (names : TextsView) (depth forks chunks : ℕ) (bytes : List ℕ) (stop : Stop) → IsRunStop p names bytes stop → IsMachineStopBy core p names depth forks chunks bytes stop
-machine_stop core p names depth forks chunks bytes Usage h = h
-machine_stop core p names depth forks chunks bytes (Source fault) h = h
-machine_stop core p names depth forks chunks bytes (Unread name) h = h
-machine_stop core p names depth forks chunks bytes (Input fault) h = h
-machine_stop core p names depth forks chunks bytes (NoValue reason) h = absurd h
-machine_stop core p names depth forks chunks bytes Memory h = h
-machine_stop core p names depth forks chunks bytes (Unwritten name) h = h
-machine_stop core p names depth forks chunks bytes Unput h = h
+machine_stop core p names depth forks chunks bytes stop h = stops_map _ _ _ _ _ _ _ _ _ _ stop h (never _) (never _) (stays _) (never _) (never _)

@@ -1,27 +1,28 @@
 -- A call that replays the journal of a trace ends as the call that traced.
 use Rattle.gib_base.specs.Texts.{TextsView}
-use Rattle.std.proofs.Common.{◌≡◌, ◌∙◌, ◌≤◌, refl, sym, ap, subst, ℕ, List, [], ◌∷◌, ◌++◌, length, Option, Some, None, IfSome, MatchOption, ◌⊎◌, inl, inr, Bool, true, false}
+use Rattle.std.proofs.Common.{◌≡◌, ◌∙◌, refl, sym, subst, ℕ, List, [], ◌∷◌, ◌++◌, Option, Some, None, IfSome, MatchOption, ◌⊎◌, inl, inr, Bool, true, false}
 use Rattle.gib_base.specs.declared.token.Dialect.TheVariants as dialect
 use Rattle.gib_code.specs.declared.answer.Reason.{Reason as Why}
 use Rattle.gib_code.specs.declared.answer.Reason.TheVariants as why
 use Rattle.gib_edge.specs.Causes.{Rose, told}
-use Rattle.gib_edge.specs.Views.{Held, Hidden, Has, ShelfView, SinkView}
-use Rattle.gib_app.specs.declared.made.Reason.TheVariants.{Meant, Full}
-use Rattle.gib_app.specs.declared.plan.Job.TheVariants.{Replay, Trace}
-use Rattle.gib_app.specs.declared.plan.Job.TheVariants as job
+use Rattle.gib_edge.specs.Views.{Held, Has, ShelfView, SinkView}
+use Rattle.gib_app.specs.declared.made.Reason.TheVariants.{Meant}
+use Rattle.gib_app.specs.declared.plan.Job.TheVariants.{Trace}
 use Rattle.gib_app.specs.declared.plan.Options.{Options}
 use Rattle.gib_app.specs.declared.status.Status.{Status}
 use Rattle.gib_app.specs.declared.status.Status.TheVariants as status
+use Rattle.gib_app.specs.Rows.{row}
 use Rattle.gib_app.specs.Plan.{Document, Named, Plan, Files, bytes_in, Contents}
 use Rattle.gib_app.specs.Writes.{at_reading, AreMade, writes_of}
 use Rattle.gib_app.specs.Formats.{dialect_of, inputs_of}
 use Rattle.gib_app.specs.Words.{asked}
 use Rattle.gib_app.specs.Running.{Program}
-use Rattle.gib_app.specs.Jobs.{End, Prints, NoValue, Does, MakesTrace, without_image}
+use Rattle.gib_app.specs.Jobs.{End, Prints, NoValue, Does}
 use Rattle.gib_app.specs.Causes.{OnProgram, OnBoth, EndsWithout, AsksProgram, IsStored, IsUnread}
-use Rattle.gib_app.specs.Ending.{IsEnding, AreTold, HasText, DueOfFiles, DueWithout, TakesAll, IsDue, AsksRun, IsDueOrScarce}
+use Rattle.gib_app.specs.Ending.{IsEnding, AreTold, HasText, DueOfFiles, DueWithout, TakesAll, AsksRun, IsDueOrScarce}
 use Rattle.gib_app.specs.Repeating.{trace_plan, replay_plan, IsRepeated, NoneFails, PutAlike}
-use Rattle.gib_app.proofs.Endings.{Laws, Whole, DueAll, DueNone, same_bytes, same_given, together, told_by, ends_as_due}
+use Rattle.gib_app.proofs.Doing.{RunsACore}
+use Rattle.gib_app.proofs.Endings.{Laws, Whole, DueAll, DueNone, same_bytes, same_given, together, ends_as_due}
 use Rattle.gib_app.proofs.Performing.{asked_of}
 use Rattle.gib_app.proofs.Repeats.{replays_again, same_end}
 use Rattle.gib_app.proofs.Writing.{written_here}
@@ -70,12 +71,8 @@ makes_some o p names given why (Some bytes) h e = cc
 -- no run is asked for
 no_run : (words : List (List ℕ)) (program packed : Document) (name : List ℕ) (image : Option (List ℕ)) (others : Options) → asked words ≡ Some (replay_plan program packed name image others) → AsksRun words → ⊥
 no_run words program packed name image others e h =
-    elim (asked_is (asked words) (replay_plan program packed name image others) (λ r. (r.job ≡ job.Run) ⊎ (r.job ≡ job.Gen) ⊎ (r.job ≡ Trace) ⊎ (r.job ≡ job.Local)) e h) [
-      | inl is ↦ cc
-      | inr (inl is) ↦ cc
-      | inr (inr (inl is)) ↦ cc
-      | inr (inr (inr is)) ↦ cc
-    ]
+    let is = asked_is (asked words) (replay_plan program packed name image others) (λ r. RunsACore (row r.job)) e h in
+    cc is.1
 
 due_alone : (words : List (List ℕ)) (program packed : Document) (name : List ℕ) (image : Option (List ℕ)) (others : Options) → asked words ≡ Some (replay_plan program packed name image others) → (due end' : Status) →
     IsDueOrScarce words due end' → (end' ≡ due) ⊎ (end' ≡ status.Memory)

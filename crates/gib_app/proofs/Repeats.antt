@@ -1,18 +1,10 @@
 -- A replay of the journal of a trace ends as the trace did.
 use Rattle.gib_base.specs.Texts.{TextsView}
-use Rattle.std.proofs.Common.{◌≡◌, ◌∙◌, ◌≤◌, refl, sym, ap, subst, false, ℕ, List, [], ◌∷◌, length, Option, Some, None, Ok}
-use Rattle.gib_types.specs.declared.table.Ty.{Ty}
-use Rattle.gib_types.specs.Layout.{LaidOut}
+use Rattle.std.proofs.Common.{◌≡◌, ◌∙◌, ◌≤◌, refl, sym, ap, subst, false, true≢false, ℕ, List, [], ◌∷◌, length, Option, Some, None}
 use Rattle.gib_types.specs.Tree.{Datum}
-use Rattle.gib_mem.specs.Memory.{Store}
-use Rattle.gib_packed.specs.declared.root.Root.{Root}
-use Rattle.gib_packed.specs.declared.root.Root.TheVariants as place
 use Rattle.gib_code.specs.declared.answer.Answer.{Answer}
-use Rattle.gib_code.specs.declared.answer.Answer.TheVariants as answer
 use Rattle.gib_code.specs.declared.answer.Reason.{Reason}
-use Rattle.gib_code.specs.declared.answer.Reason.TheVariants as reason
-use Rattle.gib_machine.specs.Machine.{stopped}
-use Rattle.gib_weave.specs.Sound.{IsAnswer, means_why}
+use Rattle.gib_weave.specs.Sound.{means_why}
 use Rattle.gib_syntax.specs.Tree.{ProgramTree}
 use Rattle.gib_syntax.specs.Declarations.{table_of_program, input_type, output_type}
 use Rattle.gib_syntax.specs.Meaning.{Outcome, Gives, Stops, run}
@@ -22,28 +14,9 @@ use Rattle.gib_app.specs.declared.plan.Options.{Options}
 use Rattle.gib_app.specs.Cores.{layouts_of}
 use Rattle.gib_app.specs.Jobs.{End, Prints, NoValue, Does, without_image}
 use Rattle.gib_app.specs.Plan.{Contents}
-use Rattle.gib_app.specs.Replaying.{IsEndOf, IsShownEnd, IsTrace, IsValueless, OnJournal, journal_in, root_in}
+use Rattle.gib_app.specs.Replaying.{IsEndOf, IsShownEnd, IsTrace, IsValueless, OnJournal, journal_in}
 use Rattle.gib_app.specs.Running.{IsOutput, MeansNone, sourced, text_line}
-use Rattle.gib_app.proofs.Replays.{OneValue, both_on, some_or_none, shown_or_valueless, shown_or_full, one_valueless, valueless_or_full}
-
--- An answer where a value is owed is a root, and one where none is says why.
-
-module _ (laid : LaidOut) (s : Store) (type : Ty) (owed : Outcome) where
-  root_there : (a : Answer) (v : Datum) → IsAnswer laid s type owed a → owed ≡ Gives v → (root : Root) × (root_in a ≡ Ok root)
-  root_there (answer.Whole z) v h e = (place.Whole z, refl)
-  root_there (answer.Truth b) v h e = (place.Truth b, refl)
-  root_there (answer.At x) v h e = (place.At x, refl)
-  root_there answer.Deep v h e = let both = sym h ∙ e in cc
-  root_there answer.Trap v h e = let both = sym h ∙ e in cc
-
-  is_stopped : (a : Answer) (why : Reason) → IsAnswer laid s type owed a → owed ≡ Stops (means_why why) → a ≡ stopped why
-  is_stopped (answer.Whole z) why h e = let both = sym h.2 ∙ e in cc
-  is_stopped (answer.Truth b) why h e = let both = sym h.1 ∙ e in cc
-  is_stopped (answer.At x) why h e = let both = sym h.3 ∙ e in cc
-  is_stopped answer.Deep reason.Deep h e = refl
-  is_stopped answer.Deep reason.Trap h e = let both = sym h ∙ e in cc
-  is_stopped answer.Trap reason.Deep h e = let both = sym h ∙ e in cc
-  is_stopped answer.Trap reason.Trap h e = refl
+use Rattle.gib_app.proofs.Replays.{OneValue, is_stopped, root_there, both_on, some_or_none, shown_or_valueless, shown_or_full, one_valueless, valueless_or_full}
 
 module _ (one : OneValue) (p : ProgramTree) (names : TextsView) (options : Options) (input bytes : List ℕ) (short : length bytes ≤ 16777216) (t : IsTrace p names options input bytes) where
   -- what the program means on the value within the depth of the options, it means within that of the journal
@@ -57,7 +30,7 @@ module _ (one : OneValue) (p : ProgramTree) (names : TextsView) (options : Optio
   shown_again text h =
       let same = one (table_of_program p) _ (input_type p) h.value t.value input h.is_input.file t.is_input.file in
       let means = means_there h.value (Gives h.result) same h.means in
-      let root = root_there (layouts_of t.settings.skips p) t.memory.cells (output_type p) (run p t.settings.depth t.value) t.ends_with h.result t.ended.means means in
+      let root = root_there (layouts_of t.settings.skips p) t.memory.cells (output_type p) (run p t.settings.depth t.value) t.ends_with t.ended.means h.result means in
       record {
         value = t.value;
         settings = t.settings;
@@ -81,7 +54,7 @@ module _ (one : OneValue) (p : ProgramTree) (names : TextsView) (options : Optio
   stopped_again why h =
       let same = one (table_of_program p) _ (input_type p) h.value t.value input h.is_input.file t.is_input.file in
       let means = means_there h.value (Stops (means_why why)) same h.means in
-      let is = is_stopped (layouts_of t.settings.skips p) t.memory.cells (output_type p) (run p t.settings.depth t.value) t.ends_with why t.ended.means means in
+      let is = is_stopped (layouts_of t.settings.skips p) t.memory.cells (output_type p) (run p t.settings.depth t.value) t.ends_with t.ended.means why means in
       let E : Answer → Type 0 = IsEndOf p t.value t.settings t.lines t.memory in
       record {
         value = t.value;
@@ -102,7 +75,7 @@ module _ (one : OneValue) (p : ProgramTree) (names : TextsView) where
   replays_again o a given bytes (Prints text) short h = shown_again one p names o given.second bytes short h.0 text h.1
   replays_again o a given bytes (NoValue (Meant why)) short h = (refl, stopped_again one p names o given.second bytes short h.0 why h.1)
   replays_again o a given bytes (NoValue Full) short h = absurd (some_or_none bytes h.0)
-  replays_again o a given bytes (NoValue Long) short h = absurd h
+  replays_again o a given bytes (NoValue Long) short h = absurd (true≢false (sym h.2))
 
   -- and to no other one
   one_end : (o a : Options) (given : Contents) (file other : Option (List ℕ)) (e f : End) → Does Replay o (sourced p) names given file e → Does Replay a (sourced p) names given other f → e ≡ f

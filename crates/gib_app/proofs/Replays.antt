@@ -1,12 +1,12 @@
 -- What the events of one journal lead to is one.
 use Rattle.gib_base.specs.Texts.{TextsView}
-use Rattle.std.proofs.Common.{◌≡◌, ◌∙◌, refl, sym, subst, Bool, true, false, cond, ℕ, ◌*◌, List, [], ◌∷◌, Option, Some, None, inl, inr}
+use Rattle.std.proofs.Common.{◌≡◌, ◌∙◌, refl, sym, subst, Bool, true, false, cond, ℕ, ◌*◌, List, [], ◌∷◌, Option, Some, None, Ok, Err, ap, ◌⊎◌, inl, inr}
 use Rattle.gib_types.specs.declared.table.Ty.{Ty}
 use Rattle.gib_types.specs.Layout.{LaidOut, head_size}
 use Rattle.gib_types.specs.Table.{Table}
 use Rattle.gib_types.specs.Tree.{Datum, whole, truth, con}
 use Rattle.gib_file.specs.Framed.{File}
-use Rattle.gib_mem.specs.Memory.{Memory, after_draw}
+use Rattle.gib_mem.specs.Memory.{Memory, Store, after_draw}
 use Rattle.gib_mem.specs.Plain.{nothing}
 use Rattle.gib_mem.proofs.Puts.{puts_alone}
 use Rattle.gib_mem.specs.Pointer.{pointer}
@@ -15,7 +15,10 @@ use Rattle.gib_region.specs.Region.{has_room, redirected}
 use Rattle.gib_load.specs.Placement.{Open, begun, place_head, place_heads, placed_in, spot_of, with_room}
 use Rattle.gib_load.specs.Preorder.{Head, heads}
 use Rattle.gib_load.specs.Spot.{further, places}
+use Rattle.gib_packed.specs.declared.root.Root.{Root}
+use Rattle.gib_packed.specs.declared.root.Root.TheVariants as root
 use Rattle.gib_code.specs.declared.answer.Answer.{Answer}
+use Rattle.gib_code.specs.declared.answer.Answer.TheVariants as answer
 use Rattle.gib_code.specs.declared.answer.Reason.{Reason}
 use Rattle.gib_code.specs.declared.answer.Reason.TheVariants as reason
 use Rattle.gib_weave.specs.declared.task.WeaveFault.TheVariants as event
@@ -28,9 +31,9 @@ use Rattle.gib_syntax.specs.Declarations.{table_of_program, input_type}
 use Rattle.gib_syntax.specs.Meaning.{Outcome, Gives, Stops, run}
 use Rattle.gib_syntax.specs.Meaning.{Reason as Meaning}
 use Rattle.gib_machine.specs.Machine.{stopped}
-use Rattle.gib_weave.specs.Sound.{means_why}
+use Rattle.gib_weave.specs.Sound.{IsAnswer, means_why}
 use Rattle.gib_app.specs.Cores.{layouts_of}
-use Rattle.gib_app.specs.Replaying.{IsEndOf, IsShownEnd, IsValueless, LacksChunks, OnJournal, code_for, start_for}
+use Rattle.gib_app.specs.Replaying.{IsEndOf, IsShownEnd, IsValueless, LacksChunks, OnJournal, code_for, root_in, start_for}
 
 -- A file is that of one value.
 abbrev pub OneValue : Type 0
@@ -87,6 +90,38 @@ one_reason reason.Deep reason.Deep e = refl
 one_reason reason.Deep reason.Trap e = cc
 one_reason reason.Trap reason.Deep e = cc
 one_reason reason.Trap reason.Trap e = refl
+
+-- an answer is a root for a value that was owed, or says why there is none
+abbrev Told : LaidOut → Store → Ty → Outcome → Answer → Type 0
+Told laid s ty owed a = ((place : Root) × (root_in a ≡ Ok place) × ((v : Datum) × (owed ≡ Gives v))) ⊎ ((why : Reason) × (a ≡ stopped why) × (root_in a ≡ Err why) × (owed ≡ Stops (means_why why)))
+
+told_by : (laid : LaidOut) (s : Store) (ty : Ty) (owed : Outcome) (a : Answer) → IsAnswer laid s ty owed a → Told laid s ty owed a
+told_by laid s ty owed (answer.Whole z) h = inl (root.Whole z, refl, (whole z, h.2))
+told_by laid s ty owed (answer.Truth b) h = inl (root.Truth b, refl, (truth b, h.1))
+told_by laid s ty owed (answer.At a) h = inl (root.At a, refl, (h.1, h.3))
+told_by laid s ty owed answer.Deep h = inr (reason.Deep, refl, refl, h)
+told_by laid s ty owed answer.Trap h = inr (reason.Trap, refl, refl, h)
+
+module _ (laid : LaidOut) (s : Store) (ty : Ty) (owed : Outcome) (a : Answer) (is : IsAnswer laid s ty owed a) where
+  pub root_there : (v : Datum) → owed ≡ Gives v → (place : Root) × (root_in a ≡ Ok place)
+  root_there v e = elim (told_by laid s ty owed a is) [
+    | inl r ↦ (r.0, r.1)
+    | inr w ↦ absurd (gives_or_stops owed v (means_why w.0) e w.3)
+  ]
+
+  pub is_stopped : (why : Reason) → owed ≡ Stops (means_why why) → a ≡ stopped why
+  is_stopped why e = elim (told_by laid s ty owed a is) [
+    | inl r ↦ absurd (gives_or_stops owed r.2.0 (means_why why) r.2.1 e)
+    | inr w ↦ w.1 ∙ ap stopped (one_reason w.0 why (one_why owed (means_why w.0) (means_why why) w.3 e))
+  ]
+
+  pub stopped_so : (why : Reason) → root_in a ≡ Err why → (a ≡ stopped why) × (owed ≡ Stops (means_why why))
+  stopped_so why e = elim (told_by laid s ty owed a is) [
+    | inl r ↦ absurd (let both = sym r.1 ∙ e in cc)
+    | inr w ↦
+        let same : w.0 ≡ why = let both = sym w.2 ∙ e in cc in
+        (w.1 ∙ ap stopped same, w.3 ∙ ap (λ (y : Reason). Stops (means_why y)) same)
+  ]
 
 pub some_or_none : (bytes : List ℕ) → Some bytes ≡ None → ⊥
 some_or_none bytes e = cc

@@ -43,12 +43,12 @@ use Rattle.gib_app.specs.declared.machine_run.Ran.{Ran}
 use Rattle.gib_app.specs.declared.made.Reason.{Reason}
 use Rattle.gib_app.specs.declared.made.Reason.TheVariants as reason
 use Rattle.gib_app.specs.declared.stop.Stop.{Stop}
-use Rattle.gib_app.specs.declared.stop.Stop.TheVariants as stop
 use Rattle.gib_app.specs.Cores.{core_after, layouts_of}
 use Rattle.gib_app.specs.Replaying.{root_in}
 use Rattle.gib_app.specs.Running.{IsInput}
 use Rattle.gib_app.specs.Stops.{IsPackedStop, IsRunStop}
 use Rattle.gib_app.specs.MachineRun.{cells_of, StandsMeant, RunsFor, LacksValueBy, IsMachineStop, IsMachineStopBy, IsRootOf, Lacks, Halts, EndsWith, program_cost}
+use Rattle.gib_app.proofs.StopMaps.{never, stops_map}
 
 -- A value that was loaded is where a run may start.
 pub start_of : (l : LoweredParts) (laid : LaidOut) (ty : Ty) (v : Datum) (m : Memory) (place : Root) (tails : List ℕ) → laid ≡ l.code.laid → ty ≡ (core_of l.core).main.parameter
@@ -196,14 +196,7 @@ lacks_meant core p depth forks chunks input v l of is reason.Long h = h
 
 pub stop_meant : {names : TextsView} (core : CoreTree) (p : ProgramTree) (depth forks chunks : ℕ) (input : List ℕ) (v : Datum) (l : LoweredParts) → IsOfCore core p l → IsInput p names v input → (why : Stop)
     → Halts (core_run (core_of l.core) depth v) chunks (run_cost (core_of l.core) depth forks v) why → IsMachineStopBy core p names depth forks chunks input why
-stop_meant core p depth forks chunks input v l of is stop.Usage h = h
-stop_meant core p depth forks chunks input v l of is (stop.Source fault) h = h
-stop_meant core p depth forks chunks input v l of is (stop.Unread name) h = h
-stop_meant core p depth forks chunks input v l of is (stop.Input fault) h = absurd h
-stop_meant core p depth forks chunks input v l of is (stop.NoValue why) h = lacks_meant core p depth forks chunks input v l of is why h
-stop_meant core p depth forks chunks input v l of is stop.Memory h = h
-stop_meant core p depth forks chunks input v l of is (stop.Unwritten name) h = h
-stop_meant core p depth forks chunks input v l of is stop.Unput h = h
+stop_meant core p depth forks chunks input v l of is why h = stops_map _ _ _ _ _ _ _ _ _ _ why h (never _) (never _) (never _) (lacks_meant core p depth forks chunks input v l of is) (never _)
 
 -- A survey's value is the input.
 pub input_of : {names : TextsView} (p : ProgramTree) (input : List ℕ) (s : Surveyed) → length input ≤ 16777216 → ((v : Datum) → Packed s.table s.ty v s.bytes → File (table_of_program p) names.long (input_type p) v input)
@@ -275,11 +268,4 @@ survey_only {names} p skips depth forks chunks input s l of short packed file on
 
 -- Where the file is refused, there is no value of which it is the input.
 pub refused_halts : {names : TextsView} (p : ProgramTree) (depth chunks : ℕ) (input : List ℕ) (v : Datum) (owed : Outcome) (most : Cost) → IsInput p names v input → (stop : Stop) → IsRunStop p names input stop → Halts owed chunks most stop
-refused_halts p depth chunks input v owed most is stop.Usage h = h
-refused_halts p depth chunks input v owed most is (stop.Source fault) h = h
-refused_halts p depth chunks input v owed most is (stop.Unread name) h = h
-refused_halts p depth chunks input v owed most is (stop.Input fault) h = h.1 (v, is)
-refused_halts p depth chunks input v owed most is (stop.NoValue why) h = absurd h
-refused_halts p depth chunks input v owed most is stop.Memory h = h
-refused_halts p depth chunks input v owed most is (stop.Unwritten name) h = h
-refused_halts p depth chunks input v owed most is stop.Unput h = h
+refused_halts p depth chunks input v owed most is why h = stops_map _ _ _ _ _ _ _ _ _ _ why h (never _) (never _) (λ fault c. c.1 (v, is)) (never _) (never _)

@@ -1,18 +1,16 @@
 -- A plan's first writes, and then what is made and written.
-use Rattle.std.proofs.Common.{◌≡◌, ◌∙◌, ◌≤◌, ◌++◌, ◌⊎◌, sym, subst, ℕ, zero, suc, List, [], ◌∷◌, length, take, Bool, inl, inr, Option, arith}
+use Rattle.std.proofs.Common.{◌≡◌, ◌∙◌, ◌≤◌, ◌++◌, ◌⊎◌, ℕ, List, [], ◌∷◌, Bool, inl, inr, Option, arith}
 use Rattle.gib_edge.specs.Causes.{Appends, AppendsPart}
 use Rattle.gib_edge.specs.Views.{ShelfView}
 use Rattle.gib_app.specs.declared.made.End.{End as KeptEnd}
 use Rattle.gib_app.specs.declared.made.End.TheVariants as ends
 use Rattle.gib_app.specs.declared.made.Valued.{Valued}
 use Rattle.gib_app.specs.declared.status.Status.{Status}
-use Rattle.gib_app.specs.declared.status.Status.TheVariants as status
 use Rattle.gib_app.specs.declared.stop.Stop.{Stop}
-use Rattle.gib_app.specs.declared.stop.Stop.TheVariants.{Usage, Source, Unread, Input, NoValue, Memory, Unwritten, Unput}
-use Rattle.gib_app.specs.Plan.{Plan, Write, Files}
+use Rattle.gib_app.specs.Plan.{Plan, Files}
 use Rattle.gib_app.specs.Writes.{AreMade, IsNamedIn, IsStuckIn, at_reading, job_writes}
 use Rattle.gib_app.specs.Calls.{first_calls, reads_of, job_calls, calls_of}
-use Rattle.gib_app.specs.Ending.{StaysAfter, IsBetween, MakesBoth, ReadsStay, WritesStay}
+use Rattle.gib_app.specs.Ending.{StaysAfter, MakesBoth, ReadsStay, WritesStay}
 use Rattle.gib_app.specs.FirstWrites.{HasWritten, HasStuck}
 use Rattle.gib_app.specs.Jobs.{DoesAll}
 use Rattle.gib_app.specs.Kept.{EndsByBoth}
@@ -25,44 +23,18 @@ use Rattle.gib_app.proofs.Fitting.{both_end}
 use Rattle.gib_app.proofs.JobWriting.{job_named, job_part, job_whole}
 use Rattle.gib_app.proofs.Making.{both_from}
 use Rattle.gib_app.proofs.Performing.{map_both, performed, value_unwritten, write_stop}
-use Rattle.gib_app.proofs.Writing.{all_stay, made_from, take_all}
+use Rattle.gib_app.proofs.StopMaps.{never, stops_map}
+use Rattle.gib_app.proofs.Writing.{all_stay, first_stay, made_from}
 
 -- nothing was written first
 pub none_stays : (tells : Bool) (before now : Files) (end' : Status) → ((name : List ℕ) → now name ≡ before name) → StaysAfter tells [] before now end'
 none_stays tells before now end' same = all_stay tells [] before now end' same
 
--- what was written first, and then nothing else
-pub first_stay : (tells : Bool) (before mid now : Files) (first : List Write) (end' : Status) → AreMade tells before mid first → StaysAfter tells [] mid now end' → StaysAfter tells first before now end'
-first_stay tells before mid now first status.Done h k = tt
-first_stay tells before mid now first status.Source h k = λ name. k name ∙ h name
-first_stay tells before mid now first status.Usage h k = λ name. k name ∙ h name
-first_stay tells before mid now first status.Depth h k = tt
-first_stay tells before mid now first status.Full h k = tt
-first_stay tells before mid now first status.Memory h k =
-    let P : List Write → Type 0 = AreMade tells before now in
-    (length first, subst P (sym (take_all first)) (λ name. kept k.0 k.1 name ∙ h name))
-  where
-    kept : (n : ℕ) → AreMade tells mid now (take n []) → (name : List ℕ) → now name ≡ mid name
-    kept zero made = made
-    kept (suc n) made = made
-first_stay tells before mid now first status.ReadFault h k = λ name. k name ∙ h name
-first_stay tells before mid now first status.WriteFault h k = tt
-first_stay tells before mid now first status.Input h k = λ name. k name ∙ h name
-first_stay tells before mid now first status.Trap h k = tt
-first_stay tells before mid now first status.Long h k = tt
-
 -- ---- The first writes failed
 
 module _ (tells : Bool) (before now : ShelfView) (r : Plan) (stop : Stop) (k : HasStuck tells before now r.first stop) where
   stuck_is_stop : (why : Stop) → StopsBy (λ fault. ⊥) (λ name. ⊥) (λ fault. ⊥) (λ reason. ⊥) (λ name. IsStuckIn tells before.kept r.first before now name) why → IsStop tells before now r why
-  stuck_is_stop Usage c = c
-  stuck_is_stop (Source fault) c = absurd c
-  stuck_is_stop (Unread name) c = absurd c
-  stuck_is_stop (Input fault) c = absurd c
-  stuck_is_stop (NoValue reason) c = c
-  stuck_is_stop Memory c = c
-  stuck_is_stop (Unwritten name) c = inl c
-  stuck_is_stop Unput c = c
+  stuck_is_stop why c = stops_map _ _ _ _ _ _ _ _ _ _ why c (never _) (never _) (never _) (never _) (λ name u. inl u)
 
   pub stuck_stop : IsStop tells before now r stop
   stuck_stop = stuck_is_stop stop k.cause

@@ -16,6 +16,7 @@ use Rattle.gib_app.specs.Replaying.{Happens, OnJournal}
 use Rattle.gib_app.specs.Running.{IsInput}
 use Rattle.gib_app.specs.Stops.{reason_of, IsRefusal, StopsBy}
 use Rattle.gib_app.proofs.Doing.{ends_without}
+use Rattle.gib_app.proofs.StopMaps.{never, stops_map}
 
 -- Why a job stops that reads nothing and writes nothing: its inputs are refused, or there is no value.
 abbrev pub StopsJob : (InputFault → Type 0) → (Reason → Type 0) → Stop → Type 0
@@ -31,14 +32,7 @@ ReplayRefused p names input bytes fault = IsReplayFault p names input bytes faul
 
 -- Each cause gives another one.
 pub stops_with : (I J : InputFault → Type 0) (N O : Reason → Type 0) → ((fault : InputFault) → I fault → J fault) → ((why : Reason) → N why → O why) → (s : Stop) → StopsJob I N s → StopsJob J O s
-stops_with I J N O f g stop.Usage h = h
-stops_with I J N O f g (stop.Source fault) h = h
-stops_with I J N O f g (stop.Unread name) h = h
-stops_with I J N O f g (stop.Input fault) h = f fault h
-stops_with I J N O f g (stop.NoValue why) h = g why h
-stops_with I J N O f g stop.Memory h = h
-stops_with I J N O f g (stop.Unwritten name) h = h
-stops_with I J N O f g stop.Unput h = h
+stops_with I J N O f g s h = stops_map _ _ _ _ _ _ _ _ _ _ s h (never _) (never _) f g (never _)
 
 -- A stop for want of a value.
 lacks : (I : InputFault → Type 0) (N : Reason → Type 0) (s : Stop) (why : Reason) → reason_of s ≡ Some why → StopsJob I N s → N why

@@ -1,13 +1,18 @@
 -- What names hold after writes.
-use Rattle.std.proofs.Common.{◌≡◌, ◌≢◌, ◌∙◌, refl, sym, subst, ap, ℕ, List, [], ◌∷◌, length, take, Bool, true, false, cond, ◌++◌, Option, Some, None, bytes_eq, true≢false}
+use Rattle.std.proofs.Common.{◌≡◌, ◌≢◌, ◌∙◌, refl, sym, subst, ap, ℕ, zero, suc, List, [], ◌∷◌, length, take, Bool, true, false, cond, ◌++◌, Option, Some, None, bytes_eq, true≢false}
 use Rattle.std.proofs.lemmas.Slice.Eq.{bytes_eq-Decides}
 use Rattle.gib_edge.specs.Causes.{told}
 use Rattle.gib_edge.specs.Views.{Held}
 use Rattle.gib_app.specs.declared.status.Status.{Status}
 use Rattle.gib_app.specs.declared.status.Status.TheVariants as status
+use Rattle.gib_code.specs.declared.answer.Reason.TheVariants as why
+use Rattle.gib_app.specs.declared.made.Reason.{Reason}
+use Rattle.gib_app.specs.declared.made.Reason.TheVariants.{Meant, Full, Long}
+use Rattle.gib_app.specs.declared.stop.Stop.TheVariants.{NoValue as Stopped}
 use Rattle.gib_app.specs.Plan.{Write, Files}
 use Rattle.gib_app.specs.Writes.{with_write, after, AreMade, writes_of}
 use Rattle.gib_app.specs.Ending.{StaysAfter}
+use Rattle.gib_app.specs.Stopping.{answer_for}
 
 -- Files that are the same before writes are the same after them.
 
@@ -49,6 +54,33 @@ all_stay tells first before now status.WriteFault h = tt
 all_stay tells first before now status.Input h = h
 all_stay tells first before now status.Trap h = tt
 all_stay tells first before now status.Long h = tt
+
+-- what was written first, and then nothing else
+pub first_stay : (tells : Bool) (before mid now : Files) (first : List Write) (end' : Status) → AreMade tells before mid first → StaysAfter tells [] mid now end' → StaysAfter tells first before now end'
+first_stay tells before mid now first status.Done h k = tt
+first_stay tells before mid now first status.Source h k = λ name. k name ∙ h name
+first_stay tells before mid now first status.Usage h k = λ name. k name ∙ h name
+first_stay tells before mid now first status.Depth h k = tt
+first_stay tells before mid now first status.Full h k = tt
+first_stay tells before mid now first status.Memory h k =
+    let P : List Write → Type 0 = AreMade tells before now in
+    (length first, subst P (sym (take_all first)) (λ name. kept k.0 k.1 name ∙ h name))
+  where
+    kept : (n : ℕ) → AreMade tells mid now (take n []) → (name : List ℕ) → now name ≡ mid name
+    kept zero made = made
+    kept (suc n) made = made
+first_stay tells before mid now first status.ReadFault h k = λ name. k name ∙ h name
+first_stay tells before mid now first status.WriteFault h k = tt
+first_stay tells before mid now first status.Input h k = λ name. k name ∙ h name
+first_stay tells before mid now first status.Trap h k = tt
+first_stay tells before mid now first status.Long h k = tt
+
+-- Where there is no value, its cause says what was written.
+pub valueless_stay : (tells : Bool) (first : List Write) (before now : Files) (reason : Reason) → StaysAfter tells first before now (answer_for (Stopped reason)).status
+valueless_stay tells first before now (Meant why.Deep) = tt
+valueless_stay tells first before now (Meant why.Trap) = tt
+valueless_stay tells first before now Full = tt
+valueless_stay tells first before now Long = tt
 
 -- One write.
 

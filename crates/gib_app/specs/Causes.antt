@@ -57,7 +57,8 @@ pub record OnProgram (dialect : Dialect) (source : List ℕ) (P : Program → Te
 -- these are not read.
 abbrev pub AreReached : Files → Program → TextsView → List Input → Contents → Type 0
 AreReached kept p names [] given = (given.second ≡ []) × (given.further ≡ [])
-AreReached kept p names (input ∷ rest) given = Holds kept input.document given.second × (((v : Datum) × IsInput p.tree names v given.second) → AreFurther kept rest given.further)
+AreReached kept p names (input ∷ rest) given =
+    Holds kept input.document given.second × (((v : Datum) × IsInput p.tree names v given.second) → AreFurther kept rest given.further)
 
 -- The source of a plan is a program, of which this holds with its names and the bytes of the inputs, as far as these are read.
 pub record OnReached (kept : Files) (plan : Plan) (P : Program → TextsView → Contents → Type 0) : Type 0 where
@@ -156,7 +157,9 @@ further_of (input ∷ rest) = rest
 
 -- The source of a plan is a program, and the first input a packed file of a value that it takes.
 abbrev pub TakesFirst : Files → Plan → Type 0
-TakesFirst kept plan = OnFiles kept plan.source (first_of (inputs_of plan)) (λ source given. OnProgram (dialect_of plan.job) source (λ p names. (v : Datum) × IsInput p.tree names v given.second))
+TakesFirst kept plan =
+    OnFiles kept plan.source (first_of (inputs_of plan))
+    (λ source given. OnProgram (dialect_of plan.job) source (λ p names. (v : Datum) × IsInput p.tree names v given.second))
 
 -- The file of this name could not be read: it is the source; or else the first input, and the source is a program; or else a further
 -- one, and the first is a packed file of a value that the program takes. These are the files that are read.

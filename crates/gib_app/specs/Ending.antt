@@ -7,14 +7,13 @@ use Rattle.gib_edge.specs.Views.{Has, Missing, ShelfView, SinkView}
 use Rattle.gib_types.specs.Tree.{Datum}
 use Rattle.gib_code.specs.declared.answer.Reason.TheVariants as why
 use Rattle.gib_app.specs.declared.input_fault.InputFault.{InputFault}
-use Rattle.gib_app.specs.declared.plan.Job.{Job}
-use Rattle.gib_app.specs.declared.plan.Job.TheVariants.{Run, Gen, Trace, Replay, Local}
 use Rattle.gib_app.specs.declared.source_fault.SourceFault.{SourceFault}
 use Rattle.gib_app.specs.declared.status.Status.{Status}
 use Rattle.gib_app.specs.declared.status.Status.TheVariants.{Done, Source, Usage, Depth, Full, Memory, ReadFault, WriteFault, Input, Trap, Long}
 use Rattle.gib_app.specs.declared.made.Reason.{Reason}
 use Rattle.gib_app.specs.declared.made.Reason.TheVariants as reason
 use Rattle.gib_app.specs.declared.made.Reason.TheVariants.{Meant}
+use Rattle.gib_app.specs.Rows.{Way, Plainly, ForFiles, ForJournal, Row, Evaluates, FollowsJournal, row}
 use Rattle.gib_app.specs.Plan.{Write, Plan, Files, bytes_in, Contents}
 use Rattle.gib_app.specs.Writes.{at_reading, AreMade, IsNamedIn, IsTarget}
 use Rattle.gib_app.specs.Words.{asked}
@@ -23,7 +22,7 @@ use Rattle.gib_app.specs.SourceFaults.{IsSourceFaultIn}
 use Rattle.gib_app.specs.Formats.{inputs_of, dialect_of, Accepts, Refuses}
 use Rattle.gib_app.specs.Formats.{Input as PlanInput}
 use Rattle.gib_app.specs.Lines.{line, source_text, input_text}
-use Rattle.gib_app.specs.Jobs.{End, Prints, NoValue, Does, DoesPack, DoesAll, without_image}
+use Rattle.gib_app.specs.Jobs.{End, Prints, NoValue, Does, DoesBy, DoesPack, DoesAll, without_image}
 use Rattle.gib_app.specs.Causes.{Counts, OnProgram, OnBoth, OnReached, EndsWithout, AsksSource, AsksProgram, IsPrinted, IsPrintedInPart, IsUnread, AreUnread, first_of, further_of, FailsToRead, FailsToWrite}
 
 -- A file that is to be written could not be, `out` was not asked, and the line names the file; or `out` took a front of what
@@ -32,7 +31,8 @@ abbrev pub IsWriteEnding : Bool → List (List ℕ) → ShelfView → ShelfView 
 IsWriteEnding tells words before now out_before out_now said =
     ((name : List ℕ) × MatchOption (asked words) ⊥ (λ plan. FailsToWrite tells before now plan name) × (out_now ≡ out_before)
     × (said ≡ line (codes "cannot write " ++ name)))
-    ⊎ (IsPrintedInPart tells words before now out_before out_now × Rose out_before.faults out_now.faults × ((name : List ℕ) → now.writes name ≡ before.writes name)
+    ⊎ (IsPrintedInPart tells words before now out_before out_now × Rose out_before.faults out_now.faults
+    × ((name : List ℕ) → now.writes name ≡ before.writes name)
     × (said ≡ line (codes "cannot write")))
 
 -- Why a call ends with a status, and the line that tells it: what is asked for was made, put and written; the source is no
@@ -42,20 +42,26 @@ IsWriteEnding tells words before now out_before out_now said =
 abbrev pub IsEnding : Bool → List (List ℕ) → ShelfView → ShelfView → SinkView → SinkView → Status → List ℕ → Type 0
 IsEnding tells words before now out_before out_now Done said = IsPrinted tells words before now out_before out_now × (said ≡ [])
 IsEnding tells words before now out_before out_now Source said =
-    (fault : SourceFault) × AsksSource tells words before.kept (λ dialect bytes. IsSourceFaultIn dialect bytes fault × IsNoProgramIn dialect bytes) × (said ≡ line (source_text fault))
+    (fault : SourceFault) × AsksSource tells words before.kept (λ dialect bytes. IsSourceFaultIn dialect bytes fault × IsNoProgramIn dialect bytes)
+    × (said ≡ line (source_text fault))
 IsEnding tells words before now out_before out_now Usage said = (asked words ≡ None) × (said ≡ line (codes "usage"))
-IsEnding tells words before now out_before out_now Depth said = AsksProgram tells words before.kept (EndsWithout tells before now (Meant why.Deep)) × (said ≡ line (codes "depth"))
-IsEnding tells words before now out_before out_now Full said = AsksProgram tells words before.kept (EndsWithout tells before now reason.Full) × (said ≡ line (codes "chunks"))
+IsEnding tells words before now out_before out_now Depth said =
+    AsksProgram tells words before.kept (EndsWithout tells before now (Meant why.Deep)) × (said ≡ line (codes "depth"))
+IsEnding tells words before now out_before out_now Full said =
+    AsksProgram tells words before.kept (EndsWithout tells before now reason.Full) × (said ≡ line (codes "chunks"))
 IsEnding tells words before now out_before out_now Memory said = said ≡ line (codes "memory")
 IsEnding tells words before now out_before out_now ReadFault said =
-    (name : List ℕ) × MatchOption (asked words) ⊥ (λ plan. FailsToRead (at_reading tells before.kept plan) before now plan name) × (said ≡ line (codes "cannot read " ++ name))
+    (name : List ℕ) × MatchOption (asked words) ⊥ (λ plan. FailsToRead (at_reading tells before.kept plan) before now plan name)
+    × (said ≡ line (codes "cannot read " ++ name))
 IsEnding tells words before now out_before out_now WriteFault said = IsWriteEnding tells words before now out_before out_now said
 IsEnding tells words before now out_before out_now Input said =
     (fault : InputFault)
     × MatchOption (asked words) ⊥
-    (λ plan. OnReached (at_reading tells before.kept plan) plan (λ p names given. Refuses plan.job plan.options p names given fault × (Accepts plan.job plan.options p names given → ⊥)))
+    (λ plan. OnReached (at_reading tells before.kept plan) plan
+    (λ p names given. Refuses plan.job plan.options p names given fault × (Accepts plan.job plan.options p names given → ⊥)))
     × (said ≡ line (input_text fault))
-IsEnding tells words before now out_before out_now Trap said = AsksProgram tells words before.kept (EndsWithout tells before now (Meant why.Trap)) × (said ≡ line (codes "division by zero"))
+IsEnding tells words before now out_before out_now Trap said =
+    AsksProgram tells words before.kept (EndsWithout tells before now (Meant why.Trap)) × (said ≡ line (codes "division by zero"))
 IsEnding tells words before now out_before out_now Long said =
     AsksProgram tells words before.kept (EndsWithout tells before now reason.Long) × (said ≡ line (codes "result longer than 16777216 bytes"))
 
@@ -100,7 +106,8 @@ pub record IsBetween (tells : Bool) (kept now : Files) (plan : Plan) (status : S
 -- What names hold stays, but for the files that are to be written; and where no job was done, for those that are written first.
 pub record FilesStay (tells : Bool) (words : List (List ℕ)) (before now : Files) (status : Status) : Type 0 where
   pub others : (name : List ℕ) → IsNoTarget words name → now name ≡ before name
-  pub same : StaysAfter tells (first_asked words) before now status ⊎ MatchOption (asked words) ⊥ (λ plan. IsBetween tells (at_reading tells before plan) now plan status)
+  pub same : StaysAfter tells (first_asked words) before now status
+      ⊎ MatchOption (asked words) ⊥ (λ plan. IsBetween tells (at_reading tells before plan) now plan status)
 
 -- Counts of reads stay, but where a file could not be read.
 abbrev pub ReadsStay : Counts → Counts → Status → Type 0
@@ -115,15 +122,20 @@ pub record OutStays (before now : SinkView) (status : Status) : Type 0 where
   pub quiet : status ≢ WriteFault → now.faults ≡ before.faults
   pub same : status ≢ Done → status ≢ WriteFault → now ≡ before
 
--- The job whose end tells how a job ends: a `trace` ends as a `run` does, whichever events happen.
-abbrev pub ends_as : Job → Job
-ends_as Trace = Run
-ends_as job = job
+-- The way whose end tells how an evaluation ends: with a journal it ends as without, whichever events happen.
+abbrev pub ends_in : Way → Way
+ends_in ForJournal = ForFiles
+ends_in way = way
+
+-- The same of a row.
+abbrev pub ends_as : Row → Row
+ends_as (Evaluates way) = Evaluates (ends_in way)
+ends_as other = other
 
 -- The job ends with a text, where it may leave out an image, and the packed file of its result, where that is asked for, is not too long.
 abbrev pub HasText : Plan → Program → TextsView → Contents → Type 0
 HasText plan p names given =
-    (file : Option (List ℕ)) × (text : List ℕ) × Does (ends_as plan.job) (without_image plan.options) p names given file (Prints text)
+    (file : Option (List ℕ)) × (text : List ℕ) × DoesBy (ends_as (row plan.job)) (without_image plan.options) p names given file (Prints text)
     × ((packed : Option (List ℕ)) × DoesPack plan.job plan.options p names given packed (Prints text))
 
 -- The bytes of further inputs, which are told.
@@ -176,11 +188,13 @@ pub record DueOfFirst (tells : Bool) (before now : ShelfView) (plan : Plan) (P :
 -- The first input is the packed file of a value that the program of the source takes, and the one behind it is not there.
 abbrev pub LacksFurther : Bool → ShelfView → ShelfView → Plan → List ℕ → Type 0
 LacksFurther tells before now plan source =
-    OnProgram (dialect_of plan.job) source (λ p names. DueOfFirst tells before now plan (λ bytes. (v : Datum) × IsInput p.tree names v bytes)) × IsMissing (at_reading tells before.kept plan) (further_of (inputs_of plan))
+    OnProgram (dialect_of plan.job) source (λ p names. DueOfFirst tells before now plan (λ bytes. (v : Datum) × IsInput p.tree names v bytes))
+    × IsMissing (at_reading tells before.kept plan) (further_of (inputs_of plan))
 
 -- The first input is no packed file of a value that the program of the source takes.
 abbrev pub RefusesFirst : Bool → ShelfView → ShelfView → Plan → List ℕ → Type 0
-RefusesFirst tells before now plan source = OnProgram (dialect_of plan.job) source (λ p names. DueOfFirst tells before now plan (λ bytes. ((v : Datum) × IsInput p.tree names v bytes) → ⊥))
+RefusesFirst tells before now plan source =
+    OnProgram (dialect_of plan.job) source (λ p names. DueOfFirst tells before now plan (λ bytes. ((v : Datum) × IsInput p.tree names v bytes) → ⊥))
 
 -- A file that is to be read is not there: the source; or else the first input, and the source is a program; or else the one behind
 -- it.
@@ -200,14 +214,15 @@ pub record TakesAll (before now : ShelfView) (out_before out_now : SinkView) (pl
 -- did not rise.
 abbrev pub DueWithout : ShelfView → ShelfView → Reason → Plan → Program → TextsView → Contents → Type 0
 DueWithout before now reason plan p names given =
-    ((file : Option (List ℕ)) × Does (ends_as plan.job) (without_image plan.options) p names given file (NoValue reason))
-    × ((name bytes : List ℕ) → plan.target ≡ Some name → Does plan.job plan.options p names given (Some bytes) (NoValue reason) → Rose (before.writes name) (now.writes name) → ⊥)
+    ((file : Option (List ℕ)) × DoesBy (ends_as (row plan.job)) (without_image plan.options) p names given file (NoValue reason))
+    × ((name bytes : List ℕ) → plan.target ≡ Some name → Does plan.job plan.options p names given (Some bytes) (NoValue reason)
+    → Rose (before.writes name) (now.writes name) → ⊥)
 
 -- The inputs are none that the job accepts; or the first is none for a replay, whatever the journal is.
 abbrev pub DueRefused : Bool → ShelfView → ShelfView → Plan → Type 0
 DueRefused tells before now plan =
     DueOfFiles tells before now plan (λ p names given. Accepts plan.job plan.options p names given → ⊥)
-    ⊎ ((plan.job ≡ Replay) × DueOfSource tells before now plan (RefusesFirst tells before now plan))
+    ⊎ ((row plan.job ≡ FollowsJournal) × DueOfSource tells before now plan (RefusesFirst tells before now plan))
 
 -- The status that is due by the words and by the bytes of the files that they name, where these are told and no
 -- count on the way rose; a file that is not there is told too.
@@ -215,23 +230,25 @@ abbrev pub IsDue : Bool → List (List ℕ) → ShelfView → ShelfView → Sink
 IsDue tells words before now out_before out_now Done =
     MatchOption (asked words) ⊥
     (λ plan. DueOfFiles tells before now plan (HasText plan) × TakesAll before now out_before out_now plan)
-IsDue tells words before now out_before out_now Source = MatchOption (asked words) ⊥ (λ plan. DueOfSource tells before now plan (IsNoProgramIn (dialect_of plan.job)))
+IsDue tells words before now out_before out_now Source =
+    MatchOption (asked words) ⊥ (λ plan. DueOfSource tells before now plan (IsNoProgramIn (dialect_of plan.job)))
 IsDue tells words before now out_before out_now Usage = asked words ≡ None
-IsDue tells words before now out_before out_now Depth = MatchOption (asked words) ⊥ (λ plan. DueOfFiles tells before now plan (DueWithout before now (Meant why.Deep) plan))
+IsDue tells words before now out_before out_now Depth =
+    MatchOption (asked words) ⊥ (λ plan. DueOfFiles tells before now plan (DueWithout before now (Meant why.Deep) plan))
 IsDue tells words before now out_before out_now Full =
-    MatchOption (asked words) ⊥ (λ plan. (plan.job ≡ Replay) × DueOfFiles tells before now plan (DueWithout before now reason.Full plan))
+    MatchOption (asked words) ⊥ (λ plan. (row plan.job ≡ FollowsJournal) × DueOfFiles tells before now plan (DueWithout before now reason.Full plan))
 IsDue tells words before now out_before out_now Memory = ⊥
 IsDue tells words before now out_before out_now ReadFault = MatchOption (asked words) ⊥ (DueMissing tells before now)
 IsDue tells words before now out_before out_now WriteFault = ⊥
 IsDue tells words before now out_before out_now Input = MatchOption (asked words) ⊥ (DueRefused tells before now)
-IsDue tells words before now out_before out_now Trap = MatchOption (asked words) ⊥ (λ plan. DueOfFiles tells before now plan (DueWithout before now (Meant why.Trap) plan))
+IsDue tells words before now out_before out_now Trap =
+    MatchOption (asked words) ⊥ (λ plan. DueOfFiles tells before now plan (DueWithout before now (Meant why.Trap) plan))
 IsDue tells words before now out_before out_now Long =
-    MatchOption (asked words) ⊥ (λ plan. (plan.job ≡ Run) × DueOfFiles tells before now plan (DueWithout before now reason.Long plan))
+    MatchOption (asked words) ⊥ (λ plan. (row plan.job ≡ Evaluates ForFiles) × DueOfFiles tells before now plan (DueWithout before now reason.Long plan))
 
--- The words ask for `run`, `gen`, `trace` or `local`: of the other jobs `replay` alone uses chunks of region memory, and its journal tells
--- whether these run out.
+-- The words ask to run a core: of the other jobs one alone uses chunks of region memory, and its journal tells whether these run out.
 abbrev pub AsksRun : List (List ℕ) → Type 0
-AsksRun words = MatchOption (asked words) ⊥ (λ plan. (plan.job ≡ Run) ⊎ (plan.job ≡ Gen) ⊎ (plan.job ≡ Trace) ⊎ (plan.job ≡ Local))
+AsksRun words = MatchOption (asked words) ⊥ (λ plan. (way : Way) × (row plan.job ≡ Evaluates way) × (way ≢ Plainly))
 
 -- The status is the one that is due; or memory ran out, or chunks of region memory did, in a run.
 abbrev pub IsDueOrScarce : List (List ℕ) → (due status : Status) → Type 0

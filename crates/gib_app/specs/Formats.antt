@@ -9,42 +9,35 @@ use Rattle.gib_app.specs.declared.input_fault.InputFault.{InputFault}
 use Rattle.gib_app.specs.declared.plan.Format.{Format}
 use Rattle.gib_app.specs.declared.plan.Format.TheVariants.{Packed, Packable, Shown, Journaled}
 use Rattle.gib_app.specs.declared.plan.Job.{Job}
-use Rattle.gib_app.specs.declared.plan.Job.TheVariants.{Run, Plain, Check, Core, Code, Pack, Show, Gen, Trace, Replay, Local}
 use Rattle.gib_app.specs.declared.plan.Options.{Options}
+use Rattle.gib_app.specs.Rows.{ForPlaces, Row, Says, Evaluates, PacksValue, ShowsFile, FollowsJournal, row}
 use Rattle.gib_app.specs.Plan.{Document, Plan, Contents}
 use Rattle.gib_app.specs.Running.{Program, IsInput, IsShownValue}
 use Rattle.gib_app.specs.Replaying.{journal_in, OnJournal, Happens}
 use Rattle.gib_app.specs.Packing.{IsPackedBy}
 use Rattle.gib_app.specs.InputFaults.{IsInputFault, IsReplayFault, IsShowFault, IsPackFault}
 
--- What the inputs of a job are: a packed file, what is packed, a file that is shown, a packed file and a journal; or there are
+-- What the inputs of a row are: a packed file, what is packed, a file that is shown, a packed file and a journal; or there are
 -- none.
-abbrev pub format_of : Job → Option Format
-format_of Run = Some Packed
-format_of Plain = Some Packed
-format_of Check = None
-format_of Core = None
-format_of Code = None
-format_of Pack = Some Packable
-format_of Show = Some Shown
-format_of Gen = Some Packed
-format_of Trace = Some Packed
-format_of Replay = Some Journaled
-format_of Local = Some Packed
+abbrev pub format_by : Row → Option Format
+format_by (Says said) = None
+format_by (Evaluates way) = Some Packed
+format_by PacksValue = Some Packable
+format_by ShowsFile = Some Shown
+format_by FollowsJournal = Some Journaled
 
--- How the source of a job is read: `local` alone takes one that writes its places out.
+-- The same of a job.
+abbrev pub format_of : Job → Option Format
+format_of job = format_by (row job)
+
+-- How the source of a row is read: one alone takes a source that writes its places out.
+abbrev pub dialect_by : Row → Dialect
+dialect_by (Evaluates ForPlaces) = dialect.Located
+dialect_by other = dialect.Source
+
+-- The same of a job.
 abbrev pub dialect_of : Job → Dialect
-dialect_of Run = dialect.Source
-dialect_of Plain = dialect.Source
-dialect_of Check = dialect.Source
-dialect_of Core = dialect.Source
-dialect_of Code = dialect.Source
-dialect_of Pack = dialect.Source
-dialect_of Show = dialect.Source
-dialect_of Gen = dialect.Source
-dialect_of Trace = dialect.Source
-dialect_of Replay = dialect.Source
-dialect_of Local = dialect.Located
+dialect_of job = dialect_by (row job)
 
 -- How many bytes of the first input of that format are read at most.
 abbrev pub limit_of : Format → ℕ

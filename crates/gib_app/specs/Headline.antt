@@ -61,7 +61,8 @@ pub record Given (source input : List ℕ) : Type 0 where
   pub typed : IsTypedGeneric program
   pub within : copies_of program ≡ Ok found
   pub short : length input ≤ 16777216
-  pub file : File (table_of_program (copy_with program lexed found)) (long_texts lexed.names (entries found)) (input_type (copy_with program lexed found)) value input
+  pub file : File (table_of_program (copy_with program lexed found)) (long_texts lexed.names (entries found))
+      (input_type (copy_with program lexed found)) value input
 
 -- The copy.
 abbrev pub copy_in : {source input : List ℕ} → Given source input → ProgramTree
@@ -132,7 +133,8 @@ pub record NoneFailed (program packed : Document) (image : Option (List ℕ)) (b
 
 -- To run it so, and to write the packed file of the result under a second name, behind the image, where that is asked for.
 abbrev pub packing_plan : Document → Document → (image : Option (List ℕ)) → (pack : List ℕ) → Options → Plan
-packing_plan program packed image pack options = record { first = []; source = program; inputs = packed ∷ []; target = image; pack = Some pack; job = Run; options = options }
+packing_plan program packed image pack options =
+    record { first = []; source = program; inputs = packed ∷ []; target = image; pack = Some pack; job = Run; options = options }
 
 -- The words ask for that; all else is as above.
 pub record IsPackingRun (words : List (List ℕ)) (files : ShelfView) (out : SinkView) (source input : List ℕ) (options : Options) (front : List ℕ) : Type 0 where
@@ -160,9 +162,12 @@ pub record HasLongFile (source input : List ℕ) (depth : ℕ) : Type 0 where
   pub result : Datum
   pub typed : HasType (table_of_program (copy_in given)) result (output_type (copy_in given))
   pub means : meant_in given depth ≡ Gives (read_in given result)
-  pub long : (bytes : List ℕ) → File2 (table_of_program (copy_in given)) (long_texts given.lexed.names (entries given.found)) (output_type (copy_in given)) result bytes → 16777216 < length bytes
+  pub long : (bytes : List ℕ)
+      → File2 (table_of_program (copy_in given)) (long_texts given.lexed.names (entries given.found)) (output_type (copy_in given)) result bytes
+      → 16777216 < length bytes
 
 -- None of these failed, nor the write of the packed file of the result.
-pub record NoWriteFailed (program packed : Document) (image : Option (List ℕ)) (pack : List ℕ) (before now : ShelfView) (out_before out_now : SinkView) : Type 0 where
+pub record NoWriteFailed (program packed : Document) (image : Option (List ℕ)) (pack : List ℕ) (before now : ShelfView)
+    (out_before out_now : SinkView) : Type 0 where
   pub others : NoneFailed program packed image before now out_before out_now
   pub packed_written : Rose (before.writes pack) (now.writes pack) → ⊥

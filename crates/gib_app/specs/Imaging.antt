@@ -21,6 +21,7 @@ buffered b = record { taken = Some b.bytes.items; faults = b.faults; puts = b.pi
 -- The end prints the text of a value, and the file is the image of a memory in which that value stands for the root; or there is none,
 -- where none is asked for.
 abbrev pub IsShownWith : (image : Bool) → LaidOut → Memory → Root → ProgramTree → TextsView → Datum → Option (List ℕ) → KeptEnd → Type 0
-IsShownWith image laid memory place p names v file (ends.Prints text) = IsImageFile image laid (output_type p) memory place v file × (text.items ≡ text_line p names v)
+IsShownWith image laid memory place p names v file (ends.Prints text) =
+    IsImageFile image laid (output_type p) memory place v file × (text.items ≡ text_line p names v)
 IsShownWith image laid memory place p names v file (ends.Value value) = ⊥
 IsShownWith image laid memory place p names v file (ends.NoValue reason) = ⊥

@@ -117,7 +117,8 @@ IsPackFault repacks first p names bytes (Journal fault) = ⊥
 -- this number is not enabled; or all events happen, and the root has not ended.
 abbrev pub IsJournalFault : ProgramTree → Datum → List ℕ → JournalFault → Type 0
 IsJournalFault p v bytes (journal.Line n) = (length bytes ≤ 16777216) × IsRefusedLine bytes n
-IsJournalFault p v bytes (journal.NotEnabled n) = (settings : Settings) × (lines : List Line) × IsJournal settings lines bytes × IsNotEnabled p v settings lines n
+IsJournalFault p v bytes (journal.NotEnabled n) =
+    (settings : Settings) × (lines : List Line) × IsJournal settings lines bytes × IsNotEnabled p v settings lines n
 IsJournalFault p v bytes journal.NotEnded = (settings : Settings) × (lines : List Line) × IsJournal settings lines bytes × IsNotEnded p v settings lines
 
 -- The inputs of a replay are refused for this fault: the first is no packed file; or else the journal has more than 16,777,216 bytes, is

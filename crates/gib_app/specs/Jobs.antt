@@ -1,18 +1,16 @@
 -- What each job makes.
 use Rattle.gib_base.specs.Texts.{TextsView}
-use Rattle.std.specs.Prelude.{◌≡◌, ℕ, List, [], ◌∷◌, ◌++◌, codes, Bool, true, false, nat_lt, if◌then◌else◌, Option, None, Some, MatchOption}
+use Rattle.std.specs.Prelude.{◌≡◌, ℕ, List, Bool, true, false, nat_lt, if◌then◌else◌, Option, None, Some, MatchOption}
 use Rattle.gib_syntax.specs.Tree.{ProgramTree}
-use Rattle.gib_core.specs.CoreText.{core_text}
-use Rattle.gib_code.specs.ListingText.{listing_text}
-use Rattle.gib_lower.specs.Lowering.{lower_program}
+use Rattle.gib_core.specs.Tree.{CoreTree}
 use Rattle.gib_weave.specs.Sound.{means_why}
 use Rattle.gib_app.specs.declared.plan.Job.{Job}
-use Rattle.gib_app.specs.declared.plan.Job.TheVariants.{Run, Plain, Check, Core, Code, Pack, Show, Gen, Trace, Replay, Local}
 use Rattle.gib_app.specs.declared.plan.Options.{Options}
 use Rattle.gib_app.specs.declared.made.Reason.{Reason}
 use Rattle.gib_app.specs.declared.made.Reason.TheVariants.{Meant, Full, Long}
 use Rattle.gib_app.specs.Plan.{Contents}
-use Rattle.gib_app.specs.Running.{Program, IsOutput, IsSummary, IsRunImage, IsPackedResult, IsLongResult, MeansNone, FillsUp, FillsUpBy, IsShown}
+use Rattle.gib_app.specs.Running.{Program, IsOutput, IsSummary, IsRunImage, IsPackedResult, IsLongResult, MeansNone, FillsUpBy, IsShown}
+use Rattle.gib_app.specs.Rows.{Way, Plainly, ForFiles, ForSummary, ForJournal, ForPlaces, Row, Says, Evaluates, PacksValue, ShowsFile, FollowsJournal, row, ok_line}
 use Rattle.gib_app.specs.Packing.{IsPackedBy}
 use Rattle.gib_app.specs.Cores.{core_after}
 use Rattle.gib_app.specs.Replaying.{journal_in, IsTrace, OnJournal, IsShownEnd, IsValueless, LacksChunks}
@@ -27,60 +25,59 @@ abbrev pub OnlyPrints : (List ℕ → Type 0) → Option (List ℕ) → End → 
 OnlyPrints P file (Prints text) = (file ≡ None) × P text
 OnlyPrints P file (NoValue reason) = ⊥
 
--- What is printed where all is well and nothing else is to be said.
-abbrev pub ok_line : List ℕ
-ok_line = codes "ok" ++ 10 ∷ []
-
--- `plain`: the text of the value that the program means on the input within the depth; or it means none.
-abbrev pub Means : ProgramTree → TextsView → ℕ → List ℕ → Option (List ℕ) → End → Type 0
-Means p names depth input file (Prints text) = (file ≡ None) × IsOutput p names depth input text
-Means p names depth input file (NoValue (Meant why)) = (file ≡ None) × MeansNone p names depth input (means_why why)
-Means p names depth input file (NoValue Full) = ⊥
-Means p names depth input file (NoValue Long) = ⊥
-
 -- Where an image is asked for, it is the file that a run makes; else there is none.
 abbrev pub MakesImage : Bool → ProgramTree → TextsView → (skips : Bool) → (depth chunks : ℕ) → List ℕ → Option (List ℕ) → Type 0
 MakesImage false p names skips depth chunks input file = file ≡ None
 MakesImage true p names skips depth chunks input None = ⊥
 MakesImage true p names skips depth chunks input (Some bytes) = IsRunImage p names skips depth chunks input bytes
 
--- How many forks a run may nest: with one worker each `par` runs in place.
-abbrev pub run_forks : Options → ℕ
-run_forks options = if nat_lt 1 options.workers then options.fork else 0
-
--- `run`: the same, and its image, where that is asked for; or so many chunks of memory may not be enough; or the packed file of the value,
--- where that is asked for, would be too long: the image is made then too.
-abbrev pub Runs : ProgramTree → TextsView → Options → List ℕ → Option (List ℕ) → End → Type 0
-Runs p names options input file (Prints text) = MakesImage options.image p names options.skips options.depth options.chunks input file × IsOutput p names options.depth input text
-Runs p names options input file (NoValue (Meant why)) = (file ≡ None) × MeansNone p names options.depth input (means_why why)
-Runs p names options input file (NoValue Full) = (file ≡ None) × FillsUp p names options.skips options.depth (run_forks options) options.chunks input
-Runs p names options input file (NoValue Long) =
-    MakesImage options.image p names options.skips options.depth options.chunks input file × IsLongResult p names options.depth input × (options.packs ≡ true)
-
 -- `pack`: the packed file of the value whose text, or whose packed file, this is.
 abbrev pub Packs : ProgramTree → TextsView → Options → List ℕ → Option (List ℕ) → End → Type 0
-Packs p names options bytes file (Prints text) = (packed : List ℕ) × (file ≡ Some packed) × IsPackedBy options.repacks options.first_version p names bytes packed × (text ≡ ok_line)
+Packs p names options bytes file (Prints text) =
+    (packed : List ℕ) × (file ≡ Some packed) × IsPackedBy options.repacks options.first_version p names bytes packed × (text ≡ ok_line)
 Packs p names options bytes file (NoValue reason) = ⊥
-
--- `gen`: the line about the value that the program means on the input within the depth; or it means none; or so many chunks of
--- memory may not be enough.
-abbrev pub Sums : ProgramTree → TextsView → Options → List ℕ → Option (List ℕ) → End → Type 0
-Sums p names options input file (Prints text) = (file ≡ None) × IsSummary p names options.number options.levels options.depth input text
-Sums p names options input file (NoValue (Meant why)) = (file ≡ None) × MeansNone p names options.depth input (means_why why)
-Sums p names options input file (NoValue Full) = (file ≡ None) × FillsUp p names options.skips options.depth (run_forks options) options.chunks input
-Sums p names options input file (NoValue Long) = ⊥
 
 -- The journal of a run on the input, where there is a file.
 abbrev pub MakesTrace : ProgramTree → TextsView → Options → List ℕ → Option (List ℕ) → Type 0
 MakesTrace p names options input None = ⊥
 MakesTrace p names options input (Some bytes) = IsTrace p names options input bytes
 
--- `trace`: as `run`, with the journal of the run also where the program means no value; or so many chunks of memory may not be enough.
-abbrev pub Traces : ProgramTree → TextsView → Options → List ℕ → Option (List ℕ) → End → Type 0
-Traces p names options input file (Prints text) = MakesTrace p names options input file × IsOutput p names options.depth input text
-Traces p names options input file (NoValue (Meant why)) = MakesTrace p names options input file × MeansNone p names options.depth input (means_why why)
-Traces p names options input file (NoValue Full) = (file ≡ None) × FillsUp p names options.skips options.depth options.fork options.chunks input
-Traces p names options input file (NoValue Long) = ⊥
+-- The file that an evaluation makes, where it has a value or not: an image goes with a value alone, a journal with either.
+abbrev pub MakesOf : Way → (valued : Bool) → ProgramTree → TextsView → Options → List ℕ → Option (List ℕ) → Type 0
+MakesOf ForFiles true p names options input file = MakesImage options.image p names options.skips options.depth options.chunks input file
+MakesOf ForJournal valued p names options input file = MakesTrace p names options input file
+MakesOf way valued p names options input file = file ≡ None
+
+-- What is said of the value that the program means on the input within the depth: a line about it, or its text.
+abbrev pub IsSaid : Way → ProgramTree → TextsView → Options → List ℕ → List ℕ → Type 0
+IsSaid ForSummary p names options input text = IsSummary p names options.number options.levels options.depth input text
+IsSaid way p names options input text = IsOutput p names options.depth input text
+
+-- The core that is run, if one is: the one that the source writes out, or the one that the passes make.
+abbrev pub core_of : Way → Options → Program → Option CoreTree
+core_of Plainly options p = None
+core_of ForPlaces options p = p.located
+core_of way options p = Some (core_after options.skips 4 p.tree)
+
+-- How many forks a run may nest: with one worker each `par` runs in place, but where its journal is kept.
+abbrev pub forks_of : Way → Options → ℕ
+forks_of ForJournal options = options.fork
+forks_of way options = if nat_lt 1 options.workers then options.fork else 0
+
+-- Whether the packed file of a result is asked for: one row alone makes one.
+abbrev pub packs_of : Row → Options → Bool
+packs_of (Evaluates ForFiles) options = options.packs
+packs_of other options = false
+
+-- An evaluation: what is said of the value that the program means on the input within the depth; or it means none; or so many chunks may
+-- not be enough for what the run of the core costs; or the packed file of the value would be too long: the other file is made then too.
+abbrev pub Ran : Way → Option CoreTree → ProgramTree → TextsView → Options → List ℕ → Option (List ℕ) → End → Type 0
+Ran way core p names options input file (Prints text) = MakesOf way true p names options input file × IsSaid way p names options input text
+Ran way core p names options input file (NoValue (Meant why)) = MakesOf way false p names options input file × MeansNone p names options.depth input (means_why why)
+Ran way core p names options input file (NoValue Full) =
+    (file ≡ None) × MatchOption core ⊥ (λ c. FillsUpBy c p names options.depth (forks_of way options) options.chunks input)
+Ran way core p names options input file (NoValue Long) =
+    MakesOf way true p names options input file × IsLongResult p names options.depth input × (packs_of (Evaluates way) options ≡ true)
 
 -- `replay`: the text of the value to which the events of the journal lead, and its image, where that is asked for; or they lead to a
 -- root that ended without a value; or to where chunks run out.
@@ -90,29 +87,17 @@ Replays p names image given file (NoValue (Meant why)) = (file ≡ None) × OnJo
 Replays p names image given file (NoValue Full) = (file ≡ None) × OnJournal p names given.second (journal_in given) (LacksChunks p)
 Replays p names image given file (NoValue Long) = ⊥
 
--- `local`: the text of the value that is meant by what is left of the core without its places; or it means none; or so many chunks of
--- memory may not be enough for what the run of this core costs. No file is made.
-abbrev pub RunsLocated : Program → TextsView → Options → List ℕ → Option (List ℕ) → End → Type 0
-RunsLocated p names options input file (Prints text) = (file ≡ None) × IsOutput p.tree names options.depth input text
-RunsLocated p names options input file (NoValue (Meant why)) = (file ≡ None) × MeansNone p.tree names options.depth input (means_why why)
-RunsLocated p names options input file (NoValue Full) =
-    (file ≡ None) × MatchOption p.located ⊥ (λ core. FillsUpBy core p.tree names options.depth (run_forks options) options.chunks input)
-RunsLocated p names options input file (NoValue Long) = ⊥
+-- What a job of this row makes of the bytes of its inputs, for the program with these names: a file, or none, and its end.
+abbrev pub DoesBy : Row → Options → Program → TextsView → Contents → Option (List ℕ) → End → Type 0
+DoesBy (Says said) options p names given = OnlyPrints (λ text. text ≡ said options p.tree names)
+DoesBy (Evaluates way) options p names given = Ran way (core_of way options p) p.tree names options given.second
+DoesBy PacksValue options p names given = Packs p.tree names options given.second
+DoesBy ShowsFile options p names given = OnlyPrints (IsShown p.tree names options.skips given.second)
+DoesBy FollowsJournal options p names given = Replays p.tree names options.image given
 
--- What a job with these options makes, for the program with these names, of the bytes of its inputs: a file, or none, and its
--- end.
+-- The same of a job.
 abbrev pub Does : Job → Options → Program → TextsView → Contents → Option (List ℕ) → End → Type 0
-Does Run options p names given = Runs p.tree names options given.second
-Does Plain options p names given = Means p.tree names options.depth given.second
-Does Check options p names given = OnlyPrints (λ text. text ≡ ok_line)
-Does Core options p names given = OnlyPrints (λ text. text ≡ core_text names.long (core_after options.skips options.pass p.tree))
-Does Code options p names given = OnlyPrints (λ text. text ≡ listing_text names.long (lower_program (core_after options.skips 4 p.tree)))
-Does Pack options p names given = Packs p.tree names options given.second
-Does Show options p names given = OnlyPrints (IsShown p.tree names options.skips given.second)
-Does Gen options p names given = Sums p.tree names options given.second
-Does Trace options p names given = Traces p.tree names options given.second
-Does Replay options p names given = Replays p.tree names options.image given
-Does Local options p names given = RunsLocated p names options given.second
+Does job options p names given = DoesBy (row job) options p names given
 
 -- The packed file of the value that a run means, where that is asked for and the run ends with a text; else there is none.
 abbrev pub PacksResult : Bool → ProgramTree → TextsView → (depth : ℕ) → List ℕ → Option (List ℕ) → End → Type 0
@@ -120,23 +105,9 @@ PacksResult false p names depth input packed end = packed ≡ None
 PacksResult true p names depth input packed (Prints text) = (bytes : List ℕ) × (packed ≡ Some bytes) × IsPackedResult p names depth input bytes
 PacksResult true p names depth input packed (NoValue reason) = packed ≡ None
 
--- Both files of a run and its end.
-abbrev pub RunsBoth : ProgramTree → TextsView → Options → List ℕ → (file packed : Option (List ℕ)) → End → Type 0
-RunsBoth p names options input file packed end = Runs p names options input file end × PacksResult options.packs p names options.depth input packed end
-
--- The packed file of its result that a job makes where it ends so, or none: `run` alone makes one.
+-- The packed file of its result that a job makes where it ends so, or none.
 abbrev pub DoesPack : Job → Options → Program → TextsView → Contents → Option (List ℕ) → End → Type 0
-DoesPack Run options p names given packed end = PacksResult options.packs p.tree names options.depth given.second packed end
-DoesPack Plain options p names given packed end = packed ≡ None
-DoesPack Check options p names given packed end = packed ≡ None
-DoesPack Core options p names given packed end = packed ≡ None
-DoesPack Code options p names given packed end = packed ≡ None
-DoesPack Pack options p names given packed end = packed ≡ None
-DoesPack Show options p names given packed end = packed ≡ None
-DoesPack Gen options p names given packed end = packed ≡ None
-DoesPack Trace options p names given packed end = packed ≡ None
-DoesPack Replay options p names given packed end = packed ≡ None
-DoesPack Local options p names given packed end = packed ≡ None
+DoesPack job options p names given packed end = PacksResult (packs_of (row job) options) p.tree names options.depth given.second packed end
 
 -- Both files and the end of a job.
 abbrev pub DoesAll : Job → Options → Program → TextsView → Contents → (file packed : Option (List ℕ)) → End → Type 0
@@ -145,3 +116,33 @@ DoesAll job options p names given file packed end = Does job options p names giv
 -- The same options, without an image.
 abbrev pub without_image : Options → Options
 without_image options = record options { image = false }
+
+-- ---- What the code says of single jobs
+
+-- How many forks it may nest, where no journal is kept.
+abbrev pub run_forks : Options → ℕ
+run_forks options = forks_of ForFiles options
+
+-- `plain`.
+abbrev pub Means : ProgramTree → TextsView → Options → List ℕ → Option (List ℕ) → End → Type 0
+Means p names options input = Ran Plainly None p names options input
+
+-- `run`.
+abbrev pub Runs : ProgramTree → TextsView → Options → List ℕ → Option (List ℕ) → End → Type 0
+Runs p names options input = Ran ForFiles (Some (core_after options.skips 4 p)) p names options input
+
+-- Both files of a run and its end.
+abbrev pub RunsBoth : ProgramTree → TextsView → Options → List ℕ → (file packed : Option (List ℕ)) → End → Type 0
+RunsBoth p names options input file packed end = Runs p names options input file end × PacksResult options.packs p names options.depth input packed end
+
+-- `gen`.
+abbrev pub Sums : ProgramTree → TextsView → Options → List ℕ → Option (List ℕ) → End → Type 0
+Sums p names options input = Ran ForSummary (Some (core_after options.skips 4 p)) p names options input
+
+-- `trace`.
+abbrev pub Traces : ProgramTree → TextsView → Options → List ℕ → Option (List ℕ) → End → Type 0
+Traces p names options input = Ran ForJournal (Some (core_after options.skips 4 p)) p names options input
+
+-- `local`.
+abbrev pub RunsLocated : Program → TextsView → Options → List ℕ → Option (List ℕ) → End → Type 0
+RunsLocated p names options input = Ran ForPlaces p.located p.tree names options input

@@ -6,6 +6,7 @@ pub mod Running
 pub mod Packing
 pub mod Cores
 pub mod Replaying
+pub mod Rows
 pub mod Jobs
 pub mod SourceFaults
 pub mod InputFaults
@@ -25,6 +26,7 @@ pub mod Remains
 pub mod PassFaults
 pub mod Stopping
 pub mod Readings
+pub mod FromSource
 pub mod Performing
 pub mod FirstWrites
 pub mod Headline

@@ -23,7 +23,8 @@ use Rattle.gib_app.specs.Causes.{IsUnread}
 
 -- To run the program of one document, which writes its places out, on the packed value of another.
 abbrev pub local_plan : Document → Document → Options → Plan
-local_plan program packed options = record { first = []; source = program; inputs = packed ∷ []; target = None; pack = None; job = RunLocated; options = options }
+local_plan program packed options =
+    record { first = []; source = program; inputs = packed ∷ []; target = None; pack = None; job = RunLocated; options = options }
 
 -- The words ask for that, within a depth of calls and a number of chunks. These are the bytes of both documents, and those that `out` has
 -- taken so far.

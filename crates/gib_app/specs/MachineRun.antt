@@ -58,7 +58,8 @@ LacksValue p names skips depth forks chunks input = LacksValueBy (core_after ski
 -- Why a run of this core leaves no root.
 abbrev pub IsMachineStopBy : CoreTree → ProgramTree → TextsView → (depth forks chunks : ℕ) → (input : List ℕ) → Stop → Type 0
 IsMachineStopBy core p names depth forks chunks input =
-    StopsBy (λ fault. ⊥) (λ name. ⊥) (λ fault. IsInputFault p names input fault × (((v : Datum) × IsInput p names v input) → ⊥)) (LacksValueBy core p names depth forks chunks input) (λ name. ⊥)
+    StopsBy (λ fault. ⊥) (λ name. ⊥) (λ fault. IsInputFault p names input fault × (((v : Datum) × IsInput p names v input) → ⊥))
+    (LacksValueBy core p names depth forks chunks input) (λ name. ⊥)
 
 -- The same of the core that the passes make.
 abbrev pub IsMachineStop : ProgramTree → TextsView → (skips : Bool) → (depth forks chunks : ℕ) → (input : List ℕ) → Stop → Type 0

@@ -34,7 +34,8 @@ OthersStay plan before now = (name : List ℕ) → (IsTarget plan name → ⊥) 
 
 -- What was written of the first writes where a call stops; or memory ran out between the writes of its job.
 abbrev pub StopFiles : Bool → Plan → Files → Files → Stop → Type 0
-StopFiles tells plan before now stop = StaysAfter tells plan.first before now (answer_for stop).status ⊎ IsBetween tells (at_reading tells before plan) now plan (answer_for stop).status
+StopFiles tells plan before now stop =
+    StaysAfter tells plan.first before now (answer_for stop).status ⊎ IsBetween tells (at_reading tells before plan) now plan (answer_for stop).status
 
 -- Both files of a job are there, and memory ran out between their writes: the first one was written, and nothing behind it.
 pub record IsHalfway (tells : Bool) (before now : Files) (plan : Plan) (file packed : Option (List ℕ)) (ended : Status) : Type 0 where
@@ -61,6 +62,7 @@ IsCallStop tells words before now out_before out_now (Unread name) = MatchOption
 IsCallStop tells words before now out_before out_now (Input fault) = MatchOption (asked words) ⊥ (λ plan. IsStop tells before now plan (Input fault))
 IsCallStop tells words before now out_before out_now (NoValue reason) = AsksProgram tells words before.kept (EndsWithout tells before now reason)
 IsCallStop tells words before now out_before out_now Memory = Unit {0}
-IsCallStop tells words before now out_before out_now (Unwritten name) = MatchOption (asked words) ⊥ (λ plan. IsStop tells before now plan (Unwritten name)) × (out_now ≡ out_before)
+IsCallStop tells words before now out_before out_now (Unwritten name) =
+    MatchOption (asked words) ⊥ (λ plan. IsStop tells before now plan (Unwritten name)) × (out_now ≡ out_before)
 IsCallStop tells words before now out_before out_now Unput =
     IsPrintedInPart tells words before now out_before out_now × Rose out_before.faults out_now.faults × ((name : List ℕ) → now.writes name ≡ before.writes name)

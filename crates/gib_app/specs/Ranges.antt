@@ -1,7 +1,7 @@
 -- The ranges of the numbers among the options.
 use Rattle.std.specs.Prelude.{ℕ, ◌≤◌, ⊤}
 use Rattle.gib_app.specs.declared.plan.Job.{Job}
-use Rattle.gib_app.specs.declared.plan.Job.TheVariants.{Run, Plain, Check, Core, Code, Pack, Show, Gen, Trace, Replay, Local}
+use Rattle.gib_app.specs.declared.plan.Job.TheVariants.{Run, Plain, Core, Gen, Trace, Local}
 use Rattle.gib_app.specs.declared.plan.Options.{Options}
 
 -- Those of a run.
@@ -24,12 +24,8 @@ pub record AreOfMade (options : Options) : Type 0 where
 abbrev pub AreInRange : Job → Options → Type 0
 AreInRange Run options = AreOfRun options
 AreInRange Plain options = (1 ≤ options.depth) × (options.depth ≤ 1000000)
-AreInRange Check options = ⊤
 AreInRange Core options = (1 ≤ options.pass) × (options.pass ≤ 4)
-AreInRange Code options = ⊤
-AreInRange Pack options = ⊤
-AreInRange Show options = ⊤
 AreInRange Gen options = AreOfMade options
 AreInRange Trace options = AreOfRun options
-AreInRange Replay options = ⊤
 AreInRange Local options = AreOfRun options
+AreInRange other options = ⊤

@@ -10,11 +10,13 @@ use Rattle.gib_app.specs.Causes.{IsUnread}
 
 -- To trace a run of the program of one document on the packed value of another, and to write its journal under a name.
 abbrev pub trace_plan : Document → Document → List ℕ → Options → Plan
-trace_plan program packed name options = record { first = []; source = program; inputs = packed ∷ []; target = Some name; pack = None; job = Trace; options = options }
+trace_plan program packed name options =
+    record { first = []; source = program; inputs = packed ∷ []; target = Some name; pack = None; job = Trace; options = options }
 
 -- To replay the journal of that name on the same, and to write an image, where one is asked for.
 abbrev pub replay_plan : Document → Document → List ℕ → Option (List ℕ) → Options → Plan
-replay_plan program packed name image options = record { first = []; source = program; inputs = packed ∷ Named name ∷ []; target = image; pack = None; job = Replay; options = options }
+replay_plan program packed name image options =
+    record { first = []; source = program; inputs = packed ∷ Named name ∷ []; target = image; pack = None; job = Replay; options = options }
 
 -- The words of a call ask to trace a run, and those of a later call to replay its journal on the same program and input. Between the
 -- calls the journal's file stays as the first one left it, and it is not too long; the program and the input are what they were. These

@@ -140,7 +140,8 @@ IsImageFile true laid ty memory place result file = (file ≡ Some (image_of mem
 
 -- The events of a journal lead to a root that stands for what the program means within the journal's depth. The text is that of this
 -- value with a line feed, and the file the image of the memory then, where one is asked for.
-pub record IsShownEnd (p : ProgramTree) (names : TextsView) (image : Bool) (file : Option (List ℕ)) (text : List ℕ) (v : Datum) (settings : Settings) (lines : List Line) : Type 0 where
+pub record IsShownEnd (p : ProgramTree) (names : TextsView) (image : Bool) (file : Option (List ℕ)) (text : List ℕ) (v : Datum) (settings : Settings)
+    (lines : List Line) : Type 0 where
   pub memory : Memory
   pub ends_with : Answer
   pub place : Root

@@ -10,7 +10,7 @@ use Rattle.gib_mono.specs.Walk.{copies_of}
 use Rattle.gib_syntax.specs.Source.{Spells}
 use Rattle.gib_lex.specs.declared.fault.LexFault.TheVariants as lexing
 use Rattle.gib_lex.specs.Refused.{IsRefused, IsRefusedIn}
-use Rattle.gib_parse.specs.Answers.{IsRefusedAt, IsNestedAt, IsBlamedAt, IsTooDeepAt}
+use Rattle.gib_parse.specs.Blaming.{IsBlamedAt, IsTooDeepAt}
 use Rattle.gib_check.specs.declared.fault.Fault.{Fault}
 use Rattle.gib_check.specs.declared.fault.Kind.{Kind}
 use Rattle.gib_check.specs.FirstFault.{first_fault}
@@ -32,14 +32,12 @@ pub record IsBadSyntax (source : List ℕ) (place : ℕ) : Type 0 where
   pub lexed : Lexed
   pub tokens : HasTokens source lexed
   pub blamed : IsBlamedAt lexed place
-  pub refused : IsRefusedAt lexed place
 
 -- An expression at the place, nested too deep, is the first fault of the source's tokens.
 pub record IsTooDeep (source : List ℕ) (place : ℕ) : Type 0 where
   pub lexed : Lexed
   pub tokens : HasTokens source lexed
   pub deep : IsTooDeepAt lexed place
-  pub nested : IsNestedAt lexed place
 
 -- The source spells a program, and the first rule of typing that it breaks is of this kind; what breaks it
 -- begins at the place.

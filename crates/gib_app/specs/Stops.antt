@@ -17,7 +17,6 @@ use Rattle.gib_app.specs.declared.input_fault.InputFault.TheVariants as input
 use Rattle.gib_app.specs.declared.input_fault.PackedFault.{PackedFault}
 use Rattle.gib_app.specs.declared.made.Reason.{Reason}
 use Rattle.gib_app.specs.declared.plan.Job.{Job}
-use Rattle.gib_app.specs.declared.plan.Job.TheVariants.{Replay}
 use Rattle.gib_app.specs.declared.source_fault.SourceFault.{SourceFault}
 use Rattle.gib_app.specs.declared.source_fault.SourceFault.TheVariants.{OverLimit}
 use Rattle.gib_base.specs.declared.Span.{Span}
@@ -27,6 +26,7 @@ use Rattle.gib_mono.specs.Walk.{copies_of}
 use Rattle.gib_app.specs.declared.plan.Options.{Options}
 use Rattle.gib_app.specs.declared.stop.Stop.{Stop}
 use Rattle.gib_app.specs.declared.stop.Stop.TheVariants.{Usage, Source, Unread, Input, NoValue, Memory, Unwritten, Unput}
+use Rattle.gib_app.specs.Rows.{FollowsJournal, row}
 use Rattle.gib_app.specs.Plan.{Document, Plan, Files, Contents}
 use Rattle.gib_app.specs.Writes.{at_reading}
 use Rattle.gib_app.specs.Running.{Program, IsNoProgram, IsNoProgramIn, IsInput, IsShownValue}
@@ -68,7 +68,8 @@ IsCompileStop source = StopsBy (λ fault. IsSourceFault source fault × IsNoProg
 
 -- Why a typed program is not copied: its first use over a limit begins there.
 abbrev pub IsCopyStop : GenericProgramTree → Stop → Type 0
-IsCopyStop generic = StopsBy (λ fault. (use_of : Span) × (copies_of generic ≡ Err use_of) × (fault ≡ OverLimit use_of.start)) (λ name. ⊥) (λ fault. ⊥) (λ reason. ⊥) (λ name. ⊥)
+IsCopyStop generic =
+    StopsBy (λ fault. (use_of : Span) × (copies_of generic ≡ Err use_of) × (fault ≡ OverLimit use_of.start)) (λ name. ⊥) (λ fault. ⊥) (λ reason. ⊥) (λ name. ⊥)
 
 -- Why the bytes of a document are not read: the count of its file rose.
 abbrev pub IsReadStop : ShelfView → ShelfView → Document → Stop → Type 0
@@ -77,7 +78,8 @@ IsReadStop before now d = StopsBy (λ fault. ⊥) (λ name. IsUnread before now 
 -- Why no program comes of a source in a dialect.
 abbrev pub IsSourceStop : Dialect → ShelfView → ShelfView → Document → Stop → Type 0
 IsSourceStop dialect before now d =
-    StopsBy (λ fault. OnSource before.kept d (λ bytes. IsSourceFaultIn dialect bytes fault × IsNoProgramIn dialect bytes)) (λ name. IsUnread before now d name) (λ fault. ⊥) (λ reason. ⊥) (λ name. ⊥)
+    StopsBy (λ fault. OnSource before.kept d (λ bytes. IsSourceFaultIn dialect bytes fault × IsNoProgramIn dialect bytes)) (λ name. IsUnread before now d name)
+    (λ fault. ⊥) (λ reason. ⊥) (λ name. ⊥)
 
 -- The first input has more bytes than a plan reads.
 pub record IsLongInput (kept : Files) (plan : Plan) (fault : InputFault) : Type 0 where
@@ -88,7 +90,8 @@ pub record IsLongInput (kept : Files) (plan : Plan) (fault : InputFault) : Type 
 
 -- Why the bytes of the first input are not read.
 abbrev pub IsInputStop : ShelfView → ShelfView → Plan → Stop → Type 0
-IsInputStop before now plan = StopsBy (λ fault. ⊥) (λ name. AreUnread before now (first_of (inputs_of plan)) name) (IsLongInput before.kept plan) (λ reason. ⊥) (λ name. ⊥)
+IsInputStop before now plan =
+    StopsBy (λ fault. ⊥) (λ name. AreUnread before now (first_of (inputs_of plan)) name) (IsLongInput before.kept plan) (λ reason. ⊥) (λ name. ⊥)
 
 -- The input behind the first has more bytes than a plan reads, and the first is a packed file of a value that the program takes.
 pub record IsLongFurther (kept : Files) (plan : Plan) (p : Program) (names : TextsView) (first : List ℕ) (fault : InputFault) : Type 0 where
@@ -103,7 +106,8 @@ pub record IsLongFurther (kept : Files) (plan : Plan) (p : Program) (names : Tex
 abbrev pub IsFurtherStop : ShelfView → ShelfView → Plan → Program → TextsView → (first : List ℕ) → Stop → Type 0
 IsFurtherStop before now plan p names first =
     StopsBy (λ fault. ⊥) (λ name. AreUnread before now (further_of (inputs_of plan)) name × ((v : Datum) × IsInput p.tree names v first))
-    (λ fault. ((plan.job ≡ Replay) × IsInputFault p.tree names first fault × (((v : Datum) × IsInput p.tree names v first) → ⊥)) ⊎ IsLongFurther before.kept plan p names first fault)
+    (λ fault. ((row plan.job ≡ FollowsJournal) × IsInputFault p.tree names first fault × (((v : Datum) × IsInput p.tree names v first) → ⊥))
+    ⊎ IsLongFurther before.kept plan p names first fault)
     (λ reason. ⊥) (λ name. ⊥)
 
 -- Why the bytes of the inputs are not read: the count of a file rose, for a further one where the first is a packed file of a value
@@ -112,7 +116,8 @@ abbrev pub IsInputsStop : ShelfView → ShelfView → Plan → Program → (name
 IsInputsStop before now plan p names =
     StopsBy (λ fault. ⊥)
     (λ name. AreUnread before now (first_of (inputs_of plan)) name
-    ⊎ (AreUnread before now (further_of (inputs_of plan)) name × ((given : Contents) × AreGiven before.kept (first_of (inputs_of plan)) given × ((v : Datum) × IsInput p.tree names v given.second))))
+    ⊎ (AreUnread before now (further_of (inputs_of plan)) name
+    × ((given : Contents) × AreGiven before.kept (first_of (inputs_of plan)) given × ((v : Datum) × IsInput p.tree names v given.second))))
     (λ fault. (given : Contents) × AreReached before.kept p names (inputs_of plan) given
     × Refuses plan.job plan.options p names given fault × (Accepts plan.job plan.options p names given → ⊥))
     (λ reason. ⊥) (λ name. ⊥)
@@ -143,11 +148,13 @@ IsShowStop p names skips file = IsRefusal (λ fault. IsShowFault p names skips f
 
 -- Why no packed file is made.
 abbrev pub IsPackStop : (repacks first : Bool) → ProgramTree → TextsView → List ℕ → Stop → Type 0
-IsPackStop repacks first p names bytes = IsRefusal (λ fault. IsPackFault repacks first p names bytes fault × (((file : List ℕ) × IsPackedBy repacks first p names bytes file) → ⊥))
+IsPackStop repacks first p names bytes =
+    IsRefusal (λ fault. IsPackFault repacks first p names bytes fault × (((file : List ℕ) × IsPackedBy repacks first p names bytes file) → ⊥))
 
 -- Why no journal is replayed.
 abbrev pub IsReplayStop : ProgramTree → TextsView → Contents → Stop → Type 0
-IsReplayStop p names given = IsRefusal (λ fault. IsReplayFault p names given.second (journal_in given) fault × (OnJournal p names given.second (journal_in given) (Happens p) → ⊥))
+IsReplayStop p names given =
+    IsRefusal (λ fault. IsReplayFault p names given.second (journal_in given) fault × (OnJournal p names given.second (journal_in given) (Happens p) → ⊥))
 
 -- Why a job makes nothing, for this program, of the bytes of its inputs.
 abbrev pub FailsTo : Job → Options → Program → TextsView → Contents → Stop → Type 0
@@ -156,15 +163,19 @@ FailsTo job options p names given = IsRefusal (λ fault. Refuses job options p n
 -- Why what is asked for is not made: the source is no program, a file is not read, the inputs are refused.
 abbrev pub IsMakeStop : ShelfView → ShelfView → Plan → Stop → Type 0
 IsMakeStop before now plan =
-    StopsBy (λ fault. OnSource before.kept plan.source (λ bytes. IsSourceFaultIn (dialect_of plan.job) bytes fault × IsNoProgramIn (dialect_of plan.job) bytes)) (λ name. FailsToRead before.kept before now plan name)
-    (λ fault. OnReached before.kept plan (λ p names given. Refuses plan.job plan.options p names given fault × (Accepts plan.job plan.options p names given → ⊥)))
+    StopsBy (λ fault. OnSource before.kept plan.source (λ bytes. IsSourceFaultIn (dialect_of plan.job) bytes fault × IsNoProgramIn (dialect_of plan.job) bytes))
+    (λ name. FailsToRead before.kept before now plan name)
+    (λ fault. OnReached before.kept plan
+    (λ p names given. Refuses plan.job plan.options p names given fault × (Accepts plan.job plan.options p names given → ⊥)))
     (λ reason. ⊥) (λ name. ⊥)
 
 -- Why what is asked for is not made, or not written.
 abbrev pub IsStop : Bool → ShelfView → ShelfView → Plan → Stop → Type 0
 IsStop tells before now plan =
-    StopsBy (λ fault. OnSource (at_reading tells before.kept plan) plan.source (λ bytes. IsSourceFaultIn (dialect_of plan.job) bytes fault × IsNoProgramIn (dialect_of plan.job) bytes))
+    StopsBy (λ fault. OnSource (at_reading tells before.kept plan) plan.source
+    (λ bytes. IsSourceFaultIn (dialect_of plan.job) bytes fault × IsNoProgramIn (dialect_of plan.job) bytes))
     (λ name. FailsToRead (at_reading tells before.kept plan) before now plan name)
-    (λ fault. OnReached (at_reading tells before.kept plan) plan (λ p names given. Refuses plan.job plan.options p names given fault × (Accepts plan.job plan.options p names given → ⊥)))
+    (λ fault. OnReached (at_reading tells before.kept plan) plan
+    (λ p names given. Refuses plan.job plan.options p names given fault × (Accepts plan.job plan.options p names given → ⊥)))
     (λ reason. ⊥)
     (λ name. FailsToWrite tells before now plan name)

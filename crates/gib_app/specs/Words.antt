@@ -119,7 +119,20 @@ flag_of id rows = option_map_or (λ value. bytes_eq value (codes "true")) (word_
 
 -- The options where none is given.
 abbrev pub usual : Options
-usual = record { workers = 1; depth = 10000; chunks = 1024; fork = 4; pass = 4; image = false; packs = false; skips = false; number = 0; levels = 0; repacks = false; first_version = false }
+usual = record {
+  workers = 1;
+  depth = 10000;
+  chunks = 1024;
+  fork = 4;
+  pass = 4;
+  image = false;
+  packs = false;
+  skips = false;
+  number = 0;
+  levels = 0;
+  repacks = false;
+  first_version = false;
+}
 
 -- All options.
 abbrev pub options_of : List Row → Options
@@ -225,12 +238,29 @@ arguments_of form = positional (codes "source") ∷ (place_of form.second ++ (pl
 abbrev pub planned : Job → (second third : Option Text) → Target → (pack : Option Text) → List Row → Option Plan
 planned job second third target pack rows =
     with_value (with_value (with_value
-    (option_map (λ s t w u. record { first = []; source = s; inputs = option_to_list t ++ option_to_list w; target = u; pack = pack_in pack rows; job = job; options = options_of rows }) (file_of (codes "source") rows))
+    (option_map (λ s t w u. record {
+      first = [];
+      source = s;
+      inputs = option_to_list t ++ option_to_list w;
+      target = u;
+      pack = pack_in pack rows;
+      job = job;
+      options = options_of rows;
+    })
+    (file_of (codes "source") rows))
     (file_in second rows)) (file_in third rows)) (target_in target rows)
 
 -- `run SOURCE INPUT [--workers N] [--depth N] [--chunks N] [--fork N] [--skips] [--image FILE] [--pack FILE]`.
 abbrev pub run_form : Form
-run_form = record { name = codes "run"; second = Some (codes "input"); third = None; target = ByOption (codes "image"); pack = Some (codes "pack"); options = workers ∷ depth ∷ chunks ∷ fork ∷ skips ∷ image ∷ pack ∷ []; job = Run }
+run_form = record {
+  name = codes "run";
+  second = Some (codes "input");
+  third = None;
+  target = ByOption (codes "image");
+  pack = Some (codes "pack");
+  options = workers ∷ depth ∷ chunks ∷ fork ∷ skips ∷ image ∷ pack ∷ [];
+  job = Run;
+}
 
 -- `plain SOURCE INPUT [--depth N]`.
 abbrev pub plain_form : Form
@@ -250,7 +280,15 @@ code_form = record { name = codes "code"; second = None; third = None; target = 
 
 -- `pack SOURCE TEXT TARGET [--from] [--v1]`: with `--from` TEXT is a packed file.
 abbrev pub pack_form : Form
-pack_form = record { name = codes "pack"; second = Some (codes "text"); third = None; target = AtPlace (codes "target"); pack = None; options = from ∷ v1 ∷ []; job = Pack }
+pack_form = record {
+  name = codes "pack";
+  second = Some (codes "text");
+  third = None;
+  target = AtPlace (codes "target");
+  pack = None;
+  options = from ∷ v1 ∷ [];
+  job = Pack;
+}
 
 -- `show SOURCE FILE [--skips]`.
 abbrev pub show_form : Form
@@ -258,20 +296,45 @@ show_form = record { name = codes "show"; second = Some (codes "file"); third = 
 
 -- `trace SOURCE INPUT JOURNAL [--workers N] [--depth N] [--chunks N] [--fork N] [--skips]`: the journal is written.
 abbrev pub trace_form : Form
-trace_form = record { name = codes "trace"; second = Some (codes "input"); third = None; target = AtPlace (codes "journal"); pack = None; options = workers ∷ depth ∷ chunks ∷ fork ∷ skips ∷ []; job = Trace }
+trace_form = record {
+  name = codes "trace";
+  second = Some (codes "input");
+  third = None;
+  target = AtPlace (codes "journal");
+  pack = None;
+  options = workers ∷ depth ∷ chunks ∷ fork ∷ skips ∷ [];
+  job = Trace;
+}
 
 -- `replay SOURCE INPUT JOURNAL [--image FILE]`.
 abbrev pub replay_form : Form
-replay_form = record { name = codes "replay"; second = Some (codes "input"); third = Some (codes "journal"); target = ByOption (codes "image"); pack = None; options = image ∷ []; job = Replay }
+replay_form = record {
+  name = codes "replay";
+  second = Some (codes "input");
+  third = Some (codes "journal");
+  target = ByOption (codes "image");
+  pack = None;
+  options = image ∷ [];
+  job = Replay;
+}
 
 -- `local SOURCE INPUT [--workers N] [--depth N] [--chunks N] [--fork N]`: the source writes its places out.
 abbrev pub local_form : Form
-local_form = record { name = codes "local"; second = Some (codes "input"); third = None; target = NoTarget; pack = None; options = workers ∷ depth ∷ chunks ∷ fork ∷ []; job = Local }
+local_form = record {
+  name = codes "local";
+  second = Some (codes "input");
+  third = None;
+  target = NoTarget;
+  pack = None;
+  options = workers ∷ depth ∷ chunks ∷ fork ∷ [];
+  job = Local;
+}
 
 -- `gen NUMBER LEVELS SOURCE INPUT [--workers N] [--depth N] [--chunks N] [--fork N] [--skips]`: both files are made.
 abbrev pub gen_arguments : List Rule
 gen_arguments =
-    numeral (codes "number") 0 2147483647 ∷ numeral (codes "levels") 0 18 ∷ positional (codes "source") ∷ positional (codes "input") ∷ workers ∷ depth ∷ chunks ∷ fork ∷ skips ∷ []
+    numeral (codes "number") 0 2147483647 ∷ numeral (codes "levels") 0 18 ∷ positional (codes "source") ∷ positional (codes "input") ∷ workers ∷ depth ∷ chunks
+    ∷ fork ∷ skips ∷ []
 
 -- All commands whose files are read.
 abbrev pub forms : List Form
@@ -312,7 +375,8 @@ made_requested rows = with_value (option_map (made_plan (options_of rows)) (word
 
 -- What the matches of a command whose files are read ask for, by its name.
 abbrev pub read_requested : Text → List Row → Option Plan
-read_requested name rows = option_and_then (λ form. planned form.job form.second form.third form.target form.pack rows) (find (λ form. bytes_eq form.name name) forms)
+read_requested name rows =
+    option_and_then (λ form. planned form.job form.second form.third form.target form.pack rows) (find (λ form. bytes_eq form.name name) forms)
 
 -- What the matches of a command, by its name, ask for.
 abbrev pub requested : Text → List Row → Option Plan

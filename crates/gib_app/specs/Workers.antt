@@ -123,7 +123,8 @@ abbrev pub IsWorkersStop : Type 0 → Stop → Type 0
 IsWorkersStop T = StopsBy (λ fault. ⊥) (λ name. ⊥) (λ fault. ⊥) (OnlyFull T) (λ name. ⊥)
 
 -- A run by workers of a program on an input: the events of this journal lead to this memory and answer.
-pub record IsTraced (p : ProgramTree) (names : TextsView) (options : Options) (input : List ℕ) (settings : Settings) (lines : List Line) (memory : Memory) (a : Answer) : Type 0 where
+pub record IsTraced (p : ProgramTree) (names : TextsView) (options : Options) (input : List ℕ) (settings : Settings) (lines : List Line) (memory : Memory)
+    (a : Answer) : Type 0 where
   pub value : Datum
   pub is_input : IsInput p names value input
   pub set : IsSetBy options settings

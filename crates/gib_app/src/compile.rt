@@ -25,7 +25,7 @@ use gib_check::{Generic, TypeFault, Typed, check};
 use gib_lex::laws::{one_reading, one_refusal};
 use gib_lex::{LexFault, Tokens, lex};
 use gib_mono::{MonoFault, mono, texts};
-use gib_parse::law::{one_text, program_is_read};
+use gib_parse::law::{one_blame, one_text};
 use gib_parse::{ParseFault, parse};
 use std::alloc::Global;
 
@@ -122,7 +122,7 @@ fn typed(alloc: Global, source: &[u8], tokens: &Tokens) -> Result<Generic, Stop<
 {
     one_reading();
     one_text();
-    program_is_read();
+    one_blame();
     faults_are_exact();
     let _known = tokens.tokens();
     let program = match parse(alloc, tokens) {

@@ -1,11 +1,12 @@
 //! The jobs, one file each.
 
-ghost use Rattle.std.specs.Prelude.{◌≡◌, ◌≤◌, length, None, Ok, Err, IfOk, IfErr, IfSome};
+ghost use Rattle.std.specs.Prelude.{◌≡◌, ◌≤◌, false, length, None, Ok, Err, IfOk, IfErr, IfSome};
 ghost use Rattle.gib_syntax.specs.Parts.{program_of};
 ghost use Rattle.gib_app.specs.Formats.{most_of};
-ghost use Rattle.gib_app.specs.Jobs.{Does, DoesAll, Replays};
+ghost use Rattle.gib_app.specs.Jobs.{Does, DoesAll, Replays, packs_of};
 ghost use Rattle.gib_app.specs.Kept.{EndsBy, EndsByBoth, contents_of, file_of, packed_of};
 ghost use Rattle.gib_app.specs.Ranges.{AreInRange};
+ghost use Rattle.gib_app.specs.Rows.{row};
 ghost use Rattle.gib_app.specs.Running.{sourced};
 ghost use Rattle.gib_app.specs.Stops.{IsReady, IsReplayStop, FailsTo};
 
@@ -75,10 +76,11 @@ fn do_beside<R: Threads + Wait + Sync, G: Gate + Sync>(
     requires range { AreInRange job options }
     ensures made { IfOk result (λ made. EndsBy (file_of made) made.end (Does job options (sourced (program_of compiled.now.typed)) compiled.now.names (contents_of given.entry))) }
     ensures stop { IfErr result (FailsTo job options (sourced (program_of compiled.now.typed)) compiled.now.names (contents_of given.entry)) }
+    ensures alone { packs_of (row job) options ≡ false }
 {
     match job {
         Job::Run => unreachable!(),
-        Job::Plain => plain::plain(alloc, compiled, options.depth, given.second),
+        Job::Plain => plain::plain(alloc, compiled, options, given.second),
         Job::Check => check::check(alloc),
         Job::Core => core_text::core_text(alloc, compiled, options.skips, options.pass),
         Job::Code => code_text::code_text(alloc, compiled, options.skips),

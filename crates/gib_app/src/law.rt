@@ -21,7 +21,7 @@ use gib_check::laws::faults_are_exact;
 use gib_file::{one_file, refused_description, refused_file, refused_header};
 use gib_lex::laws::{one_reading, one_reading_in, one_refusal, one_refusal_in};
 use gib_local::law::texts_are_answered;
-use gib_parse::law::{one_text, program_is_read};
+use gib_parse::law::{one_blame, one_text};
 use gib_print::law::{a_value_is_not_refused, one_fault};
 use gib_value::law::{refusals_hold, texts_differ};
 
@@ -37,7 +37,7 @@ pub fn one_source_fault()
     one_reading_in();
     texts_are_answered();
     one_text();
-    program_is_read();
+    one_blame();
     faults_are_exact();
 }
 

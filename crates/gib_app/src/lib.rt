@@ -1,7 +1,7 @@
 //! The top call: from the words of a command line to output, a line and a status.
 #![tactic(auto)]
 
-mod answer;
+pub mod answer;
 mod buffer;
 mod commands;
 pub mod compile;
@@ -13,7 +13,7 @@ mod imaging;
 pub mod input_fault;
 mod jobs;
 pub mod law;
-mod lines;
+pub mod lines;
 mod loading;
 pub mod local_law;
 pub mod located;
@@ -34,7 +34,7 @@ pub mod runtime;
 pub mod sample;
 pub mod source_fault;
 pub mod status;
-mod stop;
+pub mod stop;
 pub mod top;
 pub mod tracing;
 pub mod word_laws;

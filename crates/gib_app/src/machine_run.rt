@@ -42,7 +42,7 @@ use gib_load::{LoadFault, load};
 use gib_lower::lower;
 use gib_mem::Mem;
 use gib_packed::Root;
-use gib_pool::{Crew, Loaded, run_by};
+use gib_pool::{Config, Loaded, run_by};
 use gib_print::{PrintFault, print_at};
 use gib_region::Tails;
 use gib_weave::{RunFault, run};
@@ -112,36 +112,34 @@ fn run_code<R: Threads + Wait + Sync, G: Gate + Sync>(
     alloc: Global,
     runtime: Runtime<'_, R, G>,
     lowered: &Lowered,
-    memory: SoleMem,
-    tails: Tails,
-    root: Root,
+    loaded: Loaded,
     options: Options,
 ) -> (Result<Answer, RunFault>, SoleMem)
-    requires starts { (v : Datum) × IsStart lowered.now root tails (⟦<SoleMem as Mem>⟧.view memory) v }
-    ensures ends { (v : Datum) → IsStart lowered.now root tails (⟦<SoleMem as Mem>⟧.view memory) v
-        → IsRun lowered.now options.depth (run_forks options) v (⟦<SoleMem as Mem>⟧.view memory) (⟦<SoleMem as Mem>⟧.view result.1) result.0 }
-    ensures kept { Kept (⟦<SoleMem as Mem>⟧.view memory) (⟦<SoleMem as Mem>⟧.view result.1) }
+    requires starts { (v : Datum) × IsStart lowered.now loaded.root loaded.tails (⟦<SoleMem as Mem>⟧.view loaded.memory) v }
+    ensures ends { (v : Datum) → IsStart lowered.now loaded.root loaded.tails (⟦<SoleMem as Mem>⟧.view loaded.memory) v
+        → IsRun lowered.now options.depth (run_forks options) v (⟦<SoleMem as Mem>⟧.view loaded.memory) (⟦<SoleMem as Mem>⟧.view result.1) result.0 }
+    ensures kept { Kept (⟦<SoleMem as Mem>⟧.view loaded.memory) (⟦<SoleMem as Mem>⟧.view result.1) }
 {
     if options.workers > 1 {
-        let crew = Crew {
+        let config = Config {
             workers: options.workers,
             depth: options.depth,
-            level: options.fork,
+            forks: options.fork,
         };
         run_by(
             runtime.threads,
             alloc,
             lowered,
-            Loaded {
-                memory,
-                tails,
-                root,
-            },
-            crew,
+            loaded,
+            config,
             runtime.gate,
         )
     } else {
-        let mut memory = memory;
+        let Loaded {
+            mut memory,
+            tails,
+            root,
+        } = loaded;
         let end = run(alloc, lowered, &mut memory, tails, root, options.depth);
         (end, memory)
     }
@@ -169,7 +167,12 @@ fn run_loaded<R: Threads + Wait + Sync, G: Gate + Sync>(
     let layouts = lowered.code().layouts();
     match load(alloc, layouts, survey, &mut memory, &mut tails) {
         Ok(root) => {
-            let (end, memory) = run_code(alloc, runtime, lowered, memory, tails, root, options);
+            let loaded = Loaded {
+                memory,
+                tails,
+                root,
+            };
+            let (end, memory) = run_code(alloc, runtime, lowered, loaded, options);
             (end_of(end), memory)
         }
         Err(LoadFault::Full) => (Err(Stop::NoValue(Reason::Full)), memory),

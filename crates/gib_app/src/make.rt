@@ -1,16 +1,19 @@
 //! What a plan's job makes of its files.
 
-ghost use Rattle.std.specs.Prelude.{◌≡◌, ◌≤◌, [], length, IfOk, IfErr, IfSome, OnOk, option_map, option_to_list};
+ghost use Rattle.std.specs.Prelude.{◌≡◌, ◌≤◌, [], length, Some, IfOk, IfErr, IfSome, OnOk, option_map, option_to_list};
 ghost use Rattle.gib_base.specs.declared.token.Dialect.TheVariants.{Source as Sources, Located as Locateds};
+ghost use Rattle.gib_base.specs.Texts.{TextsView};
 ghost use Rattle.gib_syntax.specs.Parts.{program_of};
+ghost use Rattle.gib_core.specs.Numbering.{AreNumbered};
 ghost use Rattle.gib_core.specs.Parts.{core_of};
 ghost use Rattle.gib_app.specs.Formats.{dialect_of, most_of, inputs_of};
 ghost use Rattle.gib_app.specs.Causes.{AreFurther, AreGiven, OnSource, first_of, further_of};
 ghost use Rattle.gib_app.specs.Calls.{read_calls, input_calls, reads_of};
 ghost use Rattle.gib_app.specs.Readings.{HasRead, HasStopped};
 ghost use Rattle.gib_app.specs.Kept.{contents_of, document_of, plan_of, file_of, packed_of};
-ghost use Rattle.gib_app.specs.Located.{IsWritten};
-ghost use Rattle.gib_app.specs.Running.{IsProgramIn, sourced};
+ghost use Rattle.gib_app.specs.FromSource.{StandsFor, IsTaken, IsTakingStop, IsFinished};
+ghost use Rattle.gib_app.specs.MachineRun.{RunsFor};
+ghost use Rattle.gib_app.specs.Running.{Program, sourced};
 ghost use Rattle.gib_app.specs.Stops.{IsReady, IsSourceStop, IsInputStop, IsFurtherStop, IsInputsStop, IsMakeStop};
 ghost use Rattle.gib_app.specs.Performing.{IsDone};
 ghost use Rattle.gib_app.specs.Ranges.{AreInRange};
@@ -43,37 +46,43 @@ struct Inputs {
     journal: Option<Vec<u8>>,
 }
 
-/// The typed program of a source.
-fn load_program<'a, S: Shelf>(
-    alloc: Global,
-    shelf: &mut S,
-    document: Document<'a>,
-) -> Result<Compiled, Stop<'a>>
-    ensures compiled { IfOk result (λ c. OnSource (S.view shelf.old).kept (document_of document.entry) (λ source. IsProgramIn Sources source c.names (sourced (program_of c.typed)))) }
-    ensures ready { IfOk result (λ c. IsReady (program_of c.typed) c.names) }
-    ensures stop { IfErr result (IsSourceStop Sources (S.view shelf.old) (S.view shelf.new) (document_of document.entry)) }
-    ensures read { OnOk result (HasRead (S.view shelf.old) (S.view shelf.new) (read_calls (document_of document.entry) 1048576)) }
-    ensures stopped { IfErr result (HasStopped (S.view shelf.old) (S.view shelf.new) (read_calls (document_of document.entry) 1048576)) }
+/// What a source leaves: its program, whose places are left to the passes, or the core that it writes out.
+#[derive(Drop)]
+enum Taken {
+    Program(Compiled),
+    Core(LocatedCore),
+}
+
+/// What the bytes of a source leave.
+fn taken_from(alloc: Global, dialect: Dialect, source: &[u8]) -> Result<Taken, Stop<'static>>
+    ensures taken { IfOk result (λ taken. IsTaken dialect taken source.now) }
+    ensures stop { IfErr result (IsTakingStop dialect source.now) }
 {
-    let source = match read_document(shelf, alloc, document, SOURCE_BYTES) {
-        Ok(Some(source)) => source,
-        Ok(None) => return Err(Stop::Source(SourceFault::Long)),
-        Err(stop) => return Err(stop),
-    };
-    match compile(alloc, &source) {
-        Ok(compiled) => Ok(compiled),
-        Err(stop) => Err(stop),
+    match dialect {
+        Dialect::Source => match compile(alloc, source) {
+            Ok(compiled) => Ok(Taken::Program(compiled)),
+            Err(stop) => Err(stop),
+        },
+        Dialect::Located => match locate(alloc, source) {
+            Ok(located) => Ok(Taken::Core(located)),
+            Err(stop) => Err(stop),
+        },
     }
 }
 
-/// The core that a source writes out.
-fn load_located<'a, S: Shelf>(
+/// What a source leaves that is read in a dialect.
+///
+/// # Errors
+///
+/// `Source` where it is no program of that dialect; `Unread`, `Memory`.
+fn take_source<'a, S: Shelf>(
     alloc: Global,
     shelf: &mut S,
+    dialect: Dialect,
     document: Document<'a>,
-) -> Result<LocatedCore, Stop<'a>>
-    ensures written { IfOk result (λ c. OnSource (S.view shelf.old).kept (document_of document.entry) (λ source. IsWritten source (core_of c.core) c.names)) }
-    ensures stop { IfErr result (IsSourceStop Locateds (S.view shelf.old) (S.view shelf.new) (document_of document.entry)) }
+) -> Result<Taken, Stop<'a>>
+    ensures taken { IfOk result (λ taken. OnSource (S.view shelf.old).kept (document_of document.entry) (IsTaken dialect taken)) }
+    ensures stop { IfErr result (IsSourceStop dialect (S.view shelf.old) (S.view shelf.new) (document_of document.entry)) }
     ensures read { OnOk result (HasRead (S.view shelf.old) (S.view shelf.new) (read_calls (document_of document.entry) 1048576)) }
     ensures stopped { IfErr result (HasStopped (S.view shelf.old) (S.view shelf.new) (read_calls (document_of document.entry) 1048576)) }
 {
@@ -82,8 +91,8 @@ fn load_located<'a, S: Shelf>(
         Ok(None) => return Err(Stop::Source(SourceFault::Long)),
         Err(stop) => return Err(stop),
     };
-    match locate(alloc, &source) {
-        Ok(located) => Ok(located),
+    match taken_from(alloc, dialect, &source) {
+        Ok(taken) => Ok(taken),
         Err(stop) => Err(stop),
     }
 }
@@ -200,28 +209,26 @@ fn given(inputs: &Inputs) -> Given<'_>
     }
 }
 
-/// What a plan's job makes of its files, where it takes a program whose places are left to the passes.
+/// What a plan's job makes of a program whose places are left to the passes, and of its further files.
 ///
 /// # Errors
 ///
-/// As `make`.
-fn make_sourced<'a, R: Threads + Wait + Sync, S: Shelf, G: Gate + Sync>(
+/// As `finish`.
+fn finish_program<'a, R: Threads + Wait + Sync, S: Shelf, G: Gate + Sync>(
     alloc: Global,
     runtime: Runtime<'_, R, G>,
     shelf: &mut S,
     plan: Plan<'a>,
+    compiled: Compiled,
 ) -> Result<Finished, Stop<'a>>
     requires dialect { dialect_of plan.job ≡ Sources }
     requires range { AreInRange plan.job plan.options }
-    ensures made { IfOk result (λ finished. IsDone (S.view shelf.old).kept (plan_of plan.entry) (file_of finished.made) (packed_of finished) finished.made.end) }
-    ensures stop { IfErr result (IsMakeStop (S.view shelf.old) (S.view shelf.new) (plan_of plan.entry)) }
-    ensures read { OnOk result (HasRead (S.view shelf.old) (S.view shelf.new) (reads_of (plan_of plan.entry))) }
-    ensures stopped { IfErr result (HasStopped (S.view shelf.old) (S.view shelf.new) (reads_of (plan_of plan.entry))) }
+    requires ready { IsReady (program_of compiled.typed) compiled.names }
+    ensures made { IfOk result (λ finished. IsFinished (S.view shelf.old).kept (plan_of plan.entry) (sourced (program_of compiled.typed)) compiled.names finished) }
+    ensures stop { IfErr result (IsInputsStop (S.view shelf.old) (S.view shelf.new) (plan_of plan.entry) (sourced (program_of compiled.typed)) compiled.names) }
+    ensures read { OnOk result (HasRead (S.view shelf.old) (S.view shelf.new) (input_calls (inputs_of (plan_of plan.entry)))) }
+    ensures stopped { IfErr result (HasStopped (S.view shelf.old) (S.view shelf.new) (input_calls (inputs_of (plan_of plan.entry)))) }
 {
-    let compiled = match load_program(alloc, shelf, plan.source) {
-        Ok(compiled) => compiled,
-        Err(stop) => return Err(stop),
-    };
     let inputs = match read_inputs(alloc, shelf, plan, &compiled) {
         Ok(inputs) => inputs,
         Err(stop) => return Err(stop),
@@ -239,28 +246,27 @@ fn make_sourced<'a, R: Threads + Wait + Sync, S: Shelf, G: Gate + Sync>(
     }
 }
 
-/// What a plan's job makes of its files, where it takes a program that writes its places out.
+/// What a plan's job makes of a core that a source writes out, and of its further file.
 ///
 /// # Errors
 ///
-/// As `make`.
-fn make_located<'a, R: Threads + Wait + Sync, S: Shelf, G: Gate + Sync>(
+/// As `finish`.
+fn finish_core<'a, R: Threads + Wait + Sync, S: Shelf, G: Gate + Sync>(
     alloc: Global,
     runtime: Runtime<'_, R, G>,
     shelf: &mut S,
     plan: Plan<'a>,
+    located: LocatedCore,
 ) -> Result<Finished, Stop<'a>>
     requires dialect { dialect_of plan.job ≡ Locateds }
-    requires range { AreInRange plan.job plan.options }
-    ensures made { IfOk result (λ finished. IsDone (S.view shelf.old).kept (plan_of plan.entry) (file_of finished.made) (packed_of finished) finished.made.end) }
-    ensures stop { IfErr result (IsMakeStop (S.view shelf.old) (S.view shelf.new) (plan_of plan.entry)) }
-    ensures read { OnOk result (HasRead (S.view shelf.old) (S.view shelf.new) (reads_of (plan_of plan.entry))) }
-    ensures stopped { IfErr result (HasStopped (S.view shelf.old) (S.view shelf.new) (reads_of (plan_of plan.entry))) }
+    requires numbered { AreNumbered (core_of located.core) }
+    ensures made { (p : Program) → p.located ≡ Some (core_of located.core) → RunsFor (core_of located.core) p.tree located.names
+        → IfOk result (λ finished. IsFinished (S.view shelf.old).kept (plan_of plan.entry) p located.names finished) }
+    ensures stop { (p : Program) → p.located ≡ Some (core_of located.core) → RunsFor (core_of located.core) p.tree located.names
+        → IfErr result (IsInputsStop (S.view shelf.old) (S.view shelf.new) (plan_of plan.entry) p located.names) }
+    ensures read { OnOk result (HasRead (S.view shelf.old) (S.view shelf.new) (input_calls (inputs_of (plan_of plan.entry)))) }
+    ensures stopped { IfErr result (HasStopped (S.view shelf.old) (S.view shelf.new) (input_calls (inputs_of (plan_of plan.entry)))) }
 {
-    let located = match load_located(alloc, shelf, plan.source) {
-        Ok(located) => located,
-        Err(stop) => return Err(stop),
-    };
     let second = match read_second(alloc, shelf, plan) {
         Ok(second) => second,
         Err(stop) => return Err(stop),
@@ -268,6 +274,33 @@ fn make_located<'a, R: Threads + Wait + Sync, S: Shelf, G: Gate + Sync>(
     match unpacked(local(alloc, runtime, located, plan.options, &second)) {
         Ok(finished) => Ok(finished),
         Err(stop) => Err(stop),
+    }
+}
+
+/// What a plan's job makes of what its source left, and of its further files.
+///
+/// # Errors
+///
+/// `Input` where the inputs are none that the job accepts; `Unread`, `Memory`.
+fn finish<'a, R: Threads + Wait + Sync, S: Shelf, G: Gate + Sync>(
+    alloc: Global,
+    runtime: Runtime<'_, R, G>,
+    shelf: &mut S,
+    plan: Plan<'a>,
+    taken: Taken,
+) -> Result<Finished, Stop<'a>>
+    requires stands { (p : Program) × (names : TextsView) × StandsFor (dialect_of plan.job) taken p names }
+    requires range { AreInRange plan.job plan.options }
+    ensures made { (p : Program) (names : TextsView) → StandsFor (dialect_of plan.entry.job) taken p names
+        → IfOk result (λ finished. IsFinished (S.view shelf.old).kept (plan_of plan.entry) p names finished) }
+    ensures stop { (p : Program) (names : TextsView) → StandsFor (dialect_of plan.entry.job) taken p names
+        → IfErr result (IsInputsStop (S.view shelf.old) (S.view shelf.new) (plan_of plan.entry) p names) }
+    ensures read { OnOk result (HasRead (S.view shelf.old) (S.view shelf.new) (input_calls (inputs_of (plan_of plan.entry)))) }
+    ensures stopped { IfErr result (HasStopped (S.view shelf.old) (S.view shelf.new) (input_calls (inputs_of (plan_of plan.entry)))) }
+{
+    match taken {
+        Taken::Program(compiled) => finish_program(alloc, runtime, shelf, plan, compiled),
+        Taken::Core(located) => finish_core(alloc, runtime, shelf, plan, located),
     }
 }
 
@@ -289,8 +322,12 @@ pub fn make<'a, R: Threads + Wait + Sync, S: Shelf, G: Gate + Sync>(
     ensures read { OnOk result (HasRead (S.view shelf.old) (S.view shelf.new) (reads_of (plan_of plan.entry))) }
     ensures stopped { IfErr result (HasStopped (S.view shelf.old) (S.view shelf.new) (reads_of (plan_of plan.entry))) }
 {
-    match plan.job.dialect() {
-        Dialect::Source => make_sourced(alloc, runtime, shelf, plan),
-        Dialect::Located => make_located(alloc, runtime, shelf, plan),
+    let taken = match take_source(alloc, shelf, plan.job.dialect(), plan.source) {
+        Ok(taken) => taken,
+        Err(stop) => return Err(stop),
+    };
+    match finish(alloc, runtime, shelf, plan, taken) {
+        Ok(finished) => Ok(finished),
+        Err(stop) => Err(stop),
     }
 }

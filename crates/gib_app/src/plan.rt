@@ -124,17 +124,11 @@ impl Job {
         ensures { result ≡ format_of self }
     {
         match self {
-            Job::Run => Some(Format::Packed),
-            Job::Plain => Some(Format::Packed),
-            Job::Check => None,
-            Job::Core => None,
-            Job::Code => None,
+            Job::Check | Job::Core | Job::Code => None,
+            Job::Run | Job::Plain | Job::Gen | Job::Trace | Job::Local => Some(Format::Packed),
             Job::Pack => Some(Format::Packable),
             Job::Show => Some(Format::Shown),
-            Job::Gen => Some(Format::Packed),
-            Job::Trace => Some(Format::Packed),
             Job::Replay => Some(Format::Journaled),
-            Job::Local => Some(Format::Packed),
         }
     }
 
@@ -143,16 +137,8 @@ impl Job {
         ensures { result ≡ dialect_of self }
     {
         match self {
-            Job::Run => Dialect::Source,
-            Job::Plain => Dialect::Source,
-            Job::Check => Dialect::Source,
-            Job::Core => Dialect::Source,
-            Job::Code => Dialect::Source,
-            Job::Pack => Dialect::Source,
-            Job::Show => Dialect::Source,
-            Job::Gen => Dialect::Source,
-            Job::Trace => Dialect::Source,
-            Job::Replay => Dialect::Source,
+            Job::Run | Job::Plain | Job::Check | Job::Core | Job::Code => Dialect::Source,
+            Job::Pack | Job::Show | Job::Gen | Job::Trace | Job::Replay => Dialect::Source,
             Job::Local => Dialect::Located,
         }
     }

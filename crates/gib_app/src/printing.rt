@@ -4,7 +4,7 @@ ghost use Rattle.std.specs.Prelude.{◌≡◌, ℕ, List, length, None, Some, If
 ghost use Rattle.gib_types.specs.Tree.{IsTyped};
 ghost use Rattle.gib_syntax.specs.Parts.{program_of};
 ghost use Rattle.gib_syntax.specs.Declarations.{table_of_program};
-ghost use Rattle.gib_app.specs.Jobs.{ok_line};
+ghost use Rattle.gib_app.specs.Rows.{ok_line};
 ghost use Rattle.gib_app.specs.Kept.{IsTextOf};
 ghost use Rattle.gib_edge.specs.Causes.{Rose, Appends, AppendsPart, PutsPieces, PutsSomePieces};
 ghost use Rattle.gib_app.specs.Running.{text_line};

@@ -1,7 +1,8 @@
 //! `check`: says that a source is a typed program.
 
 ghost use Rattle.std.specs.Prelude.{◌≡◌, IfOk, IfErr};
-ghost use Rattle.gib_app.specs.Jobs.{OnlyPrints, ok_line};
+ghost use Rattle.gib_app.specs.Jobs.{OnlyPrints};
+ghost use Rattle.gib_app.specs.Rows.{ok_line};
 ghost use Rattle.gib_app.specs.Kept.{EndsBy, file_of};
 
 use crate::made::Made;

@@ -14,6 +14,7 @@ ghost use Rattle.gib_app.specs.Stops.{IsReady, IsRunStop};
 use crate::compile::Compiled;
 use crate::made::{Made, Reason};
 use crate::packed::read_packed;
+use crate::plan::Options;
 use crate::printing::{no_value, only_prints, value_line};
 use crate::stop::Stop;
 use gib_base::Memory;
@@ -50,7 +51,7 @@ fn evaluate(
     }
 }
 
-/// What a program means on the bytes of an input, within the depth.
+/// What a program means on the bytes of an input, within the depth of the options.
 ///
 /// # Errors
 ///
@@ -58,19 +59,19 @@ fn evaluate(
 pub fn plain(
     alloc: Global,
     compiled: &Compiled,
-    depth: u32,
+    options: Options,
     input: &[u8],
 ) -> Result<Made, Stop<'static>>
     requires ready { IsReady (program_of compiled.now.typed) compiled.now.names }
     requires short { length input.now ≤ FILE_BYTES }
-    ensures made { IfOk result (λ made. EndsBy (file_of made) made.end (Means (program_of compiled.now.typed) compiled.now.names depth input.now)) }
+    ensures made { IfOk result (λ made. EndsBy (file_of made) made.end (Means (program_of compiled.now.typed) compiled.now.names options input.now)) }
     ensures stop { IfErr result (IsRunStop (program_of compiled.now.typed) compiled.now.names input.now) }
 {
     let value = match read_packed(alloc, &compiled.typed, &compiled.names, input) {
         Ok(value) => value,
         Err(stop) => return Err(stop),
     };
-    match evaluate(alloc, compiled, value, depth) {
+    match evaluate(alloc, compiled, value, options.depth) {
         Ok(Ok(text)) => Ok(only_prints(text)),
         Ok(Err(why)) => Ok(no_value(Reason::Meant(why))),
         Err(_) => Err(Stop::Memory),

@@ -20,7 +20,7 @@ returns-in-Err-clause-refused c =
     let tokens : HasTokens source l = record { is_lexed = c.requires.lexed; short = short; few_names = c.tokens-known.ensures.whole.few } in
     let P : Stop → Type 0 = IsCompileStop source in
     subst P (sym c.of_parsing.ensures)
-    (parse_refused c.one_reading.ensures c.program_is_read.ensures source l c.in-Err.fault tokens (λ place e. c.in-Err.ensures.at place (ap Err e)) (λ place e. c.in-Err.ensures.nested place (ap Err e)) c.in-Err.ensures.exact)
+    (parse_refused c.one_reading.ensures c.one_blame.ensures.not_blamed c.one_blame.ensures.not_nested source l c.in-Err.fault tokens (λ place e. c.in-Err.ensures.at place (ap Err e)) (λ place e. c.in-Err.ensures.nested place (ap Err e)))
 
 pub returns-in-Err-clause-only : goal.returns-in-Err-clause-only
 returns-in-Err-clause-only c = λ l g is typed.

@@ -14,6 +14,6 @@ returns g c =
     let names = c.args.compiled.names in
     let given = contents_of c.args.given in
     record {
-      made = finished_alone c.do_beside.result c.unpacked.result (Does job o p names given) (DoesAll job o p names given) c.unpacked.ensures.made (does_alone job o p names given c.in_default.not-Run) c.do_beside.ensures.made;
+      made = finished_alone c.do_beside.result c.unpacked.result (Does job o p names given) (DoesAll job o p names given) c.unpacked.ensures.made (does_alone job o p names given c.do_beside.ensures.alone) c.do_beside.ensures.made;
       stop = stopped_alone c.do_beside.result c.unpacked.result (FailsTo job o p names given) c.unpacked.ensures.stop c.do_beside.ensures.stop;
     }

@@ -1,6 +1,6 @@
 use Rattle.std.proofs.Common.{◌≡◌, ℕ, List, [], ◌∷◌, is_some, refl}
 use Rattle.gib_app.specs.Words.{asked, taken}
-use Rattle.gib_app.proofs.Asking.{asks_where_taken}
+use Rattle.gib_app.proofs.Forms.{asks_where_taken}
 use Rattle.gib_app.proofs.word_laws.words_ask_where_taken.Goals as goal
 
 cases : (words : List (List ℕ)) → is_some (asked words) ≡ taken words

@@ -1,0 +1,71 @@
+use Rattle.std.proofs.Common.{List, ℕ, ◌≤◌, [], length, IfErr, IfOk, subst, sym}
+use Rattle.gib_app.specs.Calls.{input_calls}
+use Rattle.gib_app.specs.Formats.{inputs_of}
+use Rattle.gib_app.specs.Jobs.{RunsLocated}
+use Rattle.gib_app.specs.Kept.{plan_of, EndsBy, file_of}
+use Rattle.gib_app.specs.Plan.{Contents}
+use Rattle.gib_app.specs.Stops.{IsRunStop}
+use Rattle.gib_app.proofs.AfterReads.{first_stopped, stopped_behind}
+use Rattle.gib_app.proofs.Locating.{err_here, is_local, local_most, located_made, located_stop, ok_here, one_given, one_input_read}
+use Rattle.gib_app.proofs.Making.{first_stops, inputs_refused}
+use Rattle.gib_app.proofs.make.finish_core.Goals as goal
+
+-- src/make.rt
+
+-- ---- The input is not read
+
+pub returns-in-Err-clause-stop : goal.returns-in-Err-clause-stop
+returns-in-Err-clause-stop g c = λ p located runs.
+    first_stops (g.S.Shelf.view c.args.shelf.now) (g.S.Shelf.view c.read_second.new.shelf) (plan_of c.args.plan) p c.args.located.names c.in-Err.stop c.in-Err.ensures.stop
+
+pub returns-in-Err-clause-stopped : goal.returns-in-Err-clause-stopped
+returns-in-Err-clause-stopped g c =
+    let now' = g.S.Shelf.view c.read_second.new.shelf in
+    first_stopped (g.S.Shelf.view c.args.shelf.now) now' now' (inputs_of (plan_of c.args.plan)) c.in-Err.stop c.in-Err.ensures.stopped
+
+-- ---- The job is done
+
+pub local-requires-clause-short : goal.local-requires-clause-short
+local-requires-clause-short g c κs within =
+    let S : List ℕ → Type 0 = λ bytes. length bytes ≤ 16777216 in
+    subst S (sym c.deref.ensures.value) (local_most c.args.plan.job (length c.in-Ok.second.items) (is_local c.args.plan.job c.requires.dialect) c.in-Ok.ensures.most)
+
+pub returns-in-Ok-unpacked-clause-made : goal.returns-in-Ok-unpacked-clause-made
+returns-in-Ok-unpacked-clause-made g c = λ p located runs.
+    let before = g.S.Shelf.view c.args.shelf.now in
+    let r = plan_of c.args.plan in
+    let names = c.args.located.names in
+    let given : Contents = record { second = c.in-Ok.second.items; further = [] } in
+    let is = is_local c.args.plan.job c.requires.dialect in
+    let M : List ℕ → Type 0 = λ bytes. IfOk c.local.result (λ made. EndsBy (file_of made) made.end (RunsLocated p names c.args.plan.options bytes)) in
+    let made = located_made r.job is r.options p names given c.local.result c.unpacked.result c.unpacked.ensures.made (subst M c.deref.ensures.value (c.local.ensures.made p located runs)) in
+    record {
+      given = given;
+      given_held = one_given r is before.kept c.in-Ok.second.items c.in-Ok.ensures.bytes;
+      done = ok_here c.unpacked.result c.in-Ok-unpacked.finished _ c.in-Ok-unpacked.is made;
+    }
+
+pub returns-in-Ok-unpacked-clause-read : goal.returns-in-Ok-unpacked-clause-read
+returns-in-Ok-unpacked-clause-read g c =
+    one_input_read (plan_of c.args.plan) (is_local c.args.plan.job c.requires.dialect) (g.S.Shelf.view c.args.shelf.now) (g.S.Shelf.view c.read_second.new.shelf) c.in-Ok.ensures.read
+
+-- ---- It is not done
+
+pub returns-clause-stop : goal.returns-clause-stop
+returns-clause-stop g c = λ p located runs.
+    let before = g.S.Shelf.view c.args.shelf.now in
+    let r = plan_of c.args.plan in
+    let names = c.args.located.names in
+    let given : Contents = record { second = c.in-Ok.second.items; further = [] } in
+    let is = is_local c.args.plan.job c.requires.dialect in
+    let M : List ℕ → Type 0 = λ bytes. IfErr c.local.result (IsRunStop p.tree names bytes) in
+    let stops = located_stop r.job is r.options p names given c.local.result c.unpacked.result c.unpacked.ensures.stop (subst M c.deref.ensures.value (c.local.ensures.stop p located runs)) in
+    inputs_refused before (g.S.Shelf.view c.read_second.new.shelf) r p names given (one_given r is before.kept c.in-Ok.second.items c.in-Ok.ensures.bytes)
+    c.in-Err-unpacked.stop (err_here c.unpacked.result c.in-Err-unpacked.stop _ c.in-Err-unpacked.is stops)
+
+pub returns-clause-stopped : goal.returns-clause-stopped
+returns-clause-stopped g c =
+    let before = g.S.Shelf.view c.args.shelf.now in
+    let now' = g.S.Shelf.view c.read_second.new.shelf in
+    let r = plan_of c.args.plan in
+    stopped_behind before now' (input_calls (inputs_of r)) c.in-Err-unpacked.stop (one_input_read r (is_local c.args.plan.job c.requires.dialect) before now' c.in-Ok.ensures.read)
