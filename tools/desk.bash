@@ -1,4 +1,4 @@
-# What the script `gib` does beside the program: help on one command, `eval`, `enough`, `pretty` and `where`, texts that are spread over lines,
+# What the script `gib` does beside the program: help on one command, `eval`, `enough`, `located`, `pretty` and `where`, texts that are spread over lines,
 # and outputs that are inputs. `gib` reads this file, and calls `desk` with the words before it runs the program.
 
 # shellcheck disable=SC2154  # `gib` sets it
@@ -173,6 +173,17 @@ enough() {
   exit $status
 } 3>&1
 
+# `located SRC`: prints the LoCal text of the core of a source. A program of its own makes it.
+locate() {
+  local told status
+  [[ ${#names[@]} = 2 && ${#options[@]} = 0 ]] || misused located
+  told=$("$located_program" "${names[1]}" 2>&1 >&3)
+  status=$?
+  [ -z "$told" ] || printf '%s\n' "$told" >&2
+  [ $status -eq 0 ] || ! is_read || explain $status "$told" check "${names[1]}" >&2
+  exit $status
+} 3>&1
+
 # `pretty [--deep N] [TXT]`: lays a text out in lines.
 pretty() {
   local deep=1000000 word text=-
@@ -272,6 +283,7 @@ desk() {
       ready && evaluate
       ;;
     enough) ready && enough ;;
+    located) ready_located && locate ;;
     run | pack | trace | replay)
       if [ -n "$force" ]; then
         words=()

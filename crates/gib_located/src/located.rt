@@ -1,0 +1,147 @@
+//! From the words of a command line to the LoCal text of a source's core.
+
+ghost use Rattle.std.specs.Prelude.{◌≡◌, ◌∷◌, [], ℕ, List, Some, OnOk, IfOk, IfErr, IfSome};
+ghost use Rattle.gib_edge.specs.Causes.{IsFrontOf};
+ghost use Rattle.gib_app.specs.Words.{bytes_of};
+ghost use Rattle.gib_located.specs.LocatedSource.{HasCoreText, IsFault, IsPrinted};
+
+use gib_app::Status;
+use gib_app::answer::{Answer, Detail, Said, answer_to};
+use gib_app::compile::compile;
+use gib_app::lines::put_line;
+use gib_app::lowering::checked_core;
+use gib_app::stop::Stop;
+use gib_edge::command_line::WordsFault;
+use gib_edge::outside::{Shelf, ShelfFault, Sink, put_all};
+use gib_local::{PrintFault, print_located};
+use std::alloc::Global;
+
+/// One byte more than a source may have.
+const MOST: u64 = 1_048_577;
+
+/// Why no text is put, or not all of it.
+#[derive(Clone, Copy)]
+pub enum Fault<'a> {
+    /// As a call of the product stops.
+    Stopped(Stop<'a>),
+    /// The source is a program, and a name of its core is none of LoCal text.
+    NoText,
+}
+
+/// The text of the core of a source.
+fn text_of(alloc: Global, source: &[u8]) -> Result<Vec<u8>, Fault<'static>>
+    ensures text { IfOk result (λ text. HasCoreText source.now (Some text.items)) }
+    ensures fault { IfErr result (IsFault source.now) }
+{
+    let compiled = match compile(alloc, source) {
+        Ok(compiled) => compiled,
+        Err(stop) => return Err(Fault::Stopped(stop)),
+    };
+    let Ok(checked) = checked_core(alloc, &compiled.typed, false) else {
+        return Err(Fault::Stopped(Stop::Memory));
+    };
+    let core = checked.into_core();
+    match print_located(alloc, &core, &compiled.names) {
+        Ok(text) => Ok(text),
+        Err(PrintFault::NoText) => Err(Fault::NoText),
+        Err(PrintFault::Memory) => Err(Fault::Stopped(Stop::Memory)),
+    }
+}
+
+/// The one name that stands behind the program's.
+fn source_name(words: &[String]) -> Option<&str>
+    ensures { IfSome result (λ name. (program : List ℕ) × (bytes_of words.now ≡ program ∷ name.now ∷ [])) }
+{
+    match words {
+        [_, name] => Some(name.as_str()),
+        _ => None,
+    }
+}
+
+/// The bytes of a source, or the first of them.
+fn read_source<'a, S: Shelf>(
+    alloc: Global,
+    shelf: &mut S,
+    name: &'a str,
+) -> Result<Vec<u8>, Fault<'a>>
+    ensures { IfOk result (λ bytes. IsFrontOf ((S.view shelf.old).kept name.now) 1048577 bytes.items) }
+{
+    match shelf.read(alloc, name, MOST) {
+        Ok(bytes) => Ok(bytes),
+        Err(ShelfFault::Failed) => Err(Fault::Stopped(Stop::Unread(name))),
+        Err(ShelfFault::Memory) => Err(Fault::Stopped(Stop::Memory)),
+    }
+}
+
+/// Puts the text of the core of the source that the words name.
+fn call<'a, S: Shelf, O: Sink>(
+    alloc: Global,
+    words: &'a [String],
+    shelf: &mut S,
+    out: &mut O,
+) -> Result<(), Fault<'a>>
+    ensures { OnOk result (IsPrinted (bytes_of words.now) (S.view shelf.old).kept (O.view out.old).taken (O.view out.new).taken) }
+{
+    let Some(name) = source_name(words) else {
+        return Err(Fault::Stopped(Stop::Usage));
+    };
+    let source = match read_source(alloc, shelf, name) {
+        Ok(source) => source,
+        Err(fault) => return Err(fault),
+    };
+    let text = match text_of(alloc, &source) {
+        Ok(text) => text,
+        Err(fault) => return Err(fault),
+    };
+    match put_all(out, &text) {
+        Ok(()) => Ok(()),
+        Err(_) => Err(Fault::Stopped(Stop::Unput)),
+    }
+}
+
+/// What is answered to a fault.
+fn answer(fault: Fault<'_>) -> Answer<'_>
+    ensures { result.status ≡ Status.Done → ⊥ }
+{
+    match fault {
+        Fault::Stopped(stop) => answer_to(stop),
+        Fault::NoText => Answer {
+            status: Status::Source,
+            said: Said {
+                words: b"source: no LoCal text",
+                detail: Detail::Nothing,
+            },
+        },
+    }
+}
+
+/// Puts the line of words that could not be taken from the system.
+pub fn refuse<E: Sink>(err: &mut E, fault: WordsFault) -> Status {
+    let stop = match fault {
+        WordsFault::NoText => Stop::Usage,
+        WordsFault::Memory => Stop::Memory,
+    };
+    let answer = answer_to(stop);
+    let _ = put_line(err, answer.said);
+    answer.status
+}
+
+/// Reads the source that the words name, puts the LoCal text of its core on `out`, and for every status but `Done` puts one line about it on `err`.
+///
+/// `words` begin with the program's name, which is not looked at.
+pub fn located<S: Shelf, O: Sink, E: Sink>(
+    alloc: Global,
+    words: &[String],
+    shelf: &mut S,
+    out: &mut O,
+    err: &mut E,
+) -> Status
+    ensures { result ≡ Status.Done → IsPrinted (bytes_of words.now) (S.view shelf.old).kept (O.view out.old).taken (O.view out.new).taken }
+{
+    let answer = match call(alloc, words, shelf, out) {
+        Ok(()) => return Status::Done,
+        Err(fault) => answer(fault),
+    };
+    let _ = put_line(err, answer.said);
+    answer.status
+}
