@@ -1,13 +1,12 @@
 //! The copies that sources with type parameters ask for, in their order, or the place of the first use over a limit. The
 //! answers are worked out by hand.
 
+use crate::programs::parse_source;
 use gib_base::Span;
 use gib_check::check;
-use gib_lex::lex;
 use gib_mono::find::{Asked, find_copies};
 use gib_mono::found::{CopyKey, MonoFault};
 use gib_mono::source::Source;
-use gib_parse::parse;
 use std::alloc::{AllocError, Global};
 use std::test::Fail;
 
@@ -48,13 +47,10 @@ fn answer_text(alloc: Global, answer: Result<Asked, MonoFault>) -> Result<String
 
 /// What the search says of a source.
 fn told(alloc: Global, source: &str) -> Result<String, AllocError> {
-    let Ok(tokens) = lex(alloc, source.as_bytes()) else {
-        return format!(in alloc; "no tokens");
-    };
-    let Ok(program) = parse(alloc, &tokens) else {
+    let Some(parsed) = parse_source(alloc, source) else {
         return format!(in alloc; "no program");
     };
-    let Ok(generic) = check(alloc, program) else {
+    let Ok(generic) = check(alloc, parsed.program) else {
         return format!(in alloc; "not typed");
     };
     let source = Source::make(alloc, generic.into_program())?;

@@ -1,8 +1,10 @@
 //! Calls of the shelf and of the sinks that fail.
 
+use self::Step::{Read, Write};
 use crate::forking::{TAKEN, TWO_LEAVES};
-use crate::harness::{End, Fails, call, has_files, is_end};
+use crate::harness::{End, Ended, Fails, call, is_end};
 use gib_app::Status;
+use gib_edge::mem_shelf::MemShelf;
 use gib_edge::outside::FreeGate;
 use gib_unit_tests::bytes::{packed, push_times};
 use std::alloc::{AllocError, Global};
@@ -10,40 +12,19 @@ use std::sync::Wait;
 use std::test::Fail;
 use std::thread::Threads;
 
-/// A call on the four files, where calls of the shelf and puts fail: how it ends, which files are there then, and what some hold, or
-/// that they are not there.
-struct Row<'a> {
-    words: &'a [&'a str],
-    shelf: &'a [u64],
-    puts: &'a [(u64, u64)],
-    status: Status,
-    out: &'a str,
-    err: &'a str,
-    there: &'a [&'a str],
-    left: &'a [(&'a str, Option<&'a [u8]>)],
+/// A call of the shelf by its file, and what a written file holds then, where this is told.
+#[derive(Clone, Copy)]
+enum Step<'a> {
+    Read(&'a str),
+    Write(&'a str, Option<&'a [u8]>),
 }
 
-const RUN: &[&str] = &["gib", "run", "a.gib", "a.gbp", "--image", "made"];
-
-const TRACE: &[&str] = &["gib", "trace", "a.gib", "a.gbp", "made"];
-
-const REPLAY: &[&str] = &[
-    "gib", "replay", "a.gib", "a.gbp", "a.gbj", "--image", "made",
-];
-
-const GEN: &[&str] = &["gib", "gen", "1", "1", "s.gib", "made"];
-
-const PACK: &[&str] = &["gib", "pack", "a.gib", "a.txt", "o.gbp"];
-
-const IMAGE: &[&str] = &[
-    "gib", "run", "--skips", "a.gib", "a.gbp", "--image", "m.gbi", "--chunks", "16",
-];
-
-const BOTH: &[&str] = &[
-    "gib", "run", "a.gib", "a.gbp", "--pack", "o.gbp", "--image", "m.gbi",
-];
-
-const MAKE: &[&str] = &["gib", "gen", "1", "1", "s.gib", "s.gbp"];
+/// A call on the four files: the steps that it takes at the shelf, and what it puts in the end.
+struct Command<'a> {
+    words: &'a str,
+    steps: &'a [Step<'a>],
+    out: &'a str,
+}
 
 /// One is added to each leaf.
 const SOURCE: &[u8] =
@@ -63,448 +44,229 @@ const LEAF: &[u8] = b"GIBP\x01\0\0\0\x09\0\0\0\0\0\0\0\0\x01\0\0\0\0\0\0\0";
 const MADE: &[u8] =
     b"data Tree = Leaf Int | Node Tree Tree ; fun work ( t : Tree ) : Tree = case t of { Leaf n -> Leaf ( ( n * 3 ) + 1 ) ; Node l r -> let par a = work l and b = work r in Node a b } ; main ( t : Tree ) : Tree = work t ;\n";
 
-const ROWS: [Row<'static>; 39] = [
-    // A run, a trace, a replay and a program that is made.
-    Row {
-        words: RUN,
-        shelf: &[0],
-        puts: &[],
-        status: Status::ReadFault,
-        out: "",
-        err: "gib: cannot read a.gib\n",
-        there: &[],
-        left: &[("a.gib", Some(SOURCE)), ("made", None)],
-    },
-    Row {
-        words: RUN,
-        shelf: &[1],
-        puts: &[],
-        status: Status::ReadFault,
-        out: "",
-        err: "gib: cannot read a.gbp\n",
-        there: &[],
-        left: &[("a.gib", Some(SOURCE)), ("made", None)],
-    },
-    Row {
-        words: RUN,
-        shelf: &[2],
-        puts: &[],
-        status: Status::WriteFault,
-        out: "",
-        err: "gib: cannot write made\n",
-        there: &[],
-        left: &[("a.gib", Some(SOURCE)), ("made", None)],
-    },
-    Row {
-        words: RUN,
-        shelf: &[3],
-        puts: &[],
-        status: Status::Done,
+/// The core of the source.
+const CORE: &str =
+    "fun add1 %0:Tree : Tree\n  case %0\n    Leaf %1\n      prim %2 = %1 + 1\n      past %3 Leaf\n      write %3 %2\n    Node %4 %5\n      reach %5 by offset\n      past %6 Node\n      par fork\n        here %7\n          call add1 %4\n        here %8\n          call add1 %5\n      write %6 %7 %8\nmain %0:Tree : Tree\n  call add1 %0\n";
+
+const COMMANDS: [Command<'static>; 10] = [
+    Command {
+        words: "run a.gib a.gbp --image made",
+        steps: &[Read("a.gib"), Read("a.gbp"), Write("made", None)],
         out: ADDED,
-        err: "",
-        there: &["made"],
-        left: &[("a.gib", Some(SOURCE))],
     },
-    Row {
-        words: TRACE,
-        shelf: &[0],
-        puts: &[],
-        status: Status::ReadFault,
-        out: "",
-        err: "gib: cannot read a.gib\n",
-        there: &[],
-        left: &[("a.gib", Some(SOURCE)), ("made", None)],
-    },
-    Row {
-        words: TRACE,
-        shelf: &[1],
-        puts: &[],
-        status: Status::ReadFault,
-        out: "",
-        err: "gib: cannot read a.gbp\n",
-        there: &[],
-        left: &[("a.gib", Some(SOURCE)), ("made", None)],
-    },
-    Row {
-        words: TRACE,
-        shelf: &[2],
-        puts: &[],
-        status: Status::WriteFault,
-        out: "",
-        err: "gib: cannot write made\n",
-        there: &[],
-        left: &[("a.gib", Some(SOURCE)), ("made", None)],
-    },
-    Row {
-        words: TRACE,
-        shelf: &[3],
-        puts: &[],
-        status: Status::Done,
+    Command {
+        words: "trace a.gib a.gbp made",
+        steps: &[Read("a.gib"), Read("a.gbp"), Write("made", None)],
         out: ADDED,
-        err: "",
-        there: &["made"],
-        left: &[("a.gib", Some(SOURCE))],
     },
-    Row {
-        words: REPLAY,
-        shelf: &[0],
-        puts: &[],
-        status: Status::ReadFault,
-        out: "",
-        err: "gib: cannot read a.gib\n",
-        there: &[],
-        left: &[("a.gib", Some(SOURCE)), ("made", None)],
-    },
-    Row {
-        words: REPLAY,
-        shelf: &[1],
-        puts: &[],
-        status: Status::ReadFault,
-        out: "",
-        err: "gib: cannot read a.gbp\n",
-        there: &[],
-        left: &[("a.gib", Some(SOURCE)), ("made", None)],
-    },
-    Row {
-        words: REPLAY,
-        shelf: &[2],
-        puts: &[],
-        status: Status::ReadFault,
-        out: "",
-        err: "gib: cannot read a.gbj\n",
-        there: &[],
-        left: &[("a.gib", Some(SOURCE)), ("made", None)],
-    },
-    Row {
-        words: REPLAY,
-        shelf: &[3],
-        puts: &[],
-        status: Status::WriteFault,
-        out: "",
-        err: "gib: cannot write made\n",
-        there: &[],
-        left: &[("a.gib", Some(SOURCE)), ("made", None)],
-    },
-    Row {
-        words: REPLAY,
-        shelf: &[4],
-        puts: &[],
-        status: Status::Done,
+    Command {
+        words: "replay a.gib a.gbp a.gbj --image made",
+        steps: &[
+            Read("a.gib"),
+            Read("a.gbp"),
+            Read("a.gbj"),
+            Write("made", None),
+        ],
         out: ADDED,
-        err: "",
-        there: &["made"],
-        left: &[("a.gib", Some(SOURCE))],
     },
-    Row {
-        words: GEN,
-        shelf: &[0],
-        puts: &[],
-        status: Status::WriteFault,
-        out: "",
-        err: "gib: cannot write s.gib\n",
-        there: &[],
-        left: &[("a.gib", Some(SOURCE)), ("made", None)],
-    },
-    Row {
-        words: GEN,
-        shelf: &[1],
-        puts: &[],
-        status: Status::WriteFault,
-        out: "",
-        err: "gib: cannot write made\n",
-        there: &[],
-        left: &[("a.gib", Some(SOURCE)), ("made", None)],
-    },
-    Row {
-        words: GEN,
-        shelf: &[2],
-        puts: &[],
-        status: Status::Done,
+    Command {
+        words: "gen 1 1 s.gib made",
+        steps: &[Write("s.gib", Some(MADE)), Write("made", None)],
         out: "gen 1 levels 1 leaves 2 sum 4442787497\n",
-        err: "",
-        there: &["made"],
-        left: &[("a.gib", Some(SOURCE))],
     },
-    // What is written stands before the output.
-    Row {
-        words: RUN,
-        shelf: &[],
-        puts: &[(0, 3)],
-        status: Status::WriteFault,
-        out: "(No",
-        err: UNWRITTEN,
-        there: &["made"],
-        left: &[],
-    },
-    Row {
-        words: TRACE,
-        shelf: &[],
-        puts: &[(0, 3)],
-        status: Status::WriteFault,
-        out: "(No",
-        err: UNWRITTEN,
-        there: &["made"],
-        left: &[],
-    },
-    Row {
-        words: REPLAY,
-        shelf: &[],
-        puts: &[(0, 3)],
-        status: Status::WriteFault,
-        out: "(No",
-        err: UNWRITTEN,
-        there: &["made"],
-        left: &[],
-    },
-    // A text that is packed.
-    Row {
-        words: PACK,
-        shelf: &[0],
-        puts: &[],
-        status: Status::ReadFault,
-        out: "",
-        err: "gib: cannot read a.gib\n",
-        there: &[],
-        left: &[("a.txt", Some(TEXT)), ("o.gbp", None)],
-    },
-    Row {
-        words: PACK,
-        shelf: &[1],
-        puts: &[],
-        status: Status::ReadFault,
-        out: "",
-        err: "gib: cannot read a.txt\n",
-        there: &[],
-        left: &[("a.txt", Some(TEXT)), ("o.gbp", None)],
-    },
-    Row {
-        words: PACK,
-        shelf: &[2],
-        puts: &[],
-        status: Status::WriteFault,
-        out: "",
-        err: "gib: cannot write o.gbp\n",
-        there: &[],
-        left: &[("a.txt", Some(TEXT)), ("o.gbp", None)],
-    },
-    Row {
-        words: PACK,
-        shelf: &[3],
-        puts: &[],
-        status: Status::Done,
+    Command {
+        words: "pack a.gib a.txt o.gbp",
+        steps: &[Read("a.gib"), Read("a.txt"), Write("o.gbp", None)],
         out: "ok\n",
-        err: "",
-        there: &["o.gbp"],
-        left: &[("a.txt", Some(TEXT))],
     },
-    // A file that was read is written over, though the output fails.
-    Row {
-        words: &["gib", "pack", "a.gib", "a.txt", "a.gib", "--v1"],
-        shelf: &[],
-        puts: &[(0, 1)],
-        status: Status::WriteFault,
-        out: "o",
-        err: UNWRITTEN,
-        there: &[],
-        left: &[("a.gib", Some(LEAF))],
+    // A file that was read is written over.
+    Command {
+        words: "pack a.gib a.txt a.gib --v1",
+        steps: &[Read("a.gib"), Read("a.txt"), Write("a.gib", Some(LEAF))],
+        out: "ok\n",
     },
-    Row {
-        words: &["gib", "pack", "a.gib", "a.txt", "a.txt", "--v1"],
-        shelf: &[],
-        puts: &[(0, 1)],
-        status: Status::WriteFault,
-        out: "o",
-        err: UNWRITTEN,
-        there: &[],
-        left: &[("a.txt", Some(LEAF))],
+    Command {
+        words: "pack a.gib a.txt a.txt --v1",
+        steps: &[Read("a.gib"), Read("a.txt"), Write("a.txt", Some(LEAF))],
+        out: "ok\n",
     },
-    // An image.
-    Row {
-        words: IMAGE,
-        shelf: &[0],
-        puts: &[],
-        status: Status::ReadFault,
-        out: "",
-        err: "gib: cannot read a.gib\n",
-        there: &[],
-        left: &[("m.gbi", None)],
-    },
-    Row {
-        words: IMAGE,
-        shelf: &[1],
-        puts: &[],
-        status: Status::ReadFault,
-        out: "",
-        err: "gib: cannot read a.gbp\n",
-        there: &[],
-        left: &[("m.gbi", None)],
-    },
-    Row {
-        words: IMAGE,
-        shelf: &[2],
-        puts: &[],
-        status: Status::WriteFault,
-        out: "",
-        err: "gib: cannot write m.gbi\n",
-        there: &[],
-        left: &[("m.gbi", None)],
-    },
-    Row {
-        words: IMAGE,
-        shelf: &[3],
-        puts: &[],
-        status: Status::Done,
+    Command {
+        words: "run --skips a.gib a.gbp --image m.gbi --chunks 16",
+        steps: &[Read("a.gib"), Read("a.gbp"), Write("m.gbi", None)],
         out: ADDED,
-        err: "",
-        there: &["m.gbi"],
-        left: &[],
     },
-    Row {
-        words: IMAGE,
-        shelf: &[],
-        puts: &[(0, 3)],
-        status: Status::WriteFault,
-        out: "(No",
-        err: UNWRITTEN,
-        there: &["m.gbi"],
-        left: &[],
-    },
-    // An image and a packed result.
-    Row {
-        words: BOTH,
-        shelf: &[0],
-        puts: &[],
-        status: Status::ReadFault,
-        out: "",
-        err: "gib: cannot read a.gib\n",
-        there: &[],
-        left: &[("m.gbi", None), ("o.gbp", None)],
-    },
-    Row {
-        words: BOTH,
-        shelf: &[1],
-        puts: &[],
-        status: Status::ReadFault,
-        out: "",
-        err: "gib: cannot read a.gbp\n",
-        there: &[],
-        left: &[("m.gbi", None), ("o.gbp", None)],
-    },
-    Row {
-        words: BOTH,
-        shelf: &[2],
-        puts: &[],
-        status: Status::WriteFault,
-        out: "",
-        err: "gib: cannot write m.gbi\n",
-        there: &[],
-        left: &[("m.gbi", None), ("o.gbp", None)],
-    },
-    Row {
-        words: BOTH,
-        shelf: &[3],
-        puts: &[],
-        status: Status::WriteFault,
-        out: "",
-        err: "gib: cannot write o.gbp\n",
-        there: &["m.gbi"],
-        left: &[("o.gbp", None)],
-    },
-    Row {
-        words: BOTH,
-        shelf: &[4],
-        puts: &[],
-        status: Status::Done,
+    Command {
+        words: "run a.gib a.gbp --pack o.gbp --image m.gbi",
+        steps: &[
+            Read("a.gib"),
+            Read("a.gbp"),
+            Write("m.gbi", None),
+            Write("o.gbp", None),
+        ],
         out: ADDED,
-        err: "",
-        there: &["m.gbi", "o.gbp"],
-        left: &[],
     },
-    Row {
-        words: BOTH,
-        shelf: &[],
-        puts: &[(0, 3)],
-        status: Status::WriteFault,
-        out: "(No",
-        err: UNWRITTEN,
-        there: &["o.gbp"],
-        left: &[],
-    },
-    // A program and its input that are made.
-    Row {
-        words: MAKE,
-        shelf: &[0],
-        puts: &[],
-        status: Status::WriteFault,
-        out: "",
-        err: "gib: cannot write s.gib\n",
-        there: &[],
-        left: &[("s.gib", None), ("s.gbp", None)],
-    },
-    Row {
-        words: MAKE,
-        shelf: &[1],
-        puts: &[],
-        status: Status::WriteFault,
-        out: "",
-        err: "gib: cannot write s.gbp\n",
-        there: &[],
-        left: &[("s.gib", Some(MADE)), ("s.gbp", None)],
-    },
-    // A core.
-    Row {
-        words: &["gib", "core", "a.gib"],
-        shelf: &[],
-        puts: &[(0, 3)],
-        status: Status::WriteFault,
-        out: "fun",
-        err: UNWRITTEN,
-        there: &[],
-        left: &[],
+    Command {
+        words: "core a.gib",
+        steps: &[Read("a.gib")],
+        out: CORE,
     },
 ];
 
-/// Whether a call ends so.
-fn ends_so<R: Threads + Wait + Sync>(
-    rt: &R,
-    alloc: Global,
-    row: &Row<'_>,
-) -> Result<bool, AllocError> {
-    let input = packed(alloc, TWO_LEAVES)?;
-    let files = [
+/// The four files, of which the second is this input.
+fn four_files<'x>(input: &'x [u8]) -> [(&'x str, &'x [u8]); 4] {
+    [
         ("a.gib", SOURCE),
-        ("a.gbp", input.as_slice()),
+        ("a.gbp", input),
         ("a.gbj", TAKEN.as_bytes()),
         ("a.txt", TEXT),
-    ];
-    let fails = Fails {
-        shelf: row.shelf,
-        out: row.puts,
-        err: &[],
-    };
-    let end = End {
-        status: row.status,
-        out: row.out,
-        err: row.err,
-    };
-    let ended = call(rt, alloc, &FreeGate, row.words, &files, fails)?;
-    for name in row.there {
-        if ended.shelf.file(name).is_none() {
-            return Ok(false);
+    ]
+}
+
+/// What stood under a name before the call.
+fn given<'x>(files: &[(&str, &'x [u8])], name: &str) -> Option<&'x [u8]> {
+    for (file, bytes) in files {
+        if *file == name {
+            return Some(bytes);
         }
     }
-    Ok(is_end(&ended, end) && has_files(&ended.shelf, row.left))
+    None
+}
+
+/// Whether a call ended with this line and nothing else: so many words, and the name of a file.
+fn is_line(ended: &Ended, status: Status, words: &[u8], name: &str) -> bool {
+    let Some(line) = ended.err.bytes().strip_prefix(words) else {
+        return false;
+    };
+    ended.status == status
+        && ended.out.bytes().is_empty()
+        && line.strip_suffix(b"\n".as_slice()) == Some(name.as_bytes())
+}
+
+/// Whether the step that fails is told with its file, or the end of a call without such a step.
+fn is_told(ended: &Ended, command: &Command<'_>, failing: usize) -> bool {
+    match command.steps.get(failing) {
+        Some(Read(name)) => is_line(ended, Status::ReadFault, b"gib: cannot read ", name),
+        Some(Write(name, _)) => is_line(ended, Status::WriteFault, b"gib: cannot write ", name),
+        None => is_end(
+            ended,
+            End {
+                status: Status::Done,
+                out: command.out,
+                err: "",
+            },
+        ),
+    }
+}
+
+/// Whether a file stands as the step at a place leaves it: written, lost where this step fails, or as it was before.
+fn is_left(
+    file: Option<&[u8]>,
+    due: Option<&[u8]>,
+    old: Option<&[u8]>,
+    place: usize,
+    failing: usize,
+) -> bool {
+    if place < failing {
+        file.is_some() && (due.is_none() || file == due)
+    } else if place == failing {
+        file.is_none()
+    } else {
+        file == old
+    }
+}
+
+/// Whether a step writes a file.
+fn is_written(steps: &[Step<'_>], file: &str) -> bool {
+    for step in steps {
+        if let Write(name, _) = step {
+            if *name == file {
+                return true;
+            }
+        }
+    }
+    false
+}
+
+/// Whether all files stand as the steps up to the failing one leave them, and the others as they were.
+fn are_left(shelf: &MemShelf, files: &[(&str, &[u8])], steps: &[Step<'_>], failing: usize) -> bool {
+    for place in 0..steps.len() {
+        if let Write(name, due) = steps[place] {
+            if !is_left(shelf.file(name), due, given(files, name), place, failing) {
+                return false;
+            }
+        }
+    }
+    for (name, bytes) in files {
+        if !is_written(steps, name) && shelf.file(name) != Some(*bytes) {
+            return false;
+        }
+    }
+    true
+}
+
+/// Whether a call whose step at this place fails ends so.
+fn fails_so<R: Threads + Wait + Sync>(
+    rt: &R,
+    alloc: Global,
+    command: &Command<'_>,
+    failing: usize,
+) -> Result<bool, AllocError> {
+    let input = packed(alloc, TWO_LEAVES)?;
+    let files = four_files(&input);
+    let fails = Fails {
+        shelf: &[failing as u64],
+        out: &[],
+        err: &[],
+    };
+    let ended = call(rt, alloc, &FreeGate, command.words, &files, fails)?;
+    Ok(is_told(&ended, command, failing) && are_left(&ended.shelf, &files, command.steps, failing))
+}
+
+/// Whether a call ended so, and put so many bytes of this text.
+fn has_put(ended: &Ended, status: Status, text: &[u8], taken: usize) -> bool {
+    let line = if status == Status::Done {
+        ""
+    } else {
+        UNWRITTEN
+    };
+    ended.status == status
+        && ended.out.bytes().len() == taken
+        && text.starts_with(ended.out.bytes())
+        && ended.err.bytes() == line.as_bytes()
+}
+
+/// Whether what is written stands though the output ends behind two bytes.
+fn ends_unput<R: Threads + Wait + Sync>(
+    rt: &R,
+    alloc: Global,
+    command: &Command<'_>,
+) -> Result<bool, AllocError> {
+    let input = packed(alloc, TWO_LEAVES)?;
+    let files = four_files(&input);
+    let fails = Fails {
+        shelf: &[],
+        out: &[(0, 2)],
+        err: &[],
+    };
+    let ended = call(rt, alloc, &FreeGate, command.words, &files, fails)?;
+    Ok(
+        has_put(&ended, Status::WriteFault, command.out.as_bytes(), 2)
+            && are_left(&ended.shelf, &files, command.steps, command.steps.len()),
+    )
 }
 
 #[test]
 fn a_call_that_fails_is_told(rt: HostRuntime) -> Result<(), Fail> {
-    for row in &ROWS {
-        assert!(rt;
-            ends_so(&rt, rt.alloc(), row)?,
-            "{:?} {:?}",
-            row.words,
-            row.shelf
-        );
+    for command in &COMMANDS {
+        // No call takes more than four steps: behind its last one it ends well.
+        for failing in 0..5usize {
+            assert!(rt;
+                fails_so(&rt, rt.alloc(), command, failing)?,
+                "{} {failing}",
+                command.words
+            );
+        }
+        assert!(rt; ends_unput(&rt, rt.alloc(), command)?, "{}", command.words);
     }
     Ok(())
 }
@@ -539,19 +301,9 @@ fn puts_a_list<R: Threads + Wait + Sync>(
         out: puts,
         err: &[],
     };
-    let words = ["gib", "run", "a.gib", "a.gbp"];
-    let ended = call(rt, alloc, &FreeGate, &words, &files, fails)?;
-    let line = if status == Status::Done {
-        ""
-    } else {
-        UNWRITTEN
-    };
-    Ok(
-        ended.status == status
-            && ended.out.bytes().len() == taken
-            && text.as_slice().starts_with(ended.out.bytes())
-            && ended.err.bytes() == line.as_bytes(),
-    )
+    let words = "run a.gib a.gbp";
+    let ended = call(rt, alloc, &FreeGate, words, &files, fails)?;
+    Ok(has_put(&ended, status, text.as_slice(), taken))
 }
 
 /// How many cells there are, the puts that fail, and how the run ends.
@@ -584,8 +336,8 @@ fn ends_unheard<R: Threads + Wait + Sync>(rt: &R, alloc: Global) -> Result<bool,
         out: &[],
         err: &[(0, 0)],
     };
-    let words = ["gib", "run", "a.gib", "a.gbp", "--depth", "1"];
-    let ended = call(rt, alloc, &FreeGate, &words, &files, fails)?;
+    let words = "run a.gib a.gbp --depth 1";
+    let ended = call(rt, alloc, &FreeGate, words, &files, fails)?;
     let end = End {
         status: Status::Depth,
         out: "",

@@ -33,12 +33,19 @@ pub struct Fails<'a> {
     pub err: &'a [(u64, u64)],
 }
 
-/// Words by their texts.
-fn words(alloc: Global, texts: &[&str]) -> Result<Vec<String>, AllocError> {
-    let mut words = Vec::new(alloc);
-    for text in texts {
-        words.push(String::from_str(alloc, text)?)?;
+/// Puts what stands between the spaces of a line.
+fn push_words(alloc: Global, words: &mut Vec<String>, line: &str) -> Result<(), AllocError> {
+    for word in line.split(' ') {
+        words.push(String::from_str(alloc, word)?)?;
     }
+    Ok(())
+}
+
+/// The words of a line, behind the program's name.
+pub fn words_of(alloc: Global, line: &str) -> Result<Vec<String>, AllocError> {
+    let mut words = Vec::new(alloc);
+    push_words(alloc, &mut words, "gib")?;
+    push_words(alloc, &mut words, line)?;
     Ok(words)
 }
 
@@ -54,27 +61,53 @@ fn files(alloc: Global, files: &[(&str, &[u8])]) -> Result<Vec<(String, Vec<u8>)
     Ok(made)
 }
 
-/// Runs the top call on these words and files, where this fails; the workers of a run come to the gate.
-pub fn call<R: Threads + Wait + Sync, G: Gate + Sync>(
-    rt: &R,
-    alloc: Global,
-    gate: &G,
-    texts: &[&str],
-    given: &[(&str, &[u8])],
-    fails: Fails<'_>,
-) -> Result<Ended, AllocError> {
-    let words = words(alloc, texts)?;
-    let given = files(alloc, given)?;
-    let mut shelf = MemShelf::make(alloc, given, Vec::from_slice(alloc, fails.shelf)?)?;
-    let mut out = MemSink::make(alloc, 16_777_216, Vec::from_slice(alloc, fails.out)?)?;
-    let mut err = MemSink::make(alloc, 4_096, Vec::from_slice(alloc, fails.err)?)?;
-    let status = gib(rt, alloc, &words, &mut shelf, &mut out, &mut err, gate);
+/// A sink with so much room, which fails so.
+fn sink(alloc: Global, room: u64, fails: &[(u64, u64)]) -> Result<MemSink, AllocError> {
+    let fails = Vec::from_slice(alloc, fails)?;
+    MemSink::make(alloc, room, fails)
+}
+
+/// A shelf of these files, which fails so.
+fn shelf(alloc: Global, given: &[(&str, &[u8])], fails: &[u64]) -> Result<MemShelf, AllocError> {
+    let fails = Vec::from_slice(alloc, fails)?;
+    let files = files(alloc, given)?;
+    MemShelf::make(alloc, files, fails)
+}
+
+/// These files and empty sinks, before a call.
+fn place(alloc: Global, given: &[(&str, &[u8])], fails: Fails<'_>) -> Result<Ended, AllocError> {
+    let out = sink(alloc, 16_777_216, fails.out)?;
+    let err = sink(alloc, 4_096, fails.err)?;
+    let shelf = shelf(alloc, given, fails.shelf)?;
     Ok(Ended {
-        status,
+        status: Status::Done,
         shelf,
         out,
         err,
     })
+}
+
+/// Runs the top call on the words of this line and these files, where this fails; the workers of a run come to the gate.
+pub fn call<R: Threads + Wait + Sync, G: Gate + Sync>(
+    rt: &R,
+    alloc: Global,
+    gate: &G,
+    line: &str,
+    given: &[(&str, &[u8])],
+    fails: Fails<'_>,
+) -> Result<Ended, AllocError> {
+    let words = words_of(alloc, line)?;
+    let mut ended = place(alloc, given, fails)?;
+    ended.status = gib(
+        rt,
+        alloc,
+        &words,
+        &mut ended.shelf,
+        &mut ended.out,
+        &mut ended.err,
+        gate,
+    );
+    Ok(ended)
 }
 
 /// Whether a call ended so.

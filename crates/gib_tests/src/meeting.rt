@@ -30,281 +30,98 @@ const DIVIDES_LEFT: &str =
 const DIVIDES_RIGHT: &str =
     "fun down (n : Int) : Int = if (n < 1) then 0 else down (n - 1) ; fun div (n : Int) : Int = (1 quot n) ; main (n : Int) : Int = let par a = down 5 and b = div n in (a + b) ;";
 
-/// A program on an input, the words of a call by two workers, and how it ends and what it leaves.
-struct Row<'a> {
-    source: &'a str,
-    payload: &'a [u8],
-    words: &'a [&'a str],
-    status: Status,
-    out: &'a str,
-    err: &'a str,
-    left: &'a [(&'a str, Option<&'a [u8]>)],
-}
+/// Runs by two workers that fork at each level, by their depth and their chunks.
+const RUN: &str = "run a.gib a.gbp --workers 2 --fork 1 --depth 100 --chunks 128";
+
+const FEW_CHUNKS: &str = "run a.gib a.gbp --workers 2 --fork 1 --depth 100 --chunks 16";
+
+const TEN_DEEP: &str = "run a.gib a.gbp --workers 2 --fork 1 --depth 10 --chunks 16";
+
+const THREE_DEEP: &str = "run a.gib a.gbp --workers 2 --depth 3 --chunks 16";
+
+const TRACE: &str = "trace a.gib a.gbp a.gbj --workers 2";
+
+const TRACE_DEEP: &str = "trace a.gib a.gbp a.gbj --workers 2 --depth 3 --chunks 16";
+
+const ADDED: &str = "(Node (Leaf 2) (Leaf 3))\n";
+
+const BUILT: &str =
+    "(Node (Node (Node (Leaf 0) (Leaf 0)) (Node (Leaf 0) (Leaf 0))) (Node (Node (Leaf 0) (Leaf 0)) (Node (Leaf 0) (Leaf 0))))\n";
+
+const DEPTH: &str = "gib: depth\n";
+
+const CHUNKS: &str = "gib: chunks\n";
+
+const BY_ZERO: &str = "gib: division by zero\n";
+
+const STOLEN: Option<&[u8]> = Some(
+    b"gibj 3\ndepth 10000 chunks 1024 fork 4 skips 0\nstep 0 7\nfork 0\nsteal 0\nstep 1 13\nfinish 1\nstep 0 11\njoin 0\nstep 0 6\nfinish 0\nend\n",
+);
+
+const LEFT_DIVIDED: Option<&[u8]> = Some(
+    b"gibj 3\ndepth 3 chunks 16 fork 4 skips 0\nfork 0\nsteal 0\nstep 1 13\nfinish 1\nstep 0 2\njoin 0\nfinish 0\nend\n",
+);
+
+const RIGHT_DIVIDED: Option<&[u8]> = Some(
+    b"gibj 3\ndepth 3 chunks 16 fork 4 skips 0\nfork 0\nsteal 0\nstep 1 2\nfinish 1\nstep 0 13\njoin 0\nfinish 0\nend\n",
+);
+
+const ZERO: &[u8] = b"\0\0\0\0\0\0\0\0";
+
+const THREE: &[u8] = b"\x03\0\0\0\0\0\0\0";
+
+const FIVE: &[u8] = b"\x05\0\0\0\0\0\0\0";
+
+const NINE: &[u8] = b"\x09\0\0\0\0\0\0\0";
+
+const THIRTEEN: &[u8] = b"\x0d\0\0\0\0\0\0\0";
+
+const FIFTY: &[u8] = b"2\0\0\0\0\0\0\0";
+
+/// A program on an input, the words of a call by two workers, its status with what it puts, which is a line where it is not done, and the
+/// journal that it writes.
+type Row<'a> = (
+    &'a str,
+    &'a [u8],
+    &'a str,
+    Status,
+    &'a str,
+    Option<&'a [u8]>,
+);
 
 const ROWS: [Row<'static>; 12] = [
-    // A tree.
-    Row {
-        source: ADD_ONE,
-        payload: TWO_LEAVES,
-        words: &[
-            "gib",
-            "run",
-            "a.gib",
-            "a.gbp",
-            "--depth",
-            "100",
-            "--chunks",
-            "16",
-            "--workers",
-            "2",
-            "--fork",
-            "1",
-        ],
-        status: Status::Done,
-        out: "(Node (Leaf 2) (Leaf 3))\n",
-        err: "",
-        left: &[],
-    },
+    (ADD_ONE, TWO_LEAVES, FEW_CHUNKS, Status::Done, ADDED, None),
     // Forks inside of forks, each of whose sides is a tree.
-    Row {
-        source: BUILD,
-        payload: b"\x03\0\0\0\0\0\0\0",
-        words: &[
-            "gib",
-            "run",
-            "a.gib",
-            "a.gbp",
-            "--depth",
-            "100",
-            "--chunks",
-            "64",
-            "--workers",
-            "2",
-            "--fork",
-            "1",
-        ],
-        status: Status::Done,
-        out: "(Node (Node (Node (Leaf 0) (Leaf 0)) (Node (Leaf 0) (Leaf 0))) (Node (Node (Leaf 0) (Leaf 0)) (Node (Leaf 0) (Leaf 0))))\n",
-        err: "",
-        left: &[],
-    },
+    (BUILD, THREE, RUN, Status::Done, BUILT, None),
     // Sides that are numbers, over trees of more than one chunk.
-    Row {
-        source: COUNT,
-        payload: b"\x09\0\0\0\0\0\0\0",
-        words: &[
-            "gib",
-            "run",
-            "a.gib",
-            "a.gbp",
-            "--depth",
-            "100",
-            "--chunks",
-            "128",
-            "--workers",
-            "2",
-            "--fork",
-            "1",
-        ],
-        status: Status::Done,
-        out: "512\n",
-        err: "",
-        left: &[],
-    },
-    Row {
-        source: RIGHT_DOWN,
-        payload: b"\x05\0\0\0\0\0\0\0",
-        words: &[
-            "gib",
-            "run",
-            "a.gib",
-            "a.gbp",
-            "--depth",
-            "10",
-            "--chunks",
-            "16",
-            "--workers",
-            "2",
-            "--fork",
-            "1",
-        ],
-        status: Status::Done,
-        out: "8\n",
-        err: "",
-        left: &[],
-    },
+    (COUNT, NINE, RUN, Status::Done, "512\n", None),
+    (RIGHT_DOWN, FIVE, TEN_DEEP, Status::Done, "8\n", None),
     // One of the sides runs out of depth.
-    Row {
-        source: RIGHT_DOWN,
-        payload: b"2\0\0\0\0\0\0\0",
-        words: &[
-            "gib",
-            "run",
-            "a.gib",
-            "a.gbp",
-            "--depth",
-            "10",
-            "--chunks",
-            "16",
-            "--workers",
-            "2",
-            "--fork",
-            "1",
-        ],
-        status: Status::Depth,
-        out: "",
-        err: "gib: depth\n",
-        left: &[],
-    },
-    Row {
-        source: LEFT_DOWN,
-        payload: b"2\0\0\0\0\0\0\0",
-        words: &[
-            "gib",
-            "run",
-            "a.gib",
-            "a.gbp",
-            "--depth",
-            "10",
-            "--chunks",
-            "16",
-            "--workers",
-            "2",
-            "--fork",
-            "1",
-        ],
-        status: Status::Depth,
-        out: "",
-        err: "gib: depth\n",
-        left: &[],
-    },
+    (RIGHT_DOWN, FIFTY, TEN_DEEP, Status::Depth, DEPTH, None),
+    (LEFT_DOWN, FIFTY, TEN_DEEP, Status::Depth, DEPTH, None),
     // The whole tree has no room in so many chunks.
-    Row {
-        source: BUILD,
-        payload: b"\x0d\0\0\0\0\0\0\0",
-        words: &[
-            "gib",
-            "run",
-            "a.gib",
-            "a.gbp",
-            "--depth",
-            "100",
-            "--chunks",
-            "16",
-            "--workers",
-            "2",
-            "--fork",
-            "1",
-        ],
-        status: Status::Full,
-        out: "",
-        err: "gib: chunks\n",
-        left: &[],
-    },
+    (BUILD, THIRTEEN, FEW_CHUNKS, Status::Full, CHUNKS, None),
     // The journal tells it so.
-    Row {
-        source: ADD_ONE,
-        payload: TWO_LEAVES,
-        words: &["gib", "trace", "a.gib", "a.gbp", "a.gbj", "--workers", "2"],
-        status: Status::Done,
-        out: "(Node (Leaf 2) (Leaf 3))\n",
-        err: "",
-        left: &[(
-            "a.gbj",
-            Some(
-                b"gibj 3\ndepth 10000 chunks 1024 fork 4 skips 0\nstep 0 7\nfork 0\nsteal 0\nstep 1 13\nfinish 1\nstep 0 11\njoin 0\nstep 0 6\nfinish 0\nend\n",
-            ),
-        )],
-    },
+    (ADD_ONE, TWO_LEAVES, TRACE, Status::Done, ADDED, STOLEN),
     // The left side's reason is told, whichever ends first.
-    Row {
-        source: DIVIDES_LEFT,
-        payload: b"\0\0\0\0\0\0\0\0",
-        words: &[
-            "gib",
-            "run",
-            "a.gib",
-            "a.gbp",
-            "--workers",
-            "2",
-            "--depth",
-            "3",
-        ],
-        status: Status::Trap,
-        out: "",
-        err: "gib: division by zero\n",
-        left: &[],
-    },
-    Row {
-        source: DIVIDES_LEFT,
-        payload: b"\0\0\0\0\0\0\0\0",
-        words: &[
-            "gib",
-            "trace",
-            "a.gib",
-            "a.gbp",
-            "a.gbj",
-            "--workers",
-            "2",
-            "--depth",
-            "3",
-            "--chunks",
-            "16",
-        ],
-        status: Status::Trap,
-        out: "",
-        err: "gib: division by zero\n",
-        left: &[(
-            "a.gbj",
-            Some(
-                b"gibj 3\ndepth 3 chunks 16 fork 4 skips 0\nfork 0\nsteal 0\nstep 1 13\nfinish 1\nstep 0 2\njoin 0\nfinish 0\nend\n",
-            ),
-        )],
-    },
-    Row {
-        source: DIVIDES_RIGHT,
-        payload: b"\0\0\0\0\0\0\0\0",
-        words: &[
-            "gib",
-            "run",
-            "a.gib",
-            "a.gbp",
-            "--workers",
-            "2",
-            "--depth",
-            "3",
-        ],
-        status: Status::Depth,
-        out: "",
-        err: "gib: depth\n",
-        left: &[],
-    },
-    Row {
-        source: DIVIDES_RIGHT,
-        payload: b"\0\0\0\0\0\0\0\0",
-        words: &[
-            "gib",
-            "trace",
-            "a.gib",
-            "a.gbp",
-            "a.gbj",
-            "--workers",
-            "2",
-            "--depth",
-            "3",
-            "--chunks",
-            "16",
-        ],
-        status: Status::Depth,
-        out: "",
-        err: "gib: depth\n",
-        left: &[(
-            "a.gbj",
-            Some(
-                b"gibj 3\ndepth 3 chunks 16 fork 4 skips 0\nfork 0\nsteal 0\nstep 1 2\nfinish 1\nstep 0 13\njoin 0\nfinish 0\nend\n",
-            ),
-        )],
-    },
+    (DIVIDES_LEFT, ZERO, THREE_DEEP, Status::Trap, BY_ZERO, None),
+    (
+        DIVIDES_LEFT,
+        ZERO,
+        TRACE_DEEP,
+        Status::Trap,
+        BY_ZERO,
+        LEFT_DIVIDED,
+    ),
+    (DIVIDES_RIGHT, ZERO, THREE_DEEP, Status::Depth, DEPTH, None),
+    (
+        DIVIDES_RIGHT,
+        ZERO,
+        TRACE_DEEP,
+        Status::Depth,
+        DEPTH,
+        RIGHT_DIVIDED,
+    ),
 ];
 
 /// A source, which is `a.gib`, and its input, which is `a.gbp`.
@@ -318,7 +135,7 @@ fn met<R: Threads + Wait + Sync>(
     alloc: Global,
     source: &str,
     payload: &[u8],
-    words: &[&str],
+    words: &str,
 ) -> Result<Option<Ended>, AllocError> {
     let gate = Meeting::new();
     let input = packed(alloc, payload)?;
@@ -342,13 +159,17 @@ fn ends_so<R: Threads + Wait + Sync>(
     alloc: Global,
     row: &Row<'_>,
 ) -> Result<bool, AllocError> {
-    let end = End {
-        status: row.status,
-        out: row.out,
-        err: row.err,
+    let (source, payload, words, status, text, journal) = *row;
+    let (out, err) = if status == Status::Done {
+        (text, "")
+    } else {
+        ("", text)
     };
-    match met(rt, alloc, row.source, row.payload, row.words)? {
-        Some(ended) => Ok(is_end(&ended, end) && has_files(&ended.shelf, row.left)),
+    match met(rt, alloc, source, payload, words)? {
+        Some(ended) => Ok(
+            is_end(&ended, End { status, out, err })
+                && has_files(&ended.shelf, &[("a.gbj", journal)]),
+        ),
         None => Ok(false),
     }
 }
@@ -357,12 +178,7 @@ fn ends_so<R: Threads + Wait + Sync>(
 #[test]
 fn two_workers_meet(rt: HostRuntime) -> Result<(), Fail> {
     for row in &ROWS {
-        assert!(rt;
-            ends_so(&rt, rt.alloc(), row)?,
-            "{:?} {}",
-            row.words,
-            row.source
-        );
+        assert!(rt; ends_so(&rt, rt.alloc(), row)?, "{} {}", row.2, row.0);
     }
     Ok(())
 }
@@ -371,28 +187,25 @@ fn two_workers_meet(rt: HostRuntime) -> Result<(), Fail> {
 const FIRST: &[u8] =
     b"GIBI\x01\x02\0\0\x1b\0\0\0\0\0\0\0\x02\0\0\0\0\0\0\0\x01\x12\0\0\0\0\0\0\0\0\x01\0\0\0\0\0\0\0\0\x02\0\0\0\0\0\0\0\x01-\0\0\0\0\0\0\0\0\x02\0\0\0\0\0\0\0\xfe\0\x10";
 
-/// Whether the image of a run in which the right side is stolen has that side in the second chunk.
-fn meet_over_an_image<R: Threads + Wait + Sync>(rt: &R, alloc: Global) -> Result<bool, AllocError> {
+/// The image of a run in which the right side is stolen: that side stands in the second chunk.
+fn stolen_image(alloc: Global) -> Result<Vec<u8>, AllocError> {
     let mut image = Vec::from_slice(alloc, FIRST)?;
     push_times(&mut image, b"\0", 4_120usize.saturating_sub(FIRST.len()))?;
     image.extend_from_slice(b"\0\x03")?;
     push_times(&mut image, b"\0", 4_094)?;
-    let words = [
-        "gib",
-        "run",
-        "a.gib",
-        "a.gbp",
-        "--image",
-        "m.gbi",
-        "--workers",
-        "2",
-    ];
+    Ok(image)
+}
+
+/// Whether such a run leaves that image.
+fn meet_over_an_image<R: Threads + Wait + Sync>(rt: &R, alloc: Global) -> Result<bool, AllocError> {
+    let image = stolen_image(alloc)?;
+    let words = "run a.gib a.gbp --image m.gbi --workers 2";
     let end = End {
         status: Status::Done,
-        out: "(Node (Leaf 2) (Leaf 3))\n",
+        out: ADDED,
         err: "",
     };
-    match met(rt, alloc, ADD_ONE, TWO_LEAVES, &words)? {
+    match met(rt, alloc, ADD_ONE, TWO_LEAVES, words)? {
         Some(ended) => Ok(
             is_end(&ended, end) && has_files(&ended.shelf, &[("m.gbi", Some(&image))]),
         ),

@@ -2,14 +2,17 @@
 //! implementation.
 
 ghost use Rattle.gib_syntax.specs.Parts.{program_of};
+ghost use Rattle.gib_types.specs.Tree.{IsTyped};
+ghost use Rattle.gib_value.specs.Text.{AreHeld};
 ghost use Rattle.gib_app.specs.Stops.{IsReady};
 
 use crate::programs::compile;
 use gib_app::compile::Compiled;
+use gib_base::{Memory, Texts};
 use gib_file::pack;
-use gib_types::{Ty, TyId};
+use gib_types::{Ty, TyId, TypeTable};
 use gib_unit_tests::bytes::{packed, push_times};
-use gib_value::{TextFault, read_text, write_text};
+use gib_value::{TextFault, Value, read_text, write_text};
 use std::alloc::{AllocError, Global};
 use std::test::Fail;
 
@@ -24,6 +27,20 @@ const CHAIN: Ty = Ty::Tree(TyId(2));
 
 const MARK: Ty = Ty::Tree(TyId(3));
 
+/// The text of a copy of a value.
+fn write_copy(
+    alloc: Global,
+    value: &Value,
+    types: &TypeTable,
+    names: &Texts,
+) -> Result<Vec<u8>, Memory>
+    requires typed { IsTyped types.now value.now }
+    requires names { AreHeld types.now names.now.short }
+{
+    let copy = value.copy(alloc)?;
+    write_text(alloc, types, names, &copy)
+}
+
 /// The packed file of the value of a text, and the text of a copy of it.
 fn there_and_back(
     alloc: Global,
@@ -36,8 +53,7 @@ fn there_and_back(
     let types = compiled.typed.types();
     let value = read_text(alloc, types, &compiled.names, ty, text)?;
     let file = pack(alloc, types, &compiled.names, &value, 1)?;
-    let copy = value.copy(alloc)?;
-    let written = write_text(alloc, types, &compiled.names, &copy)?;
+    let written = write_copy(alloc, &value, types, &compiled.names)?;
     Ok((file, written))
 }
 
@@ -160,16 +176,27 @@ fn other_texts_are_refused(rt: HostRuntime) -> Result<(), Fail> {
     Ok(())
 }
 
+/// The text of a chain of so many links.
+fn chain(alloc: Global, links: usize) -> Result<Vec<u8>, AllocError> {
+    let mut text = Vec::new(alloc);
+    push_times(&mut text, b"(Link True ", links)?;
+    text.extend_from_slice(b"End")?;
+    push_times(&mut text, b")", links)?;
+    Ok(text)
+}
+
+/// The payload that it is packed to.
+fn packed_chain(alloc: Global, links: usize) -> Result<Vec<u8>, AllocError> {
+    let mut payload = Vec::new(alloc);
+    push_times(&mut payload, b"\x06\x01", links)?;
+    payload.push(5)?;
+    Ok(payload)
+}
+
 #[test]
 fn a_million_deep(rt: HostRuntime) -> Result<(), Fail> {
-    let alloc = rt.alloc();
-    let mut text = Vec::new(alloc);
-    push_times(&mut text, b"(Link True ", 1_000_000)?;
-    text.extend_from_slice(b"End")?;
-    push_times(&mut text, b")", 1_000_000)?;
-    let mut payload = Vec::new(alloc);
-    push_times(&mut payload, b"\x06\x01", 1_000_000)?;
-    payload.push(5)?;
-    assert!(rt; comes_back(alloc, CHAIN, &text, &payload)?);
+    let text = chain(rt.alloc(), 1_000_000)?;
+    let payload = packed_chain(rt.alloc(), 1_000_000)?;
+    assert!(rt; comes_back(rt.alloc(), CHAIN, &text, &payload)?);
     Ok(())
 }

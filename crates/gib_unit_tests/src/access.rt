@@ -33,21 +33,44 @@ fn table(alloc: Global) -> Result<TypeTable, Memory>
     TypeTable::make(alloc, types, rows)
 }
 
+// case %0 with an arm each, of which the third one binds variables from a number on
+fn case_of_all(
+    alloc: Global,
+    terms: &mut Terms,
+    first: u32,
+    leaf: TermId,
+    pair: TermId,
+    node: TermId,
+) -> Result<TermId, Memory>
+    requires few { first < 100 }
+    requires leaf { leaf.0 < length terms.old }
+    requires pair { pair.0 < length terms.old }
+    requires node { node.0 < length terms.old }
+    ensures { IfOk result (λ id. (id.0 < length terms.new) × (length terms.old ≤ length terms.new)) }
+{
+    let of_pair = [Variable(2), Variable(3)];
+    let of_node = [Variable(first), Variable(first + 1), Variable(first + 2)];
+    let leaf = arm(alloc, LEAF, &[Variable(1)], leaf)?;
+    let pair = arm(alloc, PAIR, &of_pair, pair)?;
+    let node = arm(alloc, NODE, &of_node, node)?;
+    let branches = vec![in alloc; leaf, pair, node]?;
+    put(
+        terms,
+        Node::Case {
+            subject: var(0),
+            branches,
+        },
+    )
+}
+
 // case %0, where each arm but the first goes on with its last field.
 fn body(alloc: Global, terms: &mut Terms) -> Result<TermId, Memory>
     ensures { IfOk result (λ id. (id.0 < length terms.new) × (length terms.old ≤ length terms.new)) }
 {
-    let subject = Atom::Variable(Variable(0));
-    let leaf = put(terms, Node::Point(subject))?;
+    let leaf = point(terms, 0)?;
     let pair = call(alloc, terms, LAST, 3)?;
     let node = call(alloc, terms, LAST, 6)?;
-    let mut branches = Vec::new(alloc);
-    let of_pair = [Variable(2), Variable(3)];
-    let of_node = [Variable(4), Variable(5), Variable(6)];
-    branches.push(arm(alloc, LEAF, &[Variable(1)], leaf)?)?;
-    branches.push(arm(alloc, PAIR, &of_pair, pair)?)?;
-    branches.push(arm(alloc, NODE, &of_node, node)?)?;
-    put(terms, Node::Case { subject, branches })
+    case_of_all(alloc, terms, 4, leaf, pair, node)
 }
 
 // fun last (t : Tree) : Tree = .. ; main (t : Tree) : Tree = last(t) ;
@@ -55,20 +78,8 @@ fn program(alloc: Global) -> Result<Core, Memory> {
     let mut terms = Terms::new(alloc);
     let body = body(alloc, &mut terms)?;
     let main_body = call(alloc, &mut terms, LAST, 0)?;
-    let mut functions = Vec::new(alloc);
-    functions.push(CoreFunction {
-        name: LAST,
-        parameters: Vec::from_slice(alloc, &[TREE])?,
-        result: TREE,
-        body,
-    })?;
-    let main = CoreMain {
-        parameter: TREE,
-        result: TREE,
-        body: main_body,
-    };
     let types = table(alloc)?;
-    Ok(Core::new(types, terms, functions, main, Vec::new(alloc), false))
+    core_of(alloc, types, terms, LAST, TREE, (body, main_body))
 }
 
 // scalar %number, which is call sum %of, and then the rest
@@ -104,14 +115,7 @@ fn sum_body(alloc: Global, terms: &mut Terms) -> Result<TermId, Memory>
     let pair = summed(alloc, terms, 4, 2, second)?;
     let last = give(terms, 9)?;
     let node = summed(alloc, terms, 9, 8, last)?;
-    let mut branches = Vec::new(alloc);
-    let of_pair = [Variable(2), Variable(3)];
-    let of_node = [Variable(6), Variable(7), Variable(8)];
-    branches.push(arm(alloc, LEAF, &[Variable(1)], leaf)?)?;
-    branches.push(arm(alloc, PAIR, &of_pair, pair)?)?;
-    branches.push(arm(alloc, NODE, &of_node, node)?)?;
-    let subject = Atom::Variable(Variable(0));
-    put(terms, Node::Case { subject, branches })
+    case_of_all(alloc, terms, 6, leaf, pair, node)
 }
 
 // fun sum (t : Tree) : Int = .. ; main (t : Tree) : Int = sum(t) ;
@@ -120,20 +124,8 @@ fn sum_program(alloc: Global) -> Result<Core, Memory> {
     let body = sum_body(alloc, &mut terms)?;
     let given = give(&mut terms, 1)?;
     let main_body = summed(alloc, &mut terms, 1, 0, given)?;
-    let mut functions = Vec::new(alloc);
-    functions.push(CoreFunction {
-        name: SUM,
-        parameters: Vec::from_slice(alloc, &[TREE])?,
-        result: Ty::Whole,
-        body,
-    })?;
-    let main = CoreMain {
-        parameter: TREE,
-        result: Ty::Whole,
-        body: main_body,
-    };
     let types = table(alloc)?;
-    Ok(Core::new(types, terms, functions, main, Vec::new(alloc), false))
+    core_of(alloc, types, terms, SUM, Ty::Whole, (body, main_body))
 }
 
 const SKIPS: &str =
@@ -148,32 +140,44 @@ const ENDS: &str =
 const SUM_BY_ENDS: &str =
     "fun sum %0:Tree : Int\n  case %0\n    Leaf %1\n      give %1\n    Pair %2 %3\n      scalar %4\n        call sum %2 ends %2\n      reach %3 by end %2\n      scalar %5\n        call sum %3 ends %3\n      give %5\n    Node %6 %7 %8\n      reach %8 by offset\n      scalar %9\n        call sum %8 ends %8\n      give %9\nmain %0:Tree : Int\n  scalar %1\n    call sum %0 ends %0\n  give %1\n";
 
+const NAMES: &[&str] = &["Tree", "Leaf", "Pair", "Node", "last", "sum"];
+
+/// Whether a core whose fields are reached so is printed as this text, with these constructors' offsets.
+fn is_reached(
+    alloc: Global,
+    core: Core,
+    mode: AccessMode,
+    want: &str,
+    offsets: &[ConId],
+) -> Result<bool, Fail> {
+    let core = reach(alloc, core, mode)?;
+    let has_text = is_printed(alloc, &core, NAMES, want.as_bytes())?;
+    Ok(has_text && core.offsets() == offsets)
+}
+
 // A field is reached at the end of the one before it where a call told that end before; else by its offset.
 #[test]
 fn reaches_fields_by_ends(rt: HostRuntime) -> Result<(), Fail> {
-    let alloc = rt.alloc();
-    let names = names(alloc, &["Tree", "Leaf", "Pair", "Node", "last", "sum"])?;
-    let core = reach(alloc, sum_program(alloc)?, AccessMode::Ends)?;
-    let text = print_core(alloc, &core, &names)?;
-    assert!(rt; text.as_slice() == SUM_BY_ENDS.as_bytes());
-    assert!(rt; core.offsets() == [NODE].as_slice());
+    let core = sum_program(rt.alloc())?;
+    assert!(rt; is_reached(rt.alloc(), core, AccessMode::Ends, SUM_BY_ENDS, &[NODE])?);
     Ok(())
 }
 
+/// How fields are reached, the text, and the constructors with offsets.
+const CASES: [(AccessMode, &str, &[ConId]); 3] = [
+    (AccessMode::Skips, SKIPS, &[]),
+    (AccessMode::Offsets, OFFSETS, &[PAIR, NODE]),
+    (AccessMode::Ends, ENDS, &[PAIR, NODE]),
+];
+
 #[test]
 fn reaches_the_fields_of_arms(rt: HostRuntime) -> Result<(), Fail> {
-    let alloc = rt.alloc();
-    let names = names(alloc, &["Tree", "Leaf", "Pair", "Node", "last", "sum"])?;
-    let cases: [(AccessMode, &str, &[ConId]); 3] = [
-        (AccessMode::Skips, SKIPS, &[]),
-        (AccessMode::Offsets, OFFSETS, &[PAIR, NODE]),
-        (AccessMode::Ends, ENDS, &[PAIR, NODE]),
-    ];
-    for (mode, want, offsets) in cases {
-        let core = reach(alloc, program(alloc)?, mode)?;
-        let text = print_core(alloc, &core, &names)?;
-        assert!(rt; text.as_slice() == want.as_bytes(), "{want}");
-        assert!(rt; core.offsets() == offsets, "{want}");
+    for (mode, want, offsets) in &CASES {
+        let core = program(rt.alloc())?;
+        assert!(rt;
+            is_reached(rt.alloc(), core, *mode, want, offsets)?,
+            "{want}"
+        );
     }
     Ok(())
 }

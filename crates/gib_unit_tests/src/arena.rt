@@ -50,14 +50,33 @@ fn draw_by_two<R: Threads + Sync>(
     Ok((left, right, close(shared, whole)))
 }
 
+// Whether each of so many chunks is in one of two lists and not in the other.
+fn is_in_one(left: &[u32], right: &[u32], chunks: u32) -> bool {
+    for chunk in 0..chunks {
+        if left.contains(&chunk) == right.contains(&chunk) {
+            return false;
+        }
+    }
+    true
+}
+
+// Whether two threads draw each of so many chunks once.
+fn each_is_drawn_once<R: Threads + Sync>(
+    rt: &R,
+    alloc: Global,
+    chunks: u32,
+) -> Result<bool, AllocError> {
+    let (left, right, drawn) = draw_by_two(rt, alloc, chunks)?;
+    Ok(
+        drawn == chunks
+            && left.len() + right.len() == chunks as usize
+            && is_in_one(&left, &right, chunks),
+    )
+}
+
 #[test]
 fn two_threads_draw_each_chunk_once(rt: HostRuntime) -> Result<(), Fail> {
-    let (left, right, drawn) = draw_by_two(&rt, rt.alloc(), 16)?;
-    assert_eq!(rt; drawn, 16);
-    assert_eq!(rt; left.len() + right.len(), 16);
-    for chunk in 0..16u32 {
-        assert!(rt; left.contains(&chunk) != right.contains(&chunk));
-    }
+    assert!(rt; each_is_drawn_once(&rt, rt.alloc(), 16)?);
     Ok(())
 }
 
@@ -221,25 +240,31 @@ fn share_a_word<R: Threads + Sync>(
 // A value that may go to another thread.
 fn sends<T: Send>(_: &T) {}
 
+// Whether two threads read each other's bytes, of which one is this.
+fn reads_across<R: Threads + Sync>(rt: &R, alloc: Global, byte: u8) -> Result<bool, AllocError> {
+    let (shared, pass) = arena(alloc, 2)?;
+    sends(&pass);
+    Ok(exchange(rt, shared, pass, byte, 255 - byte) == Some((byte, 255 - byte, 7, 2)))
+}
+
 #[test]
 fn two_threads_read_each_others_bytes(rt: HostRuntime) -> Result<(), Fail> {
     for round in 0..1_000u32 {
-        let byte = (round % 256) as u8;
-        let (shared, pass) = arena(rt.alloc(), 2)?;
-        sends(&pass);
-        let read = exchange(&rt, shared, pass, byte, 255 - byte);
-        assert!(rt; read == Some((byte, 255 - byte, 7, 2)));
+        assert!(rt; reads_across(&rt, rt.alloc(), (round % 256) as u8)?);
     }
     Ok(())
+}
+
+// Whether two threads share a word of which one byte is this.
+fn shares_a_word<R: Threads + Sync>(rt: &R, alloc: Global, byte: u8) -> Result<bool, AllocError> {
+    let (shared, pass) = arena(alloc, 1)?;
+    Ok(share_a_word(rt, shared, pass, byte, 255 - byte) == Some((byte, byte, 255 - byte, 1)))
 }
 
 #[test]
 fn two_threads_share_a_word(rt: HostRuntime) -> Result<(), Fail> {
     for round in 0..1_000u32 {
-        let byte = (round % 256) as u8;
-        let (shared, pass) = arena(rt.alloc(), 1)?;
-        let read = share_a_word(&rt, shared, pass, byte, 255 - byte);
-        assert!(rt; read == Some((byte, byte, 255 - byte, 1)));
+        assert!(rt; shares_a_word(&rt, rt.alloc(), (round % 256) as u8)?);
     }
     Ok(())
 }
@@ -276,27 +301,45 @@ fn runs_are_bytes<M: Mem>(mem: &mut M, bytes: &[u8], number: u64) -> bool
     true
 }
 
+// The same in the memory of one owner, of a pass, and of a pass that is alone.
+fn runs_in_plain(alloc: Global, bytes: &[u8; 8], number: u64) -> Result<bool, AllocError> {
+    let mut mem = PlainMem::make(alloc, 8)?;
+    Ok(runs_are_bytes(&mut mem, bytes, number))
+}
+
+fn runs_in_an_arena(alloc: Global, bytes: &[u8; 8], number: u64) -> Result<bool, AllocError> {
+    let (shared, pass) = arena(alloc, 8)?;
+    let mut mem = ArenaMem::make(&shared, pass);
+    Ok(runs_are_bytes(&mut mem, bytes, number))
+}
+
+fn runs_in_sole(alloc: Global, bytes: &[u8; 8], number: u64) -> Result<bool, AllocError> {
+    let mut mem = SoleMem::make(alloc, 8)?;
+    Ok(runs_are_bytes(&mut mem, bytes, number))
+}
+
 #[test]
 fn runs_are_the_bytes_of_a_word(rt: HostRuntime) -> Result<(), Fail> {
     let bytes = [1, 2, 3, 4, 5, 6, 7, 8];
     let number = 0x0807_0605_0403_0201;
-    let mut plain = PlainMem::make(rt.alloc(), 8)?;
-    assert!(rt; runs_are_bytes(&mut plain, &bytes, number));
-    let (shared, pass) = arena(rt.alloc(), 8)?;
-    let mut of_pass = ArenaMem::make(&shared, pass);
-    assert!(rt; runs_are_bytes(&mut of_pass, &bytes, number));
-    let mut sole = SoleMem::make(rt.alloc(), 8)?;
-    assert!(rt; runs_are_bytes(&mut sole, &bytes, number));
+    assert!(rt; runs_in_plain(rt.alloc(), &bytes, number)?);
+    assert!(rt; runs_in_an_arena(rt.alloc(), &bytes, number)?);
+    assert!(rt; runs_in_sole(rt.alloc(), &bytes, number)?);
     Ok(())
+}
+
+// What one owner draws of two chunks, and how many are drawn in the end.
+fn drawn_alone(alloc: Global) -> Result<([Option<u64>; 3], u32), AllocError> {
+    let mut mem = SoleMem::make(alloc, 2)?;
+    let first = write(&mut mem, 7);
+    let second = write(&mut mem, 8);
+    mem.owns_all();
+    let third = write(&mut mem, 9);
+    Ok(([first, second, third], mem.chunks()))
 }
 
 #[test]
 fn one_owner_draws_and_puts(rt: HostRuntime) -> Result<(), Fail> {
-    let mut mem = SoleMem::make(rt.alloc(), 2)?;
-    assert!(rt; write(&mut mem, 7) == Some(0));
-    assert!(rt; write(&mut mem, 8) == Some(4096));
-    mem.owns_all();
-    assert!(rt; write(&mut mem, 9) == None);
-    assert_eq!(rt; mem.chunks(), 2);
+    assert!(rt; drawn_alone(rt.alloc())? == ([Some(0), Some(4096), None], 2));
     Ok(())
 }

@@ -7,19 +7,28 @@ use gib_types::{Layouts, Ty};
 use std::alloc::Global;
 use std::test::*;
 
-/// The listing of the code of main, of these instructions, in so many slots.
-fn listed(alloc: Global, instructions: Vec<Instr>, slots: u32) -> Result<Vec<u8>, Memory> {
+/// Layouts of trees.
+fn layouts(alloc: Global) -> Result<Layouts, Memory> {
     let types = trees(alloc)?;
-    let layouts = Layouts::make(alloc, &types, &[])?;
+    Layouts::make(alloc, &types, &[])
+}
+
+/// Main alone, in so many slots.
+fn entries(alloc: Global, slots: u32) -> Result<Vec<Entry>, Memory> {
     let main = Entry {
         name: None,
         start: 0,
         slots,
         result: Ty::Whole,
     };
-    let functions = Vec::from_slice(alloc, &[main])?;
-    let code = Code::new(layouts, instructions, functions);
-    listing(alloc, &code, &Texts::new(alloc, Names::make(alloc)?))
+    Vec::from_slice(alloc, &[main])
+}
+
+/// Whether code is listed as this text.
+fn is_listed(alloc: Global, code: &Code, want: &[u8]) -> Result<bool, Memory> {
+    let texts = Texts::new(alloc, Names::make(alloc)?);
+    let text = listing(alloc, code, &texts)?;
+    Ok(text.as_slice() == want)
 }
 
 // %to = %from op right
@@ -32,20 +41,23 @@ fn divides(operation: Operation, to: u32, from: u32, right: Operand) -> Instr {
     }
 }
 
-#[test]
-fn divisions_and_ends_are_listed_by_their_words(rt: HostRuntime) -> Result<(), Fail> {
-    let alloc = rt.alloc();
-    // main (n : Int) : Int = ((n quot 3) rem n) ;
-    let division = vec![in alloc;
+// main (n : Int) : Int = ((n quot 3) rem n) ;
+fn division(alloc: Global) -> Result<Code, Memory> {
+    let layouts = layouts(alloc)?;
+    let functions = entries(alloc, 3)?;
+    let instructions = vec![in alloc;
         divides(Operation::Quot, 1, 0, Operand::Number(3)),
         divides(Operation::Rem, 2, 1, Operand::Slot(0)),
         Instr::Give(Operand::Slot(2)),
     ]?;
-    let text = listed(alloc, division, 3)?;
-    let want = "main 3\n0 quot %1 %0 3\n1 rem %2 %1 %0\n2 give %2\n";
-    assert!(rt; text.as_slice() == want.as_bytes());
-    // Each instruction on ends, one after another.
-    let ends = vec![in alloc;
+    Ok(Code::new(layouts, instructions, functions))
+}
+
+// Each instruction on ends, one after another.
+fn ends(alloc: Global) -> Result<Code, Memory> {
+    let layouts = layouts(alloc)?;
+    let functions = entries(alloc, 4)?;
+    let instructions = vec![in alloc;
         Instr::Got {
             to: 2,
             parameter: 0
@@ -54,8 +66,18 @@ fn divisions_and_ends_are_listed_by_their_words(rt: HostRuntime) -> Result<(), F
         Instr::LeafEnd { to: 0, size: 9 },
         Instr::EndOf { to: 3, from: 2 },
     ]?;
-    let text = listed(alloc, ends, 4)?;
-    let want = "main 4\n0 got %2 0\n1 over %0 %3\n2 leafend %0 9\n3 end %3 %2\n";
-    assert!(rt; text.as_slice() == want.as_bytes());
+    Ok(Code::new(layouts, instructions, functions))
+}
+
+const DIVISION: &[u8] = b"main 3\n0 quot %1 %0 3\n1 rem %2 %1 %0\n2 give %2\n";
+
+const ENDS: &[u8] = b"main 4\n0 got %2 0\n1 over %0 %3\n2 leafend %0 9\n3 end %3 %2\n";
+
+#[test]
+fn divisions_and_ends_are_listed_by_their_words(rt: HostRuntime) -> Result<(), Fail> {
+    let code = division(rt.alloc())?;
+    assert!(rt; is_listed(rt.alloc(), &code, DIVISION)?);
+    let code = ends(rt.alloc())?;
+    assert!(rt; is_listed(rt.alloc(), &code, ENDS)?);
     Ok(())
 }

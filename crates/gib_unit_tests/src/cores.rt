@@ -69,16 +69,9 @@ fn body(
             second,
         )?;
     }
-    let mut branches = Vec::new(alloc);
-    branches.push(arm(alloc, LEAF, &[Variable(1)], first)?)?;
-    branches.push(arm(alloc, NODE, &[Variable(4), Variable(5)], second)?)?;
-    put(
-        terms,
-        Node::Case {
-            subject: var(0),
-            branches,
-        },
-    )
+    let leaf = arm(alloc, LEAF, &[Variable(1)], first)?;
+    let node = arm(alloc, NODE, &[Variable(4), Variable(5)], second)?;
+    case(alloc, terms, 0, leaf, node)
 }
 
 // fun add1 (t : Tree) : Tree = .. ; main (t : Tree) : Tree = add1 t ;
@@ -86,21 +79,9 @@ fn program(alloc: Global, access: Option<Access>, fork: bool) -> Result<Core, Me
     let mut terms = Terms::new(alloc);
     let body = body(alloc, &mut terms, access, fork)?;
     let main_body = call(alloc, &mut terms, ADD1, 0)?;
-    let mut functions = Vec::new(alloc);
-    functions.push(CoreFunction {
-        name: ADD1,
-        parameters: Vec::from_slice(alloc, &[TREE])?,
-        result: TREE,
-        body,
-    })?;
-    let main = CoreMain {
-        parameter: TREE,
-        result: TREE,
-        body: main_body,
-    };
     let types = trees(alloc)?;
     let copy = types.copy(alloc)?;
-    Ok(Core::new(copy, terms, functions, main, Vec::new(alloc), false))
+    core_of(alloc, copy, terms, ADD1, TREE, (body, main_body))
 }
 
 const FRONT: &str =
@@ -109,36 +90,42 @@ const FRONT: &str =
 const BACK: &str =
     "        region %6\n          call add1 %4\n        region %7\n          call add1 %5\n      past %8 Node\n      here %9\n        point %6\n      here %10\n        point %7\n      write %8 %9 %10\nmain %0:Tree : Tree\n  call add1 %0\n";
 
+/// How the second field is reached, whether the sides are marked, and the lines in the middle.
+const CASES: [(Option<Access>, bool, &str); 4] = [
+    (None, false, "      par\n"),
+    (
+        Some(Access::Skip(Variable(4))),
+        false,
+        "      reach %5 by skip %4\n      par\n",
+    ),
+    (
+        Some(Access::Offset),
+        false,
+        "      reach %5 by offset\n      par\n",
+    ),
+    (
+        Some(Access::Offset),
+        true,
+        "      reach %5 by offset\n      par fork\n",
+    ),
+];
+
+const NAMES: &[&str] = &["Tree", "Leaf", "Node", "add1"];
+
+/// Whether the program is printed with these lines in the middle.
+fn is_told(alloc: Global, access: Option<Access>, fork: bool, middle: &str) -> Result<bool, Fail> {
+    let mut want = Vec::new(alloc);
+    want.extend_from_slice(FRONT.as_bytes())?;
+    want.extend_from_slice(middle.as_bytes())?;
+    want.extend_from_slice(BACK.as_bytes())?;
+    let core = program(alloc, access, fork)?;
+    is_printed(alloc, &core, NAMES, &want)
+}
+
 #[test]
 fn prints_the_core_of_each_pass(rt: HostRuntime) -> Result<(), Fail> {
-    let alloc = rt.alloc();
-    let names = names(alloc, &["Tree", "Leaf", "Node", "add1"])?;
-    let cases: [(Option<Access>, bool, &str); 4] = [
-        (None, false, "      par\n"),
-        (
-            Some(Access::Skip(Variable(4))),
-            false,
-            "      reach %5 by skip %4\n      par\n",
-        ),
-        (
-            Some(Access::Offset),
-            false,
-            "      reach %5 by offset\n      par\n",
-        ),
-        (
-            Some(Access::Offset),
-            true,
-            "      reach %5 by offset\n      par fork\n",
-        ),
-    ];
-    for (access, fork, middle) in cases {
-        let core = program(alloc, access, fork)?;
-        let text = print_core(alloc, &core, &names)?;
-        let mut want = Vec::new(alloc);
-        want.extend_from_slice(FRONT.as_bytes())?;
-        want.extend_from_slice(middle.as_bytes())?;
-        want.extend_from_slice(BACK.as_bytes())?;
-        assert!(rt; text.as_slice() == want.as_slice(), "{middle}");
+    for (access, fork, middle) in &CASES {
+        assert!(rt; is_told(rt.alloc(), *access, *fork, middle)?, "{middle}");
     }
     Ok(())
 }
@@ -165,13 +152,12 @@ fn division(alloc: Global) -> Result<Core, Memory> {
     Ok(Core::new(types, terms, Vec::new(alloc), main, Vec::new(alloc), false))
 }
 
+const DIVISION: &[u8] =
+    b"main %0:Int : Int\n  prim %1 = %0 quot 3\n  prim %2 = %1 rem %0\n  give %2\n";
+
 #[test]
 fn prints_divisions_by_their_words(rt: HostRuntime) -> Result<(), Fail> {
-    let alloc = rt.alloc();
-    let names = names(alloc, &["Tree", "Leaf", "Node", "add1"])?;
-    let core = division(alloc)?;
-    let text = print_core(alloc, &core, &names)?;
-    let want = "main %0:Int : Int\n  prim %1 = %0 quot 3\n  prim %2 = %1 rem %0\n  give %2\n";
-    assert!(rt; text.as_slice() == want.as_bytes());
+    let core = division(rt.alloc())?;
+    assert!(rt; is_printed(rt.alloc(), &core, NAMES, DIVISION)?);
     Ok(())
 }

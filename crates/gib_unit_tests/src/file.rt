@@ -9,7 +9,7 @@ use gib_file::{pack, read_header, survey, unpack};
 use gib_types::sample::mixed;
 use gib_types::{Ty, TyId, TypeTable};
 use gib_value::Value;
-use std::alloc::Global;
+use std::alloc::{AllocError, Global};
 use std::test::*;
 
 fn value_of(alloc: Global, types: &TypeTable, ty: Ty, file: &[u8]) -> Result<(u64, Value), Fail>
@@ -21,14 +21,33 @@ fn value_of(alloc: Global, types: &TypeTable, ty: Ty, file: &[u8]) -> Result<(u6
     Ok((constructors, unpack(alloc, survey)?))
 }
 
-/// Whether a payload has a value of so many constructors, which is packed to it again.
+/// The packed file of a value.
+fn packed_again(alloc: Global, types: &TypeTable, value: &Value) -> Result<Vec<u8>, Fail>
+    requires { IsTyped types.now value.now }
+{
+    let names = Texts::new(alloc, Names::make(alloc)?);
+    let file = pack(alloc, types, &names, value, 1)?;
+    Ok(file)
+}
+
+/// Whether a file has a value of so many constructors, which is packed to it again.
+fn comes_back(
+    alloc: Global,
+    types: &TypeTable,
+    ty: Ty,
+    file: &[u8],
+    count: u64,
+) -> Result<bool, Fail> {
+    let (constructors, value) = value_of(alloc, types, ty, file)?;
+    let again = packed_again(alloc, types, &value)?;
+    Ok(constructors == count && again.as_slice() == file)
+}
+
+/// The same of a payload.
 fn is_read(alloc: Global, ty: Ty, payload: &[u8], count: u64) -> Result<bool, Fail> {
     let types = mixed(alloc)?;
-    let names = Texts::new(alloc, Names::make(alloc)?);
     let file = packed(alloc, payload)?;
-    let (constructors, value) = value_of(alloc, &types, ty, &file)?;
-    let again = pack(alloc, &types, &names, &value, 1)?;
-    Ok(constructors == count && again.as_slice() == file.as_slice())
+    comes_back(alloc, &types, ty, &file, count)
 }
 
 const PAYLOADS: [(Ty, &[u8], u64); 6] = [
@@ -58,19 +77,20 @@ const PAYLOADS: [(Ty, &[u8], u64); 6] = [
     (Ty::Truth, b"\x00", 0),
 ];
 
+/// The payload of a list of so many cells.
+fn list(alloc: Global, cells: usize) -> Result<Vec<u8>, AllocError> {
+    let mut payload = Vec::new(alloc);
+    push_times(&mut payload, b"\x05\x01\x02\x03\x04\x05\x06\x07\x08", cells)?;
+    payload.push(4)?;
+    Ok(payload)
+}
+
 #[test]
 fn files_are_read_and_written_again(rt: HostRuntime) -> Result<(), Fail> {
-    let alloc = rt.alloc();
     for (ty, payload, count) in &PAYLOADS {
-        assert!(rt; is_read(alloc, *ty, payload, *count)?);
+        assert!(rt; is_read(rt.alloc(), *ty, payload, *count)?);
     }
-    let mut deep = Vec::new(alloc);
-    push_times(
-        &mut deep,
-        b"\x05\x01\x02\x03\x04\x05\x06\x07\x08",
-        1_864_000,
-    )?;
-    deep.push(4)?;
-    assert!(rt; is_read(alloc, Ty::Tree(TyId(3)), &deep, 1_864_001)?);
+    let deep = list(rt.alloc(), 1_864_000)?;
+    assert!(rt; is_read(rt.alloc(), Ty::Tree(TyId(3)), &deep, 1_864_001)?);
     Ok(())
 }

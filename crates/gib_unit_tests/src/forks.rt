@@ -24,54 +24,56 @@ fn side(alloc: Global, terms: &mut Terms, calls: bool) -> Result<TermId, Memory>
     }
 }
 
-// work, which points to its argument, and main, whose body begins with a par that has this mark, and whose sides call or do not.
+// The body of main, which begins with a par that has this mark, and whose sides call or do not.
+fn main_body(
+    alloc: Global,
+    terms: &mut Terms,
+    sides: (bool, bool),
+    fork: bool,
+) -> Result<TermId, Memory>
+    ensures { IfOk result (λ id. (id.0 < length terms.new) × (length terms.old ≤ length terms.new)) }
+{
+    let end = side(alloc, terms, true)?;
+    let left = side(alloc, terms, sides.0)?;
+    let right = side(alloc, terms, sides.1)?;
+    let left = bound(Kind::Region, 1, TREE, left);
+    let right = bound(Kind::Region, 2, TREE, right);
+    then(terms, Binding::Par { fork, left, right }, end)
+}
+
+// work, which points to its argument, and such a main.
 fn program(alloc: Global, sides: (bool, bool), fork: bool) -> Result<Core, Memory> {
     let mut terms = Terms::new(alloc);
     let work = point(&mut terms, 0)?;
-    let end = side(alloc, &mut terms, true)?;
-    let left = side(alloc, &mut terms, sides.0)?;
-    let right = side(alloc, &mut terms, sides.1)?;
-    let left = bound(Kind::Region, 1, TREE, left);
-    let right = bound(Kind::Region, 2, TREE, right);
-    let body = then(&mut terms, Binding::Par { fork, left, right }, end)?;
-    let mut functions = Vec::new(alloc);
-    functions.push(CoreFunction {
-        name: WORK,
-        parameters: Vec::from_slice(alloc, &[TREE])?,
-        result: TREE,
-        body: work,
-    })?;
-    let main = CoreMain {
-        parameter: TREE,
-        result: TREE,
-        body,
-    };
+    let body = main_body(alloc, &mut terms, sides, fork)?;
     let types = trees(alloc)?;
-    Ok(Core::new(types, terms, functions, main, Vec::new(alloc), false))
+    core_of(alloc, types, terms, WORK, TREE, (work, body))
 }
 
-/// Whether the program, which breaks no rule, is marked to this text behind that of work.
+/// Whether the program, which breaks no rule, is marked to this text.
 fn is_marked(alloc: Global, sides: (bool, bool), fork: bool, want: &str) -> Result<bool, Fail> {
-    let names = names(alloc, &["Tree", "Leaf", "Node", "work"])?;
     let Ok(checked) = loccheck(alloc, program(alloc, sides, fork)?) else {
         return Ok(false);
     };
     let marked = forks(checked);
-    let text = print_core(alloc, marked.core(), &names)?;
-    let work = b"fun work %0:Tree : Tree\n  point %0\n".as_slice();
-    Ok(text.as_slice().strip_prefix(work) == Some(want.as_bytes()))
+    is_printed(
+        alloc,
+        marked.core(),
+        &["Tree", "Leaf", "Node", "work"],
+        want.as_bytes(),
+    )
 }
 
 const BOTH: &str =
-    "main %0:Tree : Tree\n  par fork\n    region %1\n      call work %0\n    region %2\n      call work %0\n  call work %0\n";
+    "fun work %0:Tree : Tree\n  point %0\nmain %0:Tree : Tree\n  par fork\n    region %1\n      call work %0\n    region %2\n      call work %0\n  call work %0\n";
 
 const LEFT: &str =
-    "main %0:Tree : Tree\n  par\n    region %1\n      call work %0\n    region %2\n      point %0\n  call work %0\n";
+    "fun work %0:Tree : Tree\n  point %0\nmain %0:Tree : Tree\n  par\n    region %1\n      call work %0\n    region %2\n      point %0\n  call work %0\n";
 
 const RIGHT: &str =
-    "main %0:Tree : Tree\n  par\n    region %1\n      point %0\n    region %2\n      call work %0\n  call work %0\n";
+    "fun work %0:Tree : Tree\n  point %0\nmain %0:Tree : Tree\n  par\n    region %1\n      point %0\n    region %2\n      call work %0\n  call work %0\n";
 
-/// Whether the sides call, the mark before, and the text of main.
+/// Whether the sides call, the mark before, and the text.
 const ROWS: [((bool, bool), bool, &str); 4] = [
     ((true, true), false, BOTH),
     ((true, true), true, BOTH),

@@ -1,5 +1,7 @@
 //! Memory where loading ends for want of chunks; what is loaded whole stands in `examples/rows`, by images.
 
+ghost use Rattle.std.specs.Prelude.{◌≡◌, true};
+
 use crate::bytes::{packed, push_times};
 use gib_base::Memory;
 use gib_file::{read_header, survey};
@@ -8,30 +10,44 @@ use gib_mem::{Mem, PlainMem};
 use gib_packed::Root;
 use gib_region::Tails;
 use gib_types::sample::mixed;
-use gib_types::{Layouts, Ty, TyId};
-use std::alloc::Global;
+use gib_types::{Layouts, Ty, TyId, TypeTable};
+use std::alloc::{AllocError, Global};
 use std::test::*;
 
-/// What loading a payload into so many chunks answers, and the memory then.
-fn loaded(
+/// What loading the value of a packed file into a memory answers.
+fn load_file(
+    alloc: Global,
+    types: &TypeTable,
+    ty: Ty,
+    file: &[u8],
+    mem: &mut PlainMem,
+) -> Result<Result<Root, LoadFault>, Fail>
+    requires alone { (⟦<PlainMem as Mem>⟧.view mem.old).alone ≡ true }
+    requires undrawn { (⟦<PlainMem as Mem>⟧.view mem.old).drawn ≡ 0 }
+{
+    let Ok(header) = read_header(file) else {
+        return Err("header".into());
+    };
+    let Ok(survey) = survey(alloc, types, ty, header) else {
+        return Err("payload".into());
+    };
+    let layouts = Layouts::make(alloc, types, &[])?;
+    Ok(load(alloc, &layouts, survey, mem, &mut Tails::new()))
+}
+
+/// The same of a payload.
+fn load_payload(
     alloc: Global,
     ty: Ty,
     payload: &[u8],
-    chunks: u32,
-) -> Result<(Result<Root, LoadFault>, PlainMem), Fail> {
+    mem: &mut PlainMem,
+) -> Result<Result<Root, LoadFault>, Fail>
+    requires alone { (⟦<PlainMem as Mem>⟧.view mem.old).alone ≡ true }
+    requires undrawn { (⟦<PlainMem as Mem>⟧.view mem.old).drawn ≡ 0 }
+{
     let types = mixed(alloc)?;
     let file = packed(alloc, payload)?;
-    let Ok(header) = read_header(&file) else {
-        return Err("header".into());
-    };
-    let Ok(survey) = survey(alloc, &types, ty, header) else {
-        return Err("payload".into());
-    };
-    let layouts = Layouts::make(alloc, &types, &[])?;
-    let mut mem = PlainMem::make(alloc, chunks)?;
-    let mut tails = Tails::new();
-    let loaded = load(alloc, &layouts, survey, &mut mem, &mut tails);
-    Ok((loaded, mem))
+    load_file(alloc, &types, ty, &file, mem)
 }
 
 /// The bytes of drawn chunks, at most so many.
@@ -46,19 +62,33 @@ fn look(alloc: Global, mem: &mut PlainMem, count: u64) -> Result<Vec<u8>, Memory
     Ok(bytes)
 }
 
-#[test]
-fn loading_ends_where_all_chunks_are_drawn(rt: HostRuntime) -> Result<(), Fail> {
-    let alloc = rt.alloc();
+/// Whether loading a payload ends for want of chunks, of which there are so many, and leaves these bytes in their front.
+fn ends_full(
+    alloc: Global,
+    ty: Ty,
+    payload: &[u8],
+    chunks: u32,
+    want: &[u8],
+) -> Result<bool, Fail> {
+    let mut mem = PlainMem::make(alloc, chunks)?;
+    let answer = load_payload(alloc, ty, payload, &mut mem)?;
+    let bytes = look(alloc, &mut mem, 5_000)?;
+    Ok(answer == Err(LoadFault::Full) && bytes.as_slice() == want)
+}
+
+/// As many cells of a list as a chunk takes, and these bytes.
+fn cells(alloc: Global, end: &[u8]) -> Result<Vec<u8>, AllocError> {
     let mut cells = Vec::new(alloc);
     push_times(&mut cells, b"\x05\x07\0\0\0\0\0\0\0", 454)?;
-    let mut list = Vec::from_slice(alloc, cells.as_slice())?;
-    list.extend_from_slice(b"\x05\x07\0\0\0\0\0\0\0\x04")?;
-    let (answer, mut mem) = loaded(alloc, Ty::Tree(TyId(3)), &list, 1)?;
-    assert!(rt; answer == Err(LoadFault::Full));
-    push_times(&mut cells, b"\0", 10)?;
-    assert!(rt; look(alloc, &mut mem, 5_000)? == cells);
-    let (answer, mut mem) = loaded(alloc, Ty::Tree(TyId(2)), b"\x03\x01", 0)?;
-    assert!(rt; answer == Err(LoadFault::Full));
-    assert_eq!(rt; mem.chunks(), 0);
+    cells.extend_from_slice(end)?;
+    Ok(cells)
+}
+
+#[test]
+fn loading_ends_where_all_chunks_are_drawn(rt: HostRuntime) -> Result<(), Fail> {
+    let list = cells(rt.alloc(), b"\x05\x07\0\0\0\0\0\0\0\x04")?;
+    let want = cells(rt.alloc(), b"\0\0\0\0\0\0\0\0\0\0")?;
+    assert!(rt; ends_full(rt.alloc(), Ty::Tree(TyId(3)), &list, 1, &want)?);
+    assert!(rt; ends_full(rt.alloc(), Ty::Tree(TyId(2)), b"\x03\x01", 0, b"")?);
     Ok(())
 }

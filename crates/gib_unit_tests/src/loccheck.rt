@@ -108,30 +108,6 @@ fn arms(alloc: Global, first: u32, leaf: TermId, node: TermId) -> Result<(Branch
     Ok((leaf, node))
 }
 
-// case %n with two arms
-fn case(
-    alloc: Global,
-    terms: &mut Terms,
-    subject: u32,
-    first: Branch,
-    second: Branch,
-) -> Result<TermId, Memory>
-    requires first { first.term.0 < length terms.old }
-    requires second { second.term.0 < length terms.old }
-    ensures { IfOk result (λ id. (id.0 < length terms.new) × (length terms.old ≤ length terms.new)) }
-{
-    let mut branches = Vec::new(alloc);
-    branches.push(first)?;
-    branches.push(second)?;
-    put(
-        terms,
-        Node::Case {
-            subject: var(subject),
-            branches,
-        },
-    )
-}
-
 // if %n then a term else another one
 fn if_else(
     terms: &mut Terms,
@@ -356,19 +332,31 @@ fn put_line(alloc: Global, terms: &mut Terms, line: Line) -> Result<TermId, Memo
     }
 }
 
+// The bodies of copy, which is term 0, of size, which is 1, and of main, which is 2 and whose first arm is 3: the line begins at 4, with %2 and %3
+// for a and b.
+fn bodies(
+    alloc: Global,
+    terms: &mut Terms,
+    copied: Atom,
+    line: Line,
+) -> Result<(TermId, TermId, TermId), Memory>
+    ensures { IfOk result (λ ids. (ids.0.0 < length terms.new) × (ids.1.0 < length terms.new) × (ids.2.0 < length terms.new)) }
+{
+    let copy = put(terms, Node::Point(copied))?;
+    let size = put(terms, Node::Give(Atom::literal(0)))?;
+    let leaf = point(terms, 0)?;
+    let node = put_line(alloc, terms, line)?;
+    let (leaf, node) = arms(alloc, 1, leaf, node)?;
+    let body = case(alloc, terms, 0, leaf, node)?;
+    Ok((copy, size, body))
+}
+
 // fun copy (t : Tree) : Tree = an atom ; fun size (t : Tree) : Int = 0 ;
 // main (t : Tree) : Tree = case t { Leaf n -> t | Node a b -> the line }
-//
-// copy's body is term 0, size's 1, the case 2 and its first arm 3: the line begins at 4, with %2 and %3 for a and b.
 fn program(alloc: Global, copied: Atom, line: Line, offsets: &[ConId]) -> Result<Core, Memory> {
     let types = trees(alloc)?;
     let mut terms = Terms::new(alloc);
-    let copy = put(&mut terms, Node::Point(copied))?;
-    let size = put(&mut terms, Node::Give(Atom::literal(0)))?;
-    let leaf = point(&mut terms, 0)?;
-    let node = put_line(alloc, &mut terms, line)?;
-    let (leaf, node) = arms(alloc, 1, leaf, node)?;
-    let body = case(alloc, &mut terms, 0, leaf, node)?;
+    let (copy, size, body) = bodies(alloc, &mut terms, copied, line)?;
     let mut functions = Vec::new(alloc);
     functions.push(CoreFunction {
         name: COPY,

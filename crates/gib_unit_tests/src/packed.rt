@@ -5,6 +5,7 @@ ghost use Rattle.gib_mem.specs.Memory.{Holds, Owned};
 ghost use Rattle.gib_packed.specs.Example.{bytes as example_bytes, laid, IsPlace};
 
 use crate::example::make_types;
+use gib_base::Memory;
 use gib_mem::{Mem, PlainMem};
 use gib_packed::read::*;
 use gib_types::Layouts;
@@ -73,12 +74,20 @@ fn read_scalars<M: Mem>(mem: &mut M) -> (bool, i64, i64, u64)
     (truth, below, above, address)
 }
 
+// How the example is laid out.
+fn layouts(alloc: Global) -> Result<Layouts, Memory>
+    ensures { IfOk result (λ layouts. layouts ≡ laid) }
+{
+    let types = make_types(alloc)?;
+    let layouts = Layouts::make(alloc, &types, &[])?;
+    Ok(layouts)
+}
+
 // What `read_at` gives in a memory of its own.
 fn reads(alloc: Global, at: u64) -> Result<(u8, u64, u64, u64), Fail>
     requires { IsPlace at }
 {
-    let types = make_types(alloc)?;
-    let layouts = Layouts::make(alloc, &types, &[])?;
+    let layouts = layouts(alloc)?;
     let mut mem = example(alloc)?;
     let read = read_at(&mut mem, &layouts, at);
     Ok(read)

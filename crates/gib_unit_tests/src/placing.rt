@@ -25,36 +25,50 @@ fn node(alloc: Global, terms: &mut Terms, fields: (u32, u32)) -> Result<TermId, 
     past(terms, 3, NODE, rest)
 }
 
-// main, which binds two calls, %1 and %2, side by side or one after the other, and then makes a node.
-fn program(alloc: Global, is_par: bool, fields: (u32, u32)) -> Result<Core, Memory> {
-    let mut terms = Terms::new(alloc);
-    let node = node(alloc, &mut terms, fields)?;
-    let left = call(alloc, &mut terms, WORK, 0)?;
-    let right = call(alloc, &mut terms, WORK, 0)?;
+// The body of main, which binds two calls, %1 and %2, side by side or one after the other, and then makes a node.
+fn body(
+    alloc: Global,
+    terms: &mut Terms,
+    is_par: bool,
+    fields: (u32, u32),
+) -> Result<TermId, Memory>
+    ensures { IfOk result (λ id. (id.0 < length terms.new) × (length terms.old ≤ length terms.new)) }
+{
+    let node = node(alloc, terms, fields)?;
+    let left = call(alloc, terms, WORK, 0)?;
+    let right = call(alloc, terms, WORK, 0)?;
     let left = bound(Kind::Region, 1, TREE, left);
     let right = bound(Kind::Region, 2, TREE, right);
-    let body = if is_par {
+    if is_par {
         let fork = false;
-        then(&mut terms, Binding::Par { fork, left, right }, node)?
-    } else {
-        let rest = then(&mut terms, Binding::One(right), node)?;
-        then(&mut terms, Binding::One(left), rest)?
-    };
+        return then(terms, Binding::Par { fork, left, right }, node);
+    }
+    let rest = then(terms, Binding::One(right), node)?;
+    then(terms, Binding::One(left), rest)
+}
+
+// main alone.
+fn program(alloc: Global, is_par: bool, fields: (u32, u32)) -> Result<Core, Memory> {
+    let types = trees(alloc)?;
+    let mut terms = Terms::new(alloc);
+    let body = body(alloc, &mut terms, is_par, fields)?;
     let main = CoreMain {
         parameter: TREE,
         result: TREE,
         body,
     };
-    let types = trees(alloc)?;
     Ok(Core::new(types, terms, Vec::new(alloc), main, Vec::new(alloc), false))
 }
 
 /// Whether placing makes this text of a program.
 fn places(alloc: Global, is_par: bool, fields: (u32, u32), want: &str) -> Result<bool, Fail> {
-    let names = names(alloc, &["Tree", "Leaf", "Node", "work"])?;
     let core = place(alloc, program(alloc, is_par, fields)?)?;
-    let text = print_core(alloc, &core, &names)?;
-    Ok(text.as_slice() == want.as_bytes())
+    is_printed(
+        alloc,
+        &core,
+        &["Tree", "Leaf", "Node", "work"],
+        want.as_bytes(),
+    )
 }
 
 const BOTH: &str =

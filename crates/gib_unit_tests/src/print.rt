@@ -1,14 +1,15 @@
 //! Values that were put by hand are printed, and images of them written; images that are read stand in `examples/rows`.
 
-ghost use Rattle.std.specs.Prelude.{◌≡◌, ◌≤◌, ◌^◌, ◌+◌, length, true, IsTrue, IfOk};
+ghost use Rattle.std.specs.Prelude.{◌≡◌, ◌≤◌, ◌^◌, ◌+◌, [], length, true, IsTrue, IfOk, OnOk};
 ghost use Rattle.gib_mem.specs.Memory.{Owned, after_puts};
 ghost use Rattle.gib_mem.specs.Plain.{nothing};
 ghost use Rattle.gib_packed.specs.Example.{table as example_table, laid};
 ghost use Rattle.gib_base.specs.Texts.{plain_texts};
 ghost use Rattle.gib_print.specs.Example.{names as example_names};
 
+use crate::bytes::push_times;
 use crate::example::make_types;
-use gib_base::{NameFault, Names, Texts};
+use gib_base::{Memory, NameFault, Names, Texts};
 use gib_edge::mem_sink::MemSink;
 use gib_mem::{Mem, PlainMem};
 use gib_packed::Root;
@@ -22,14 +23,23 @@ use std::test::*;
 const EXAMPLE: &[u8] =
     b"\xff\x1c\0\0\0\0\0\0\0\xfe\0\0\0\0\0\0\0\0\x02\x01\xfe\xff\xff\xff\xff\xff\xff\xff\x01\x02\x01\0\0\0\0\0\0\x00\xfe\x09\0\0\0\0\0\0\0";
 
-fn make_names(alloc: Global) -> Result<Texts, NameFault>
-    ensures { IfOk result (λ names. names ≡ plain_texts example_names) }
+// Names the type and its constructors.
+fn intern_all(alloc: Global, names: &mut Names) -> Result<(), NameFault>
+    requires { names.old ≡ [] }
+    ensures { OnOk result (names.new ≡ example_names) }
 {
-    let mut names = Names::make(alloc)?;
     names.intern(alloc, b"T")?;
     names.intern(alloc, b"Nil")?;
     names.intern(alloc, b"Cons")?;
     names.intern(alloc, b"Node")?;
+    Ok(())
+}
+
+fn make_names(alloc: Global) -> Result<Texts, NameFault>
+    ensures { IfOk result (λ names. names ≡ plain_texts example_names) }
+{
+    let mut names = Names::make(alloc)?;
+    intern_all(alloc, &mut names)?;
     Ok(Texts::new(alloc, names))
 }
 
@@ -75,60 +85,87 @@ fn print_values<M: Mem>(
     print_at(alloc, mem, types, names, layouts, Root::Truth(true), sink)
 }
 
-#[test]
-fn values_are_printed_each_with_a_line_feed(rt: HostRuntime) -> Result<(), Fail> {
-    let alloc = rt.alloc();
-    let types = make_types(alloc)?;
-    let Ok(names) = make_names(alloc) else {
-        return Err("names".into());
-    };
-    let layouts = Layouts::make(alloc, &types, &[])?;
+// A memory whose two chunks are drawn.
+fn drawn(alloc: Global) -> Result<PlainMem, Fail>
+    ensures { IfOk result (λ mem. Owned (⟦<PlainMem as Mem>⟧.view mem).cells 0 8192) }
+{
     let mut mem = PlainMem::make(alloc, 2)?;
     if !draw_both(&mut mem) {
         return Err("chunks".into());
     }
+    Ok(mem)
+}
+
+// How the example is laid out.
+fn layouts(alloc: Global, types: &TypeTable) -> Result<Layouts, Memory>
+    requires { types.now ≡ example_table }
+    ensures { IfOk result (λ layouts. layouts ≡ laid) }
+{
+    let layouts = Layouts::make(alloc, types, &[])?;
+    Ok(layouts)
+}
+
+const PRINTED: &[u8] = b"(Node True (Cons 258 Nil) -2 (Cons 258 Nil))\n-7\nTrue\n";
+
+/// What is printed of the values, where the names are found.
+fn prints(alloc: Global, names: &Texts) -> Result<bool, Fail>
+    requires { names.now.short ≡ example_names }
+{
+    let types = make_types(alloc)?;
+    let layouts = layouts(alloc, &types)?;
+    let mut mem = drawn(alloc)?;
     let mut sink = MemSink::make(alloc, 8192, Vec::new(alloc))?;
-    let answer = print_values(alloc, &mut mem, &types, &names, &layouts, &mut sink);
-    assert!(rt; answer == Ok(()));
-    let want = b"(Node True (Cons 258 Nil) -2 (Cons 258 Nil))\n-7\nTrue\n";
-    assert_eq!(rt; sink.bytes(), want.as_slice());
+    let answer = print_values(alloc, &mut mem, &types, names, &layouts, &mut sink);
+    Ok(answer == Ok(()) && sink.bytes() == PRINTED)
+}
+
+#[test]
+fn values_are_printed_each_with_a_line_feed(rt: HostRuntime) -> Result<(), Fail> {
+    let Ok(names) = make_names(rt.alloc()) else {
+        return Err("names".into());
+    };
+    assert!(rt; prints(rt.alloc(), &names)?);
     Ok(())
 }
 
 // The image of two chunks in which the example stands from 0 on, with this root.
 fn image_with(alloc: Global, root: Root) -> Result<Vec<u8>, Fail> {
-    let mut mem = PlainMem::make(alloc, 2)?;
-    if !draw_both(&mut mem) {
-        return Err("chunks".into());
-    }
+    let mut mem = drawn(alloc)?;
     put(&mut mem, 0, EXAMPLE);
     mem.owns_all();
     let bytes = image(alloc, &mut mem, root)?;
     Ok(bytes)
 }
 
+// Whether the image begins with this header, has the example behind it, and zeros to the end of both chunks.
+fn is_image(alloc: Global, root: Root, header: &[u8; 24]) -> Result<bool, Fail> {
+    let mut want = Vec::from_slice(alloc, header)?;
+    want.extend_from_slice(EXAMPLE)?;
+    push_times(&mut want, b"\0", 8145)?;
+    let image = image_with(alloc, root)?;
+    Ok(image == want)
+}
+
+/// Roots, and the headers of their images.
+const HEADERS: [(Root, &[u8; 24]); 3] = [
+    (
+        Root::At(18),
+        b"GIBI\x01\x02\0\0\x12\0\0\0\0\0\0\0\x02\0\0\0\0\0\0\0",
+    ),
+    (
+        Root::Whole(-7),
+        b"GIBI\x01\0\0\0\xf9\xff\xff\xff\xff\xff\xff\xff\x02\0\0\0\0\0\0\0",
+    ),
+    (
+        Root::Truth(true),
+        b"GIBI\x01\x01\0\0\x01\0\0\0\0\0\0\0\x02\0\0\0\0\0\0\0",
+    ),
+];
+
 #[test]
 fn an_image_has_its_header_and_all_drawn_chunks(rt: HostRuntime) -> Result<(), Fail> {
-    let alloc = rt.alloc();
-    let mut want = Vec::from_slice(
-        alloc,
-        b"GIBI\x01\x02\0\0\x12\0\0\0\0\0\0\0\x02\0\0\0\0\0\0\0",
-    )?;
-    want.extend_from_slice(EXAMPLE)?;
-    let rest = vec![in alloc; 0u8; 8145]?;
-    want.extend_from_slice(&rest)?;
-    assert!(rt; image_with(alloc, Root::At(18))? == want);
-    let whole = image_with(alloc, Root::Whole(-7))?;
-    assert!(rt;
-        whole
-            .as_slice()
-            .starts_with(b"GIBI\x01\0\0\0\xf9\xff\xff\xff\xff\xff\xff\xff\x02\0")
-    );
-    let truth = image_with(alloc, Root::Truth(true))?;
-    assert!(rt;
-        truth
-            .as_slice()
-            .starts_with(b"GIBI\x01\x01\0\0\x01\0\0\0\0\0\0\0\x02\0")
-    );
+    for (root, header) in &HEADERS {
+        assert!(rt; is_image(rt.alloc(), *root, header)?);
+    }
     Ok(())
 }

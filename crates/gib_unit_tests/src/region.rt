@@ -2,8 +2,10 @@
 
 ghost use Rattle.std.specs.Prelude.{◌≡◌, length};
 
+use gib_base::Memory;
 use gib_mem::{Mem, PlainMem};
 use gib_region::{Full, Tails, begin, fill, finish, point, reserve};
+use std::alloc::Global;
 use std::test::*;
 
 // Places an item and an indirection to it in a region of its own: the item's place, the indirection's, and where the
@@ -30,10 +32,8 @@ fn place_two<M: Mem>(mem: &mut M, bytes: &[u8]) -> Result<(u64, u64, u64), Full>
     Ok((item, to_item, end))
 }
 
-#[test]
-fn items_stand_one_behind_another(rt: HostRuntime) -> Result<(), Fail> {
-    let mut mem = PlainMem::make(rt.alloc(), 1)?;
-    assert!(rt; place_two(&mut mem, &[7; 65]) == Ok((0, 65, 74)));
+/// The bytes of the second item, or zeros where no chunk is drawn.
+fn second(mem: &mut PlainMem) -> [u8; 9] {
     let mut bytes = [0u8; 9];
     for i in 0..9 {
         let at = 65 + i as u64;
@@ -42,8 +42,20 @@ fn items_stand_one_behind_another(rt: HostRuntime) -> Result<(), Fail> {
             bytes[i] = mem.look(at);
         }
     }
-    assert_eq!(rt; bytes, *b"\xfe\0\0\0\0\0\0\0\0");
-    let mut none = PlainMem::make(rt.alloc(), 0)?;
-    assert!(rt; place_two(&mut none, &[7; 65]) == Err(Full));
+    bytes
+}
+
+/// Where two items stand in a memory of so many chunks, and the bytes of the second one.
+fn placed(alloc: Global, chunks: u32) -> Result<(Result<(u64, u64, u64), Full>, [u8; 9]), Memory> {
+    let mut mem = PlainMem::make(alloc, chunks)?;
+    let places = place_two(&mut mem, &[7; 65]);
+    Ok((places, second(&mut mem)))
+}
+
+#[test]
+fn items_stand_one_behind_another(rt: HostRuntime) -> Result<(), Fail> {
+    let alloc = rt.alloc();
+    assert!(rt; placed(alloc, 1)? == (Ok((0, 65, 74)), *b"\xfe\0\0\0\0\0\0\0\0"));
+    assert!(rt; placed(alloc, 0)? == (Err(Full), [0; 9]));
     Ok(())
 }

@@ -1,12 +1,13 @@
 //! Terms that are put together by hand.
 
 ghost use Rattle.std.specs.Prelude.{◌≡◌, ◌<◌, ◌≤◌, length, IfOk};
+ghost use Rattle.gib_types.specs.Table.{IsTyBelow};
 ghost use Rattle.gib_core.specs.Arena.{IsBindingBelow, PartsBelow};
 
 use gib_base::{Memory, Name, Names, Texts};
 use gib_core::*;
 use gib_syntax::Operator;
-use gib_types::{ConId, Ty, TyId};
+use gib_types::{ConId, Ty, TyId, TypeTable};
 use std::alloc::Global;
 use std::test::Fail;
 
@@ -161,4 +162,63 @@ pub fn arm(
         variables,
         term,
     })
+}
+
+/// case %n with two arms
+pub fn case(
+    alloc: Global,
+    terms: &mut Terms,
+    subject: u32,
+    first: Branch,
+    second: Branch,
+) -> Result<TermId, Memory>
+    requires first { first.term.0 < length terms.old }
+    requires second { second.term.0 < length terms.old }
+    ensures { IfOk result (λ id. (id.0 < length terms.new) × (length terms.old ≤ length terms.new)) }
+{
+    let branches = vec![in alloc; first, second]?;
+    put(
+        terms,
+        Node::Case {
+            subject: var(subject),
+            branches,
+        },
+    )
+}
+
+/// fun f (t : Tree) : .. = the first term ; main (t : Tree) : .. = the second one ;
+pub fn core_of(
+    alloc: Global,
+    types: TypeTable,
+    terms: Terms,
+    name: Name,
+    ty: Ty,
+    bodies: (TermId, TermId),
+) -> Result<Core, Memory>
+    requires types { 0 < length types.types }
+    requires declared { IsTyBelow (length types.types) ty }
+    requires function { bodies.0.0 < length terms }
+    requires main { bodies.1.0 < length terms }
+{
+    let parameters = Vec::from_slice(alloc, &[TREE])?;
+    let function = CoreFunction {
+        name,
+        parameters,
+        result: ty,
+        body: bodies.0,
+    };
+    let functions = vec![in alloc; function]?;
+    let main = CoreMain {
+        parameter: TREE,
+        result: ty,
+        body: bodies.1,
+    };
+    Ok(Core::new(types, terms, functions, main, Vec::new(alloc), false))
+}
+
+/// Whether a core is printed as this text, where its names have these texts in their order.
+pub fn is_printed(alloc: Global, core: &Core, texts: &[&str], want: &[u8]) -> Result<bool, Fail> {
+    let names = names(alloc, texts)?;
+    let text = print_core(alloc, core, &names)?;
+    Ok(text.as_slice() == want)
 }

@@ -49,21 +49,45 @@ fn parts(layout: Layout) -> [u8; 4] {
     [layout.head, layout.offsets, layout.scalars, layout.packed]
 }
 
+/// The parts of all constructors, how many there are, and whether the first one and one that is none store offsets.
+type Told = ([[u8; 4]; 4], u32, [bool; 2]);
+
+// What layouts tell of the table.
+fn told(layouts: &Layouts) -> Told
+    requires { length layouts.now.table.rows ≡ 4 }
+{
+    let parts = [
+        parts(layouts.layout(ConId(0))),
+        parts(layouts.layout(ConId(1))),
+        parts(layouts.layout(ConId(2))),
+        parts(layouts.layout(ConId(3))),
+    ];
+    let stores = [layouts.stores(ConId(0)), layouts.stores(ConId(4))];
+    (parts, layouts.types().len(), stores)
+}
+
+// The same, where these constructors have offsets.
+fn told_with(alloc: Global, offsets: &[ConId]) -> Result<Told, Memory> {
+    let types = table(alloc)?;
+    let layouts = Layouts::make(alloc, &types, offsets)?;
+    Ok(told(&layouts))
+}
+
+const PLAIN: Told = (
+    [[10, 0, 9, 0], [9, 0, 8, 2], [1, 0, 0, 8], [65, 0, 64, 0]],
+    4,
+    [false, false],
+);
+
+const OFFSETS: Told = (
+    [[10, 0, 9, 0], [17, 8, 8, 2], [57, 56, 0, 8], [65, 0, 64, 0]],
+    4,
+    [true, false],
+);
+
 #[test]
 fn layouts_give_the_parts_of_heads(rt: HostRuntime) -> Result<(), Fail> {
-    let alloc = rt.alloc();
-    let types = table(alloc)?;
-    let plain = Layouts::make(alloc, &types, &[])?;
-    assert_eq!(rt; parts(plain.layout(ConId(0))), [10, 0, 9, 0]);
-    assert_eq!(rt; parts(plain.layout(ConId(1))), [9, 0, 8, 2]);
-    assert_eq!(rt; parts(plain.layout(ConId(2))), [1, 0, 0, 8]);
-    assert_eq!(rt; parts(plain.layout(ConId(3))), [65, 0, 64, 0]);
-    let offsets = Layouts::make(alloc, &types, &[ConId(0), ConId(2), ConId(1)])?;
-    assert_eq!(rt; parts(offsets.layout(ConId(0))), [10, 0, 9, 0]);
-    assert_eq!(rt; parts(offsets.layout(ConId(1))), [17, 8, 8, 2]);
-    assert_eq!(rt; parts(offsets.layout(ConId(2))), [57, 56, 0, 8]);
-    assert_eq!(rt; parts(offsets.layout(ConId(3))), [65, 0, 64, 0]);
-    assert_eq!(rt; offsets.types().len(), 4);
-    assert!(rt; offsets.stores(ConId(0)) && !plain.stores(ConId(0)) && !offsets.stores(ConId(4)));
+    assert!(rt; told_with(rt.alloc(), &[])? == PLAIN);
+    assert!(rt; told_with(rt.alloc(), &[ConId(0), ConId(2), ConId(1)])? == OFFSETS);
     Ok(())
 }
