@@ -186,3 +186,29 @@ def wide_source(size):
     built = "".join(f"let x{k} = Node {fields} in " for k in range(6 * FIELDS))
     arms = f"Leaf n -> t ; Node {fields} -> {built}x0"
     return functions_up_to(size, types, lambda k: f"fun wide_{k} (t : Tree) : Tree = case t of {{ {arms} }} ;\n\n")
+
+
+# How many operations one function of sums has, and how many lines of two calls one of calls.
+SUMS_DEEP, CALLS_DEEP = 120, 40
+
+
+def sums_source(size):
+    """Functions of arithmetic alone, each one expression of many operations."""
+
+    def function(k):
+        value = "n"
+        for i in range(SUMS_DEEP):
+            value = f"({value} {'+-*'[i % 3]} {(i * 7 + k) % 1000})" if i % 2 else f"((n * {i}) + {value})"
+        return f"fun sums_{k} (n : Int) : Int = {value} ;\n\n"
+
+    return functions_up_to(size, "", function)
+
+
+def calls_source(size):
+    """Functions that call others, each result an argument of the next call."""
+
+    def function(k):
+        calls = "".join(f"let x{i + 1} = call_{(k + i) % 20} (call_{(k + 3 * i) % 20} x{i} {i}) x0 in " for i in range(CALLS_DEEP))
+        return f"fun call_{k} (x0 : Int) (m : Int) : Int = {calls}x{CALLS_DEEP} ;\n\n"
+
+    return functions_up_to(size, "", function)

@@ -151,6 +151,8 @@ def measure_sources(bench):
     measure_passes(bench, "arms", inputs.arms_source)
     measure_passes(bench, "deep", inputs.deep_source)
     measure_passes(bench, "wide", inputs.wide_source)
+    measure_passes(bench, "sums", inputs.sums_source)
+    measure_passes(bench, "calls", inputs.calls_source)
 
 
 def measure_values(bench, what, program, file, text, result, counts, texts):
