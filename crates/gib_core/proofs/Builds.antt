@@ -276,7 +276,7 @@ mutual
       let absent : (z : ℕ) → is_bound b.bound (named z) ≡ false → z < n → tc z ≡ Absent =
       λ z no lt. put_elsewhere sc x.0 z (AtHead cover.ty.0) (unbound_apart b.bound x z (typed_bound b.bound x (Tree cover.ty) cover.typed) no (test (z == x.0))) ∙ v.new z no lt in
       let new = arms_new n core.table (arms_of bs) tc (is_bound b.bound) fresh absent (arms_below n bs below) cover.long in
-      (cover.ty.0, record { variable = x; atom = refl; sort = own.usable.0 }, cover.each, branches_fit core n is ns bs bs x ln owes (λ q i. i) (λ i. i) c s tc d tells below lits v' e' types new h.1)
+      (cover.ty.0, record { variable = x; atom = refl; sort = own.usable.0 }, cover.each, branches_fit core n is ns bs bs x ln owes (λ q i. i) (λ i. i) c s tc d tells below lits.1 v' e' types new h.1)
   term_fits core n is ns (CaseTerm (a.Whole z) bs) b s sc d ln owes tells part below lits v e h = (let c = (case_facts core b s (a.Whole z) (arms_of bs) h.0).covers in absurd cc)
   term_fits core n is ns (CaseTerm (a.Truth z) bs) b s sc d ln owes tells part below lits v e h = (let c = (case_facts core b s (a.Truth z) (arms_of bs) h.0).covers in absurd cc)
   term_fits core n is ns (IfTerm x t u) b s sc d ln owes tells part below lits v e h =
@@ -288,8 +288,8 @@ mutual
       let c = next_all core.table b lines in
       let later = lines_later core b lines parts.0 in (
         truth_fits n b s sc x (not-false (is_usable s x) r.1) typed v,
-        term_fits core n is ns t b (in_branch s) sc d ln (owes_if core ns x t u ln owes).0 (tells_inner core s (in_branch s) ln ln refl refl refl tells) (is_part (in_branch s) t refl) low.0 lits.0 v e parts.0,
-        term_fits core n is ns u c (in_branch s) sc d ln (owes_if core ns x t u ln owes).1 (tells_inner core s (in_branch s) ln ln refl refl refl tells) (is_part (in_branch s) u refl) low.1 lits.1 (vars_on n b c s.scope sc later v) (dest_kept core.table b c sc sc s.destination s.due d (keep_later b c sc later) e) parts.1,
+        term_fits core n is ns t b (in_branch s) sc d ln (owes_if core ns x t u ln owes).0 (tells_inner core s (in_branch s) ln ln refl refl refl tells) (is_part (in_branch s) t refl) low.0 lits.1.0 v e parts.0,
+        term_fits core n is ns u c (in_branch s) sc d ln (owes_if core ns x t u ln owes).1 (tells_inner core s (in_branch s) ln ln refl refl refl tells) (is_part (in_branch s) u refl) low.1 lits.1.1 (vars_on n b c s.scope sc later v) (dest_kept core.table b c sc sc s.destination s.due d (keep_later b c sc later) e) parts.1,
       )
 
   bind_fits : (core : CoreTree) (n : ℕ) → IsTable core.table → (k : Bind) (b : Before) (s : Setting) (sc : Scope) (d : Dest) (ln : Line) → Tells core s ln → (go : After) → AllBelow n (bind_binders k) → BindLiterals k
@@ -327,8 +327,8 @@ mutual
       let z = next_all core.table m (met_side core.table rs r) in
       let all : z ≡ next_all core.table c (lines ++ met_side core.table rs r) = sym (next_append core.table c lines (met_side core.table rs r)) in (
         side_unused core r m rs (variable_of l) (right_among s l) parts.1,
-        side_fits core n is (within_par ln.within) l c ls sc d ln (left_may s r (within_par ln.within)) (AfterLeft (λ ln'. within_par ln.within) r go) low.0 lits.0 v e parts.0
-            (λ tc d' dl. let start = right_start core n c s l r sc m tc d' dl in side_fits core n is (within_par ln.within) r m rs tc d' (side_line (within_par ln.within) core l ln) (right_may s l (within_par ln.within)) go low.1 lits.1 start.0 start.1 parts.1
+        side_fits core n is (within_par ln.within) l c ls sc d ln (left_may s r (within_par ln.within)) (AfterLeft (λ ln'. within_par ln.within) r go) low.0 lits.1.0 v e parts.0
+            (λ tc d' dl. let start = right_start core n c s l r sc m tc d' dl in side_fits core n is (within_par ln.within) r m rs tc d' (side_line (within_par ln.within) core l ln) (right_may s l (within_par ln.within)) go low.1 lits.1.1 start.0 start.1 parts.1
             (λ uc d'' dr.
             let P : Before → Type 0 = λ y. Vars n y (behind s (Both false l r)).scope uc × IsDest core.table y uc (behind s (Both false l r)).destination (behind s (Both false l r)).due d'' in
             let there = subst P all (both_left core n c s false l r sc m tc d' z uc d'' dl dr) in
@@ -345,9 +345,9 @@ mutual
       let z = next_all core.table m (met_side core.table rs r) in
       let all : z ≡ next_all core.table c (lines ++ met_side core.table rs r) = sym (next_append core.table c lines (met_side core.table rs r)) in (
         side_unused core r m rs (variable_of l) (right_among s l) parts.1,
-        alone_fits core n is (within_par ln.within) r m s l sc low.1 lits.1 (vars_on n b m s.scope sc (later_on b c m (line_later core b s ParLine h.0) (lines_later core c lines parts.0)) v) parts.1,
-        side_fits core n is (within_par ln.within) l c ls sc d ln (left_may s r (within_par ln.within)) (AfterLeft (λ ln'. within_par ln'.within) r go) low.0 lits.0 v e parts.0
-            (λ tc d' dl. let start = right_start core n c s l r sc m tc d' dl in side_fits core n is (within_par (side_line (within_par ln.within) core l ln).within) r m rs tc d' (side_line (within_par ln.within) core l ln) (right_may s l (within_par (side_line (within_par ln.within) core l ln).within)) go low.1 lits.1 start.0 start.1 parts.1
+        alone_fits core n is (within_par ln.within) r m s l sc low.1 lits.1.1 (vars_on n b m s.scope sc (later_on b c m (line_later core b s ParLine h.0) (lines_later core c lines parts.0)) v) parts.1,
+        side_fits core n is (within_par ln.within) l c ls sc d ln (left_may s r (within_par ln.within)) (AfterLeft (λ ln'. within_par ln'.within) r go) low.0 lits.1.0 v e parts.0
+            (λ tc d' dl. let start = right_start core n c s l r sc m tc d' dl in side_fits core n is (within_par (side_line (within_par ln.within) core l ln).within) r m rs tc d' (side_line (within_par ln.within) core l ln) (right_may s l (within_par (side_line (within_par ln.within) core l ln).within)) go low.1 lits.1.1 start.0 start.1 parts.1
             (λ uc d'' dr.
             let P : Before → Type 0 = λ y. Vars n y (behind s (Both true l r)).scope uc × IsDest core.table y uc (behind s (Both true l r)).destination (behind s (Both true l r)).due d'' in
             let there = subst P all (both_left core n c s true l r sc m tc d' z uc d'' dl dr) in
@@ -461,7 +461,7 @@ mutual
         facts.typed,
         facts.is,
         absent,
-        term_fits core n is (Inner (side_tells w core t)) t m inner (put sc x.0 Held) (f.Empty facts.tree.0) (new_line w) (owes_side core w t) (tells_new core inner w refl may) (is_part inner t refl) below.1 lits (vars_hold n m s.scope sc x.0 Held absent bound (vars_on n b m s.scope sc l1 v)) (facts.tree, facts.due, refl) h.1,
+        term_fits core n is (Inner (side_tells w core t)) t m inner (put sc x.0 Held) (f.Empty facts.tree.0) (new_line w) (owes_side core w t) (tells_new core inner w refl may) (is_part inner t refl) below.1 lits.1 (vars_hold n m s.scope sc x.0 Held absent bound (vars_on n b m s.scope sc l1 v)) (facts.tree, facts.due, refl) h.1,
         on tc (more d x.0) (record { vars = z.vars; keep = z.keep; own = subst (λ u. Tracked c tc x.0 u) (sym facts.typed) own; dest = facts.after c tc z.keep own }),
       )
   side_fits core n is w (On Region x ty t) b s sc d ln may go below lits v e h on =
@@ -483,26 +483,26 @@ mutual
         packed.0.0,
         packed.1,
         absent,
-        term_fits core n is (Inner (side_tells w core t)) t m inner (put sc x.0 Held) (f.Empty packed.0.0) (new_line w) (owes_side core w t) (tells_new core inner w refl may) (is_part inner t refl) below.1 lits (vars_hold n m s.scope sc x.0 Held absent bound (vars_on n b m s.scope sc l1 v)) (packed.0, packed.1, refl) h.1,
+        term_fits core n is (Inner (side_tells w core t)) t m inner (put sc x.0 Held) (f.Empty packed.0.0) (new_line w) (owes_side core w t) (tells_new core inner w refl may) (is_part inner t refl) below.1 lits.1 (vars_hold n m s.scope sc x.0 Held absent bound (vars_on n b m s.scope sc l1 v)) (packed.0, packed.1, refl) h.1,
         on tc d (record { vars = z.vars; keep = z.keep; own = subst (λ u. Tracked c tc x.0 u) (sym packed.1) own; dest = dest_kept core.table b c sc tc s.destination s.due d z.keep e }),
       )
   side_fits core n is w (On Scalar x ty (CallTerm g xs)) b s sc d ln may go below lits v e h on =
       let line = SideLine Scalar x ty in
       let l1 = line_later core b s line h.0 in
       let m = next core.table b line in
-      scalar_side core n w x ty (CallTerm g xs) b s sc d ln go below v e h on (scalar_call_fits core n m (in_side core.table s Scalar ty) sc g xs h.1 lits (vars_on n b m s.scope sc l1 v))
+      scalar_side core n w x ty (CallTerm g xs) b s sc d ln go below v e h on (scalar_call_fits core n m (in_side core.table s Scalar ty) sc g xs h.1 lits.1 (vars_on n b m s.scope sc l1 v))
   side_fits core n is w (On Scalar x ty (Then k t)) b s sc d ln may go below lits v e h on =
-      scalar_side core n w x ty (Then k t) b s sc d ln go below v e h on (term_fits core n is (Inner (side_tells w core (Then k t))) (Then k t) (next core.table b (SideLine Scalar x ty)) (in_side core.table s Scalar ty) sc (f.Nowhere ty) (new_line w) (owes_side core w (Then k t)) (tells_new core (in_side core.table s Scalar ty) w refl may) tt below.1 lits (scalar_vars core n b s sc x ty (Then k t) h v) (scalar_due core b s x ty (Then k t) h, refl) h.1)
+      scalar_side core n w x ty (Then k t) b s sc d ln go below v e h on (term_fits core n is (Inner (side_tells w core (Then k t))) (Then k t) (next core.table b (SideLine Scalar x ty)) (in_side core.table s Scalar ty) sc (f.Nowhere ty) (new_line w) (owes_side core w (Then k t)) (tells_new core (in_side core.table s Scalar ty) w refl may) tt below.1 lits.1 (scalar_vars core n b s sc x ty (Then k t) h v) (scalar_due core b s x ty (Then k t) h, refl) h.1)
   side_fits core n is w (On Scalar x ty (Write q k ss ps)) b s sc d ln may go below lits v e h on =
-      scalar_side core n w x ty (Write q k ss ps) b s sc d ln go below v e h on (term_fits core n is (Inner (side_tells w core (Write q k ss ps))) (Write q k ss ps) (next core.table b (SideLine Scalar x ty)) (in_side core.table s Scalar ty) sc (f.Nowhere ty) (new_line w) (owes_side core w (Write q k ss ps)) (tells_new core (in_side core.table s Scalar ty) w refl may) tt below.1 lits (scalar_vars core n b s sc x ty (Write q k ss ps) h v) (scalar_due core b s x ty (Write q k ss ps) h, refl) h.1)
+      scalar_side core n w x ty (Write q k ss ps) b s sc d ln go below v e h on (term_fits core n is (Inner (side_tells w core (Write q k ss ps))) (Write q k ss ps) (next core.table b (SideLine Scalar x ty)) (in_side core.table s Scalar ty) sc (f.Nowhere ty) (new_line w) (owes_side core w (Write q k ss ps)) (tells_new core (in_side core.table s Scalar ty) w refl may) tt below.1 lits.1 (scalar_vars core n b s sc x ty (Write q k ss ps) h v) (scalar_due core b s x ty (Write q k ss ps) h, refl) h.1)
   side_fits core n is w (On Scalar x ty (Point y)) b s sc d ln may go below lits v e h on =
-      scalar_side core n w x ty (Point y) b s sc d ln go below v e h on (term_fits core n is (Inner (side_tells w core (Point y))) (Point y) (next core.table b (SideLine Scalar x ty)) (in_side core.table s Scalar ty) sc (f.Nowhere ty) (new_line w) (owes_side core w (Point y)) (tells_new core (in_side core.table s Scalar ty) w refl may) tt below.1 lits (scalar_vars core n b s sc x ty (Point y) h v) (scalar_due core b s x ty (Point y) h, refl) h.1)
+      scalar_side core n w x ty (Point y) b s sc d ln go below v e h on (term_fits core n is (Inner (side_tells w core (Point y))) (Point y) (next core.table b (SideLine Scalar x ty)) (in_side core.table s Scalar ty) sc (f.Nowhere ty) (new_line w) (owes_side core w (Point y)) (tells_new core (in_side core.table s Scalar ty) w refl may) tt below.1 lits.1 (scalar_vars core n b s sc x ty (Point y) h v) (scalar_due core b s x ty (Point y) h, refl) h.1)
   side_fits core n is w (On Scalar x ty (Give y)) b s sc d ln may go below lits v e h on =
-      scalar_side core n w x ty (Give y) b s sc d ln go below v e h on (term_fits core n is (Inner (side_tells w core (Give y))) (Give y) (next core.table b (SideLine Scalar x ty)) (in_side core.table s Scalar ty) sc (f.Nowhere ty) (new_line w) (owes_side core w (Give y)) (tells_new core (in_side core.table s Scalar ty) w refl may) tt below.1 lits (scalar_vars core n b s sc x ty (Give y) h v) (scalar_due core b s x ty (Give y) h, refl) h.1)
+      scalar_side core n w x ty (Give y) b s sc d ln go below v e h on (term_fits core n is (Inner (side_tells w core (Give y))) (Give y) (next core.table b (SideLine Scalar x ty)) (in_side core.table s Scalar ty) sc (f.Nowhere ty) (new_line w) (owes_side core w (Give y)) (tells_new core (in_side core.table s Scalar ty) w refl may) tt below.1 lits.1 (scalar_vars core n b s sc x ty (Give y) h v) (scalar_due core b s x ty (Give y) h, refl) h.1)
   side_fits core n is w (On Scalar x ty (CaseTerm y bs)) b s sc d ln may go below lits v e h on =
-      scalar_side core n w x ty (CaseTerm y bs) b s sc d ln go below v e h on (term_fits core n is (Inner (side_tells w core (CaseTerm y bs))) (CaseTerm y bs) (next core.table b (SideLine Scalar x ty)) (in_side core.table s Scalar ty) sc (f.Nowhere ty) (new_line w) (owes_side core w (CaseTerm y bs)) (tells_new core (in_side core.table s Scalar ty) w refl may) tt below.1 lits (scalar_vars core n b s sc x ty (CaseTerm y bs) h v) (scalar_due core b s x ty (CaseTerm y bs) h, refl) h.1)
+      scalar_side core n w x ty (CaseTerm y bs) b s sc d ln go below v e h on (term_fits core n is (Inner (side_tells w core (CaseTerm y bs))) (CaseTerm y bs) (next core.table b (SideLine Scalar x ty)) (in_side core.table s Scalar ty) sc (f.Nowhere ty) (new_line w) (owes_side core w (CaseTerm y bs)) (tells_new core (in_side core.table s Scalar ty) w refl may) tt below.1 lits.1 (scalar_vars core n b s sc x ty (CaseTerm y bs) h v) (scalar_due core b s x ty (CaseTerm y bs) h, refl) h.1)
   side_fits core n is w (On Scalar x ty (IfTerm y t u)) b s sc d ln may go below lits v e h on =
-      scalar_side core n w x ty (IfTerm y t u) b s sc d ln go below v e h on (term_fits core n is (Inner (side_tells w core (IfTerm y t u))) (IfTerm y t u) (next core.table b (SideLine Scalar x ty)) (in_side core.table s Scalar ty) sc (f.Nowhere ty) (new_line w) (owes_side core w (IfTerm y t u)) (tells_new core (in_side core.table s Scalar ty) w refl may) tt below.1 lits (scalar_vars core n b s sc x ty (IfTerm y t u) h v) (scalar_due core b s x ty (IfTerm y t u) h, refl) h.1)
+      scalar_side core n w x ty (IfTerm y t u) b s sc d ln go below v e h on (term_fits core n is (Inner (side_tells w core (IfTerm y t u))) (IfTerm y t u) (next core.table b (SideLine Scalar x ty)) (in_side core.table s Scalar ty) sc (f.Nowhere ty) (new_line w) (owes_side core w (IfTerm y t u)) (tells_new core (in_side core.table s Scalar ty) w refl may) tt below.1 lits.1 (scalar_vars core n b s sc x ty (IfTerm y t u) h v) (scalar_due core b s x ty (IfTerm y t u) h, refl) h.1)
 
   -- The right side of a par by itself, in the scope before the par: what the left side bound stands before it, and its
   -- variable is not in scope.
@@ -521,7 +521,7 @@ mutual
         due.0.0,
         typed ∙ due.1,
         absent,
-        term_fits core n is (Inner none_of) t m inner (put sc x.0 Held) (f.Empty due.0.0) (new_line w) (owes_none core w t) (tells_new core inner w refl (right_may s (On kl xl tl l) w)) (is_part inner t refl) below.1 lits (vars_hold n m s.scope sc x.0 Held absent bound (vars_on n b m s.scope sc (line_later core b rs (SideLine Here x ty) h.0) v)) (due.0, due.1, refl) h.1,
+        term_fits core n is (Inner none_of) t m inner (put sc x.0 Held) (f.Empty due.0.0) (new_line w) (owes_none core w t) (tells_new core inner w refl (right_may s (On kl xl tl l) w)) (is_part inner t refl) below.1 lits.1 (vars_hold n m s.scope sc x.0 Held absent bound (vars_on n b m s.scope sc (line_later core b rs (SideLine Here x ty) h.0) v)) (due.0, due.1, refl) h.1,
       )
   alone_fits core n is w (On Region x ty t) b s (On kl xl tl l) sc below lits v h =
       let rs = right_of s (On kl xl tl l) in
@@ -534,30 +534,30 @@ mutual
         packed.0.0,
         packed.1,
         absent,
-        term_fits core n is (Inner (side_tells w core t)) t m inner (put sc x.0 Held) (f.Empty packed.0.0) (new_line w) (owes_side core w t) (tells_new core inner w refl (right_may s (On kl xl tl l) w)) (is_part inner t refl) below.1 lits (vars_hold n m s.scope sc x.0 Held absent bound (vars_on n b m s.scope sc (line_later core b rs (SideLine Region x ty) h.0) v)) (packed.0, packed.1, refl) h.1,
+        term_fits core n is (Inner (side_tells w core t)) t m inner (put sc x.0 Held) (f.Empty packed.0.0) (new_line w) (owes_side core w t) (tells_new core inner w refl (right_may s (On kl xl tl l) w)) (is_part inner t refl) below.1 lits.1 (vars_hold n m s.scope sc x.0 Held absent bound (vars_on n b m s.scope sc (line_later core b rs (SideLine Region x ty) h.0) v)) (packed.0, packed.1, refl) h.1,
       )
   alone_fits core n is w (On Scalar x ty (CallTerm g xs)) b s (On kl xl tl l) sc below lits v h =
       let rs = right_of s (On kl xl tl l) in
       let m = next core.table b (SideLine Scalar x ty) in
-      alone_scalar core n w x ty (CallTerm g xs) b rs sc below v h (scalar_call_fits core n m (in_side core.table rs Scalar ty) sc g xs h.1 lits (vars_on n b m s.scope sc (line_later core b rs (SideLine Scalar x ty) h.0) v))
+      alone_scalar core n w x ty (CallTerm g xs) b rs sc below v h (scalar_call_fits core n m (in_side core.table rs Scalar ty) sc g xs h.1 lits.1 (vars_on n b m s.scope sc (line_later core b rs (SideLine Scalar x ty) h.0) v))
   alone_fits core n is w (On Scalar x ty (Then k t)) b s (On kl xl tl l) sc below lits v h =
       let rs = right_of s (On kl xl tl l) in
-      alone_scalar core n w x ty (Then k t) b rs sc below v h (term_fits core n is (Inner (side_tells w core (Then k t))) (Then k t) (next core.table b (SideLine Scalar x ty)) (in_side core.table rs Scalar ty) sc (f.Nowhere ty) (new_line w) (owes_side core w (Then k t)) (tells_new core (in_side core.table rs Scalar ty) w refl (right_may s (On kl xl tl l) w)) tt below.1 lits (scalar_vars core n b rs sc x ty (Then k t) h v) (scalar_due core b rs x ty (Then k t) h, refl) h.1)
+      alone_scalar core n w x ty (Then k t) b rs sc below v h (term_fits core n is (Inner (side_tells w core (Then k t))) (Then k t) (next core.table b (SideLine Scalar x ty)) (in_side core.table rs Scalar ty) sc (f.Nowhere ty) (new_line w) (owes_side core w (Then k t)) (tells_new core (in_side core.table rs Scalar ty) w refl (right_may s (On kl xl tl l) w)) tt below.1 lits.1 (scalar_vars core n b rs sc x ty (Then k t) h v) (scalar_due core b rs x ty (Then k t) h, refl) h.1)
   alone_fits core n is w (On Scalar x ty (Write q k ss ps)) b s (On kl xl tl l) sc below lits v h =
       let rs = right_of s (On kl xl tl l) in
-      alone_scalar core n w x ty (Write q k ss ps) b rs sc below v h (term_fits core n is (Inner (side_tells w core (Write q k ss ps))) (Write q k ss ps) (next core.table b (SideLine Scalar x ty)) (in_side core.table rs Scalar ty) sc (f.Nowhere ty) (new_line w) (owes_side core w (Write q k ss ps)) (tells_new core (in_side core.table rs Scalar ty) w refl (right_may s (On kl xl tl l) w)) tt below.1 lits (scalar_vars core n b rs sc x ty (Write q k ss ps) h v) (scalar_due core b rs x ty (Write q k ss ps) h, refl) h.1)
+      alone_scalar core n w x ty (Write q k ss ps) b rs sc below v h (term_fits core n is (Inner (side_tells w core (Write q k ss ps))) (Write q k ss ps) (next core.table b (SideLine Scalar x ty)) (in_side core.table rs Scalar ty) sc (f.Nowhere ty) (new_line w) (owes_side core w (Write q k ss ps)) (tells_new core (in_side core.table rs Scalar ty) w refl (right_may s (On kl xl tl l) w)) tt below.1 lits.1 (scalar_vars core n b rs sc x ty (Write q k ss ps) h v) (scalar_due core b rs x ty (Write q k ss ps) h, refl) h.1)
   alone_fits core n is w (On Scalar x ty (Point y)) b s (On kl xl tl l) sc below lits v h =
       let rs = right_of s (On kl xl tl l) in
-      alone_scalar core n w x ty (Point y) b rs sc below v h (term_fits core n is (Inner (side_tells w core (Point y))) (Point y) (next core.table b (SideLine Scalar x ty)) (in_side core.table rs Scalar ty) sc (f.Nowhere ty) (new_line w) (owes_side core w (Point y)) (tells_new core (in_side core.table rs Scalar ty) w refl (right_may s (On kl xl tl l) w)) tt below.1 lits (scalar_vars core n b rs sc x ty (Point y) h v) (scalar_due core b rs x ty (Point y) h, refl) h.1)
+      alone_scalar core n w x ty (Point y) b rs sc below v h (term_fits core n is (Inner (side_tells w core (Point y))) (Point y) (next core.table b (SideLine Scalar x ty)) (in_side core.table rs Scalar ty) sc (f.Nowhere ty) (new_line w) (owes_side core w (Point y)) (tells_new core (in_side core.table rs Scalar ty) w refl (right_may s (On kl xl tl l) w)) tt below.1 lits.1 (scalar_vars core n b rs sc x ty (Point y) h v) (scalar_due core b rs x ty (Point y) h, refl) h.1)
   alone_fits core n is w (On Scalar x ty (Give y)) b s (On kl xl tl l) sc below lits v h =
       let rs = right_of s (On kl xl tl l) in
-      alone_scalar core n w x ty (Give y) b rs sc below v h (term_fits core n is (Inner (side_tells w core (Give y))) (Give y) (next core.table b (SideLine Scalar x ty)) (in_side core.table rs Scalar ty) sc (f.Nowhere ty) (new_line w) (owes_side core w (Give y)) (tells_new core (in_side core.table rs Scalar ty) w refl (right_may s (On kl xl tl l) w)) tt below.1 lits (scalar_vars core n b rs sc x ty (Give y) h v) (scalar_due core b rs x ty (Give y) h, refl) h.1)
+      alone_scalar core n w x ty (Give y) b rs sc below v h (term_fits core n is (Inner (side_tells w core (Give y))) (Give y) (next core.table b (SideLine Scalar x ty)) (in_side core.table rs Scalar ty) sc (f.Nowhere ty) (new_line w) (owes_side core w (Give y)) (tells_new core (in_side core.table rs Scalar ty) w refl (right_may s (On kl xl tl l) w)) tt below.1 lits.1 (scalar_vars core n b rs sc x ty (Give y) h v) (scalar_due core b rs x ty (Give y) h, refl) h.1)
   alone_fits core n is w (On Scalar x ty (CaseTerm y bs)) b s (On kl xl tl l) sc below lits v h =
       let rs = right_of s (On kl xl tl l) in
-      alone_scalar core n w x ty (CaseTerm y bs) b rs sc below v h (term_fits core n is (Inner (side_tells w core (CaseTerm y bs))) (CaseTerm y bs) (next core.table b (SideLine Scalar x ty)) (in_side core.table rs Scalar ty) sc (f.Nowhere ty) (new_line w) (owes_side core w (CaseTerm y bs)) (tells_new core (in_side core.table rs Scalar ty) w refl (right_may s (On kl xl tl l) w)) tt below.1 lits (scalar_vars core n b rs sc x ty (CaseTerm y bs) h v) (scalar_due core b rs x ty (CaseTerm y bs) h, refl) h.1)
+      alone_scalar core n w x ty (CaseTerm y bs) b rs sc below v h (term_fits core n is (Inner (side_tells w core (CaseTerm y bs))) (CaseTerm y bs) (next core.table b (SideLine Scalar x ty)) (in_side core.table rs Scalar ty) sc (f.Nowhere ty) (new_line w) (owes_side core w (CaseTerm y bs)) (tells_new core (in_side core.table rs Scalar ty) w refl (right_may s (On kl xl tl l) w)) tt below.1 lits.1 (scalar_vars core n b rs sc x ty (CaseTerm y bs) h v) (scalar_due core b rs x ty (CaseTerm y bs) h, refl) h.1)
   alone_fits core n is w (On Scalar x ty (IfTerm y t u)) b s (On kl xl tl l) sc below lits v h =
       let rs = right_of s (On kl xl tl l) in
-      alone_scalar core n w x ty (IfTerm y t u) b rs sc below v h (term_fits core n is (Inner (side_tells w core (IfTerm y t u))) (IfTerm y t u) (next core.table b (SideLine Scalar x ty)) (in_side core.table rs Scalar ty) sc (f.Nowhere ty) (new_line w) (owes_side core w (IfTerm y t u)) (tells_new core (in_side core.table rs Scalar ty) w refl (right_may s (On kl xl tl l) w)) tt below.1 lits (scalar_vars core n b rs sc x ty (IfTerm y t u) h v) (scalar_due core b rs x ty (IfTerm y t u) h, refl) h.1)
+      alone_scalar core n w x ty (IfTerm y t u) b rs sc below v h (term_fits core n is (Inner (side_tells w core (IfTerm y t u))) (IfTerm y t u) (next core.table b (SideLine Scalar x ty)) (in_side core.table rs Scalar ty) sc (f.Nowhere ty) (new_line w) (owes_side core w (IfTerm y t u)) (tells_new core (in_side core.table rs Scalar ty) w refl (right_may s (On kl xl tl l) w)) tt below.1 lits.1 (scalar_vars core n b rs sc x ty (IfTerm y t u) h v) (scalar_due core b rs x ty (IfTerm y t u) h, refl) h.1)
 
   branches_fit : (core : CoreTree) (n : ℕ) → IsTable core.table → (ns : Needs) (whole bs : Branches) (x : Variable) (ln : Line) → Owes core ns (CaseTerm (a.Variable x) whole) ln
       → ((q : ℕ) → all_known core.table (ended core) whole (named q) ≡ true → all_known core.table (ended core) bs (named q) ≡ true) → (lasts_known core.table (ended core) whole ≡ true → lasts_known core.table (ended core) bs ≡ true)
@@ -581,7 +581,7 @@ mutual
       let later = lines_later core b lines parts.0 in (
         new.0,
         term_fits core n is ns t b inner tc d (arm_line core x.0 k ys t ln) (owes_arm core ns x whole k ys t ln (λ q i. (here q i).0) (λ i. (there i).0) owes) (tells_inner core s inner ln (arm_line core x.0 k ys t ln) refl refl refl tells)
-            (is_part inner t refl) lower.0 lits.0 arm.vars (dest_kept core.table b b sc tc s.destination s.due d arm.keep e) parts.0,
-        branches_fit core n is ns whole bs x ln owes (λ q i. (here q i).1) (λ i. (there i).1) c s sc d tells lower.1 lits.1 (vars_on n b c s.scope sc later v) (dest_kept core.table b c sc sc s.destination s.due d (keep_later b c sc later) e)
+            (is_part inner t refl) lower.0 lits.1.0 arm.vars (dest_kept core.table b b sc tc s.destination s.due d arm.keep e) parts.0,
+        branches_fit core n is ns whole bs x ln owes (λ q i. (here q i).1) (λ i. (there i).1) c s sc d tells lower.1 lits.1.1 (vars_on n b c s.scope sc later v) (dest_kept core.table b c sc sc s.destination s.due d (keep_later b c sc later) e)
             (arms_have_on core.table (arms_of bs) b.bound c.bound later.bound types.1) new.1 parts.1,
       )

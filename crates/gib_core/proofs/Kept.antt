@@ -1,6 +1,6 @@
 -- A line that breaks no rule where each field counts as reached breaks none in the core whose fields are reached, where what it
 -- uses is reached.
-use Rattle.std.proofs.Common.{◌≡◌, ℕ, Bool, true, false, not, ◌&&◌, ◌==◌, ◌||◌, if◌then◌else◌, List, [], ◌∷◌, ◌++◌, map, Some, None, refl, sym, ap, ◌∙◌}
+use Rattle.std.proofs.Common.{◌≡◌, ℕ, Bool, true, false, not, ◌&&◌, ◌||◌, List, [], ◌∷◌, ◌++◌, map, Some, None, refl, sym, ap, ◌∙◌}
 use Rattle.std.proofs.lemmas.Bool.{eq-eqb, not-false, and_from, and_parts, or_parts, or_from, or_left, or_right}
 use Rattle.gib_base.specs.declared.name.Name.{Name}
 use Rattle.gib_types.specs.declared.table.Ty.{Ty}
@@ -16,10 +16,11 @@ use Rattle.gib_core.specs.declared.atom.Kind.TheVariants.{Here, Region, Scalar}
 use Rattle.gib_core.specs.Tree.{FunctionTerm, CoreTree}
 use Rattle.gib_core.specs.Meaning.{function_at}
 use Rattle.gib_core.specs.Met.{Known, Setting, Line, PastLine, SideLine, PrimLine, WriteLine, PointLine, CallLine, GiveLine, CaseLine, IfLine}
-use Rattle.gib_core.specs.Reaching.{is_variable, has_variable, ended_by, reach_function, reach_core}
+use Rattle.gib_core.specs.Reaching.{is_variable, has_variable, ended_by, reach, reach_function, reach_core}
 use Rattle.gib_core.specs.Ending.{Ended}
 use Rattle.gib_core.specs.Rules.{Before, is_bound, is_usable, all_usable, gives_packed, call_fits, any_bound, arm_variables, rules, least}
 use Rattle.gib_core.specs.Reachable.{all_reached}
+use Rattle.gib_core.proofs.Remade.{all_of, at_remade}
 use Rattle.gib_core.proofs.Along.{none_broken, least_none}
 use Rattle.gib_core.proofs.Cased.{reached_where_has}
 use Rattle.gib_core.proofs.Skipped.{Serves}
@@ -52,24 +53,13 @@ variable_append v (x ∷ xs) ys = go (is_variable v x) (variable_append v xs ys)
 -- A function has the same type as before.
 
 packed_same : (mode : AccessMode) (tb : Table) (es : List Ended) (fs : List FunctionTerm) (f : ℕ) → gives_packed (function_at (map (reach_function mode tb es) fs) f) ≡ gives_packed (function_at fs f)
-packed_same mode tb es [] f = refl
-packed_same mode tb es (g ∷ fs) f = go (g.name.0 == f) (packed_same mode tb es fs f)
-  where
-    go : (b : Bool) → gives_packed (function_at (map (reach_function mode tb es) fs) f) ≡ gives_packed (function_at fs f)
-        → gives_packed (if b then Some (reach_function mode tb es g) else function_at (map (reach_function mode tb es) fs) f) ≡ gives_packed (if b then Some g else function_at fs f)
-    go true e = refl
-    go false e = e
+packed_same mode tb es fs f = at_remade (λ b. reach mode tb es [] b.term) gives_packed gives_packed refl fs f (all_of (λ (g : FunctionTerm). gives_packed (Some (reach_function mode tb es g)) ≡ gives_packed (Some g)) (λ g. refl) fs)
 
 fits_same : (mode : AccessMode) (tb : Table) (es : List Ended) (b : Before) (s : Setting) (ks : List Known) (xs : List Atom) (fs : List FunctionTerm) (f : ℕ)
     → call_fits b (scoped s ks) xs (function_at (map (reach_function mode tb es) fs) f) ≡ call_fits b (all_reached s) xs (function_at fs f)
-fits_same mode tb es b s ks xs [] f = refl
-fits_same mode tb es b s ks xs (g ∷ fs) f = go (g.name.0 == f) (fits_same mode tb es b s ks xs fs f)
-  where
-    go : (c : Bool) → call_fits b (scoped s ks) xs (function_at (map (reach_function mode tb es) fs) f) ≡ call_fits b (all_reached s) xs (function_at fs f)
-        → call_fits b (scoped s ks) xs (if c then Some (reach_function mode tb es g) else function_at (map (reach_function mode tb es) fs) f)
-        ≡ call_fits b (all_reached s) xs (if c then Some g else function_at fs f)
-    go true e = refl
-    go false e = e
+fits_same mode tb es b s ks xs fs f =
+    at_remade (λ q. reach mode tb es [] q.term) (call_fits b (all_reached s) xs) (call_fits b (scoped s ks) xs) refl fs f
+    (all_of (λ (g : FunctionTerm). call_fits b (scoped s ks) xs (Some (reach_function mode tb es g)) ≡ call_fits b (all_reached s) xs (Some g)) (λ g. refl) fs)
 
 module _ (mode : AccessMode) (core : CoreTree) (b : Before) (s : Setting) (ks : List Known) where
   -- A line breaks no rule of the core whose fields are reached.

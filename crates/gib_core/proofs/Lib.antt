@@ -4,6 +4,15 @@ pub mod Lining
 pub mod Fronting
 pub mod Inside
 pub mod Marks
+-- The walk on terms, terms changed place by place, and cores whose bodies are made anew.
+pub mod Walks
+pub mod Alike
+pub mod Maps
+pub mod Remade
+-- What a body says of variables, and how often it uses them.
+pub mod Mentioning
+pub mod Listed
+pub mod Tallied
 -- Texts of cores.
 mod Spelling
 pub mod Indented
@@ -17,6 +26,7 @@ pub mod Rising
 -- Truth values, types and judgements; lines one behind another.
 pub mod Facts
 pub mod Along
+pub mod After
 mod Later
 mod Unused
 pub mod Cased
@@ -30,6 +40,7 @@ mod Offered
 mod Onward
 pub mod Suited
 mod Reached
+pub mod PastReaches
 -- Parameters whose ends are known.
 mod Settles
 mod Greatest

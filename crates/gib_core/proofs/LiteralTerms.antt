@@ -20,15 +20,15 @@ Fit f id = (other : ℕ) → other < id → LiteralsFit (f other)
 binding_fits : (f : ℕ → Term) (id : ℕ) (x : Binding) → Fit f id → IsBindingBelow id x → BindingLiterals x → BindLiterals (bind_from f x)
 unfolding Fit
 binding_fits f id (b.Past h k) fit below l = tt
-binding_fits f id (b.One s) fit below l = fit s.term.0 below
-binding_fits f id (b.Par fork s r) fit below l = (fit s.term.0 below.0, fit r.term.0 below.1)
+binding_fits f id (b.One s) fit below l = (tt, fit s.term.0 below)
+binding_fits f id (b.Par fork s r) fit below l = (tt, ((tt, fit s.term.0 below.0), (tt, fit r.term.0 below.1)))
 binding_fits f id (b.Prim x g y z) fit below l = l
 binding_fits f id (b.Reach y by) fit below l = tt
 
 branches_fit : (f : ℕ → Term) (id : ℕ) (bs : List Branch) → Fit f id → AllByRecursion (IsBranchBelow id) bs → BranchLiterals (branches_from f bs)
 unfolding Fit
 branches_fit f id [] fit below = tt
-branches_fit f id (x ∷ bs) fit below = (fit x.term.0 below.0, branches_fit f id bs fit below.1)
+branches_fit f id (x ∷ bs) fit below = (tt, (fit x.term.0 below.0, branches_fit f id bs fit below.1))
 
 node_fits : (f : ℕ → Term) (id : ℕ) (x : Node) → Fit f id → PartsBelow x id → NodeLiterals x → LiteralsFit (layer f (Some x))
 unfolding Fit
@@ -37,8 +37,8 @@ node_fits f id (n.Write h k ss ps) fit below l = l
 node_fits f id (n.Point x) fit below l = tt
 node_fits f id (n.Call g xs) fit below l = l
 node_fits f id (n.Give x) fit below l = l
-node_fits f id (n.Case x bs) fit below l = branches_fit f id bs.items fit below
-node_fits f id (n.If x t u) fit below l = (fit t.0 below.0, fit u.0 below.1)
+node_fits f id (n.Case x bs) fit below l = (tt, branches_fit f id bs.items fit below)
+node_fits f id (n.If x t u) fit below l = (tt, (fit t.0 below.0, fit u.0 below.1))
 
 pub next_fits : (nodes : List Node) (id next : ℕ) (x : Node) → ((other : ℕ) → other < id → LiteralsFit (term_of nodes other)) → Opens nodes id x → NodeLiterals x → next ≡ id + 1
     → (other : ℕ) → other < next → LiteralsFit (term_of nodes other)

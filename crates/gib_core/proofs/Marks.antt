@@ -11,9 +11,10 @@ use Rattle.gib_core.specs.declared.node.Binding.TheVariants as b
 use Rattle.gib_core.specs.declared.node.Branch.{Branch}
 use Rattle.gib_core.specs.declared.node.Node.{Node}
 use Rattle.gib_core.specs.declared.node.Node.TheVariants as n
-use Rattle.gib_core.specs.Tree.{Term, Then, Write, Point, CallTerm, Give, CaseTerm, IfTerm, Bind, Past, One, Both, Prim, Reach, On, Branches, NoBranch, BranchThen}
+use Rattle.gib_core.specs.Tree.{Term, Then, CaseTerm, IfTerm, One, Both, On, BranchThen}
 use Rattle.gib_core.specs.Arena.{IsBindingBelow, IsBranchBelow, PartsBelow, IsArena, Opens, bind_from, branches_from, layer, term_at, term_of}
-use Rattle.gib_core.specs.Marking.{has_call, bind_has_call, branches_have_call, may_fork, mark, mark_bind, mark_branches, with_fork, node_with_fork, IsSet}
+use Rattle.gib_core.specs.Marking.{has_call, bind_has_call, may_fork, mark_one, mark, with_fork, node_with_fork, IsSet}
+use Rattle.gib_core.specs.Walk.{map_bind, map_branches, as_it_is}
 use Rattle.gib_core.specs.declared.node.TermId.{TermId}
 use Rattle.gib_core.proofs.Facts.{Test, holds, fails, test}
 use Rattle.gib_core.proofs.Layers.{layer_same_if, term_of-node}
@@ -30,28 +31,6 @@ pub call_here : (terms : List Node) (id last : ℕ) (binding : Binding) (rest : 
 call_here terms id last binding rest node h is yes' =
     sym (h.same ∙ ap has_call (h.opens.0 ∙ is (term_of terms)) ∙ ap (λ a. a || has_call (term_of terms rest)) yes')
 
--- Marked terms contain a call where they did.
-mutual
-  pub marked_call : (t : Term) → has_call (mark t) ≡ has_call t
-  marked_call (Then b rest) = λ i. bind_marked_call b i || marked_call rest i
-  marked_call (Write h k ss ps) = refl
-  marked_call (Point x) = refl
-  marked_call (CallTerm f xs) = refl
-  marked_call (Give x) = refl
-  marked_call (CaseTerm x bs) = branches_marked_call bs
-  marked_call (IfTerm x t u) = λ i. marked_call t i || marked_call u i
-
-  bind_marked_call : (b : Bind) → bind_has_call (mark_bind b) ≡ bind_has_call b
-  bind_marked_call (Past h k) = refl
-  bind_marked_call (One (On kind x ty t)) = marked_call t
-  bind_marked_call (Both fork (On kind x ty t) (On other y uy u)) = λ i. marked_call t i || marked_call u i
-  bind_marked_call (Prim x f y z) = refl
-  bind_marked_call (Reach y by) = refl
-
-  branches_marked_call : (bs : Branches) → branches_have_call (mark_branches bs) ≡ branches_have_call bs
-  branches_marked_call NoBranch = refl
-  branches_marked_call (BranchThen k xs t rest) = λ i. marked_call t i || branches_marked_call rest i
-
 -- Nodes that are the same below a number have the same terms there.
 same_below : (ns ms : List Node) (k : ℕ) → IsArena ns → ((id : ℕ) → id < k → slice_get ms id ≡ slice_get ns id) → (l id : ℕ) → id < k → term_at l ms id ≡ term_at l ns id
 unfolding term_at
@@ -65,19 +44,20 @@ same_terms ns ms k arena e id lt = same_below ns ms k arena e (suc id) id lt
 
 -- A node's layer over marked parts, with its mark set.
 
-branches_marked : (f g : ℕ → Term) (id : ℕ) (bs : List Branch) → AllByRecursion (IsBranchBelow id) bs → ((a : ℕ) → a < id → g a ≡ mark (f a)) → branches_from g bs ≡ mark_branches (branches_from f bs)
+branches_marked : (f g : ℕ → Term) (id : ℕ) (bs : List Branch) → AllByRecursion (IsBranchBelow id) bs → ((a : ℕ) → a < id → g a ≡ mark (f a)) → branches_from g bs ≡ map_branches mark_one as_it_is (branches_from f bs)
 branches_marked f g id [] h e = refl
 branches_marked f g id (x ∷ bs) h e = (λ k. BranchThen x.constructor x.variables.items (e x.term.0 h.0 k) (branches_marked f g id bs h.1 e k))
 
 bind_marked : (f g : ℕ → Term) (id : ℕ) (x : Binding) (fork : Bool) → IsBindingBelow id x → ((a : ℕ) → a < id → g a ≡ mark (f a)) → fork ≡ Rattle.gib_core.specs.Marking.bind_may_fork (bind_from g x)
-    → bind_from g (with_fork fork x) ≡ mark_bind (bind_from f x)
+    → bind_from g (with_fork fork x) ≡ mark_one (map_bind mark_one as_it_is (bind_from f x))
 bind_marked f g id (b.Past h k) fork below e m = refl
 bind_marked f g id (b.One s) fork below e m = (λ k. One (On s.kind s.variable s.ty (e s.term.0 below k)))
 bind_marked f g id (b.Par old s r) fork below e m =
-    let l : has_call (g s.term.0) ≡ has_call (f s.term.0) = ap has_call (e s.term.0 below.0) ∙ marked_call (f s.term.0) in
-    let q : has_call (g r.term.0) ≡ has_call (f r.term.0) = ap has_call (e r.term.0 below.1) ∙ marked_call (f r.term.0) in
-    let mm : fork ≡ has_call (f s.term.0) && has_call (f r.term.0) = m ∙ (λ i. l i && q i) in
-    (λ k. Both (mm k) (On s.kind s.variable s.ty (e s.term.0 below.0 k)) (On r.kind r.variable r.ty (e r.term.0 below.1 k)))
+    ap (λ c. Both c (On s.kind s.variable s.ty (g s.term.0)) (On r.kind r.variable r.ty (g r.term.0))) m
+    ∙ (λ k.
+    let t = e s.term.0 below.0 k in
+    let u = e r.term.0 below.1 k in
+    Both (has_call t && has_call u) (On s.kind s.variable s.ty t) (On r.kind r.variable r.ty u))
 bind_marked f g id (b.Prim x op y z) fork below e m = refl
 bind_marked f g id (b.Reach y by) fork below e m = refl
 

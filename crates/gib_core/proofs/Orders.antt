@@ -267,8 +267,8 @@ mutual
       let p = runs_apart n m (binders t) (binders u) runs in
       let up = runs_up n p.0 (binders t) p.1 in (
         atom_in n s x (not-false (is_usable s x) r.1) l.0 sc,
-        (n, omega arith, term_in core is t b (in_branch s) n p.0 p.1 l.1 hd sc parts.0),
-        (p.0, up, term_in core is u (next_all core.table b lines) (in_branch s) p.0 m p.2 l.2 hd (scope_more n p.0 s.scope up sc) parts.1),
+        (n, omega arith, term_in core is t b (in_branch s) n p.0 p.1 l.1.0 hd sc parts.0),
+        (p.0, up, term_in core is u (next_all core.table b lines) (in_branch s) p.0 m p.2 l.1.1 hd (scope_more n p.0 s.scope up sc) parts.1),
       )
 
   bind_in : (core : CoreTree) → IsTable core.table → (k : Bind) (b : Before) (s : Setting) (n m : ℕ) → Runs n (bind_binders k) m → IsNaturalBind k → HeadFound core.table s.destination → InScope n s.scope
@@ -280,7 +280,7 @@ mutual
   bind_in core is (One (On kind x ty t)) b s n m runs l hd sc h =
       let up = runs_up (n + 1) m (binders t) runs.1 in
       let inner = scope_inside core.table (n + 1) s kind ty (scope_more n (n + 1) s.scope (omega arith) sc) in
-      let o = term_in core is t (next core.table b (Rattle.gib_core.specs.Met.SideLine kind x ty)) (in_side core.table s kind ty) (n + 1) m runs.1 l (head_inside core.table s kind ty) inner h.1 in
+      let o = term_in core is t (next core.table b (Rattle.gib_core.specs.Met.SideLine kind x ty)) (in_side core.table s kind ty) (n + 1) m runs.1 l.1 (head_inside core.table s kind ty) inner h.1 in
       record { ordered = side_in core.table n kind x ty t runs.0 o; next = omega (arith, runs.0, up); head = head_stays core.table kind x s.destination hd; scope = scope_bound n m x s.scope runs.0 up sc }
   bind_in core is (Both fork (On kl xl tl t) (On kr xr tr u)) b s n m runs l hd sc h =
       let ls = left_of s (On kr xr tr u) in
@@ -293,9 +293,9 @@ mutual
       let up' = runs_up (p.0 + 1) m (binders u) p.2.1 in
       let scl = scope_inside core.table (n + 1) ls kl tl (scope_more n (n + 1) s.scope (omega arith) sc) in
       let scr = scope_inside core.table (p.0 + 1) rs kr tr (scope_more n (p.0 + 1) s.scope (omega (arith, up)) sc) in
-      let ol = term_in core is t (next core.table c (Rattle.gib_core.specs.Met.SideLine kl xl tl)) (in_side core.table ls kl tl) (n + 1) p.0 p.1.1 l.0 (head_inside core.table ls kl tl) scl parts.0.1 in
+      let ol = term_in core is t (next core.table c (Rattle.gib_core.specs.Met.SideLine kl xl tl)) (in_side core.table ls kl tl) (n + 1) p.0 p.1.1 l.1.0.1 (head_inside core.table ls kl tl) scl parts.0.1 in
       let z = next_all core.table c lines in
-      let or = term_in core is u (next core.table z (Rattle.gib_core.specs.Met.SideLine kr xr tr)) (in_side core.table rs kr tr) (p.0 + 1) m p.2.1 l.1 (head_inside core.table rs kr tr) scr parts.1.1 in
+      let or = term_in core is u (next core.table z (Rattle.gib_core.specs.Met.SideLine kr xr tr)) (in_side core.table rs kr tr) (p.0 + 1) m p.2.1 l.1.1.1 (head_inside core.table rs kr tr) scr parts.1.1 in
       record {
         ordered = (side_in core.table n kl xl tl t p.1.0 ol, (p.0, omega (arith, p.1.0, up), side_in core.table p.0 kr xr tr u p.2.0 or));
         next = omega (arith, p.2.0, up');
@@ -329,9 +329,9 @@ mutual
       let f = fields_in n r.0 xs r.1 in
       let lines = met core.table (in_arm core.table s k xs) t in
       let parts = built_apart core b lines (met_branches core.table s bs) h in
-      let o = term_in core is t b (in_arm core.table s k xs) r.0 q.0 q.1 l.0 hd (scope_arm n r.0 k xs (fields_at core.table k.0) None s.scope r.1 sc) parts.0 in (
+      let o = term_in core is t b (in_arm core.table s k xs) r.0 q.0 q.1 l.1.0 hd (scope_arm n r.0 k xs (fields_at core.table k.0) None s.scope r.1 sc) parts.0 in (
         (n, le, f.0, found_in core.table is k (omega (arith, is_k, rows)), (r.0, f.1, o)),
-        branches_in core is bs (next_all core.table b lines) s low q.0 m (suc first) count (omega (arith, le, up, up')) q.2 l.1 hd (scope_more n q.0 s.scope (omega (arith, up, up')) sc) parts.1 p.1 (omega (arith, rows)),
+        branches_in core is bs (next_all core.table b lines) s low q.0 m (suc first) count (omega (arith, le, up, up')) q.2 l.1.1 hd (scope_more n q.0 s.scope (omega (arith, up, up')) sc) parts.1 p.1 (omega (arith, rows)),
       )
 
 -- Bodies.

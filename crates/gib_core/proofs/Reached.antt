@@ -21,7 +21,8 @@ use Rattle.gib_core.proofs.Offered.{AreListed, listed_left, listed_right, listed
 use Rattle.gib_core.proofs.Awaits.{is_later, but, AreTold, Awaits, awaits_none, told_then, told_end, Stepped, step, waiting, left_there}
 use Rattle.gib_core.proofs.EndedSame.{ended_same}
 use Rattle.gib_core.proofs.Skipped.{Serves}
-use Rattle.gib_core.proofs.Onward.{arms_same, reaches_next, next_same, bind_next}
+use Rattle.gib_core.proofs.PastReaches.{arms_same}
+use Rattle.gib_core.proofs.Onward.{next_same, arm_next, bind_next}
 use Rattle.gib_core.proofs.Kept.{scoped, past_kept, prim_kept, write_kept, point_kept, call_kept, give_kept, case_kept, if_kept}
 use Rattle.gib_core.proofs.Suited.{Suits, ArmsSuit, AreFine, IsKept, IsOut, out_of, others_behind, awaits_behind, serves_more, scoped_behind, cased_after, then_built, rest_suits, side_from, both_from, arm_from, rest_arms, first_arm, case_arms}
 
@@ -226,7 +227,7 @@ module _ (mode : AccessMode) (core : CoreTree) where
           differs = λ y n. (none_split y xs ys (h.differs y n)).1;
         } in
         then_built mode core b xs (met core.table (in_arm core.table (scoped s ks) k vs) (prepend (reaches m es t ps) (reach m core.table es fs t))) (met_branches core.table (scoped s ks) (reach_branches m core.table es rest))
-        (reaches_next core.table es m t (reach m core.table es fs t) ps (in_arm core.table (scoped s ks) k vs) b after (λ s'. next_same core.table es m fs t inner s' b))
+        (arm_next core.table es m fs t ps inner (in_arm core.table (scoped s ks) k vs) b)
         (arm_from mode core m w k vs t s ks b out first (first_arm vs (arm_variables (arms_of rest)) s b arms) rs.0 (listed_left m (all_offsets mode core) own (inner_offsets ++ rest_offsets) l)
         (built m w fs t (listed_left m (all_offsets mode core) inner_offsets rest_offsets further)))
         (branches_built m w rest (listed_right m (all_offsets mode core) inner_offsets rest_offsets further) s ks after out second (rest_arms core k vs t (arm_variables (arms_of rest)) s b arms rs.0) rs.1)

@@ -1,7 +1,6 @@
 -- What the terms of a core are met with where its fields are reached, and how that goes on from a term to its parts.
 use Rattle.std.proofs.Common.{◌≡◌, inl, ⊎_elim, ℕ, suc, Bool, true, false, ◌==◌, ◌||◌, ◌&&◌, if◌then◌else◌, List, [], ◌∷◌, ◌++◌, Option, Some, None, refl, sym, ap, ◌∙◌, subst}
 use Rattle.std.proofs.lemmas.Bool.{eq-eqb, both_ways, or_parts, or_from, or_left, or_right, or_cases, false_from_ne_true, true_from_ne_false, and_parts}
-use Rattle.gib_base.specs.declared.name.Name.{Name}
 use Rattle.gib_types.specs.declared.table.Ty.{Ty}
 use Rattle.gib_types.specs.declared.table.ConId.{ConId}
 use Rattle.gib_types.specs.Table.{Table, fields_at}
@@ -14,10 +13,12 @@ use Rattle.gib_core.specs.declared.atom.Kind.{Kind}
 use Rattle.gib_core.specs.declared.atom.Kind.TheVariants.{Here, Region, Scalar}
 use Rattle.gib_core.specs.Tree.{Term, Then, Write, Point, CallTerm, Give, CaseTerm, IfTerm, Bind, Past, One, Both, Prim, Reach, On, prepend, CoreTree}
 use Rattle.gib_core.specs.Ending.{Ended, is_telling, has_ended, call_ends}
-use Rattle.gib_core.specs.Met.{Known, Setting, at, SideLine, CaseLine, Met, known, reached, with_arm, in_side, in_arm, left_of, right_of, behind, call_too, packed_field, met, met_bind, met_side}
+use Rattle.gib_core.specs.Met.{Known, Setting, at, SideLine, CaseLine, Met, known, reached, with_arm, in_side, in_arm, left_of, right_of, behind, packed_field, met, met_bind, met_side}
 use Rattle.gib_core.specs.Reaching.{is_variable, has_variable, uses, bind_uses, Later, told_first, not_now, laters, ends_from, in_par, reaches, offset_of, all_offsets, packed_variables, ended_by, reach, reach_bind, reach_side, reach_core}
 use Rattle.gib_core.specs.Rules.{Before, further, is_among, is_bound, is_outside, is_reached, one_tells, arm_variables, any_bound, rules, least, next, next_all, LinesAreBuilt}
 use Rattle.gib_core.specs.Reachable.{all_reached, LinesAreReachable}
+use Rattle.gib_core.proofs.Alike.{alike_call}
+use Rattle.gib_core.proofs.PastReaches.{reach_alike}
 use Rattle.gib_core.proofs.Along.{same_variable, AreDistinct, arms_unbound, arms_distinct, distinct_split, none_broken, built_append, reachable_split, among_append, line_bound, NoneBinds, none_split, stays_bound, never_bound, bound_once}
 use Rattle.gib_core.proofs.Cased.{has, has_arm, in_side_scope, in_side_others, reaches_none, case_keeps, StaysUncased, out_behind, uncased, bind_uncased, side_uncased}
 use Rattle.gib_core.proofs.Skipped.{arm_started, ReachedOr, arm_reached, known_past, known_past_arm, Serves, inside}
@@ -58,18 +59,9 @@ others_behind (Both fork (On kind x ty t) (On other z uy u)) s = refl
 others_behind (Prim x f v w) s = refl
 others_behind (Reach y by) s = refl
 
-call_same : (m : AccessMode) (tb : Table) (es : List Ended) (t : Term) (cs : List (Name × List Atom)) → call_too (reach m tb es [] t) cs ≡ call_too t cs
-call_same m tb es (Then bind t) cs = refl
-call_same m tb es (Write h k ss ps) cs = refl
-call_same m tb es (Point x) cs = refl
-call_same m tb es (CallTerm f xs) cs = refl
-call_same m tb es (Give x) cs = refl
-call_same m tb es (CaseTerm x branches) cs = refl
-call_same m tb es (IfTerm x t u) cs = refl
-
 pub scoped_behind : (m : AccessMode) (tb : Table) (es : List Ended) (bind : Bind) (s : Setting) (ks : List Known) → behind (scoped s ks) (reach_bind m tb es bind) ≡ scoped (behind s bind) (behind (scoped s ks) bind).scope
 scoped_behind m tb es (Past h k) s ks = refl
-scoped_behind m tb es (One (On kind x ty t)) s ks = λ i. record (scoped (behind s (One (On kind x ty t))) (reached x ∷ ks)) { calls = call_same m tb es t s.calls i }
+scoped_behind m tb es (One (On kind x ty t)) s ks = λ i. record (scoped (behind s (One (On kind x ty t))) (reached x ∷ ks)) { calls = alike_call (reach_alike m tb es t) s.calls i }
 scoped_behind m tb es (Both fork (On kind x ty t) (On other z uy u)) s ks = refl
 scoped_behind m tb es (Prim x f v w) s ks = refl
 scoped_behind m tb es (Reach y by) s ks = refl

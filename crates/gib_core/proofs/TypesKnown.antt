@@ -197,8 +197,8 @@ bind_on core is (t.Past x c) sc d ln P h f g k = record {
   rest = f.4;
 }
 bind_on core is (t.One s) sc d ln P h f g k = side_on core (length core.table.types) ln.within s sc d ln P h f g k
-bind_on core is (t.Both false l r) sc d ln P h f g k = both_on core (length core.table.types) (within_par ln.within) (λ ln'. within_par ln.within) l r sc d ln P h.0 h.1 f.1 g k
-bind_on core is (t.Both true l r) sc d ln P h f g k = both_on core (length core.table.types) (within_par ln.within) (λ ln'. within_par ln'.within) l r sc d ln P h.0 h.1 f.2 g k
+bind_on core is (t.Both false l r) sc d ln P h f g k = both_on core (length core.table.types) (within_par ln.within) (λ ln'. within_par ln.within) l r sc d ln P h.1.0 h.1.1 f.1 g k
+bind_on core is (t.Both true l r) sc d ln P h f g k = both_on core (length core.table.types) (within_par ln.within) (λ ln'. within_par ln'.within) l r sc d ln P h.1.0 h.1.1 f.2 g k
 bind_on core is (t.Prim x o y z) sc d ln P h f g k = record {
   line = ln;
   scope = put sc x.0 (Scalar (operator_type o));
@@ -273,11 +273,11 @@ module _ (core : CoreTree) (is : IsTable core.table) (sg : AllByRecursion (λ (f
         let lt = tree_below many (sc f.1.variable.0) f.0 (g f.1.variable.0) f.1.sort in
         let r = branches_told ns bs f.1.variable.0 (put sc f.1.variable.0 (AtHead f.0)) d ln f.3 (put_below many sc f.1.variable.0 (AtHead f.0) g lt) k in
         let one = is.inhabited f.0 lt in
-        record { types = r.0; due = r.1 one.0 (f.2 one.0 one.1) }
+        record { types = (tt, r.0); due = r.1 one.0 (f.2 one.0 one.1) }
     term_told ns (t.IfTerm x u v) sc d ln f g k =
         let a = term_told ns u sc d ln f.1 g k in
         let b = term_told ns v sc d ln f.2 g k in
-        record { types = (a.types, b.types); due = a.due }
+        record { types = (tt, (a.types, b.types)); due = a.due }
 
     bind_told : (b : Bind) (sc : Scope) (d : Dest) (ln : Line) → BindFits core b sc d ln anywhere → IsScopeBelow many sc → IsDestBelow many d → BindDeclared many b
     bind_told (t.Past x c) sc d ln f g k = tt
@@ -286,12 +286,12 @@ module _ (core : CoreTree) (is : IsTable core.table) (sg : AllByRecursion (λ (f
         let w = within_par ln.within in
         let hl = side_told w l sc d ln (side_alone core w l sc d ln (λ sc' d' ln'. SideFits core w r sc' d' ln' anywhere) f.1) g k in
         let a = side_on core many w l sc d ln (λ sc' d' ln'. SideFits core w r sc' d' ln' anywhere) hl f.1 g k in
-        (hl, side_told w r a.scope a.dest a.line a.rest a.scope_below a.dest_below)
+        (tt, (hl, side_told w r a.scope a.dest a.line a.rest a.scope_below a.dest_below))
     bind_told (t.Both true l r) sc d ln f g k =
         let w = within_par ln.within in
         let hl = side_told w l sc d ln (side_alone core w l sc d ln (λ sc' d' ln'. SideFits core (within_par ln'.within) r sc' d' ln' anywhere) f.2) g k in
         let a = side_on core many w l sc d ln (λ sc' d' ln'. SideFits core (within_par ln'.within) r sc' d' ln' anywhere) hl f.2 g k in
-        (hl, side_told (within_par a.line.within) r a.scope a.dest a.line a.rest a.scope_below a.dest_below)
+        (tt, (hl, side_told (within_par a.line.within) r a.scope a.dest a.line a.rest a.scope_below a.dest_below))
     bind_told (t.Prim x o y z) sc d ln f g k = tt
     bind_told (t.Reach y access) sc d ln f g k = tt
 
@@ -312,7 +312,7 @@ module _ (core : CoreTree) (is : IsTable core.table) (sg : AllByRecursion (λ (f
     branches_told ns (t.BranchThen c ys u bs) x sc d ln f g k =
         let a = term_told ns u (arm_scope x c.0 1 None (fields_at core.table c.0) ys sc) d (arm_line core x c ys u ln) f.1 (arm_below many x c.0 1 None (fields_at core.table c.0) ys sc (fields_below core.table is c.0) g) k in
         let b = branches_told ns bs x sc d ln f.2 g k in
-        ((a.types, b.0), λ c' e. a.due)
+        ((tt, (a.types, b.0)), λ c' e. a.due)
 
 result_below : (n : ℕ) (ty : Ty) → IsDestBelow n (dest_of ty)
 result_below n Whole = tt

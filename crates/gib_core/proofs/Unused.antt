@@ -13,12 +13,14 @@ use Rattle.gib_core.specs.declared.atom.Kind.TheVariants.{Here, Region, Scalar}
 use Rattle.gib_core.specs.Tree.{Term, Then, Write, Point, CallTerm, Give, CaseTerm, IfTerm, Bind, Past, One, Both, Prim, Reach, Side, On, Branches, NoBranch, BranchThen, variable_of, CoreTree}
 use Rattle.gib_core.specs.Meaning.{function_at}
 use Rattle.gib_core.specs.Reaching.{is_variable, has_variable, uses, bind_uses, side_uses, branches_use}
-use Rattle.gib_core.specs.Met.{Line, CaseLine, ParLine, SideLine, PrimLine, IfLine, Met, Setting, at, behind, in_side, in_arm, in_branch, left_of, right_of, arms_of, met, met_bind, met_side, met_branches, behind_side}
+use Rattle.gib_core.specs.Met.{Line, CaseLine, ParLine, SideLine, PrimLine, IfLine, Setting, at, behind, in_side, in_arm, in_branch, left_of, right_of, arms_of, met, met_bind, met_side, met_branches, behind_side}
 use Rattle.gib_core.specs.Rules.{Before, is_among, next, next_all, cases_on, LinesAreBuilt, any_other, is_other, all_usable, may_write, are_scalars, is_empty, is_usable, has_type, gives_packed, call_fits, is_nowhere}
-use Rattle.gib_core.specs.Fits.{cased, bind_cased, side_cased, branches_cased, is_of}
+use Rattle.gib_core.specs.Fits.{entry_cased, cased, is_of}
+use Rattle.gib_core.specs.Walk.{Entry, AtLine, AtArm}
+use Rattle.gib_core.proofs.Walks.{walk_joins}
+use Rattle.gib_core.proofs.After.{in_turn, step, after_is}
 use Rattle.gib_core.proofs.Facts.{Test, holds, fails, test, same_variable, least_none}
 use Rattle.gib_core.proofs.Later.{case_facts, prim_facts, built_apart}
-use Rattle.gib_core.proofs.Along.{next_append}
 
 -- No atom is another side's variable.
 
@@ -131,17 +133,6 @@ cased_kept (Rattle.gib_core.specs.Met.CallLine f xs) cs y h = h
 cased_kept (Rattle.gib_core.specs.Met.GiveLine x) cs y h = h
 cased_kept (IfLine x) cs y h = h
 
-pub cased_on : (table : Table) (b : Before) (ms : List Met) (y : Variable) → is_among b.cased y ≡ true → is_among (next_all table b ms).cased y ≡ true
-cased_on table b [] y h = h
-cased_on table b (m ∷ ms) y h = cased_on table (next table b m.line) ms y (cased_kept m.line b.cased y h)
-
--- The one list of lines, or the other one.
-first_cased : (table : Table) (b : Before) (ms ns : List Met) (y : Variable) → is_among (next_all table b ms).cased y ≡ true → is_among (next_all table b (ms ++ ns)).cased y ≡ true
-first_cased table b ms ns y h = subst (λ (c : Before). is_among c.cased y ≡ true) (sym (next_append table b ms ns)) (cased_on table (next_all table b ms) ns y h)
-
-second_cased : (table : Table) (b : Before) (ms ns : List Met) (y : Variable) → is_among (next_all table (next_all table b ms) ns).cased y ≡ true → is_among (next_all table b (ms ++ ns)).cased y ≡ true
-second_cased table b ms ns y h = subst (λ (c : Before). is_among c.cased y ≡ true) (sym (next_append table b ms ns)) h
-
 -- Which of two.
 pub data Either (p q : Bool) : Type 0 where
   left : p ≡ true → Either p q
@@ -159,49 +150,41 @@ subject_cased (a.Whole z) arms cs q e = absurd cc
 subject_cased (a.Truth z) arms cs q e = absurd cc
 subject_cased (a.Variable x) arms cs q e = or_left (x.0 == q.0) (is_among cs q) (turned q.0 x.0 e)
 
-mutual
-  pub cased_before : (table : Table) (t : Term) (b : Before) (s : Setting) (q : Variable) → cased t q.0 ≡ true → is_among (next_all table b (met table s t)).cased q ≡ true
-  cased_before table (Then k rest) b s q e =
-      elim (either (bind_cased k q.0) (cased rest q.0) e) [
-        | left h ↦ first_cased table b (met_bind table s k) (met table (behind s k) rest) q (bind_before table k b s q h)
-        | right h ↦ second_cased table b (met_bind table s k) (met table (behind s k) rest) q (cased_before table rest (next_all table b (met_bind table s k)) (behind s k) q h)
-      ]
-  cased_before table (Write h k ss ps) b s q e = absurd cc
-  cased_before table (Point x) b s q e = absurd cc
-  cased_before table (CallTerm f xs) b s q e = absurd cc
-  cased_before table (Give x) b s q e = absurd cc
-  cased_before table (CaseTerm x bs) b s q e =
-      let c = next table b (CaseLine x (arms_of bs)) in
-      elim (either (is_of x q.0) (branches_cased bs q.0) e) [
-        | left h ↦ cased_on table c (met_branches table s bs) q (subject_cased x (arms_of bs) b.cased q h)
-        | right h ↦ branches_before table bs c s q h
-      ]
-  cased_before table (IfTerm x t u) b s q e =
-      let c = next table b (IfLine x) in
-      elim (either (cased t q.0) (cased u q.0) e) [
-        | left h ↦ first_cased table c (met table (in_branch s) t) (met table (in_branch s) u) q (cased_before table t c (in_branch s) q h)
-        | right h ↦ second_cased table c (met table (in_branch s) t) (met table (in_branch s) u) q (cased_before table u (next_all table c (met table (in_branch s) t)) (in_branch s) q h)
-      ]
+-- What an entry or a term does where a case is on the variable: the variable stands behind it; and what stood before still does.
+record Marks (q : Variable) (found : Bool) (go : Before → Before) : Type 0 where
+  pub here : found ≡ true → (b : Before) → is_among (go b).cased q ≡ true
+  pub kept : (b : Before) → is_among b.cased q ≡ true → is_among (go b).cased q ≡ true
 
-  bind_before : (table : Table) (k : Bind) (b : Before) (s : Setting) (q : Variable) → bind_cased k q.0 ≡ true → is_among (next_all table b (met_bind table s k)).cased q ≡ true
-  bind_before table (Past h k) b s q e = absurd cc
-  bind_before table (One side) b s q e = side_before table side b s q e
-  bind_before table (Both fork l r) b s q e =
-      let c = next table b ParLine in
-      elim (either (side_cased l q.0) (side_cased r q.0) e) [
-        | left h ↦ first_cased table c (met_side table (left_of s r) l) (met_side table (right_of s l) r) q (side_before table l c (left_of s r) q h)
-        | right h ↦ second_cased table c (met_side table (left_of s r) l) (met_side table (right_of s l) r) q (side_before table r (next_all table c (met_side table (left_of s r) l)) (right_of s l) q h)
-      ]
-  bind_before table (Prim x f y z) b s q e = absurd cc
-  bind_before table (Reach y by) b s q e = absurd cc
+entry_marks : (table : Table) (q : Variable) (l : Entry) → entry_cased q.0 l ≡ true → (b : Before) → is_among (step table l b).cased q ≡ true
+entry_marks table q (AtLine (CaseLine x arms)) e b = subject_cased x arms b.cased q e
+entry_marks table q (AtLine (Rattle.gib_core.specs.Met.PastLine h k)) e b = absurd cc
+entry_marks table q (AtLine (SideLine kind x ty)) e b = absurd cc
+entry_marks table q (AtLine ParLine) e b = absurd cc
+entry_marks table q (AtLine (PrimLine x f v w)) e b = absurd cc
+entry_marks table q (AtLine (Rattle.gib_core.specs.Met.ReachLine x by)) e b = absurd cc
+entry_marks table q (AtLine (Rattle.gib_core.specs.Met.WriteLine h k ss ps)) e b = absurd cc
+entry_marks table q (AtLine (Rattle.gib_core.specs.Met.PointLine x)) e b = absurd cc
+entry_marks table q (AtLine (Rattle.gib_core.specs.Met.CallLine f xs)) e b = absurd cc
+entry_marks table q (AtLine (Rattle.gib_core.specs.Met.GiveLine x)) e b = absurd cc
+entry_marks table q (AtLine (IfLine x)) e b = absurd cc
+entry_marks table q (AtArm k xs) e b = absurd cc
 
-  side_before : (table : Table) (side : Side) (b : Before) (s : Setting) (q : Variable) → side_cased side q.0 ≡ true → is_among (next_all table b (met_side table s side)).cased q ≡ true
-  side_before table (On kind x ty t) b s q e = cased_before table t (next table b (SideLine kind x ty)) (in_side table s kind ty) q e
+entry_keeps : (table : Table) (q : Variable) (l : Entry) (b : Before) → is_among b.cased q ≡ true → is_among (step table l b).cased q ≡ true
+entry_keeps table q (AtLine l) b h = cased_kept l b.cased q h
+entry_keeps table q (AtArm k xs) b h = h
 
-  branches_before : (table : Table) (bs : Branches) (b : Before) (s : Setting) (q : Variable) → branches_cased bs q.0 ≡ true → is_among (next_all table b (met_branches table s bs)).cased q ≡ true
-  branches_before table NoBranch b s q e = absurd cc
-  branches_before table (BranchThen k ys t bs) b s q e =
-      elim (either (cased t q.0) (branches_cased bs q.0) e) [
-        | left h ↦ first_cased table b (met table (in_arm table s k ys) t) (met_branches table s bs) q (cased_before table t b (in_arm table s k ys) q h)
-        | right h ↦ second_cased table b (met table (in_arm table s k ys) t) (met_branches table s bs) q (branches_before table bs (next_all table b (met table (in_arm table s k ys) t)) s q h)
-      ]
+two_marks : (q : Variable) (f g : Bool) (go go' : Before → Before) → Marks q f go → Marks q g go' → Marks q (f || g) (in_turn go go')
+two_marks q f g go go' m n = record {
+  here = λ e b. elim (either f g e) [
+    | left h ↦ n.kept (go b) (m.here h b)
+    | right h ↦ n.here h (go b)
+  ];
+  kept = λ b h. n.kept (go b) (m.kept b h);
+}
+
+-- A variable that a term has a case on stands behind it.
+pub cased_before : (table : Table) (t : Term) (b : Before) (s : Setting) (q : Variable) → cased t q.0 ≡ true → is_among (next_all table b (met table s t)).cased q ≡ true
+cased_before table t b s q e =
+    let marks = walk_joins {R = Marks q} {op = (◌||◌)} {e = false} {g = entry_cased q.0} {op' = in_turn} {e' = λ c. c} {g' = step table}
+    (record { none = record { here = λ n c. absurd cc; kept = λ c h. h }; two = λ f g go go' m n. two_marks q f g go go' m n; one = λ l. record { here = entry_marks table q l; kept = entry_keeps table q l } }) t in
+    subst (λ (c : Before). is_among c.cased q ≡ true) (sym (after_is table t s b)) (marks.here e b)

@@ -17,6 +17,8 @@ use Rattle.gib_core.specs.declared.atom.Access.TheVariants as by
 use Rattle.gib_core.specs.Tree as t
 use Rattle.gib_core.specs.Tree.{Term, Bind, Side, Branches, FunctionTerm, CoreTree, var, variable_of}
 use Rattle.gib_core.specs.Meaning.{function_at}
+use Rattle.gib_core.specs.Met.{CaseLine}
+use Rattle.gib_core.specs.Walk.{Entry, AtLine, some, walk_bind, walk_side, walk_branches}
 use Rattle.gib_core.specs.Reaching.{side_uses}
 use Rattle.gib_core.specs.Numbering.{binders}
 use Rattle.gib_core.specs.Ending.{Within, within_par, within_function, within_main, ended, has_ended, call_ends, last_packed}
@@ -120,33 +122,23 @@ is_of (a.Variable x) q = q == x.0
 is_of (a.Whole z) q = false
 is_of (a.Truth b) q = false
 
-abbrev mutual
-  -- A term has a case on the variable, itself or in a term that is nested in it.
-  pub cased : Term → ℕ → Bool
-  cased (t.Then b u) q = bind_cased b q || cased u q
-  cased (t.Write h k ss ps) q = false
-  cased (t.Point x) q = false
-  cased (t.CallTerm f xs) q = false
-  cased (t.Give x) q = false
-  cased (t.CaseTerm x bs) q = is_of x q || branches_cased bs q
-  cased (t.IfTerm x u v) q = cased u q || cased v q
+-- An entry is a case on the variable.
+abbrev pub entry_cased : ℕ → Entry → Bool
+entry_cased q (AtLine (CaseLine x arms)) = is_of x q
+entry_cased q l = false
 
-  -- So has a binding.
-  pub bind_cased : Bind → ℕ → Bool
-  bind_cased (t.Past h k) q = false
-  bind_cased (t.One s) q = side_cased s q
-  bind_cased (t.Both fork l r) q = side_cased l q || side_cased r q
-  bind_cased (t.Prim x f y z) q = false
-  bind_cased (t.Reach y access) q = false
+-- A term has a case on the variable, itself or in a term that is nested in it; so has a binding, a side, branches.
+abbrev pub cased : Term → ℕ → Bool
+cased t q = some (entry_cased q) t
 
-  -- So has the term of a side.
-  pub side_cased : Side → ℕ → Bool
-  side_cased (t.On kind x ty u) q = cased u q
+abbrev pub bind_cased : Bind → ℕ → Bool
+bind_cased b q = walk_bind (◌||◌) false (entry_cased q) b
 
-  -- So has a branch.
-  pub branches_cased : Branches → ℕ → Bool
-  branches_cased t.NoBranch q = false
-  branches_cased (t.BranchThen k xs u bs) q = cased u q || branches_cased bs q
+abbrev pub side_cased : Side → ℕ → Bool
+side_cased s q = walk_side (◌||◌) false (entry_cased q) s
+
+abbrev pub branches_cased : Branches → ℕ → Bool
+branches_cased bs q = walk_branches (◌||◌) false (entry_cased q) bs
 
 -- The atom is usable at the type.
 abbrev pub AtomFits : Scope → Atom → Ty → Type 0

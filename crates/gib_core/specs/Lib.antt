@@ -11,9 +11,12 @@ pub mod EndedSet
 pub mod NamedFunctions
 pub mod Reaching
 pub mod Met
+pub mod Walk
 pub mod Rules
 pub mod Reachable
 pub mod Numbering
+pub mod Counting
+pub mod Mentioned
 pub mod Ordered
 pub mod Marking
 pub mod Literals

@@ -8,9 +8,9 @@ use Rattle.gib_core.specs.declared.node.Binding.{Binding}
 use Rattle.gib_core.specs.declared.node.Binding.TheVariants as b
 use Rattle.gib_core.specs.declared.node.Node.{Node}
 use Rattle.gib_core.specs.declared.node.Node.TheVariants as n
-use Rattle.gib_core.specs.Tree as t
 use Rattle.gib_core.specs.Tree.{Term, Bind, Side, Branches, CoreTree}
-use Rattle.gib_core.specs.Met.{Body, bodies}
+use Rattle.gib_core.specs.Met.{PrimLine, WriteLine, CallLine, GiveLine, Body, bodies}
+use Rattle.gib_core.specs.Walk.{Entry, AtLine, Each, EachInBind, EachInSide, EachInBranches}
 
 -- An atom that is a number has 64 bits.
 abbrev pub LiteralFits : Atom → Type 0
@@ -18,33 +18,26 @@ LiteralFits (a.Variable x) = Unit {0}
 LiteralFits (a.Whole z) = FitsSigned w64 z
 LiteralFits (a.Truth b) = Unit {0}
 
-abbrev mutual
-  -- The numbers of a term have 64 bits.
-  pub LiteralsFit : Term → Type 0
-  LiteralsFit (t.Then b u) = BindLiterals b × LiteralsFit u
-  LiteralsFit (t.Write h k ss ps) = AllByRecursion LiteralFits ss
-  LiteralsFit (t.Point x) = Unit {0}
-  LiteralsFit (t.CallTerm f xs) = AllByRecursion LiteralFits xs
-  LiteralsFit (t.Give x) = LiteralFits x
-  LiteralsFit (t.CaseTerm x bs) = BranchLiterals bs
-  LiteralsFit (t.IfTerm x u v) = LiteralsFit u × LiteralsFit v
+-- The numbers of an entry have 64 bits.
+abbrev pub EntryLiterals : Entry → Type 0
+EntryLiterals (AtLine (PrimLine x f y z)) = LiteralFits y × LiteralFits z
+EntryLiterals (AtLine (WriteLine h k ss ps)) = AllByRecursion LiteralFits ss
+EntryLiterals (AtLine (CallLine f xs)) = AllByRecursion LiteralFits xs
+EntryLiterals (AtLine (GiveLine x)) = LiteralFits x
+EntryLiterals l = Unit {0}
 
-  -- Those of a binding.
-  pub BindLiterals : Bind → Type 0
-  BindLiterals (t.Past h k) = Unit {0}
-  BindLiterals (t.One s) = SideLiterals s
-  BindLiterals (t.Both fork l r) = SideLiterals l × SideLiterals r
-  BindLiterals (t.Prim x f y z) = LiteralFits y × LiteralFits z
-  BindLiterals (t.Reach y access) = Unit {0}
+-- The numbers of a term have 64 bits; those of a binding, of a side, of branches.
+abbrev pub LiteralsFit : Term → Type 0
+LiteralsFit t = Each EntryLiterals t
 
-  -- Those of a side's term.
-  pub SideLiterals : Side → Type 0
-  SideLiterals (t.On kind x ty u) = LiteralsFit u
+abbrev pub BindLiterals : Bind → Type 0
+BindLiterals b = EachInBind EntryLiterals b
 
-  -- Those of branches.
-  pub BranchLiterals : Branches → Type 0
-  BranchLiterals t.NoBranch = Unit {0}
-  BranchLiterals (t.BranchThen k ys u bs) = LiteralsFit u × BranchLiterals bs
+abbrev pub SideLiterals : Side → Type 0
+SideLiterals s = EachInSide EntryLiterals s
+
+abbrev pub BranchLiterals : Branches → Type 0
+BranchLiterals bs = EachInBranches EntryLiterals bs
 
 -- The literals of each body fit.
 abbrev pub AllLiteralsFit : CoreTree → Type 0

@@ -1,85 +1,44 @@
 -- The pars whose sides may run at the same time are marked.
-use Rattle.std.specs.Prelude.{Bool, true, false, ◌||◌, ◌&&◌, ℕ, List, length, map, ◌≡◌, Some, slice_get}
+use Rattle.std.specs.Prelude.{Bool, true, false, ◌||◌, ◌&&◌, ℕ, List, length, ◌≡◌, Some, slice_get}
 use Rattle.gib_core.specs.declared.node.Binding.{Binding}
 use Rattle.gib_core.specs.declared.node.Binding.TheVariants as b
 use Rattle.gib_core.specs.declared.node.Node.{Node}
 use Rattle.gib_core.specs.declared.node.Node.TheVariants as n
 use Rattle.gib_core.specs.Arena.{IsArena}
-use Rattle.gib_core.specs.Tree.{Term, Then, Write, Point, CallTerm, Give, CaseTerm, IfTerm, Bind, Past, One, Both, Prim, Reach, Side, On, Branches, NoBranch, BranchThen, FunctionTerm, MainTerm, CoreTree}
+use Rattle.gib_core.specs.Tree.{Term, Then, Write, Point, CallTerm, Give, CaseTerm, IfTerm, Bind, Past, One, Both, Prim, Reach, Side, Branches, CoreTree}
+use Rattle.gib_core.specs.Walk.{walk_bind, walk_side, walk_branches, some, Entry, AtLine, map_term, as_it_is, with_bodies}
+use Rattle.gib_core.specs.Met.{CallLine}
 
-abbrev mutual
-  -- A term contains a call, itself or in a term that is nested in it.
-  pub has_call : Term → Bool
-  has_call (Then b rest) = bind_has_call b || has_call rest
-  has_call (Write h k ss ps) = false
-  has_call (Point x) = false
-  has_call (CallTerm f xs) = true
-  has_call (Give x) = false
-  has_call (CaseTerm x branches) = branches_have_call branches
-  has_call (IfTerm x t u) = has_call t || has_call u
+-- The entry is a call.
+abbrev pub is_call : Entry → Bool
+is_call (AtLine (CallLine f xs)) = true
+is_call l = false
 
-  -- A binding contains a call.
-  pub bind_has_call : Bind → Bool
-  bind_has_call (Past h k) = false
-  bind_has_call (One s) = side_has_call s
-  bind_has_call (Both fork l r) = side_has_call l || side_has_call r
-  bind_has_call (Prim x f y z) = false
-  bind_has_call (Reach y by) = false
+-- A term contains a call, itself or in a term that is nested in it; so may a binding, a side, branches.
+abbrev pub has_call : Term → Bool
+has_call t = some is_call t
 
-  -- A side's term contains a call.
-  pub side_has_call : Side → Bool
-  side_has_call (On kind x ty t) = has_call t
+abbrev pub bind_has_call : Bind → Bool
+bind_has_call b = walk_bind (◌||◌) false is_call b
 
-  -- A branch contains a call.
-  pub branches_have_call : Branches → Bool
-  branches_have_call NoBranch = false
-  branches_have_call (BranchThen k xs t rest) = has_call t || branches_have_call rest
+abbrev pub side_has_call : Side → Bool
+side_has_call s = walk_side (◌||◌) false is_call s
 
-abbrev mutual
-  -- A term in which a par is marked exactly where both its sides contain a call.
-  pub mark : Term → Term
-  mark (Then b rest) = Then (mark_bind b) (mark rest)
-  mark (Write h k ss ps) = Write h k ss ps
-  mark (Point x) = Point x
-  mark (CallTerm f xs) = CallTerm f xs
-  mark (Give x) = Give x
-  mark (CaseTerm x branches) = CaseTerm x (mark_branches branches)
-  mark (IfTerm x t u) = IfTerm x (mark t) (mark u)
+abbrev pub branches_have_call : Branches → Bool
+branches_have_call bs = walk_branches (◌||◌) false is_call bs
 
-  -- A binding, marked so.
-  pub mark_bind : Bind → Bind
-  mark_bind (Past h k) = Past h k
-  mark_bind (One s) = One (mark_side s)
-  mark_bind (Both fork l r) = Both (side_has_call l && side_has_call r) (mark_side l) (mark_side r)
-  mark_bind (Prim x f y z) = Prim x f y z
-  mark_bind (Reach y by) = Reach y by
+-- A par is marked exactly where both its sides contain a call.
+abbrev pub mark_one : Bind → Bind
+mark_one (Both fork l r) = Both (side_has_call l && side_has_call r) l r
+mark_one b = b
 
-  -- A side, marked so.
-  pub mark_side : Side → Side
-  mark_side (On kind x ty t) = On kind x ty (mark t)
+-- A term in which each par is marked so.
+abbrev pub mark : Term → Term
+mark t = map_term mark_one as_it_is t
 
-  -- Branches, marked so.
-  pub mark_branches : Branches → Branches
-  mark_branches NoBranch = NoBranch
-  mark_branches (BranchThen k xs t rest) = BranchThen k xs (mark t) (mark_branches rest)
-
--- A function in whose body the pars are marked.
-abbrev pub mark_function : FunctionTerm → FunctionTerm
-mark_function f = record f { body = mark f.body }
-
--- Main, in whose body the pars are marked.
-abbrev pub mark_main : MainTerm → MainTerm
-mark_main m = record { parameter = m.parameter; result = m.result; body = mark m.body }
-
--- A core whose pars are marked.
+-- A core whose pars are marked so.
 abbrev pub mark_core : CoreTree → CoreTree
-mark_core core = record {
-  table = core.table;
-  functions = map mark_function core.functions;
-  main = mark_main core.main;
-  offsets = core.offsets;
-  marked = core.marked;
-}
+mark_core core = with_bodies (λ b. mark b.term) core
 
 -- Whether a term begins with a par that is to be marked.
 abbrev pub bind_may_fork : Bind → Bool

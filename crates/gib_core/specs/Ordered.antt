@@ -8,7 +8,8 @@ use Rattle.gib_core.specs.declared.atom.Variable.{Variable}
 use Rattle.gib_core.specs.declared.atom.Atom.{Atom}
 use Rattle.gib_core.specs.declared.atom.Atom.TheVariants as atomic
 use Rattle.gib_core.specs.Tree.{Term, Then, Write, Point, CallTerm, Give, CaseTerm, IfTerm, Bind, Past, One, Both, Prim, Reach, Side, On, Branches, NoBranch, BranchThen, variable_of, CoreTree}
-use Rattle.gib_core.specs.Met.{Body, bodies}
+use Rattle.gib_core.specs.Met.{PrimLine, WriteLine, PointLine, CallLine, GiveLine, CaseLine, IfLine, Body, bodies}
+use Rattle.gib_core.specs.Walk.{Entry, AtLine, Each, EachInBind, EachInSide, EachInBranches}
 use Rattle.gib_core.specs.Erasing.{literal_of}
 
 -- A variable below the number, or a literal that a source may have: none of them is negative.
@@ -90,33 +91,29 @@ abbrev pub AreNaturalAtoms : List Atom → Type 0
 AreNaturalAtoms [] = Unit {0}
 AreNaturalAtoms (x ∷ xs) = IsNatural x × AreNaturalAtoms xs
 
-abbrev mutual
-  -- A term has no negative literal.
-  pub IsNaturalTerm : Term → Type 0
-  IsNaturalTerm (Then b rest) = IsNaturalBind b × IsNaturalTerm rest
-  IsNaturalTerm (Write h k ss ps) = AreNaturalAtoms ss × AreNaturalAtoms ps
-  IsNaturalTerm (Point x) = IsNatural x
-  IsNaturalTerm (CallTerm f xs) = AreNaturalAtoms xs
-  IsNaturalTerm (Give x) = IsNatural x
-  IsNaturalTerm (CaseTerm x branches) = IsNatural x × AreNaturalBranches branches
-  IsNaturalTerm (IfTerm x t u) = IsNatural x × IsNaturalTerm t × IsNaturalTerm u
+-- No atom of an entry is.
+abbrev pub IsNaturalEntry : Entry → Type 0
+IsNaturalEntry (AtLine (PrimLine x f y z)) = IsNatural y × IsNatural z
+IsNaturalEntry (AtLine (WriteLine h k ss ps)) = AreNaturalAtoms ss × AreNaturalAtoms ps
+IsNaturalEntry (AtLine (PointLine x)) = IsNatural x
+IsNaturalEntry (AtLine (CallLine f xs)) = AreNaturalAtoms xs
+IsNaturalEntry (AtLine (GiveLine x)) = IsNatural x
+IsNaturalEntry (AtLine (CaseLine x arms)) = IsNatural x
+IsNaturalEntry (AtLine (IfLine x)) = IsNatural x
+IsNaturalEntry l = Unit {0}
 
-  -- A binding has none.
-  pub IsNaturalBind : Bind → Type 0
-  IsNaturalBind (Past h k) = Unit {0}
-  IsNaturalBind (One s) = IsNaturalSide s
-  IsNaturalBind (Both fork l r) = IsNaturalSide l × IsNaturalSide r
-  IsNaturalBind (Prim x f y z) = IsNatural y × IsNatural z
-  IsNaturalBind (Reach y by) = Unit {0}
+-- A term has no negative literal; nor has a binding, a side, have branches.
+abbrev pub IsNaturalTerm : Term → Type 0
+IsNaturalTerm t = Each IsNaturalEntry t
 
-  -- A side's term has none.
-  pub IsNaturalSide : Side → Type 0
-  IsNaturalSide (On kind x ty t) = IsNaturalTerm t
+abbrev pub IsNaturalBind : Bind → Type 0
+IsNaturalBind b = EachInBind IsNaturalEntry b
 
-  -- Branches have none.
-  pub AreNaturalBranches : Branches → Type 0
-  AreNaturalBranches NoBranch = Unit {0}
-  AreNaturalBranches (BranchThen k xs t rest) = IsNaturalTerm t × AreNaturalBranches rest
+abbrev pub IsNaturalSide : Side → Type 0
+IsNaturalSide s = EachInSide IsNaturalEntry s
+
+abbrev pub AreNaturalBranches : Branches → Type 0
+AreNaturalBranches bs = EachInBranches IsNaturalEntry bs
 
 -- No body of a core has a negative literal; no source has one.
 abbrev pub AreNatural : CoreTree → Type 0

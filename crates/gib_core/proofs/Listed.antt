@@ -1,0 +1,88 @@
+-- What the walk that lists mentions leaves behind.
+use Rattle.std.proofs.Common.{◌≡◌, ℕ, zero, suc, ◌+◌, ◌<◌, ◌≤◌, List, [], ◌∷◌, ◌++◌, map, length, drop, get_or, sym, ap, ◌∙◌, subst, arith}
+use Rattle.std.specs.List.{AllByRecursion}
+use Rattle.std.proofs.lemmas.List.{append-nil, append_assoc, drop_more, drop_all}
+use Rattle.gib_core.specs.declared.node.Binding.{Binding}
+use Rattle.gib_core.specs.declared.node.Branch.{Branch}
+use Rattle.gib_core.specs.declared.node.Node.{Node}
+use Rattle.gib_core.specs.Tree.{Term, prepend}
+use Rattle.gib_core.specs.Arena.{IsBindingBelow, IsLine, term_of, bind_from, binds_from, branches_from}
+use Rattle.gib_core.specs.declared.mentions.Mention.{Mention}
+use Rattle.gib_core.specs.Mentioned.{all_bound, mentions, bind_mentions, branch_mentions, binder, binders_in}
+
+all_at : {A : Type 0} (P : A → Type 0) (xs : List A) (i : ℕ) (d : A) → AllByRecursion P xs → i < length xs → P (get_or xs i d)
+all_at P [] i d h lt = absurd (omega arith)
+all_at P (x ∷ xs) zero d h lt = h.0
+all_at P (x ∷ xs) (suc i) d h lt = all_at P xs i d h.1 (omega arith)
+
+-- What was listed, and what a line says from a binding on, make what the term says.
+pub record LineListed (terms : List Node) (id : ℕ) (bindings : List Binding) (i : ℕ) (old now : List Mention) : Type 0 where
+  pub within : i ≤ length bindings
+  pub below : AllByRecursion (IsBindingBelow id) bindings
+  pub listed : (last : ℕ) → IsLine terms id bindings last → now ++ mentions (prepend (binds_from (term_of terms) (drop i bindings)) (term_of terms last)) ≡ old ++ mentions (term_of terms id)
+
+pub listed_start : (terms : List Node) (id last : ℕ) (bindings : List Binding) (old : List Mention) → IsLine terms id bindings last → LineListed terms id bindings 0 old old
+listed_start terms id last bindings old l = record { within = omega arith; below = l.below; listed = λ z m. ap (λ t. old ++ mentions t) (sym m.term) }
+
+pub listed_below : (terms : List Node) (id : ℕ) (bindings : List Binding) (i : ℕ) (old now : List Mention) (binding d : Binding) → LineListed terms id bindings i old now → i < length bindings → binding ≡ get_or bindings i d → IsBindingBelow id binding
+listed_below terms id bindings i old now binding d h lt e = subst (IsBindingBelow id) (sym e) (all_at (IsBindingBelow id) bindings i d h.below lt)
+
+pub listed_next : (terms : List Node) (id : ℕ) (bindings : List Binding) (i : ℕ) (old now new : List Mention) (binding d : Binding) → LineListed terms id bindings i old now → i < length bindings → binding ≡ get_or bindings i d → new ≡ now ++ bind_mentions (bind_from (term_of terms) binding) → LineListed terms id bindings (i + 1) old new
+listed_next terms id bindings i old now new binding d h lt e a =
+    let left : drop i bindings ≡ binding ∷ drop (i + 1) bindings = drop_more bindings i d lt ∙ ap (λ (z : Binding). z ∷ drop (i + 1) bindings) (sym e) in
+    let own = bind_mentions (bind_from (term_of terms) binding) in
+    record {
+      within = omega arith;
+      below = h.below;
+      listed = λ z m.
+          let rest = mentions (prepend (binds_from (term_of terms) (drop (i + 1) bindings)) (term_of terms z)) in
+          ap (λ l. l ++ rest) a ∙ (append_assoc now own rest ∙ (sym (ap (λ bs. now ++ mentions (prepend (binds_from (term_of terms) bs) (term_of terms z))) left) ∙ h.listed z m));
+    }
+
+pub listed_end : (terms : List Node) (id last : ℕ) (bindings : List Binding) (i : ℕ) (old now new : List Mention) → LineListed terms id bindings i old now → length bindings ≤ i → IsLine terms id bindings last → new ≡ now ++ mentions (term_of terms last) → new ≡ old ++ mentions (term_of terms id)
+listed_end terms id last bindings i old now new h le l a =
+    a ∙ (ap (λ bs. now ++ mentions (prepend (binds_from (term_of terms) bs) (term_of terms last))) (sym (drop_all i bindings le)) ∙ h.listed last l)
+
+-- Items that are listed one after another, each as a mention.
+pub items_next : {A : Type 0} (f : A → Mention) (xs : List A) (i : ℕ) (x d : A) (old now new : List Mention) → i < length xs → x ≡ get_or xs i d → now ++ map f (drop i xs) ≡ old ++ map f xs → new ≡ now ++ f x ∷ [] → new ++ map f (drop (i + 1) xs) ≡ old ++ map f xs
+items_next {A} f xs i x d old now new lt e h a =
+    let left : drop i xs ≡ x ∷ drop (i + 1) xs = drop_more xs i d lt ∙ ap (λ (z : A). z ∷ drop (i + 1) xs) (sym e) in
+    let rest = map f (drop (i + 1) xs) in
+    ap (λ l. l ++ rest) a ∙ (append_assoc now (f x ∷ []) rest ∙ (sym (ap (λ l. now ++ map f l) left) ∙ h))
+
+pub items_end : {A : Type 0} (f : A → Mention) (xs : List A) (i : ℕ) (old now : List Mention) → length xs ≤ i → now ++ map f (drop i xs) ≡ old ++ map f xs → now ≡ old ++ map f xs
+items_end f xs i old now le h = sym (append-nil now) ∙ (ap (λ l. now ++ map f l) (sym (drop_all i xs le)) ∙ h)
+
+pub branches_next : (f : ℕ → Term) (bs : List Branch) (i : ℕ) (b d : Branch) (old now new : List Mention) → i < length bs → b ≡ get_or bs i d → now ++ branch_mentions (branches_from f (drop i bs)) ≡ old ++ branch_mentions (branches_from f bs)
+    → new ≡ now ++ (all_bound b.variables.items ++ mentions (f b.term.0)) → new ++ branch_mentions (branches_from f (drop (i + 1) bs)) ≡ old ++ branch_mentions (branches_from f bs)
+branches_next f bs i b d old now new lt e h a =
+    let left : drop i bs ≡ b ∷ drop (i + 1) bs = drop_more bs i d lt ∙ ap (λ (z : Branch). z ∷ drop (i + 1) bs) (sym e) in
+    let xs = all_bound b.variables.items in
+    let ys = mentions (f b.term.0) in
+    let rest = branch_mentions (branches_from f (drop (i + 1) bs)) in
+    ap (λ l. l ++ rest) a
+    ∙ (append_assoc now (xs ++ ys) rest
+    ∙ (ap (λ l. now ++ l) (append_assoc xs ys rest)
+    ∙ (sym (ap (λ l. now ++ branch_mentions (branches_from f l)) left) ∙ h)))
+
+pub branches_end : (f : ℕ → Term) (bs : List Branch) (i : ℕ) (old now : List Mention) → length bs ≤ i → now ++ branch_mentions (branches_from f (drop i bs)) ≡ old ++ branch_mentions (branches_from f bs) → now ≡ old ++ branch_mentions (branches_from f bs)
+branches_end f bs i old now le h = sym (append-nil now) ∙ (ap (λ l. now ++ branch_mentions (branches_from f l)) (sym (drop_all i bs le)) ∙ h)
+
+pub one_then : (old mid new : List Mention) (xs ys : List Mention) → mid ≡ old ++ xs → new ≡ mid ++ ys → new ≡ old ++ (xs ++ ys)
+one_then old mid new xs ys e f = f ∙ (ap (λ l. l ++ ys) e ∙ append_assoc old xs ys)
+
+pub none_listed : (old : List Mention) → old ≡ old ++ []
+none_listed old = sym (append-nil old)
+
+-- Variables that are bound, one after another.
+pub none_bound : (old : List ℕ) → old ≡ old ++ []
+none_bound old = sym (append-nil old)
+
+pub binders_next : (ms : List Mention) (i : ℕ) (m d : Mention) (old now new : List ℕ) → i < length ms → m ≡ get_or ms i d → now ++ binders_in (drop i ms) ≡ old ++ binders_in ms → new ≡ now ++ binder m → new ++ binders_in (drop (i + 1) ms) ≡ old ++ binders_in ms
+binders_next ms i m d old now new lt e h a =
+    let left : drop i ms ≡ m ∷ drop (i + 1) ms = drop_more ms i d lt ∙ ap (λ (z : Mention). z ∷ drop (i + 1) ms) (sym e) in
+    let rest = binders_in (drop (i + 1) ms) in
+    ap (λ l. l ++ rest) a ∙ (append_assoc now (binder m) rest ∙ (sym (ap (λ l. now ++ binders_in l) left) ∙ h))
+
+pub binders_end : (ms : List Mention) (i : ℕ) (old now : List ℕ) → length ms ≤ i → now ++ binders_in (drop i ms) ≡ old ++ binders_in ms → now ≡ old ++ binders_in ms
+binders_end ms i old now le h = sym (append-nil now) ∙ (ap (λ l. now ++ binders_in l) (sym (drop_all i ms le)) ∙ h)
