@@ -1,6 +1,5 @@
 -- A core that only has to have its fields reached is one still, once its fields are placed.
-use Rattle.std.proofs.Common.{◌≡◌, ◌⊎◌, inl, inr, ⊎_elim, ℕ, suc, ◌+◌, ◌<◌, ◌≤◌, Bool, true, false, not, ◌&&◌, ◌||◌, ◌==◌, if◌then◌else◌, List, [], ◌∷◌, ◌++◌, map, length, Some, None, refl, sym, ap, ◌∙◌, subst, arith}
-use Rattle.std.specs.List.{AllByRecursion}
+use Rattle.std.proofs.Common.{◌≡◌, ◌⊎◌, inl, inr, ⊎_elim, ℕ, suc, ◌+◌, ◌<◌, ◌≤◌, Bool, true, false, ◌||◌, ◌==◌, if◌then◌else◌, List, [], ◌∷◌, ◌++◌, map, length, None, refl, sym, ap, ◌∙◌, subst, arith}
 use Rattle.std.proofs.lemmas.Bool.{eqb-true, or_cases, or_left, or_right}
 use Rattle.gib_types.specs.declared.table.Ty.{Ty}
 use Rattle.gib_types.specs.declared.table.Ty.TheVariants.{Whole, Truth, Tree}
@@ -11,29 +10,32 @@ use Rattle.gib_core.specs.declared.atom.Atom.{Atom}
 use Rattle.gib_core.specs.declared.atom.Kind.{Kind}
 use Rattle.gib_core.specs.declared.scope.Known.{Known}
 use Rattle.gib_core.specs.declared.scope.Bound.{Bound}
-use Rattle.gib_core.specs.Tree.{Term, Then, Write, Point, CallTerm, Give, CaseTerm, IfTerm, Bind, Past, One, Both, Prim, Reach, On, Branches, NoBranch, BranchThen, prepend, FunctionTerm, CoreTree}
-use Rattle.gib_core.specs.Meaning.{function_at}
+use Rattle.gib_core.specs.Tree.{Term, Then, Write, Point, CallTerm, Give, CaseTerm, IfTerm, Bind, Past, One, Both, Prim, Reach, On, Branches, NoBranch, BranchThen, prepend, CoreTree}
 use Rattle.gib_core.specs.Inferring.{as_atoms, numbers_from}
 use Rattle.gib_core.specs.Numbering.{binders, bind_binders, IsNumbered, AreNumbered}
 use Rattle.gib_base.specs.declared.name.Name.{Name}
-use Rattle.gib_core.specs.Met.{call_too, behind_side, Setting, Line, PastLine, SideLine, ParLine, PrimLine, ReachLine, WriteLine, PointLine, CallLine, GiveLine, CaseLine, IfLine, Met, reached, in_side, behind, left_of, right_of, in_arm, in_branch, arms_of, met, met_bind, met_side, met_branches, with_parameters, result_place, Body, opening}
-use Rattle.gib_core.specs.Rules.{Before, is_among, type_bound, any_other, is_empty, all_usable, gives_packed, call_fits, arm_variables, rules, least, next, next_all, bind_parameters, before_body}
+use Rattle.gib_core.specs.Met.{call_too, Setting, Line, PastLine, SideLine, ParLine, PrimLine, ReachLine, WriteLine, PointLine, CallLine, GiveLine, CaseLine, IfLine, Met, reached, in_side, behind, left_of, right_of, in_arm, in_branch, arms_of, met, met_bind, met_side, met_branches, with_parameters, result_place, Body, bodies, opening}
+use Rattle.gib_core.specs.Rules.{Before, is_among, arm_variables, rules, least, next, next_all, bind_parameters, before_body}
 use Rattle.gib_core.specs.Reachable.{all_reached, LinesAreReachable, IsReachable, AreReachable}
 use Rattle.gib_place.specs.declared.field.Field.{Field}
-use Rattle.gib_place.specs.Placing.{count, count_bind, count_side, count_branches, pointing, place_line, place_inner, inner_bind, inner_side, inner_branches, place, is_once, place_body}
+use Rattle.gib_core.specs.Counting.{count, count_bind, count_branches, is_once}
+use Rattle.gib_place.specs.Placing.{pointing, place_line, as_bound, placed_inside, place_inner, inner_bind, inner_branches, place, place_body}
 use Rattle.gib_place.specs.Renaming.{Renaming, rename}
-use Rattle.gib_place.specs.Numbering.{place_in, variables_in, number_anew}
-use Rattle.gib_place.proofs.AtOnce.{function_at_once, core_at_once}
-use Rattle.gib_core.proofs.Along.{next_append, reachable_split}
+use Rattle.gib_place.specs.Numbering.{place_in, variables_in, number_anew, place_anew, place_core}
+use Rattle.gib_core.proofs.Walks.{Keeps, same_arms, map_keeps, map_bind_keeps}
+use Rattle.gib_core.proofs.After.{in_turn}
+use Rattle.gib_core.proofs.Maps.{map_behind}
+use Rattle.gib_core.proofs.Remade.{all_both, remade_so, same_call}
+use Rattle.gib_core.proofs.Along.{reachable_split}
 use Rattle.gib_core.proofs.Cased.{has, has_arm, in_side_scope, reaches_none}
 use Rattle.gib_place.proofs.Lays.{Lays, ends, opens, puts, stays, one, left, right, both}
 use Rattle.gib_place.proofs.Counts.{occurs, occurs_append, line_by_steps, ending_line, before_uses, before_binds, place_binds}
 use Rattle.gib_place.proofs.Positions.{place_tells}
 use Rattle.gib_place.proofs.Lines.{setting_by, before_lines_by, reachable_renamed, parameters_by, bound_parameters_by}
-use Rattle.gib_place.proofs.Wider.{nums, times, times_among, branch_terms, branch_occurs, case_nums, casing, casing_bind, casing_side, casing_branches, cased_on, case_cased, casing_counts, bind_casing_counts, nums_after, bind_nums_after, side_nums_after, types_after, bind_types_after, side_types_after, cased_after, bind_cased_after, side_cased_after}
-use Rattle.gib_place.proofs.Weaken.{Scoped, Room, Wider, reachable_append, scoped_after, wider_term, wider_side, wider_branches}
+use Rattle.gib_place.proofs.Wider.{nums, times, times_among, branch_terms, branch_occurs, case_nums, entry_casing, casing, casing_bind, casing_side, case_counts, casing_counts, bind_casing_counts, gains_term, cased_after, bind_cased_after, side_cased_after}
+use Rattle.gib_place.proofs.Weaken.{Scoped, Room, Ahead, ahead_less, ahead_first, Like, ahead_term, ahead_side, ahead_bound, ahead_two, reachable_append, ahead_behind, wider_term, wider_side, wider_branches}
 use Rattle.gib_place.proofs.Ended.{Uses, KeepsIt, line_keeps}
-use Rattle.gib_place.proofs.Cores.{body_differs, parameters_stay, NumberedBodies}
+use Rattle.gib_place.proofs.Cores.{body_differs, parameters_stay}
 
 -- Cases stay in their order.
 abbrev casing_all : List Bind → List Variable → List Variable
@@ -80,36 +82,17 @@ line_call once t = line_by_steps once (λ t u. (cs : List (Name × List Atom)) �
     (λ l cs xs named lays ks. call_written cs l.ending.head l.ending.con l.ending.scalars (as_atoms xs) ks ∙ sym (call_bound l.run (Past l.room l.made) (ending_line l.ending) ks)) t
 
 module _ (once : Variable → Bool) where
-  mutual
-    inner_casing : (t : Term) (c : List Variable) → casing (place_inner once t) c ≡ casing t c
-    inner_casing (Then b rest) c = inner_casing rest (casing_bind (inner_bind once b) c) ∙ ap (casing rest) (bind_casing b c)
-    inner_casing (Write h k ss ps) c = refl
-    inner_casing (Point x) c = refl
-    inner_casing (CallTerm f xs) c = refl
-    inner_casing (Give x) c = refl
-    inner_casing (CaseTerm x bs) c = branches_casing bs (cased_on x c)
-    inner_casing (IfTerm x t u) c =
-        line_casing once (place_inner once u) (casing (place once t) c) ∙ (inner_casing u (casing (place once t) c) ∙ ap (casing u) (line_casing once (place_inner once t) c ∙ inner_casing t c))
+  casing_keeps : Keeps in_turn (λ c. c) entry_casing as_bound (placed_inside once)
+  casing_keeps = record { bound = λ b. refl; nested = λ s t i c. line_casing once t c i }
 
-    bind_casing : (b : Bind) (c : List Variable) → casing_bind (inner_bind once b) c ≡ casing_bind b c
-    bind_casing (Past h k) c = refl
-    bind_casing (One (On kind x ty t)) c = line_casing once (place_inner once t) c ∙ inner_casing t c
-    bind_casing (Both fork (On kind x ty t) (On other z uy u)) c =
-        line_casing once (place_inner once u) (casing (place once t) c) ∙ (inner_casing u (casing (place once t) c) ∙ ap (casing u) (line_casing once (place_inner once t) c ∙ inner_casing t c))
-    bind_casing (Prim x f v w) c = refl
-    bind_casing (Reach x by) c = refl
-
-    branches_casing : (bs : Branches) (c : List Variable) → casing_branches (inner_branches once bs) c ≡ casing_branches bs c
-    branches_casing NoBranch c = refl
-    branches_casing (BranchThen k xs t rest) c =
-        branches_casing rest (casing (place once t) c) ∙ ap (casing_branches rest) (line_casing once (place_inner once t) c ∙ inner_casing t c)
+  bind_casing : (b : Bind) (c : List Variable) → casing_bind (inner_bind once b) c ≡ casing_bind b c
+  bind_casing b c = λ i. map_bind_keeps in_turn (λ d. d) entry_casing as_bound (placed_inside once) casing_keeps b i c
 
   place_casing : (t : Term) (c : List Variable) → casing (place once t) c ≡ casing t c
-  place_casing t c = line_casing once (place_inner once t) c ∙ inner_casing t c
+  place_casing t c = line_casing once (place_inner once t) c ∙ (λ i. map_keeps in_turn (λ d. d) entry_casing as_bound (placed_inside once) casing_keeps t i c)
 
   arms_placed : (bs : Branches) → arms_of (inner_branches once bs) ≡ arms_of bs
-  arms_placed NoBranch = refl
-  arms_placed (BranchThen k xs t rest) = ap (λ l. (k, xs) ∷ l) (arms_placed rest)
+  arms_placed bs = same_arms as_bound (placed_inside once) bs
 
   terms_placed : (bs : Branches) (y : ℕ) → occurs (branch_terms (inner_branches once bs)) y ≤ occurs (branch_terms bs) y
   terms_placed NoBranch y = omega arith
@@ -117,100 +100,48 @@ module _ (once : Variable → Bool) where
       let p = place_binds once t y in let q = terms_placed rest y in
       let m = occurs_append (binders (place once t)) (branch_terms (inner_branches once rest)) y in let n = occurs_append (binders t) (branch_terms rest) y in omega arith
 
-  inner_call : (t : Term) (cs : List (Name × List Atom)) → call_too (place_inner once t) cs ≡ call_too t cs
-  inner_call (Then b rest) cs = refl
-  inner_call (Write h k ss ps) cs = refl
-  inner_call (Point x) cs = refl
-  inner_call (CallTerm f xs) cs = refl
-  inner_call (Give x) cs = refl
-  inner_call (CaseTerm x bs) cs = refl
-  inner_call (IfTerm x t u) cs = refl
-
   behind_placed : (s : Setting) (b : Bind) → behind s (inner_bind once b) ≡ behind s b
-  behind_placed s (Past h k) = refl
-  behind_placed s (One (On kind x ty t)) = λ i. record (behind_side s (On kind x ty t)) { calls = (line_call once (place_inner once t) s.calls ∙ inner_call t s.calls) i }
-  behind_placed s (Both fork (On kind x ty t) (On other y uy u)) = refl
-  behind_placed s (Prim x f y z) = refl
-  behind_placed s (Reach y by) = refl
-
-  bind_fewer : (b : Bind) (y : ℕ) → occurs (bind_binders (inner_bind once b)) y ≤ occurs (bind_binders b) y
-  bind_fewer (Past h k) y = omega arith
-  bind_fewer (One (On kind x ty t)) y = let p = place_binds once t y in omega arith
-  bind_fewer (Both fork (On kind x ty t) (On other z uy u)) y =
-      let p = place_binds once t y in let q = place_binds once u y in
-      let m = occurs_append (x.0 ∷ binders (place once t)) (z.0 ∷ binders (place once u)) y in let n = occurs_append (x.0 ∷ binders t) (z.0 ∷ binders u) y in omega arith
-  bind_fewer (Prim x f v w) y = omega arith
-  bind_fewer (Reach x by) y = omega arith
+  behind_placed s b = map_behind as_bound (placed_inside once) (λ t cs. line_call once t cs) s b
 
 module _ (core : CoreTree) (once : Variable → Bool) where
   abbrev R : Before → List Met → Type 0
   R b ms = LinesAreReachable core b ms
 
-  -- The type of a side's variable, and of those before it.
-  side_same : (kind : Kind) (x : Variable) (ty : Ty) (t u : Term) (s : Setting) (b b' : Before) (y : Variable) → occurs (binders t) y.0 ≡ 0 → occurs (binders u) y.0 ≡ 0 → type_bound b'.bound y ≡ type_bound b.bound y
-      → type_bound (next_all core.table b' (met_side core.table s (On kind x ty u))).bound y ≡ type_bound (next_all core.table b (met_side core.table s (On kind x ty t))).bound y
-  side_same kind x ty t u s b b' y o p h =
-      types_after core.table u (in_side core.table s kind ty) (next core.table b' (SideLine kind x ty)) y p
-      ∙ (ap (λ q. if x.0 == y.0 then Some ty else q) h ∙ sym (types_after core.table t (in_side core.table s kind ty) (next core.table b (SideLine kind x ty)) y o))
-
   line_of : (t : Term) (s : Setting) (b : Before) → Scoped s.scope b → Room b (binders t) → Uses core once b t → R b (met core.table s (place_inner once t)) → R b (met core.table s (place once t))
   line_of t s b sc ro us r =
       line_keeps core once (place_inner once t) s b sc (λ y. let p = before_binds once t y in let q = ro y in omega arith) (λ y o. let p = before_uses once t y in let q = us y o in omega arith) r
 
+  whole_of : (t : Term) → KeepsIt core once t (place_inner once t) → KeepsIt core once t (place once t)
+  whole_of t h s b sc ro us r = line_of t s b sc ro us (h s b sc ro us r)
+
+  like : (t : Term) → Like t (place once t)
+  like t = record { binds = place_binds once t; cases = place_casing once t }
+
+  -- What is met twice with the same in scope.
+  again : {from : List Known} {b : Before} {xs : List ℕ} → Scoped from b → Room b xs → Ahead from b from b xs
+  again sc ro = record { wider = record { scope = λ y m. m; types = λ y m. refl; cased = refl }; scoped = sc; room = ro; room' = ro }
+
   -- Behind a binding whose terms were placed, the same is in scope with the same types.
-  bind_wider : (bd : Bind) (s : Setting) (b : Before) → Scoped s.scope b → Room b (bind_binders bd) → R b (met_bind core.table s bd)
-      → Wider (behind s bd).scope (next_all core.table b (met_bind core.table s bd)) (behind s bd).scope (next_all core.table b (met_bind core.table s (inner_bind once bd)))
-  bind_wider (Past h k) s b sc ro r = record { scope = λ y m. m; types = λ y m. refl; cased = refl }
-  bind_wider (Prim x f v w) s b sc ro r = record { scope = λ y m. m; types = λ y m. refl; cased = refl }
-  bind_wider (Reach x by) s b sc ro r = record { scope = λ y m. m; types = λ y m. refl; cased = refl }
-  bind_wider (One (On kind x ty t)) s b sc ro r = record {
-    scope = λ y m. m;
-    types = λ y m.
-        let p = place_binds once t y.0 in
-        let n = scoped_after core (One (On kind x ty t)) s b sc r y m in let o = ro y.0 in let e = in_it x s.scope b y sc m in
-        side_same kind x ty t (place once t) s b b y (omega arith) (omega arith) refl;
-    cased = side_cased_after core.table (On kind x ty (place once t)) s b ∙ (place_casing once t b.cased ∙ sym (side_cased_after core.table (On kind x ty t) s b));
-  }
-    where
-      in_it : (x : Variable) (ks : List Known) (b : Before) (y : Variable) → Scoped ks b → (x.0 == y.0 || has ks y) ≡ true → 1 ≤ occurs (x.0 ∷ []) y.0 + occurs (nums b.bound) y.0
-      in_it x ks b y sc m = go (x.0 == y.0) m (sc y)
-        where
-          go : (c : Bool) → (c || has ks y) ≡ true → (has ks y ≡ true → 1 ≤ occurs (nums b.bound) y.0) → 1 ≤ ((if c then 1 else 0) + 0) + occurs (nums b.bound) y.0
-          go true m h = omega arith
-          go false m h = let k = h m in omega arith
-  bind_wider (Both fork (On kind x ty t) (On other z uy u)) s b sc ro r =
+  bind_again : (bd : Bind) (xs : List ℕ) (s : Setting) (b : Before) → Ahead s.scope b s.scope b (bind_binders bd ++ xs) → R b (met_bind core.table s bd)
+      → Ahead (behind s bd).scope (next_all core.table b (met_bind core.table s bd)) (behind s bd).scope (next_all core.table b (met_bind core.table s (inner_bind once bd))) xs
+  bind_again (Past h k) xs s b a r = ahead_behind core (Past h k) xs s b s.scope b a r
+  bind_again (One (On kind x ty t)) xs s b a r = ahead_bound core.table kind kind x ty t (place once t) xs s s (like t) a
+  bind_again (Both fork (On kind x ty t) (On other z uy u)) xs s b a r =
       let l = On kind x ty t in
       let rt = On other z uy u in
-      let l' = On kind x ty (place once t) in
-      let rt' = On other z uy (place once u) in
-      let L = met_side core.table (left_of s rt) l in
-      let L' = met_side core.table (left_of s rt) l' in
-      record {
-        scope = λ y m. m;
-        types = λ y m.
-            let p = place_binds once t y.0 in let q = place_binds once u y.0 in
-            let e = occurs_append (x.0 ∷ binders t) (z.0 ∷ binders u) y.0 in let o = ro y.0 in
-            let n = in_two y m in
-            ap (λ (c : Before). type_bound c.bound y) (next_append core.table b L' (met_side core.table (right_of s l) rt'))
-            ∙ (side_same other z uy u (place once u) (right_of s l) (next_all core.table b L) (next_all core.table b L') y (omega arith) (omega arith)
-            (side_same kind x ty t (place once t) (left_of s rt) b b y (omega arith) (omega arith) refl)
-            ∙ sym (ap (λ (c : Before). type_bound c.bound y) (next_append core.table b L (met_side core.table (right_of s l) rt))));
-        cased = bind_cased_after core.table (Both fork l' rt') s b ∙ (bind_casing once (Both fork l rt) b.cased ∙ sym (bind_cased_after core.table (Both fork l rt) s b));
-      }
-    where
-      in_two : (y : Variable) → (z.0 == y.0 || (x.0 == y.0 || has s.scope y)) ≡ true → 1 ≤ occurs (z.0 ∷ []) y.0 + (occurs (x.0 ∷ []) y.0 + occurs (nums b.bound) y.0)
-      in_two y m = go (z.0 == y.0) (x.0 == y.0) m (sc y)
-        where
-          go : (c d : Bool) → (c || (d || has s.scope y)) ≡ true → (has s.scope y ≡ true → 1 ≤ occurs (nums b.bound) y.0) → 1 ≤ ((if c then 1 else 0) + 0) + (((if d then 1 else 0) + 0) + occurs (nums b.bound) y.0)
-          go true d m h = omega arith
-          go false true m h = omega arith
-          go false false m h = let k = h m in omega arith
+      ahead_two core kind x ty t (place once t) other z uy u (place once u) xs (left_of s rt) (right_of s l) (left_of s rt) (right_of s l) (like t) (like u) a
+  bind_again (Prim x f v w) xs s b a r = ahead_behind core (Prim x f v w) xs s b s.scope b a r
+  bind_again (Reach x by) xs s b a r = absurd (reaches_none core b s x by r.0)
 
   in_scope : (s : Setting) (kind : Kind) (ty : Ty) (b : Before) (x : Variable) → Scoped s.scope b → Scoped (in_side core.table s kind ty).scope (next core.table b (SideLine kind x ty))
   in_scope s kind ty b x sc y m = let k = sc y (ap (λ (ks : List Known). has ks y) (sym (in_side_scope core.table s kind ty)) ∙ m) in omega arith
 
-  on_counts : (x : Atom) (c : List Variable) (y : Variable) → times (cased_on x c) y.0 ≤ times c y.0 + Rattle.gib_place.specs.Placing.count_atom y x
-  on_counts = Rattle.gib_place.proofs.Wider.cased_counts
+  side_keeps : (kind : Kind) (x : Variable) (ty : Ty) (t : Term) → KeepsIt core once t (place_inner once t) → (s : Setting) (b : Before) → Scoped s.scope b → Room b (x.0 ∷ binders t)
+      → ((y : Variable) → once y ≡ true → times b.cased y.0 + count t y ≤ 1) → R b (met_side core.table s (On kind x ty t)) → R b (met_side core.table s (On kind x ty (place once t)))
+  side_keeps kind x ty t h s b sc ro us r = (
+    r.0,
+    whole_of t h (in_side core.table s kind ty) (next core.table b (SideLine kind x ty)) (in_scope s kind ty b x sc) (λ y. let o = ro y in omega arith) (λ y o. let v = us y o in omega arith) r.1,
+  )
 
   mutual
     inner_keeps : (t : Term) → KeepsIt core once t (place_inner once t)
@@ -220,18 +151,14 @@ module _ (core : CoreTree) (once : Variable → Bool) where
         let bd' = inner_bind once bd in
         let xs' = met_bind core.table s bd' in
         let rs = reachable_split core b xs (met core.table (behind s bd) rest) r in
-        let q : (y : ℕ) → occurs (bind_binders bd ++ binders rest) y ≡ occurs (bind_binders bd) y + occurs (binders rest) y = λ y. occurs_append (bind_binders bd) (binders rest) y in
-        let half : Room b (bind_binders bd) = λ y. let e = q y in let o = ro y in omega arith in
-        let sc1 = scoped_after core bd s b sc rs.0 in
-        let room1 : Room b1 (binders rest) = λ y. let e = q y in let o = ro y in let n = bind_nums_after core.table bd s b y in omega arith in
-        let there = inner_keeps rest (behind s bd) b1 sc1 room1
-        (λ y o. let u = us y o in let n = ap (λ c. times c y.0) (bind_cased_after core.table bd s b) in let p = bind_casing_counts bd b.cased y in omega arith) rs.1 in
+        let a = again sc ro in
+        let n = bind_again bd (binders rest) s b a rs.0 in
+        let there = inner_keeps rest (behind s bd) b1 n.scoped n.room
+        (λ y o. let u = us y o in let m = ap (λ c. times c y.0) (bind_cased_after core.table bd s b) in let p = bind_casing_counts bd b.cased y in omega arith) rs.1 in
         reachable_append core b xs' (met core.table (behind s bd') (place_inner once rest))
-        (bind_keeps bd s b sc half (λ y o. let u = us y o in omega arith) rs.0)
+        (bind_keeps bd s b sc (ahead_first (bind_binders bd) (binders rest) a).room (λ y o. let u = us y o in omega arith) rs.0)
         (subst (λ (z : Setting). R (next_all core.table b xs') (met core.table z (place_inner once rest))) (sym (behind_placed once s bd))
-        (wider_term core (place_inner once rest) (behind s bd) b1 (behind s bd).scope (next_all core.table b xs') (bind_wider bd s b sc half rs.0) sc1
-        (λ y. let o = room1 y in let p = before_binds once rest y in omega arith)
-        (λ y. let e = q y in let o = ro y in let p = before_binds once rest y in let f = bind_fewer once bd y in let n = bind_nums_after core.table bd' s b y in omega arith) there))
+        (wider_term core (place_inner once rest) (behind s bd) b1 (behind s bd).scope (next_all core.table b xs') (ahead_less n (before_binds once rest)) there))
     inner_keeps (Write h k ss ps) s b sc ro us r = r
     inner_keeps (Point x) s b sc ro us r = r
     inner_keeps (CallTerm f xs) s b sc ro us r = r
@@ -242,80 +169,43 @@ module _ (core : CoreTree) (once : Variable → Bool) where
           branches_keep bs s (next core.table b (CaseLine x (arms_of bs)))
               (λ y m. let q = case_nums core.table x (arms_of bs) b y.0 in ⊎_elim (λ n. let k = times_among (arm_variables (arms_of bs)) y n in omega arith) (λ n. let k = sc y n in omega arith) m)
               (λ y. let q = branch_occurs bs y in let o = ro y in let e = case_nums core.table x (arms_of bs) b y in omega arith)
-              (λ y o. let u = us y o in let n = ap (λ c. times c y.0) (case_cased core.table x (arms_of bs) b) in let p = on_counts x b.cased y in omega arith) r.1,
+              (λ y o. let u = us y o in let p = case_counts x (arms_of bs) b.cased y in omega arith) r.1,
         )
     inner_keeps (IfTerm x t u) s b sc ro us r =
-        let xs = met core.table (in_branch s) t in
-        let t' = place once t in
-        let u' = place once u in
-        let xs' = met core.table (in_branch s) t' in
-        let rs = reachable_split core b xs (met core.table (in_branch s) u) r.1 in
-        let q : (y : ℕ) → occurs (binders t ++ binders u) y ≡ occurs (binders t) y + occurs (binders u) y = λ y. occurs_append (binders t) (binders u) y in
+        let si = in_branch s in
+        let xs = met core.table si t in
+        let xs' = met core.table si (place once t) in
+        let rs = reachable_split core b xs (met core.table si u) r.1 in
         let b1 = next_all core.table b xs in
-        let room_t : Room b (binders t) = λ y. let e = q y in let o = ro y in omega arith in
-        let room_u : Room b1 (binders u) = λ y. let e = q y in let o = ro y in let n = nums_after core.table t (in_branch s) b y in omega arith in
-        let us_t : Uses core once b t = λ y o. let z = us y o in omega arith in
-        let us_u : Uses core once b1 u = λ y o. let z = us y o in let n = ap (λ c. times c y.0) (cased_after core.table t (in_branch s) b) in let p = casing_counts t b.cased y in omega arith in
-        let sc_u : Scoped s.scope b1 = λ y m. let k = sc y m in let n = nums_after core.table t (in_branch s) b y.0 in omega arith in (
+        let a = again sc ro in
+        let n = ahead_term core.table t (place once t) (binders u) si si (like t) a in (
           r.0,
-          reachable_append core b xs' (met core.table (in_branch s) u')
-              (line_of t (in_branch s) b sc room_t us_t (inner_keeps t (in_branch s) b sc room_t us_t rs.0))
-              (wider_term core u' (in_branch s) b1 s.scope (next_all core.table b xs') (record {
-                scope = λ y m. m;
-                types = λ y m.
-                    let e = q y.0 in let o = ro y.0 in let k = sc y m in let p = place_binds once t y.0 in
-                    types_after core.table t' (in_branch s) b y (omega arith) ∙ sym (types_after core.table t (in_branch s) b y (omega arith));
-                cased = cased_after core.table t' (in_branch s) b ∙ (place_casing once t b.cased ∙ sym (cased_after core.table t (in_branch s) b));
-              }) sc_u
-              (λ y. let o = room_u y in let p = place_binds once u y in omega arith)
-              (λ y. let e = q y in let o = ro y in let n = nums_after core.table t' (in_branch s) b y in let p = place_binds once t y in let v = place_binds once u y in omega arith)
-              (line_of u (in_branch s) b1 sc_u room_u us_u (inner_keeps u (in_branch s) b1 sc_u room_u us_u rs.1))),
+          reachable_append core b xs' (met core.table si (place once u))
+              (whole_of t (λ s1 b2 c1 r1 u1 h. inner_keeps t s1 b2 c1 r1 u1 h) si b sc (ahead_first (binders t) (binders u) a).room (λ y o. let z = us y o in omega arith) rs.0)
+              (wider_term core (place once u) si b1 s.scope (next_all core.table b xs') (ahead_less n (place_binds once u))
+              (whole_of u (λ s1 b2 c1 r1 u1 h. inner_keeps u s1 b2 c1 r1 u1 h) si b1 n.scoped n.room
+              (λ y o. let z = us y o in let m = ap (λ c. times c y.0) (cased_after core.table t si b) in let p = casing_counts t b.cased y in omega arith) rs.1)),
         )
 
     bind_keeps : (bd : Bind) (s : Setting) (b : Before) → Scoped s.scope b → Room b (bind_binders bd) → ((y : Variable) → once y ≡ true → times b.cased y.0 + count_bind bd y ≤ 1) → R b (met_bind core.table s bd) → R b (met_bind core.table s (inner_bind once bd))
     bind_keeps (Past h k) s b sc ro us r = r
-    bind_keeps (One (On kind x ty t)) s b sc ro us r =
-        let si = in_side core.table s kind ty in
-        let bf = next core.table b (SideLine kind x ty) in
-        let scf = in_scope s kind ty b x sc in
-        let rof : Room bf (binders t) = λ y. let o = ro y in omega arith in
-        (r.0, line_of t si bf scf rof us (inner_keeps t si bf scf rof us r.1))
+    bind_keeps (One (On kind x ty t)) s b sc ro us r = side_keeps kind x ty t (λ s1 b2 c1 r1 u1 h. inner_keeps t s1 b2 c1 r1 u1 h) s b sc ro (λ y o. let v = us y o in omega arith) r
     bind_keeps (Both fork (On kind x ty t) (On other z uy u)) s b sc ro us r =
         let l = On kind x ty t in
         let rt = On other z uy u in
-        let l' = On kind x ty (place once t) in
-        let rt' = On other z uy (place once u) in
         let sl = left_of s rt in
         let sr = right_of s l in
         let L = met_side core.table sl l in
-        let L' = met_side core.table sl l' in
+        let L' = met_side core.table sl (On kind x ty (place once t)) in
         let rs = reachable_split core b L (met_side core.table sr rt) r.1 in
-        let bL = next_all core.table b L in
-        let q : (y : ℕ) → occurs ((x.0 ∷ binders t) ++ (z.0 ∷ binders u)) y ≡ occurs (x.0 ∷ binders t) y + occurs (z.0 ∷ binders u) y = λ y. occurs_append (x.0 ∷ binders t) (z.0 ∷ binders u) y in
-        let si = in_side core.table sl kind ty in
-        let bf = next core.table b (SideLine kind x ty) in
-        let scf = in_scope sl kind ty b x sc in
-        let rof : Room bf (binders t) = λ y. let e = q y in let o = ro y in omega arith in
-        let usf : Uses core once bf t = λ y o. let v = us y o in omega arith in
-        let sj = in_side core.table sr other uy in
-        let bg = next core.table bL (SideLine other z uy) in
-        let scL : Scoped s.scope bL = λ y m. let k = sc y m in let n = side_nums_after core.table l sl b y.0 in omega arith in
-        let scg = in_scope sr other uy bL z scL in
-        let rog : Room bg (binders u) = λ y. let e = q y in let o = ro y in let n = side_nums_after core.table l sl b y in omega arith in
-        let usg : Uses core once bg u = λ y o. let v = us y o in let n = ap (λ c. times c y.0) (side_cased_after core.table l sl b) in let p = casing_counts t b.cased y in omega arith in (
+        let a = again sc ro in
+        let n = ahead_side core.table kind kind x ty t (place once t) (z.0 ∷ binders u) sl sl (like t) a in (
           refl,
-          reachable_append core b L' (met_side core.table sr rt')
-              (rs.0.0, line_of t si bf scf rof usf (inner_keeps t si bf scf rof usf rs.0.1))
-              (wider_side core rt' sr bL s.scope (next_all core.table b L') (record {
-                scope = λ y m. m;
-                types = λ y m.
-                    let e = q y.0 in let o = ro y.0 in let k = sc y m in let p = place_binds once t y.0 in
-                    side_same kind x ty t (place once t) sl b b y (omega arith) (omega arith) refl;
-                cased = side_cased_after core.table l' sl b ∙ (place_casing once t b.cased ∙ sym (side_cased_after core.table l sl b));
-              }) scL
-              (λ y. let e = q y in let o = ro y in let n = side_nums_after core.table l sl b y in let p = place_binds once u y in omega arith)
-              (λ y. let e = q y in let o = ro y in let n = side_nums_after core.table l' sl b y in let p = place_binds once u y in let v = place_binds once t y in omega arith)
-              (rs.1.0, line_of u sj bg scg rog usg (inner_keeps u sj bg scg rog usg rs.1.1))),
+          reachable_append core b L' (met_side core.table sr (On other z uy (place once u)))
+              (side_keeps kind x ty t (λ s1 b2 c1 r1 u1 h. inner_keeps t s1 b2 c1 r1 u1 h) sl b sc (ahead_first (x.0 ∷ binders t) (z.0 ∷ binders u) a).room (λ y o. let v = us y o in omega arith) rs.0)
+              (wider_side core (On other z uy (place once u)) sr (next_all core.table b L) s.scope (next_all core.table b L') (ahead_less n (λ y. let p = place_binds once u y in omega arith))
+              (side_keeps other z uy u (λ s1 b2 c1 r1 u1 h. inner_keeps u s1 b2 c1 r1 u1 h) sr (next_all core.table b L) n.scoped n.room
+              (λ y o. let v = us y o in let m = ap (λ c. times c y.0) (side_cased_after core.table l sl b) in let p = casing_counts t b.cased y in omega arith) rs.1)),
         )
     bind_keeps (Prim x f v w) s b sc ro us r = r
     bind_keeps (Reach x by) s b sc ro us r = r
@@ -341,7 +231,7 @@ module _ (core : CoreTree) (once : Variable → Bool) where
         let sci : Scoped si.scope b = λ y m. sc y (inside y m) in
         let room_t : Room b (binders t) = λ y. let e = q y in let o = ro y in omega arith in
         let us_t : Uses core once b t = λ y o. let z = us y o in omega arith in
-        let sc1 : (y : Variable) → (is_among later y ≡ true) ⊎ (has s.scope y ≡ true) → 1 ≤ occurs (nums b1.bound) y.0 = λ y m. let z = sc y (further y m) in let n = nums_after core.table t si b y.0 in omega arith in
+        let sc1 : (y : Variable) → (is_among later y ≡ true) ⊎ (has s.scope y ≡ true) → 1 ≤ occurs (nums b1.bound) y.0 = λ y m. let z = sc y (further y m) in let n = (gains_term core.table t si b).counts y.0 in omega arith in
         let same_arms = ap arm_variables (arms_placed once rest) in
         let back : (y : Variable) → (is_among (arm_variables (arms_of rest')) y ≡ true) ⊎ (has s.scope y ≡ true) → (is_among later y ≡ true) ⊎ (has s.scope y ≡ true) =
         λ y m. ⊎_elim (λ n. inl (sym (ap (λ l. is_among l y) same_arms) ∙ n)) (λ n. inr n) m in
@@ -350,46 +240,20 @@ module _ (core : CoreTree) (once : Variable → Bool) where
         (wider_branches core rest' s b1 s.scope (next_all core.table b xs') (λ y m. m)
         (λ y m.
         let e = q y.0 in let o = ro y.0 in let z = sc y (further y (back y m)) in let p = place_binds once t y.0 in
-        types_after core.table t' si b y (omega arith) ∙ sym (types_after core.table t si b y (omega arith)))
+        (gains_term core.table t' si b).types y (omega arith) ∙ sym ((gains_term core.table t si b).types y (omega arith)))
         (cased_after core.table t' si b ∙ (place_casing once t b.cased ∙ sym (cased_after core.table t si b)))
         (λ y m. sc1 y (back y m))
-        (λ y. let e = q y in let o = ro y in let n = nums_after core.table t si b y in let p = terms_placed once rest y in omega arith)
-        (λ y. let e = q y in let o = ro y in let n = nums_after core.table t' si b y in let p = terms_placed once rest y in let v = place_binds once t y in omega arith)
-        (branches_keep rest s b1 sc1 (λ y. let e = q y in let o = ro y in let n = nums_after core.table t si b y in omega arith)
+        (λ y. let e = q y in let o = ro y in let n = (gains_term core.table t si b).counts y in let p = terms_placed once rest y in omega arith)
+        (λ y. let e = q y in let o = ro y in let n = (gains_term core.table t' si b).counts y in let p = terms_placed once rest y in let v = place_binds once t y in omega arith)
+        (branches_keep rest s b1 sc1 (λ y. let e = q y in let o = ro y in let n = (gains_term core.table t si b).counts y in omega arith)
         (λ y o. let z = us y o in let n = ap (λ c. times c y.0) (cased_after core.table t si b) in let p = casing_counts t b.cased y in omega arith) rs.1))
 
   pub place_keeps : (t : Term) → KeepsIt core once t (place once t)
   place_keeps t s b sc ro us r = line_of t s b sc ro us (inner_keeps t s b sc ro us r)
 
--- The rules see of the functions their names and types alone.
-packed_placed : (fs : List FunctionTerm) (f : ℕ) → gives_packed (function_at (map function_at_once fs) f) ≡ gives_packed (function_at fs f)
-packed_placed [] f = refl
-packed_placed (g ∷ fs) f = go (g.name.0 == f) (packed_placed fs f)
-  where
-    go : (b : Bool) → gives_packed (function_at (map function_at_once fs) f) ≡ gives_packed (function_at fs f)
-        → gives_packed (if b then Some (function_at_once g) else function_at (map function_at_once fs) f) ≡ gives_packed (if b then Some g else function_at fs f)
-    go true e = refl
-    go false e = e
-
-fits_placed : (b : Before) (s : Setting) (xs : List Atom) (fs : List FunctionTerm) (f : ℕ) → call_fits b s xs (function_at (map function_at_once fs) f) ≡ call_fits b s xs (function_at fs f)
-fits_placed b s xs [] f = refl
-fits_placed b s xs (g ∷ fs) f = go (g.name.0 == f) (fits_placed b s xs fs f)
-  where
-    go : (c : Bool) → call_fits b s xs (function_at (map function_at_once fs) f) ≡ call_fits b s xs (function_at fs f)
-        → call_fits b s xs (if c then Some (function_at_once g) else function_at (map function_at_once fs) f) ≡ call_fits b s xs (if c then Some g else function_at fs f)
-    go true e = refl
-    go false e = e
-
 module _ (core : CoreTree) where
-  call_placed : (b : Before) (s : Setting) (f : Name) (xs : List Atom) → rules (core_at_once core) b s (CallLine f xs) ≡ rules core b s (CallLine f xs)
-  call_placed b s f xs = λ i.
-      (4, any_other s xs)
-      ∷ (6, packed_placed core.functions f.0 i && not (is_empty s.destination))
-      ∷ (8, not (all_usable s xs))
-      ∷ (9, not (fits_placed b s xs core.functions f.0 i)) ∷ []
-
   -- A line breaks no rule: none reaches a field, so what calls tell is not asked.
-  line_placed : (b : Before) (s : Setting) (line : Line) → least (rules core b (all_reached s) line) ≡ None → least (rules (core_at_once core) b (all_reached s) line) ≡ None
+  line_placed : (b : Before) (s : Setting) (line : Line) → least (rules core b (all_reached s) line) ≡ None → least (rules (place_core core) b (all_reached s) line) ≡ None
   line_placed b s (PastLine h k) e = e
   line_placed b s (SideLine kind x ty) e = e
   line_placed b s ParLine e = e
@@ -397,12 +261,12 @@ module _ (core : CoreTree) where
   line_placed b s (ReachLine y by) e = absurd (reaches_none core b s y by e)
   line_placed b s (WriteLine h k ss ps) e = e
   line_placed b s (PointLine x) e = e
-  line_placed b s (CallLine f xs) e = ap least (call_placed b (all_reached s) f xs) ∙ e
+  line_placed b s (CallLine f xs) e = ap least (same_call place_anew core b (all_reached s) f xs) ∙ e
   line_placed b s (GiveLine x) e = e
   line_placed b s (CaseLine x arms) e = e
   line_placed b s (IfLine x) e = e
 
-  lines_placed : (b : Before) (ms : List Met) → LinesAreReachable core b ms → LinesAreReachable (core_at_once core) b ms
+  lines_placed : (b : Before) (ms : List Met) → LinesAreReachable core b ms → LinesAreReachable (place_core core) b ms
   lines_placed b [] h = tt
   lines_placed b (m ∷ ms) h = (line_placed b m.with m.line h.0, lines_placed (next core.table b m.line) ms h.1)
 
@@ -424,7 +288,7 @@ module _ (core : CoreTree) where
   result_by r (Tree t) s e = ap (λ d. (setting_by r (record s { destination = d })).destination) e
 
   body_reachable : (ps : List Ty) (res : Ty) (t : Term) → IsNumbered (record { parameters = ps; result = res; term = t }) → IsReachable core (record { parameters = ps; result = res; term = t })
-      → IsReachable (core_at_once core) (record { parameters = ps; result = res; term = number_anew (length ps) (place_body t) })
+      → IsReachable (place_core core) (record { parameters = ps; result = res; term = number_anew (length ps) (place_body t) })
   body_reachable ps res t numbered h =
       let body : Body = record { parameters = ps; result = res; term = t } in
       let by = place_in (variables_in (length ps) (place_body t)) in
@@ -442,16 +306,7 @@ module _ (core : CoreTree) where
       (subst (λ (z : Before). LinesAreReachable core z (met core.table s (rename by (place_body t)))) same_b
       (subst (λ (z : Setting). LinesAreReachable core (before_lines_by by b) (met core.table z (rename by (place_body t)))) same_s renamed))
 
-  bodies_reachable : (fs : List FunctionTerm) (main main' : Body) → (IsNumbered main → IsReachable core main → IsReachable (core_at_once core) main') → NumberedBodies fs main
-      → AllByRecursion (IsReachable core) (map (λ (f : FunctionTerm). record { parameters = f.parameters; result = f.result; term = f.body }) fs ++ main ∷ [])
-      → AllByRecursion (IsReachable (core_at_once core)) (map (λ (f : FunctionTerm). record { parameters = f.parameters; result = f.result; term = f.body }) (map function_at_once fs) ++ main' ∷ [])
-  bodies_reachable [] main main' last n h = (last n.0 h.0, tt)
-  bodies_reachable (f ∷ fs) main main' last n h = (body_reachable f.parameters f.result f.body n.0 h.0, bodies_reachable fs main main' last n.1 h.1)
-
-pub core_reachable : (core : CoreTree) → AreNumbered core → AreReachable core → AreReachable (core_at_once core)
+pub core_reachable : (core : CoreTree) → AreNumbered core → AreReachable core → AreReachable (place_core core)
 core_reachable core n h =
-    let ps = core.main.parameter ∷ [] in
-    bodies_reachable core core.functions
-    (record { parameters = ps; result = core.main.result; term = core.main.body })
-    (record { parameters = ps; result = core.main.result; term = number_anew 1 (place_body core.main.body) })
-    (λ m r. body_reachable core ps core.main.result core.main.body m r) n h
+    remade_so place_anew core.offsets core.marked (λ (b : Body). IsNumbered b × IsReachable core b) (IsReachable (place_core core))
+    (λ b k. body_reachable core b.parameters b.result b.term k.0 k.1) core (all_both IsNumbered (IsReachable core) (bodies core) n h)

@@ -1,22 +1,23 @@
 -- Whole cores: what is placed means what was given, and is numbered.
-use Rattle.std.proofs.Common.{◌≡◌, ℕ, zero, suc, ◌+◌, ◌<◌, ◌≤◌, Bool, true, false, ◌||◌, ◌==◌, if◌then◌else◌, List, [], ◌∷◌, ◌++◌, map, length, Some, refl, sym, ap, ◌∙◌, arith, ⊎_elim}
+use Rattle.std.proofs.Common.{◌≡◌, ℕ, zero, suc, ◌+◌, ◌<◌, ◌≤◌, Bool, true, false, ◌||◌, ◌==◌, if◌then◌else◌, List, [], ◌∷◌, map, length, refl, sym, ap, ◌∙◌, arith, ⊎_elim}
 use Rattle.std.specs.List.{AllByRecursion}
 use Rattle.std.proofs.str.Laws.{order}
 use Rattle.std.proofs.lemmas.Bool.{eqb-true, eq-eqb, false_from_ne_true}
 use Rattle.gib_types.specs.declared.table.Ty.{Ty}
 use Rattle.gib_types.specs.Table.{Table}
 use Rattle.gib_types.specs.Tree.{Datum}
-use Rattle.gib_syntax.specs.Meaning.{Outcome, Environment}
+use Rattle.gib_syntax.specs.Meaning.{Environment}
 use Rattle.gib_core.specs.declared.atom.Variable.{Variable}
-use Rattle.gib_core.specs.Tree.{Term, variables_from, FunctionTerm, CoreTree}
-use Rattle.gib_core.specs.Meaning.{Calls, bind, mean, function_at, of_function, core_calls, core_run}
+use Rattle.gib_core.specs.Tree.{Term, variables_from, CoreTree}
+use Rattle.gib_core.specs.Meaning.{Calls, bind, mean, core_calls, core_run}
 use Rattle.gib_core.specs.Inferring.{numbers_from}
 use Rattle.gib_core.specs.Numbering.{binders, IsNumbered, AreNumbered}
-use Rattle.gib_core.specs.Met.{Body}
-use Rattle.gib_place.specs.Placing.{count, is_once, place_body}
+use Rattle.gib_core.specs.Met.{bodies}
+use Rattle.gib_core.specs.Counting.{count, is_once}
+use Rattle.gib_place.specs.Placing.{place_body}
 use Rattle.gib_place.specs.Renaming.{Renaming, rename_variable, rename, rename_environment}
-use Rattle.gib_place.specs.Numbering.{place_in, variables_in, number_anew}
-use Rattle.gib_place.proofs.AtOnce.{function_at_once, core_at_once}
+use Rattle.gib_place.specs.Numbering.{place_in, variables_in, number_anew, place_anew, place_core}
+use Rattle.gib_core.proofs.Remade.{all_so, MeansSame, remade_so, remade_calls, remade_run}
 use Rattle.gib_place.proofs.Positions.{place_tells, in_list, Differ, places_behind, first_stay}
 use Rattle.gib_place.proofs.Renames.{bind_renamed, binders_renamed, mean_renamed}
 use Rattle.gib_place.proofs.Counts.{occurs, occurs_append, place_binds}
@@ -124,53 +125,18 @@ arguments_stay r ps vs h =
     sym (bind_renamed r (variables_from 0 ps) vs [])
     ∙ ap (λ xs. bind xs vs []) (variables_stay r 0 ps (λ i lt. let e : 0 + i ≡ i = omega arith in ap r e ∙ (h i lt ∙ sym e)))
 
--- The functions of a core.
-abbrev body_of : FunctionTerm → Body
-body_of f = record { parameters = f.parameters; result = f.result; term = f.body }
+-- Whole cores.
+all_mean : (c : CoreTree) → AreNumbered c → AllByRecursion (MeansSame c.table place_anew) (bodies c)
+all_mean c all =
+    all_so IsNumbered (MeansSame c.table place_anew)
+    (λ b numbered call vs. body_means b.parameters b.result b.term numbered c.table call (bind (variables_from 0 b.parameters) vs [])
+    (arguments_stay (place_in (variables_in (length b.parameters) (place_body b.term))) b.parameters vs (parameters_stay b.parameters b.result b.term numbered))) (bodies c) all
 
-abbrev pub NumberedBodies : List FunctionTerm → Body → Type 0
-NumberedBodies fs main = AllByRecursion IsNumbered (map (λ (f : FunctionTerm). record { parameters = f.parameters; result = f.result; term = f.body }) fs ++ main ∷ [])
+pub calls_placed : (c : CoreTree) → AreNumbered c → (n : ℕ) → core_calls (place_core c) n ≡ core_calls c n
+calls_placed c all n = remade_calls place_anew c.offsets c.marked c (all_mean c all) n
 
-function_placed : (fs : List FunctionTerm) (main : Body) (f : ℕ) (go go' : FunctionTerm → Outcome) → ((h : FunctionTerm) → IsNumbered (body_of h) → go' (function_at_once h) ≡ go h) → NumberedBodies fs main
-    → of_function (function_at (map function_at_once fs) f) go' ≡ of_function (function_at fs f) go
-function_placed [] main f go go' e all = refl
-function_placed (k ∷ fs) main f go go' e all = step (k.name.0 == f) (function_placed fs main f go go' e all.1)
-  where
-    step : (b : Bool) → of_function (function_at (map function_at_once fs) f) go' ≡ of_function (function_at fs f) go
-        → of_function (if b then Some (function_at_once k) else function_at (map function_at_once fs) f) go' ≡ of_function (if b then Some k else function_at fs f) go
-    step true more = e k all.0
-    step false more = more
+pub run_placed : (c : CoreTree) → AreNumbered c → (depth : ℕ) (v : Datum) → core_run (place_core c) depth v ≡ core_run c depth v
+run_placed c all depth v = remade_run place_anew c.offsets c.marked c (all_mean c all) depth v
 
-pub main_numbered : (fs : List FunctionTerm) (main : Body) → NumberedBodies fs main → IsNumbered main
-main_numbered [] main h = h.0
-main_numbered (f ∷ fs) main h = main_numbered fs main h.1
-
-pub calls_placed : (c : CoreTree) → AreNumbered c → (n : ℕ) → core_calls (core_at_once c) n ≡ core_calls c n
-calls_placed c all zero = refl
-calls_placed c all (suc n) = λ i f vs. (
-    ap (λ k. of_function (function_at (core_at_once c).functions f) (λ g. mean c.table k g.body (bind (variables_from 0 g.parameters) vs []))) (calls_placed c all n)
-    ∙ function_placed c.functions (record { parameters = c.main.parameter ∷ []; result = c.main.result; term = c.main.body }) f
-    (λ g. mean c.table (core_calls c n) g.body (bind (variables_from 0 g.parameters) vs []))
-    (λ g. mean c.table (core_calls c n) g.body (bind (variables_from 0 g.parameters) vs []))
-    (λ h numbered. body_means h.parameters h.result h.body numbered c.table (core_calls c n) (bind (variables_from 0 h.parameters) vs []) (arguments_stay (place_in (variables_in (length h.parameters) (place_body h.body))) h.parameters vs (parameters_stay h.parameters h.result h.body numbered)))
-    all) i
-
-pub run_placed : (c : CoreTree) → AreNumbered c → (depth : ℕ) (v : Datum) → core_run (core_at_once c) depth v ≡ core_run c depth v
-run_placed c all depth v =
-    let ps = c.main.parameter ∷ [] in
-    let numbered = main_numbered c.functions (record { parameters = ps; result = c.main.result; term = c.main.body }) all in
-    ap (λ k. mean c.table k (core_at_once c).main.body ((0, v) ∷ [])) (calls_placed c all depth)
-    ∙ body_means ps c.main.result c.main.body numbered c.table (core_calls c depth) ((0, v) ∷ [])
-    (λ i. (parameters_stay ps c.main.result c.main.body numbered 0 (omega arith) i, v) ∷ [])
-
-numbered_bodies : (fs : List FunctionTerm) (main main' : Body) → (IsNumbered main → IsNumbered main') → NumberedBodies fs main → NumberedBodies (map function_at_once fs) main'
-numbered_bodies [] main main' last h = (last h.0, tt)
-numbered_bodies (f ∷ fs) main main' last h = (body_numbered f.parameters f.result f.body h.0, numbered_bodies fs main main' last h.1)
-
-pub core_numbered : (c : CoreTree) → AreNumbered c → AreNumbered (core_at_once c)
-core_numbered c h =
-    let ps = c.main.parameter ∷ [] in
-    numbered_bodies c.functions
-    (record { parameters = ps; result = c.main.result; term = c.main.body })
-    (record { parameters = ps; result = c.main.result; term = number_anew 1 (place_body c.main.body) })
-    (λ n. body_numbered ps c.main.result c.main.body n) h
+pub core_numbered : (c : CoreTree) → AreNumbered c → AreNumbered (place_core c)
+core_numbered c h = remade_so place_anew c.offsets c.marked IsNumbered IsNumbered (λ b n. body_numbered b.parameters b.result b.term n) c h

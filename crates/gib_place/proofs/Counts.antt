@@ -5,13 +5,15 @@ use Rattle.gib_types.specs.declared.table.ConId.{ConId}
 use Rattle.gib_core.specs.declared.atom.Variable.{Variable}
 use Rattle.gib_core.specs.declared.atom.Atom.{Atom}
 use Rattle.gib_core.specs.declared.atom.Kind.TheVariants.{Here, Region, Scalar}
-use Rattle.gib_core.specs.Tree.{Term, Then, Write, Point, CallTerm, Give, CaseTerm, IfTerm, Bind, Past, One, Both, Prim, Reach, On, Branches, NoBranch, BranchThen, prepend}
+use Rattle.gib_core.specs.Tree.{Term, Then, Write, Point, CallTerm, Give, CaseTerm, IfTerm, Bind, Past, One, Both, Prim, Reach, On, prepend}
 use Rattle.gib_core.specs.Inferring.{as_atoms}
-use Rattle.gib_core.specs.Numbering.{binders, bind_binders, side_binders, branch_binders}
+use Rattle.gib_core.specs.Numbering.{numbers_in, binders, bind_binders, side_binders}
+use Rattle.gib_core.proofs.Walks.{Maps, map_joins}
 use Rattle.gib_core.specs.Reaching.{is_variable}
 use Rattle.gib_core.specs.Rules.{is_among}
 use Rattle.gib_place.specs.declared.field.Field.{Field}
-use Rattle.gib_place.specs.Placing.{count_atom, count_in, count, count_bind, count_branches, pointing, Ending, Filling, field_first, binding_first, room_first, ending_of, filling_of, lay, are_fields, laid_line, fill, place_line, place_inner, inner_bind, inner_branches, place}
+use Rattle.gib_core.specs.Counting.{count_atom, count_in, entry_counts, count, count_bind}
+use Rattle.gib_place.specs.Placing.{pointing, Ending, Filling, field_first, binding_first, room_first, ending_of, filling_of, lay, are_fields, laid_line, fill, place_line, as_bound, placed_inside, place_inner, place}
 use Rattle.gib_place.proofs.Lays.{Lays, ends, opens, puts, stays, one, left, right, both, variables, is_that, lay_lays}
 use Rattle.gib_core.proofs.Along.{same_variable}
 
@@ -238,74 +240,31 @@ line_fewer once t = line_by_steps once Fewer (λ z. record { uses = λ y. omega 
 }) t
 
 module _ (once : Variable → Bool) where
-  mutual
-    inner_uses : (t : Term) (y : Variable) → count (place_inner once t) y ≤ count t y
-    inner_uses (Then b rest) y = let p = bind_uses b y in let q = inner_uses rest y in omega arith
-    inner_uses (Write h k ss ps) y = omega arith
-    inner_uses (Point x) y = omega arith
-    inner_uses (CallTerm f xs) y = omega arith
-    inner_uses (Give x) y = omega arith
-    inner_uses (CaseTerm x bs) y = let p = branches_uses bs y in omega arith
-    inner_uses (IfTerm x t u) y =
-        let p = inner_uses t y in let q = inner_uses u y in
-        let m = (line_fewer once (place_inner once t)).uses y in let n = (line_fewer once (place_inner once u)).uses y in omega arith
+  -- So do all lines that are nested in a term.
+  less_used : (y : Variable) → Maps (λ (m n : ℕ). m ≤ n) (◌+◌) 0 (entry_counts y) as_bound (placed_inside once)
+  less_used y = record {
+    same = λ m. omega arith;
+    chain = λ k m n p q. omega arith;
+    two = λ k m n o p q. omega arith;
+    bound = λ b. omega arith;
+    nested = λ s t. (line_fewer once t).uses y;
+  }
 
-    bind_uses : (b : Bind) (y : Variable) → count_bind (inner_bind once b) y ≤ count_bind b y
-    bind_uses (Past h k) y = omega arith
-    bind_uses (One (On kind x ty t)) y = let p = inner_uses t y in let m = (line_fewer once (place_inner once t)).uses y in omega arith
-    bind_uses (Both fork (On kind x ty t) (On other z uy u)) y =
-        let p = inner_uses t y in let q = inner_uses u y in
-        let m = (line_fewer once (place_inner once t)).uses y in let n = (line_fewer once (place_inner once u)).uses y in omega arith
-    bind_uses (Prim x f v w) y = omega arith
-    bind_uses (Reach x by) y = omega arith
-
-    branches_uses : (bs : Branches) (y : Variable) → count_branches (inner_branches once bs) y ≤ count_branches bs y
-    branches_uses NoBranch y = omega arith
-    branches_uses (BranchThen k xs t rest) y =
-        let p = inner_uses t y in let q = branches_uses rest y in let m = (line_fewer once (place_inner once t)).uses y in omega arith
-
-  mutual
-    inner_binds : (t : Term) (y : ℕ) → occurs (binders (place_inner once t)) y ≤ occurs (binders t) y
-    inner_binds (Then b rest) y =
-        let p = bind_binds b y in let q = inner_binds rest y in
-        let m = occurs_append (bind_binders (inner_bind once b)) (binders (place_inner once rest)) y in let n = occurs_append (bind_binders b) (binders rest) y in omega arith
-    inner_binds (Write h k ss ps) y = omega arith
-    inner_binds (Point x) y = omega arith
-    inner_binds (CallTerm f xs) y = omega arith
-    inner_binds (Give x) y = omega arith
-    inner_binds (CaseTerm x bs) y = branches_binds bs y
-    inner_binds (IfTerm x t u) y =
-        let p = inner_binds t y in let q = inner_binds u y in
-        let v = (line_fewer once (place_inner once t)).binds y in let w = (line_fewer once (place_inner once u)).binds y in
-        let m = occurs_append (binders (place once t)) (binders (place once u)) y in let n = occurs_append (binders t) (binders u) y in omega arith
-
-    bind_binds : (b : Bind) (y : ℕ) → occurs (bind_binders (inner_bind once b)) y ≤ occurs (bind_binders b) y
-    bind_binds (Past h k) y = omega arith
-    bind_binds (One (On kind x ty t)) y = let p = inner_binds t y in let v = (line_fewer once (place_inner once t)).binds y in omega arith
-    bind_binds (Both fork (On kind x ty t) (On other z uy u)) y =
-        let p = inner_binds t y in let q = inner_binds u y in
-        let v = (line_fewer once (place_inner once t)).binds y in let w = (line_fewer once (place_inner once u)).binds y in
-        let m = occurs_append (x.0 ∷ binders (place once t)) (z.0 ∷ binders (place once u)) y in let n = occurs_append (x.0 ∷ binders t) (z.0 ∷ binders u) y in omega arith
-    bind_binds (Prim x f v w) y = omega arith
-    bind_binds (Reach x by) y = omega arith
-
-    branches_binds : (bs : Branches) (y : ℕ) → occurs (branch_binders (inner_branches once bs)) y ≤ occurs (branch_binders bs) y
-    branches_binds NoBranch y = omega arith
-    branches_binds (BranchThen k xs t rest) y =
-        let p = inner_binds t y in let q = branches_binds rest y in let r = (line_fewer once (place_inner once t)).binds y in
-        let ns = map (λ (x : Variable). x.0) xs in
-        let m = occurs_append ns (binders (place once t) ++ branch_binders (inner_branches once rest)) y in let n = occurs_append ns (binders t ++ branch_binders rest) y in
-        let v = occurs_append (binders (place once t)) (branch_binders (inner_branches once rest)) y in let w = occurs_append (binders t) (branch_binders rest) y in omega arith
-
-  pub place_uses : (t : Term) (y : Variable) → count (place once t) y ≤ count t y
-  place_uses t y = let p = inner_uses t y in let m = (line_fewer once (place_inner once t)).uses y in omega arith
-
-  pub place_binds : (t : Term) (y : ℕ) → occurs (binders (place once t)) y ≤ occurs (binders t) y
-  place_binds t y = let p = inner_binds t y in let m = (line_fewer once (place_inner once t)).binds y in omega arith
+  less_bound : (y : ℕ) → Maps (λ (xs ys : List ℕ). occurs xs y ≤ occurs ys y) (◌++◌) [] numbers_in as_bound (placed_inside once)
+  less_bound y = record {
+    same = λ xs. omega arith;
+    chain = λ xs ys zs p q. omega arith;
+    two = λ xs ys zs ws p q. let m = occurs_append xs ys y in let n = occurs_append zs ws y in omega arith;
+    bound = λ b. omega arith;
+    nested = λ s t. (line_fewer once t).binds y;
+  }
 
   -- Before its own line is placed.
   pub before_uses : (t : Term) (y : Variable) → count (place_inner once t) y ≤ count t y
-  before_uses t y = inner_uses t y
+  before_uses t y = map_joins (λ (m n : ℕ). m ≤ n) (◌+◌) 0 (entry_counts y) as_bound (placed_inside once) (less_used y) t
 
   pub before_binds : (t : Term) (y : ℕ) → occurs (binders (place_inner once t)) y ≤ occurs (binders t) y
-  before_binds t y = inner_binds t y
+  before_binds t y = map_joins (λ (xs ys : List ℕ). occurs xs y ≤ occurs ys y) (◌++◌) [] numbers_in as_bound (placed_inside once) (less_bound y) t
+
+  pub place_binds : (t : Term) (y : ℕ) → occurs (binders (place once t)) y ≤ occurs (binders t) y
+  place_binds t y = let p = before_binds t y in let m = (line_fewer once (place_inner once t)).binds y in omega arith

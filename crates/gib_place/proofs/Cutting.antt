@@ -1,7 +1,7 @@
 -- Where a binding is placed.
-use Rattle.std.proofs.Common.{◌≡◌, ℕ, zero, suc, ◌+◌, ◌-◌, ◌<◌, ◌≤◌, Bool, true, false, not, ◌&&◌, ◌||◌, ◌==◌, if◌then◌else◌, List, [], ◌∷◌, ◌++◌, map, length, take, drop, get_or, Option, Some, None, refl, sym, ap, ◌∙◌, arith}
+use Rattle.std.proofs.Common.{◌≡◌, ℕ, zero, suc, ◌+◌, ◌-◌, ◌<◌, ◌≤◌, Bool, true, false, not, ◌&&◌, ◌||◌, ◌==◌, if◌then◌else◌, List, [], ◌∷◌, ◌++◌, length, take, drop, get_or, Option, Some, None, refl, sym, ap, ◌∙◌, arith}
 use Rattle.std.specs.List.{list_any}
-use Rattle.std.proofs.lemmas.List.{drop_more, drop_all, append-nil, take_more}
+use Rattle.std.proofs.lemmas.List.{drop_more, drop_all, append-nil, take_more, append_assoc, take_rest}
 use Rattle.std.proofs.lemmas.Bool.{eqb-true, false_from_ne_true}
 use Rattle.gib_core.specs.declared.atom.Variable.{Variable}
 use Rattle.gib_core.specs.declared.atom.Atom.{Atom}
@@ -17,46 +17,10 @@ use Rattle.gib_place.specs.declared.line.Spot.{Spot}
 use Rattle.gib_place.specs.Late.{Seen, is_late_or}
 use Rattle.gib_place.specs.Placing.{Cut, before_cut, cut_at, is_one, are_there, are_none, place_at, place_side, place_one, place_right, place_too, place_both, place_bind}
 use Rattle.gib_place.specs.Filled.{cut_from, put_here, side_at, side_placed, placed_at, bind_placed, AreLate}
-use Rattle.gib_place.proofs.Lays.{append_append}
-
-pub map_take : {A : Type 0} {B : Type 0} (g : A → B) (xs : List A) (n : ℕ) → map g (take n xs) ≡ take n (map g xs)
-map_take g xs zero = refl
-map_take g [] (suc n) = refl
-map_take g (x ∷ xs) (suc n) = ap (λ l. g x ∷ l) (map_take g xs n)
-
-pub map_drop : {A : Type 0} {B : Type 0} (g : A → B) (xs : List A) (n : ℕ) → map g (drop n xs) ≡ drop n (map g xs)
-map_drop g xs zero = refl
-map_drop g [] (suc n) = refl
-map_drop g (x ∷ xs) (suc n) = map_drop g xs n
-
-pub nothing_dropped : {A : Type 0} (n : ℕ) → drop {A = A} n [] ≡ []
-nothing_dropped zero = refl
-nothing_dropped (suc n) = refl
-
-pub drop_drop : {A : Type 0} (xs : List A) (n m : ℕ) → drop m (drop n xs) ≡ drop (n + m) xs
-drop_drop xs zero m = let e : m ≡ 0 + m = omega arith in ap (λ n. drop n xs) e
-drop_drop [] (suc n) m = nothing_dropped m ∙ sym (nothing_dropped (suc n + m))
-drop_drop (x ∷ xs) (suc n) m = drop_drop xs n m ∙ (let e : suc (n + m) ≡ suc n + m = omega arith in ap (λ k. drop k (x ∷ xs)) e)
-
-pub take_all : {A : Type 0} (xs : List A) (n : ℕ) → length xs ≤ n → take n xs ≡ xs
-take_all [] zero le = refl
-take_all [] (suc n) le = refl
-take_all (x ∷ xs) zero le = absurd (omega arith)
-take_all (x ∷ xs) (suc n) le = ap (λ l. x ∷ l) (take_all xs n (omega arith))
-
-pub drop_length : {A : Type 0} (xs : List A) (n : ℕ) → length (drop n xs) + n ≤ length xs + n
-drop_length xs zero = omega arith
-drop_length [] (suc n) = omega arith
-drop_length (x ∷ xs) (suc n) = let h = drop_length xs n in omega arith
-
-pub drop_rest : {A : Type 0} (xs : List A) (n : ℕ) → n ≤ length xs → length (drop n xs) + n ≡ length xs
-drop_rest xs zero le = omega arith
-drop_rest [] (suc n) le = absurd (omega arith)
-drop_rest (x ∷ xs) (suc n) le = let h = drop_rest xs n (omega arith) in omega arith
 
 -- The rest of a list, as slices have it.
 pub tail_is : {A : Type 0} (xs : List A) (p q : ℕ) → p ≤ length xs → q ≡ p → take (length xs - p) (drop p xs) ≡ drop q xs
-tail_is xs p q le e = take_all (drop p xs) (length xs - p) (let d = drop_rest xs p le in omega arith) ∙ ap (λ n. drop n xs) (sym e)
+tail_is xs p q le e = take_rest xs p ∙ ap (λ n. drop n xs) (sym e)
 
 -- More fields before a cut.
 abbrev behind_all : List Field → Option Cut → Option Cut
@@ -76,7 +40,7 @@ cut_start x fields = record { cut = nothing_first (cut_at x fields) }
 
 one_further : (fs : List Field) (f : Field) (c : Option Cut) → behind_all fs (before_cut f c) ≡ behind_all (fs ++ f ∷ []) c
 one_further fs f None = refl
-one_further fs f (Some c) = λ i. Some (record { before = sym (append_append fs (f ∷ []) c.before) i; behind = c.behind })
+one_further fs f (Some c) = λ i. Some (record { before = sym (append_assoc fs (f ∷ []) c.before) i; behind = c.behind })
 
 pub cut_next : (x : Variable) (fields : List Field) (i : ℕ) (f d : Field) → CutBehind x fields i → i < length fields → f ≡ get_or fields i d → is_variable x f.target ≡ false → CutBehind x fields (i + 1)
 cut_next x fields i f d h lt ef e = record {

@@ -3,7 +3,6 @@ use Rattle.std.proofs.Common.{◌≡◌, ⊎_elim, ℕ, zero, suc, ◌+◌, ◌�
 use Rattle.std.specs.Prelude.{get_or}
 use Rattle.std.proofs.lemmas.Bool.{eqb-true, both_ways, not-false, false_from_ne_true, or_parts, or_from, or_cases, and_parts}
 use Rattle.std.proofs.lemmas.List.{append-nil}
-use Rattle.gib_types.specs.declared.table.Ty.{Ty}
 use Rattle.gib_types.specs.declared.table.Ty.TheVariants.{Whole}
 use Rattle.gib_types.specs.declared.table.ConId.{ConId}
 use Rattle.gib_types.specs.Table.{fields_at, scalar_types}
@@ -16,18 +15,19 @@ use Rattle.gib_core.specs.Tree.{Term, Then, Write, Bind, Past, prepend, CoreTree
 use Rattle.gib_core.specs.Inferring.{as_atoms}
 use Rattle.gib_core.specs.Numbering.{binders}
 use Rattle.gib_core.specs.Met.{Destination, Nowhere, Empty, Open, Setting, PastLine, SideLine, WriteLine, PointLine, Met, packed_types, field_due, with_field, in_side, behind, met, met_bind}
-use Rattle.gib_core.specs.Rules.{Before, same_type, is_empty, is_among, type_bound, type_of, is_type, has_type, have_types, is_usable, all_usable, is_other, any_other, is_of_type, are_variables, any_cased, further, may_write, are_scalars, rules, next, next_all, type_made}
+use Rattle.gib_core.specs.Rules.{Before, same_type, is_empty, is_among, type_bound, is_type, has_type, have_types, is_usable, all_usable, is_other, any_other, is_of_type, are_variables, any_cased, further, may_write, are_scalars, rules, next, next_all, type_made}
 use Rattle.gib_core.specs.Reachable.{all_reached, LinesAreReachable}
 use Rattle.gib_place.specs.declared.field.Field.{Field}
-use Rattle.gib_place.specs.Placing.{count_atom, count_in, count, pointing, Filling, bound_in, are_fields, place_line}
+use Rattle.gib_core.specs.Counting.{count_atom, count_in, count}
+use Rattle.gib_place.specs.Placing.{pointing, Filling, bound_in, are_fields, place_line}
 use Rattle.gib_core.proofs.Along.{none_broken, next_append, reachable_split, same_variable}
 use Rattle.gib_core.proofs.Cased.{has, reached_where_has, has_less}
 use Rattle.gib_place.proofs.Lays.{Lays, variables}
 use Rattle.gib_place.proofs.Counts.{occurs, binders_all, targets, ending_line, filling_line, fields_named, fields_once, counted, count_line, occurs_line, lays_occurs, line_by_steps}
 use Rattle.gib_place.proofs.Fitting.{own_count, is_told, Fit, told, fields_fit, scalars_unused}
 use Rattle.gib_place.proofs.Wider.{nums, times, none_among}
-use Rattle.gib_place.proofs.Weaken.{Scoped, Room, Wider}
-use Rattle.gib_place.proofs.Kept.{behinds, mets, met_prepend, mets_nums, mets_types, opened, EndOk, FieldOk, FieldsOk, Pre, lays_reach, any_other_eq, other_eq, shift_one, scopes_back, others_behinds, due_at, mets_cased, all_empty}
+use Rattle.gib_place.proofs.Weaken.{Scoped, Room, type_same, types_same, other_eq, any_other_eq}
+use Rattle.gib_place.proofs.Kept.{length_one, behinds, mets, met_prepend, gains_run, FieldsOk, lays_reach, shift_one, scopes_back, others_behinds, mets_cased, all_empty}
 use Rattle.gib_core.proofs.Dests.{usable_first}
 use Rattle.gib_place.proofs.Means.{fit_none}
 
@@ -74,18 +74,6 @@ module _ (F : Variable → Bool) (from to : List Known) (narrow : (y : Variable)
       let p = and_parts (is_usable (all_reached s) x) (all_usable (all_reached s) xs) u in
       λ i. usable_less s z x e f (λ y m. let q = o y m in omega arith) p.0 i && all_usable_less s z xs e f (λ y m. let q = o y m in omega arith) p.1 i
 
-type_same : (z : Setting) (b b' : Before) (x : Atom) → ((y : Variable) → has z.scope y ≡ true → type_bound b'.bound y ≡ type_bound b.bound y) → is_usable (all_reached z) x ≡ true → type_of b' x ≡ type_of b x
-type_same z b b' (a.Variable y) h u = h y (sym (reached_where_has z.scope y) ∙ u)
-type_same z b b' (a.Whole n) h u = refl
-type_same z b b' (a.Truth t) h u = refl
-
-types_same : (z : Setting) (b b' : Before) (xs : List Atom) (ts : List Ty) → ((y : Variable) → has z.scope y ≡ true → type_bound b'.bound y ≡ type_bound b.bound y) → all_usable (all_reached z) xs ≡ true → have_types b' xs ts ≡ have_types b xs ts
-types_same z b b' [] [] h u = refl
-types_same z b b' [] (t ∷ ts) h u = refl
-types_same z b b' (x ∷ xs) [] h u = refl
-types_same z b b' (x ∷ xs) (t ∷ ts) h u =
-    let p = and_parts (is_usable (all_reached z) x) (all_usable (all_reached z) xs) u in λ i. is_type (type_same z b b' x h p.0 i) t && types_same z b b' xs ts h p.1 i
-
 -- The fields, one after another.
 module _ (core : CoreTree) (once : Variable → Bool) (h : Variable) (k : ConId) (F : Variable → Bool) (se : Setting) (be : Before) where
   record Static (f : Field) : Type 0 where
@@ -128,7 +116,7 @@ module _ (core : CoreTree) (once : Variable → Bool) (h : Variable) (k : ConId)
           uncased = st1.uncased;
           target_uncased = st1.target_uncased;
         },
-        fields_ok hw kw ss fs (behind s (pointing f)) bf (done ++ f.variable ∷ []) (suc n) (ap (with_field f.variable) d) (ap suc c ∙ sym (Rattle.gib_place.proofs.Kept.length_one done f.variable)) o
+        fields_ok hw kw ss fs (behind s (pointing f)) bf (done ++ f.variable ∷ []) (suc n) (ap (with_field f.variable) d) (ap suc c ∙ sym (length_one done f.variable)) o
             (λ z m q. nar z (has_less f.variable s.scope z (false_from_ne_true (f.variable.0 == z.0) (λ e. both_ways (F z) q (ap F (sym (same_variable f.variable z e)) ∙ st1.told))) m) q)
             past (λ z m. let q = free z m in omega arith) st.1 r.1.1,
       )
@@ -222,12 +210,12 @@ module _ (core : CoreTree) (once : Variable → Bool) where
       let st = statics core once h k F se be fs fs (fit_none F l.run fs fit) mine uncased spent (λ y. omega arith) in
       let scE = mets_scoped l.run s b sc rs.0 in
       let free : (y : Variable) → has se.scope y ≡ true → times (variables fs) y.0 ≡ 0 =
-      λ y m. let q = ro y.0 in let c = occurs_line l y.0 in let n = mets_nums core l.run s b y.0 in let z = scE y m in omega arith in
+      λ y m. let q = ro y.0 in let c = occurs_line l y.0 in let n = (gains_run core l.run s b).counts y.0 in let z = scE y m in omega arith in
       let types1 : (y : Variable) → has se.scope y ≡ true → type_bound b1.bound y ≡ type_bound be.bound y =
       λ y m. ap (λ c. if c then Some (type_made tb k) else type_bound be.bound y)
-      (not_same h y (occurs (nums be.bound) y.0) (scE y m) (let q = ro y.0 in let c = occurs_line l y.0 in let n = mets_nums core l.run s b y.0 in omega arith)) in
+      (not_same h y (occurs (nums be.bound) y.0) (scE y m) (let q = ro y.0 in let c = occurs_line l y.0 in let n = (gains_run core l.run s b).counts y.0 in omega arith)) in
       let typesE : (y : Variable) → has se.scope y ≡ true → type_bound bE.bound y ≡ type_bound be.bound y =
-      λ y m. mets_types core (map pointing fs) s1 b1 y (let f = free y m in let g = ap (λ l. occurs l y.0) (binders_fields fs) in omega arith) ∙ types1 y m in
+      λ y m. (gains_run core (map pointing fs) s1 b1).types y (let f = free y m in let g = ap (λ l. occurs l y.0) (binders_fields fs) in omega arith) ∙ types1 y m in
       let narrow : (y : Variable) → has sE.scope y ≡ true → F y ≡ false → has se.scope y ≡ true =
       λ y m o. scopes_back core (map pointing fs) s1 b1 y r2.0 m (ap (λ l. is_among l y) (bound_fields fs) ∙ o) in
       let usableE = usable_first (all_reached sE) ss ps (not-false (all_usable (all_reached sE) (ss ++ ps)) wf.1.1.0) in

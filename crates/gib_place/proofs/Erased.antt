@@ -17,12 +17,15 @@ use Rattle.gib_core.specs.Inferring.{as_atoms}
 use Rattle.gib_core.specs.Numbering.{binders, bind_binders, branch_binders}
 use Rattle.gib_core.specs.Rules.{is_among}
 use Rattle.gib_place.specs.declared.field.Field.{Field}
-use Rattle.gib_place.specs.Placing.{count_atom, count_in, count, count_bind, count_branches, pointing, Filling, bound_by, bound_in, is_one, are_fields, place_line, place_inner, inner_bind, inner_branches, place}
+use Rattle.gib_core.specs.Counting.{count_atom, count_in, count, count_bind, count_branches}
+use Rattle.gib_place.specs.Placing.{pointing, Filling, bound_by, bound_in, is_one, are_fields, place_line, as_bound, placed_inside, place_inner, inner_bind, inner_branches, place}
 use Rattle.gib_place.proofs.Lays.{Lays, ends, opens, puts, stays, one, left, right, both, variables, fields_lay}
 use Rattle.gib_place.proofs.Counts.{occurs, occurs_append, targets, ending_line, filling_line, fields_named, line_by_steps, before_uses, before_binds}
 use Rattle.gib_place.proofs.Fitting.{own_count, not_among, is_told, Fit, fit_less, Unused, told, fields_fit, run_unused, scalars_unused}
 use Rattle.gib_place.proofs.Means.{fit_none}
 use Rattle.gib_core.proofs.Along.{same_variable}
+use Rattle.gib_core.proofs.Alike.{alike_left}
+use Rattle.gib_core.proofs.Maps.{map_alike}
 
 -- Where variables that are told are left out, the same is put.
 abbrev Agree : (Variable → Bool) → Substitution → Substitution → Type 0
@@ -134,7 +137,9 @@ module _ (tb : Table) (F : Variable → Bool) where
 
     pub bind_free : (b : Bind) (sub sub' : Substitution) → ((y : Variable) → F y ≡ true → count_bind b y ≡ 0) → Agree F sub sub' → (go go' : Substitution → Expression) → Follows b sub sub' go go' → erase_bind tb sub' b go' ≡ erase_bind tb sub b go
     bind_free (Past c k) sub sub' o h go go' f = f sub sub' h (λ y p q. refl) (λ y p q. refl)
-    bind_free (One (On kind x ty t)) sub sub' o h go go' f = let_free (left_out kind t) x (erase tb sub t) (erase tb sub' t) sub sub' go go' (out_free F kind t o) (erase_free t sub sub' o h) h f
+    bind_free (One (On kind x ty t)) sub sub' o h go go' f =
+        let free : (y : Variable) → F y ≡ true → count t y ≡ 0 = λ y m. let e = o y m in omega arith in
+        let_free (left_out kind t) x (erase tb sub t) (erase tb sub' t) sub sub' go go' (out_free F kind t free) (erase_free t sub sub' free h) h f
     bind_free (Both fork (On kind x ty t) (On other z uy u)) sub sub' o h go go' f =
         λ i. Rattle.gib_syntax.specs.Tree.Par nowhere (ident x.0) (erase_free t sub sub' (λ y m. let e = o y m in omega arith) h i) (ident z.0) (erase_free u sub sub' (λ y m. let e = o y m in omega arith) h i)
         (f sub sub' h (λ y p q. refl) (λ y p q. refl) i)
@@ -246,34 +251,11 @@ then_out Here (c ∷ bs) b t = refl
 then_out Region (c ∷ bs) b t = refl
 then_out Scalar (c ∷ bs) b t = refl
 
-inner_out : (once : Variable → Bool) (kind : Kind) (t : Term) → left_out kind (place_inner once t) ≡ left_out kind t
-inner_out once Here (Then b rest) = refl
-inner_out once Region (Then b rest) = refl
-inner_out once Scalar (Then b rest) = refl
-inner_out once Here (Write h k ss ps) = refl
-inner_out once Region (Write h k ss ps) = refl
-inner_out once Scalar (Write h k ss ps) = refl
-inner_out once Here (Point x) = refl
-inner_out once Region (Point x) = refl
-inner_out once Scalar (Point x) = refl
-inner_out once Here (CallTerm f xs) = refl
-inner_out once Region (CallTerm f xs) = refl
-inner_out once Scalar (CallTerm f xs) = refl
-inner_out once Here (Give x) = refl
-inner_out once Region (Give x) = refl
-inner_out once Scalar (Give x) = refl
-inner_out once Here (CaseTerm x bs) = refl
-inner_out once Region (CaseTerm x bs) = refl
-inner_out once Scalar (CaseTerm x bs) = refl
-inner_out once Here (IfTerm x t u) = refl
-inner_out once Region (IfTerm x t u) = refl
-inner_out once Scalar (IfTerm x t u) = refl
-
 place_out : (once : Variable → Bool) (kind : Kind) (t : Term) → left_out kind (place once t) ≡ left_out kind t
 place_out once kind t =
     line_by_steps once (λ t u. left_out kind u ≡ left_out kind t) (λ z. refl)
     (λ l cs xs e h. written_out kind cs l.ending.head l.ending.con l.ending.scalars (as_atoms xs) ∙ sym (then_out kind l.run (Past l.room l.made) (ending_line l.ending))) (place_inner once t)
-    ∙ inner_out once kind t
+    ∙ alike_left kind (map_alike as_bound (placed_inside once) t)
 
 module _ (tb : Table) (once : Variable → Bool) where
   abbrev Few : Term → Type 0
@@ -333,7 +315,7 @@ module _ (tb : Table) (once : Variable → Bool) where
     bind_leaves : (b : Bind) → ((y : Variable) → once y ≡ true → count_bind b y ≤ 1) → ((y : ℕ) → occurs (bind_binders b) y ≤ 1) → (sub : Substitution) (k k' : Substitution → Expression) → ((s : Substitution) → k' s ≡ k s) → erase_bind tb sub (inner_bind once b) k' ≡ erase_bind tb sub b k
     bind_leaves (Past h c) few differs sub k k' e = e sub
     bind_leaves (One (On kind x ty t)) few differs sub k k' e =
-        λ i. let_or_put (place_out once kind t i) x (term_leaves t few (λ y. let e = differs y in omega arith) (λ fw df. inner_leaves t fw df) sub i) sub (λ s. e s i)
+        λ i. let_or_put (place_out once kind t i) x (term_leaves t (λ y o. let e = few y o in omega arith) (λ y. let e = differs y in omega arith) (λ fw df. inner_leaves t fw df) sub i) sub (λ s. e s i)
     bind_leaves (Both fork (On kind x ty t) (On other z uy u)) few differs sub k k' e =
         λ i. Rattle.gib_syntax.specs.Tree.Par nowhere (ident x.0)
         (term_leaves t (λ y o. let e = few y o in omega arith) (λ y. let e = differs y in let f = occurs_append (x.0 ∷ binders t) (z.0 ∷ binders u) y in omega arith) (λ fw df. inner_leaves t fw df) sub i)

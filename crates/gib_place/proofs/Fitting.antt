@@ -1,6 +1,7 @@
 -- What the fields of a line that fills a head owe to how often variables are used and bound.
 use Rattle.std.proofs.Common.{◌≡◌, ℕ, ◌+◌, ◌≤◌, Bool, true, false, ◌||◌, ◌==◌, if◌then◌else◌, List, [], ◌∷◌, ◌++◌, map, refl, sym, ap, ◌∙◌, arith}
 use Rattle.std.proofs.lemmas.Bool.{eq-eqb, false_from_ne_true, or_parts}
+use Rattle.std.proofs.lemmas.List.{map-append}
 use Rattle.gib_core.specs.declared.atom.Variable.{Variable}
 use Rattle.gib_core.specs.declared.atom.Atom.{Atom}
 use Rattle.gib_core.specs.declared.atom.Atom.TheVariants as a
@@ -9,9 +10,11 @@ use Rattle.gib_core.specs.Inferring.{as_atoms}
 use Rattle.gib_core.specs.Numbering.{binders, bind_binders, side_binders}
 use Rattle.gib_core.specs.Rules.{is_among}
 use Rattle.gib_place.specs.declared.field.Field.{Field}
-use Rattle.gib_place.specs.Placing.{count_atom, count_in, count, Filling, bound_by, bound_in, are_fields}
+use Rattle.gib_core.specs.Counting.{count_atom, count_in, count}
+use Rattle.gib_place.specs.Placing.{Filling, bound_by, bound_in, are_fields}
 use Rattle.gib_place.proofs.Lays.{variables}
 use Rattle.gib_place.proofs.Counts.{occurs, occurs_append, count_all, binders_all, targets, filling_line, fields_named, fields_once, counted, not_counted, count_line, occurs_line}
+use Rattle.gib_place.proofs.Wider.{times_among}
 use Rattle.gib_core.proofs.Along.{among_append}
 
 pub not_among : (xs ys : List Variable) (y : Variable) → is_among (xs ++ ys) y ≡ false → (is_among xs y ≡ false) × (is_among ys y ≡ false)
@@ -44,14 +47,6 @@ told_counted F (a.Variable y) h = false_from_ne_true (F y) (λ m. let e = h y m 
 told_counted F (a.Whole z) h = refl
 told_counted F (a.Truth b) h = refl
 
-among_occurs : (xs : List Variable) (y : Variable) → is_among xs y ≡ true → 1 ≤ occurs (map (λ (x : Variable). x.0) xs) y.0
-among_occurs [] y m = absurd cc
-among_occurs (x ∷ xs) y m = go (x.0 == y.0) m (among_occurs xs y)
-  where
-    go : (b : Bool) → (b || is_among xs y) ≡ true → (is_among xs y ≡ true → 1 ≤ occurs (map (λ (x : Variable). x.0) xs) y.0) → 1 ≤ (if b then 1 else 0) + occurs (map (λ (x : Variable). x.0) xs) y.0
-    go true m h = omega arith
-    go false m h = let k = h m in omega arith
-
 side_occurs : (s : Side) (y : ℕ) → (if (variable_of s).0 == y then 1 else 0) ≤ occurs (side_binders s) y
 side_occurs (On kind x ty t) y = omega arith
 
@@ -62,15 +57,11 @@ bound_occurs (Both fork l r) y = let p = side_occurs l y in let q = side_occurs 
 bound_occurs (Prim x f v w) y = omega arith
 bound_occurs (Reach x by) y = omega arith
 
-map_append : (xs ys : List Variable) → map (λ (x : Variable). x.0) (xs ++ ys) ≡ map (λ (x : Variable). x.0) xs ++ map (λ (x : Variable). x.0) ys
-map_append [] ys = refl
-map_append (x ∷ xs) ys = ap (λ l. x.0 ∷ l) (map_append xs ys)
-
 all_occurs : (bs : List Bind) (y : ℕ) → occurs (map (λ (x : Variable). x.0) (bound_in bs)) y ≤ occurs (binders_all bs) y
 all_occurs [] y = omega arith
 all_occurs (b ∷ bs) y =
     let p = bound_occurs b y in let q = all_occurs bs y in
-    let m = ap (λ l. occurs l y) (map_append (bound_by b) (bound_in bs)) in
+    let m = ap (λ l. occurs l y) (map-append (λ (x : Variable). x.0) (bound_by b) (bound_in bs)) in
     let n = occurs_append (map (λ (x : Variable). x.0) (bound_by b)) (map (λ (x : Variable). x.0) (bound_in bs)) y in
     let w = occurs_append (bind_binders b) (binders_all bs) y in
     omega arith
@@ -115,8 +106,8 @@ module _ (once : Variable → Bool) (l : Filling) (named : are_fields once l.end
   unbound y m =
       false_from_ne_true (is_among (bound_in l.run) y) (λ h.
       let p = occurs_line l y.0 in let q = differ y.0 in
-      let v = among_occurs (variables l.ending.fields) y m in
-      let w = among_occurs (bound_in l.run) y h in
+      let v = times_among (variables l.ending.fields) y m in
+      let w = times_among (bound_in l.run) y h in
       let z = all_occurs l.run y.0 in
       omega arith)
 

@@ -2,7 +2,7 @@
 use Rattle.std.proofs.Common.{◌≡◌, ℕ, suc, ◌+◌, ◌<◌, ◌≤◌, List, [], ◌∷◌, ◌++◌, map, length, take, drop, get_or, Option, Some, None, refl, sym, ap, ◌∙◌, arith}
 use Rattle.std.specs.Prelude.{Result, Ok, Err, IfOk}
 use Rattle.std.specs.List.{AllByRecursion}
-use Rattle.std.proofs.lemmas.List.{drop_more, drop_all, append-nil, take_more}
+use Rattle.std.proofs.lemmas.List.{drop_more, drop_all, append-nil, take_more, append_assoc, map_push}
 use Rattle.gib_types.specs.declared.table.ConId.{ConId}
 use Rattle.gib_core.specs.declared.atom.Variable.{Variable}
 use Rattle.gib_core.specs.declared.atom.Atom.{Atom}
@@ -15,7 +15,6 @@ use Rattle.gib_place.specs.declared.field.Field.{Field}
 use Rattle.gib_place.specs.declared.line.Line.{Line}
 use Rattle.gib_place.specs.Placing.{pointing, Ending, Filling, field_first, binding_first, room_first, ending_of, filling_of}
 use Rattle.gib_place.specs.Filled.{field_of, ArePointing, bindings_first, room_in, filling_from}
-use Rattle.gib_place.proofs.Lays.{append_append}
 
 -- What stands behind the room, where a field or another binding stands first.
 abbrev pub with_field : Option Field → Option Ending → Option Ending
@@ -63,7 +62,7 @@ fields_first fs (Some e) = Some (record { fields = fs ++ e.fields; head = e.head
 
 first_further : (fs : List Field) (f : Field) (e : Option Ending) → fields_first fs (field_first f e) ≡ fields_first (fs ++ f ∷ []) e
 first_further fs f None = refl
-first_further fs f (Some e) = λ i. Some (record { fields = sym (append_append fs (f ∷ []) e.fields) i; head = e.head; con = e.con; scalars = e.scalars; packed = e.packed })
+first_further fs f (Some e) = λ i. Some (record { fields = sym (append_assoc fs (f ∷ []) e.fields) i; head = e.head; con = e.con; scalars = e.scalars; packed = e.packed })
 
 nothing_first : (e : Option Ending) → e ≡ fields_first [] e
 nothing_first None = refl
@@ -76,10 +75,6 @@ pub record FieldsBehind (f : ℕ → Term) (bindings : List Binding) (i : ℕ) (
 
 pub fields_start : (f : ℕ → Term) (bindings : List Binding) → FieldsBehind f bindings 0 []
 fields_start f bindings = record { ending = λ h k ss ps. nothing_first (ending_of (prepend (binds_from f bindings) (Write h k ss ps))); are = refl }
-
-map_push : (fs : List Field) (f : Field) → map pointing (fs ++ f ∷ []) ≡ map pointing fs ++ pointing f ∷ []
-map_push [] f = refl
-map_push (g ∷ fs) f = ap (λ l. pointing g ∷ l) (map_push fs f)
 
 pub fields_next : (f : ℕ → Term) (bindings : List Binding) (i : ℕ) (old new : List Field) (x d : Binding) (g : Field) → FieldsBehind f bindings i old → i < length bindings → x ≡ get_or bindings i d → field_of (bind_from f x) ≡ Some g → new ≡ old ++ g ∷ [] → FieldsBehind f bindings (i + 1) new
 fields_next f bindings i old new x d g h lt ex eg en =
@@ -96,8 +91,8 @@ fields_next f bindings i old new x d g h lt ex eg en =
           h.are
           ∙ ap (λ z. map pointing old ++ binds_from f z) left
           ∙ ap (λ z. map pointing old ++ z ∷ binds_from f rest) (field_points (bind_from f x) g eg)
-          ∙ sym (append_append (map pointing old) (pointing g ∷ []) (binds_from f rest))
-          ∙ ap (λ z. z ++ binds_from f rest) (sym (map_push old g) ∙ ap (map pointing) (sym en));
+          ∙ sym (append_assoc (map pointing old) (pointing g ∷ []) (binds_from f rest))
+          ∙ ap (λ z. z ++ binds_from f rest) (sym (map_push pointing old g) ∙ ap (map pointing) (sym en));
     }
 
 pub fields_missed : (f : ℕ → Term) (bindings : List Binding) (i : ℕ) (old : List Field) (x d : Binding) → FieldsBehind f bindings i old → i < length bindings → x ≡ get_or bindings i d → field_of (bind_from f x) ≡ None
@@ -149,11 +144,7 @@ room_first_is f (b.Reach y by) rest room e = absurd cc
 
 run_further : (bs : List Bind) (x : Bind) (l : Option Filling) → bindings_first bs (binding_first x l) ≡ bindings_first (bs ++ x ∷ []) l
 run_further bs x None = refl
-run_further bs x (Some l) = λ i. Some (record { run = sym (append_append bs (x ∷ []) l.run) i; room = l.room; made = l.made; ending = l.ending })
-
-pub binds_push : (f : ℕ → Term) (xs : List Binding) (x : Binding) → binds_from f (xs ++ x ∷ []) ≡ binds_from f xs ++ bind_from f x ∷ []
-binds_push f [] x = refl
-binds_push f (y ∷ xs) x = ap (λ l. bind_from f y ∷ l) (binds_push f xs x)
+run_further bs x (Some l) = λ i. Some (record { run = sym (append_assoc bs (x ∷ []) l.run) i; room = l.room; made = l.made; ending = l.ending })
 
 pub run_next : (f : ℕ → Term) (bindings : List Binding) (i : ℕ) (x d : Binding) → RunBehind f bindings i → i < length bindings → x ≡ get_or bindings i d → room_in x ≡ None → RunBehind f bindings (i + 1)
 run_next f bindings i x d h lt ex other =
@@ -166,7 +157,7 @@ run_next f bindings i x d h lt ex other =
           ∙ ap (λ z. bindings_first (binds_from f (take i bindings)) (filling_of (prepend (binds_from f z) (Write hd k ss ps)))) left
           ∙ ap (bindings_first (binds_from f (take i bindings))) (filling_other f x (prepend (binds_from f rest) (Write hd k ss ps)) other)
           ∙ run_further (binds_from f (take i bindings)) (bind_from f x) (filling_of (prepend (binds_from f rest) (Write hd k ss ps)))
-          ∙ ap (λ z. bindings_first z (filling_of (prepend (binds_from f rest) (Write hd k ss ps)))) (sym (binds_push f (take i bindings) x) ∙ ap (binds_from f) (sym more));
+          ∙ ap (λ z. bindings_first z (filling_of (prepend (binds_from f rest) (Write hd k ss ps)))) (sym (map_push (bind_from f) (take i bindings) x) ∙ ap (binds_from f) (sym more));
     }
 
 pub run_found : (f : ℕ → Term) (bindings : List Binding) (i : ℕ) (x d : Binding) (room : Variable × ConId) → RunBehind f bindings i → i < length bindings → x ≡ get_or bindings i d → room_in x ≡ Some room

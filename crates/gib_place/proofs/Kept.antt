@@ -2,7 +2,8 @@
 use Rattle.std.proofs.Common.{◌≡◌, ⊎_elim, ℕ, suc, ◌+◌, ◌<◌, ◌≤◌, Bool, true, false, not, ◌&&◌, ◌||◌, ◌==◌, if◌then◌else◌, List, [], ◌∷◌, ◌++◌, length, Some, refl, sym, ap, ◌∙◌, subst, arith}
 use Rattle.std.specs.Prelude.{get_or}
 use Rattle.std.proofs.lemmas.Bool.{eqb-true, eq-eqb, both_ways, not-false, false_from_ne_true, or_parts, or_from, or_cases, or_left, or_right, lt-ltb, and_parts}
-use Rattle.std.proofs.lemmas.List.{append-nil}
+use Rattle.std.proofs.lemmas.List.{append-nil, append_assoc}
+use Rattle.gib_base.specs.declared.name.Name.{Name}
 use Rattle.gib_types.specs.declared.table.Ty.{Ty}
 use Rattle.gib_types.specs.declared.table.Ty.TheVariants.{Whole, Truth}
 use Rattle.gib_types.specs.declared.table.ConId.{ConId}
@@ -17,18 +18,19 @@ use Rattle.gib_core.specs.declared.scope.Bound.{Bound}
 use Rattle.gib_core.specs.Tree.{Term, Then, Write, Bind, Past, One, Both, Prim, Reach, Side, On, prepend, CoreTree}
 use Rattle.gib_core.specs.Inferring.{as_atoms}
 use Rattle.gib_core.specs.Numbering.{binders, bind_binders, side_binders}
-use Rattle.gib_core.specs.Met.{Destination, Nowhere, Empty, Open, Setting, PastLine, SideLine, PrimLine, WriteLine, PointLine, Met, reached, known, packed_types, stands_too, in_side, behind, left_of, right_of, met, met_bind, met_side}
-use Rattle.gib_core.specs.Rules.{Before, same_type, is_empty, has_room, is_among, is_bound, type_bound, type_of, is_type, has_type, have_types, is_usable, all_usable, is_other, any_other, is_of_type, are_variables, any_cased, further, may_write, are_scalars, rules, least, next, next_all, type_made}
+use Rattle.gib_core.specs.Met.{Destination, Nowhere, Empty, Open, Setting, PastLine, SideLine, PrimLine, WriteLine, PointLine, Met, reached, known, packed_types, stands_too, in_side, behind, behind_side, calls_behind, left_of, right_of, met, met_bind, met_side}
+use Rattle.gib_core.specs.Rules.{Before, same_type, is_empty, has_room, is_among, is_bound, type_bound, type_of, is_type, has_type, have_types, is_usable, all_usable, is_other, any_other, is_of_type, are_variables, any_cased, further, rules, next, next_all, type_made}
 use Rattle.gib_core.specs.Reachable.{all_reached, LinesAreReachable}
 use Rattle.gib_place.specs.declared.field.Field.{Field}
-use Rattle.gib_place.specs.Placing.{count, bound_by, bound_in, is_one}
+use Rattle.gib_core.specs.Counting.{count}
+use Rattle.gib_place.specs.Placing.{bound_by, bound_in, is_one}
 use Rattle.gib_core.proofs.Along.{none_broken, least_none, next_append, reachable_split, same_variable}
 use Rattle.gib_core.proofs.Cased.{has, reached_where_has, reaches_none, has_less}
 use Rattle.gib_place.proofs.Lays.{Lays, ends, opens, puts, stays, one, left, right, both, variables}
 use Rattle.gib_place.proofs.Counts.{occurs, occurs_append, binders_all}
 use Rattle.gib_place.proofs.Fitting.{not_among}
-use Rattle.gib_place.proofs.Wider.{nums, times, new_there, own_time, nums_after, bind_nums_after, side_nums_after, types_after, bind_types_after, side_types_after}
-use Rattle.gib_place.proofs.Weaken.{scoped, Scoped, Room, Wider, all_usable_more, types_more, reachable_append, wider_behind, scoped_after, wider_side, wider_bind}
+use Rattle.gib_place.proofs.Wider.{nums, times, new_there, own_time, Gains, gains_none, gains_both, gains_term, gains_bind, gains_side}
+use Rattle.gib_place.proofs.Weaken.{scoped, Scoped, Room, Wider, Ahead, ahead_less, ahead_first, like_itself, ahead_side, all_usable_more, types_same, other_eq, any_other_eq, reachable_append, ahead_behind, wider_side, wider_bind}
 use Rattle.gib_core.proofs.Facts.{same_type_is}
 use Rattle.gib_core.proofs.Suited.{others_behind}
 
@@ -42,15 +44,6 @@ behinds s (b ∷ bs) = behinds (behind s b) bs
 abbrev pub mets : Table → Setting → List Bind → List Met
 mets tb s [] = []
 mets tb s (b ∷ bs) = met_bind tb s b ++ mets tb (behind s b) bs
-
-pub other_eq : (s z : Setting) (x : Atom) → s.others ≡ z.others → is_other s x ≡ is_other z x
-other_eq s z (a.Variable x) e = ap (λ o. is_among o x) e
-other_eq s z (a.Whole n) e = refl
-other_eq s z (a.Truth t) e = refl
-
-pub any_other_eq : (s z : Setting) (xs : List Atom) → s.others ≡ z.others → any_other s xs ≡ any_other z xs
-any_other_eq s z [] e = refl
-any_other_eq s z (x ∷ xs) e = λ i. other_eq s z x e i || any_other_eq s z xs e i
 
 usable_eq : (s z : Setting) (x : Atom) → s.scope ≡ z.scope → is_usable s x ≡ is_usable z x
 usable_eq s z (a.Variable x) e = ap (λ o. Rattle.gib_core.specs.Rules.is_reached (known o x)) e
@@ -78,8 +71,7 @@ length_one [] x = refl
 length_one (y ∷ xs) x = ap suc (length_one xs x)
 
 pub shift_one : {A : Type 0} (xs : List A) (x : A) (ys : List A) → xs ++ (x ∷ ys) ≡ (xs ++ x ∷ []) ++ ys
-shift_one [] x ys = refl
-shift_one (z ∷ xs) x ys = ap (λ l. z ∷ l) (shift_one xs x ys)
+shift_one xs x ys = sym (append_assoc xs (x ∷ []) ys)
 
 among_one : (xs : List Variable) (x y : Variable) (P : Type 0) → (is_among xs y ≡ true → P) → ((x.0 == y.0) ≡ true → P) → is_among (xs ++ x ∷ []) y ≡ true → P
 among_one [] x y P f g m = g (go (x.0 == y.0) m)
@@ -108,23 +100,13 @@ module _ (core : CoreTree) where
 
   pub met_prepend : (bs : List Bind) (t : Term) (s : Setting) → met core.table s (prepend bs t) ≡ mets core.table s bs ++ met core.table (behinds s bs) t
   met_prepend [] t s = refl
-  met_prepend (b ∷ bs) t s = ap (λ l. met_bind core.table s b ++ l) (met_prepend bs t (behind s b)) ∙ sym (Rattle.gib_place.proofs.Lays.append_append (met_bind core.table s b) (mets core.table (behind s b) bs) (met core.table (behinds (behind s b) bs) t))
+  met_prepend (b ∷ bs) t s = ap (λ l. met_bind core.table s b ++ l) (met_prepend bs t (behind s b)) ∙ sym (append_assoc (met_bind core.table s b) (mets core.table (behind s b) bs) (met core.table (behinds (behind s b) bs) t))
 
-  pub mets_nums : (bs : List Bind) (s : Setting) (b : Before) (y : ℕ) → occurs (nums (next_all core.table b (mets core.table s bs)).bound) y ≡ occurs (nums b.bound) y + occurs (binders_all bs) y
-  mets_nums [] s b y = omega arith
-  mets_nums (bd ∷ bs) s b y =
-      let e = ap (λ (z : Before). occurs (nums z.bound) y) (next_append core.table b (met_bind core.table s bd) (mets core.table (behind s bd) bs)) in
-      let p = bind_nums_after core.table bd s b y in
-      let q = mets_nums bs (behind s bd) (next_all core.table b (met_bind core.table s bd)) y in
-      let r = occurs_append (bind_binders bd) (binders_all bs) y in
-      omega arith
-
-  pub mets_types : (bs : List Bind) (s : Setting) (b : Before) (y : Variable) → occurs (binders_all bs) y.0 ≡ 0 → type_bound (next_all core.table b (mets core.table s bs)).bound y ≡ type_bound b.bound y
-  mets_types [] s b y o = refl
-  mets_types (bd ∷ bs) s b y o =
-      let r = occurs_append (bind_binders bd) (binders_all bs) y.0 in
-      ap (λ (z : Before). type_bound z.bound y) (next_append core.table b (met_bind core.table s bd) (mets core.table (behind s bd) bs))
-      ∙ (mets_types bs (behind s bd) (next_all core.table b (met_bind core.table s bd)) y (omega arith) ∙ bind_types_after core.table bd s b y (omega arith))
+  pub gains_run : (bs : List Bind) (s : Setting) (b : Before) → Gains b (next_all core.table b (mets core.table s bs)) (binders_all bs)
+  gains_run [] s b = gains_none b
+  gains_run (bd ∷ bs) s b =
+      let ls = met_bind core.table s bd in
+      gains_both core.table b ls (mets core.table (behind s bd) bs) (bind_binders bd) (binders_all bs) (gains_bind core.table bd s b) (gains_run bs (behind s bd) (next_all core.table b ls))
 
   pub mets_cased : (bs : List Bind) (s : Setting) (b : Before) (y : Variable) → times (next_all core.table b (mets core.table s bs)).cased y.0 ≤ times b.cased y.0 + Rattle.gib_place.proofs.Counts.count_all bs y
   mets_cased [] s b y = omega arith
@@ -136,24 +118,17 @@ module _ (core : CoreTree) where
       omega arith
 
   -- The destination was empty, where it is empty behind bindings.
+  side_empty : (kind : Kind) (x : Variable) (d : Destination) → is_empty (stands_too kind x d) ≡ true → is_empty d ≡ true
+  side_empty Here x Nowhere e = e
+  side_empty Here x Empty e = e
+  side_empty Here x (Open h k standing) e = e
+  side_empty Region x d e = e
+  side_empty Scalar x d e = e
+
   was_empty : (bd : Bind) (s : Setting) → is_empty (behind s bd).destination ≡ true → is_empty s.destination ≡ true
   was_empty (Past h k) s e = absurd cc
   was_empty (One (On kind x ty t)) s e = side_empty kind x s.destination e
-    where
-      side_empty : (kind : Kind) (x : Variable) (d : Destination) → is_empty (stands_too kind x d) ≡ true → is_empty d ≡ true
-      side_empty Here x Nowhere e = e
-      side_empty Here x Empty e = e
-      side_empty Here x (Open h k standing) e = e
-      side_empty Region x d e = e
-      side_empty Scalar x d e = e
   was_empty (Both fork (On kind x ty t) (On other z uy u)) s e = side_empty kind x s.destination (side_empty other z (stands_too kind x s.destination) e)
-    where
-      side_empty : (kind : Kind) (x : Variable) (d : Destination) → is_empty (stands_too kind x d) ≡ true → is_empty d ≡ true
-      side_empty Here x Nowhere e = e
-      side_empty Here x Empty e = e
-      side_empty Here x (Open h k standing) e = e
-      side_empty Region x d e = e
-      side_empty Scalar x d e = e
   was_empty (Prim x f v w) s e = e
   was_empty (Reach y by) s e = e
 
@@ -182,71 +157,115 @@ module _ (core : CoreTree) where
       let p = not_among (bound_by bd) (bound_in bs) y o in
       scope_back bd s b y rs.0 (scopes_back bs (behind s bd) (next_all core.table b (met_bind core.table s bd)) y rs.1 m p.1) p.0
 
-  -- A side, where another destination stands and more is in scope.
-  record SideNew (s : Setting) (b : Before) (ks : List Known) (b' : Before) (d : Destination) (w : Bool) (side side' : Side) : Type 0 where
+  -- A side where another destination stands and more is in scope: its lines, and what stands behind it.
+  record SideNew (s : Setting) (ks : List Known) (b' : Before) (d : Destination) (w : Bool) (side side' : Side) : Type 0 where
     pub lines : R b' (met_side core.table (opened s d ks w) side')
     pub after : next_all core.table b' (met_side core.table (opened s d ks w) side') ≡ next_all core.table b' (met_side core.table (scoped s ks) side)
 
-  side_stays : (side : Side) (s : Setting) (b : Before) (ks : List Known) (b' : Before) (d : Destination) (w : Bool) → is_empty s.destination ≡ true → Wider s.scope b ks b' → Scoped s.scope b → Room b (side_binders side) → Room b' (side_binders side)
-      → R b (met_side core.table s side) → SideNew s b ks b' d w side side
-  side_stays (On Region x ty t) s b ks b' d w e wd sc ro ro' r = record { lines = wider_side core (On Region x ty t) s b ks b' wd sc ro ro' r; after = refl }
-  side_stays (On Scalar x ty t) s b ks b' d w e wd sc ro ro' r = record { lines = wider_side core (On Scalar x ty t) s b ks b' wd sc ro ro' r; after = refl }
-  side_stays (On Here x ty t) s b ks b' d w e wd sc ro ro' r =
-      absurd (both_ways (has_room core.table s.destination) (no_room s.destination e) (not-false (has_room core.table s.destination) (none_broken (rules core b (all_reached s) (SideLine Here x ty)) r.0).0))
-
-  side_placed : (x : Variable) (ty : Ty) (t : Term) (s : Setting) (b : Before) (ks : List Known) (b' : Before) (h : Variable) (k : ConId) (done : List Variable) (w : Bool) → Wider s.scope b ks b' → Scoped s.scope b → Room b (x.0 ∷ binders t) → Room b' (x.0 ∷ binders t)
-      → R b (met_side core.table s (On Region x ty t)) → length done < length (packed_types core.table k) → same_type ty (get_or (packed_types core.table k) (length done) Whole) ≡ true
-      → SideNew s b ks b' (Open h k done) w (On Region x ty t) (On Here x ty t)
-  side_placed x ty t s b ks b' h k done w wd sc ro ro' r lt same =
-      let due = get_or (packed_types core.table k) (length done) Whole in
-      let so = opened s (Open h k done) ks w in
-      let inner : Ty → Setting = λ z. record s { destination = Empty; due = z; scope = ks; whole = false; calls = [] } in
-      let line = SideLine Here x ty in
-      let e = same_type_is ty due same in
-      record {
-        lines = (
-          least_none (rules core b' (all_reached so) line) (ap not (lt-ltb (length done) (length (packed_types core.table k)) lt), (new_there b'.bound x (let o = ro' x.0 in let z = own_time x in omega arith), (ap not same, tt))),
-          subst (λ (z : Ty). R (next core.table b' line) (met core.table (inner z) t)) e ((wider_side core (On Region x ty t) s b ks b' wd sc ro ro' r).1),
-        );
-        after = ap (λ (z : Ty). next_all core.table (next core.table b' line) (met core.table (inner z) t)) (sym e);
-      }
-
-  -- A binding, where another destination stands and more is in scope: its lines, and what stands behind it.
-  record BindNew (s : Setting) (b : Before) (ks : List Known) (b' : Before) (d d1 : Destination) (w : Bool) (bd bd' : Bind) : Type 0 where
+  -- The same of a binding, and what is met behind it.
+  record BindNew (s : Setting) (ks : List Known) (b' : Before) (d d1 : Destination) (w : Bool) (bd bd' : Bind) : Type 0 where
     pub lines : R b' (met_bind core.table (opened s d ks w) bd')
     pub after : next_all core.table b' (met_bind core.table (opened s d ks w) bd') ≡ next_all core.table b' (met_bind core.table (scoped s ks) bd)
     pub setting : behind (opened s d ks w) bd' ≡ opened (behind s bd) d1 (behind (scoped s ks) bd).scope false
 
-  -- Two sides, one after the other.
-  both_new : (fork : Bool) (l r l' r' : Side) (s : Setting) (b : Before) (ks : List Known) (b' : Before) (d d1 d2 : Destination) (w : Bool)
-      → SideNew (left_of s r) b ks b' d w l l' → SideNew (right_of s l) (next_all core.table b (met_side core.table (left_of s r) l)) ks (next_all core.table b' (met_side core.table (left_of (scoped s ks) r) l)) d1 w r r'
-      → left_of (opened s d ks w) r' ≡ opened (left_of s r) d ks w → right_of (opened s d ks w) l' ≡ opened (right_of s l) d1 ks w
-      → left_of (scoped s ks) r ≡ scoped (left_of s r) ks → right_of (scoped s ks) l ≡ scoped (right_of s l) ks
-      → behind (opened s d ks w) (Both fork l' r') ≡ opened (behind s (Both fork l r)) d2 (behind (scoped s ks) (Both fork l r)).scope false
-      → BindNew s b ks b' d d2 w (Both fork l r) (Both fork l' r')
-  both_new fork l r l' r' s b ks b' d d1 d2 w p q el er fl fr es =
-      let so = opened s d ks w in
-      let L = met_side core.table (left_of so r') l' in
-      let M = met_side core.table (right_of so l') r' in
-      let N = met_side core.table (left_of (scoped s ks) r) l in
-      let O = met_side core.table (right_of (scoped s ks) l) r in
-      let lines_l : R b' L = subst (λ (z : Setting). R b' (met_side core.table z l')) (sym el) p.lines in
-      let after_l : next_all core.table b' L ≡ next_all core.table b' N =
-      ap (λ (z : Setting). next_all core.table b' (met_side core.table z l')) el ∙ (p.after ∙ ap (λ (z : Setting). next_all core.table b' (met_side core.table z l)) (sym fl)) in
-      let lines_r : R (next_all core.table b' N) M = subst (λ (z : Setting). R (next_all core.table b' N) (met_side core.table z r')) (sym er) q.lines in
-      let after_r : next_all core.table (next_all core.table b' N) M ≡ next_all core.table (next_all core.table b' N) O =
-      ap (λ (z : Setting). next_all core.table (next_all core.table b' N) (met_side core.table z r')) er ∙ (q.after ∙ ap (λ (z : Setting). next_all core.table (next_all core.table b' N) (met_side core.table z r)) (sym fr)) in
+  -- A side where a destination stands: it stays, or takes the place of the next field, which then stands.
+  data Step : Destination → Destination → Side → Side → Type 0 where
+    keeps : {d : Destination} {side : Side} → Step d d side side
+    takes : {h : Variable} {k : ConId} {done : List Variable} {x : Variable} {ty : Ty} {t : Term} → length done < length (packed_types core.table k) → same_type ty (get_or (packed_types core.table k) (length done) Whole) ≡ true
+        → Step (Open h k done) (Open h k (done ++ x ∷ [])) (On Region x ty t) (On Here x ty t)
+
+  -- At an empty destination no side is a field.
+  abbrev IsApart : Side → Type 0
+  IsApart (On Here x ty t) = ⊥
+  IsApart (On Region x ty t) = Unit {0}
+  IsApart (On Scalar x ty t) = Unit {0}
+
+  is_apart : (side : Side) (s : Setting) (b : Before) → is_empty s.destination ≡ true → R b (met_side core.table s side) → IsApart side
+  is_apart (On Region x ty t) s b e r = tt
+  is_apart (On Scalar x ty t) s b e r = tt
+  is_apart (On Here x ty t) s b e r =
+      both_ways (has_room core.table s.destination) (no_room s.destination e) (not-false (has_room core.table s.destination) (none_broken (rules core b (all_reached s) (SideLine Here x ty)) r.0).0)
+
+  still_empty : (side : Side) (s : Setting) → IsApart side → is_empty s.destination ≡ true → is_empty (right_of s side).destination ≡ true
+  still_empty (On Here x ty t) s c e = absurd c
+  still_empty (On Region x ty t) s c e = e
+  still_empty (On Scalar x ty t) s c e = e
+
+  step_left : {d d1 : Destination} {side side' : Side} → Step d d1 side side' → (s : Setting) (e : Destination) (ks : List Known) (w : Bool) → left_of (opened s e ks w) side' ≡ opened (left_of s side) e ks w
+  step_left (keeps {side = On kind x ty t}) s e ks w = refl
+  step_left (takes lt same) s e ks w = refl
+
+  step_right : {d d1 : Destination} {side side' : Side} → Step d d1 side side' → IsApart side → (s : Setting) (ks : List Known) (w : Bool) → right_of (opened s d ks w) side' ≡ opened (right_of s side) d1 ks w
+  step_right (keeps {side = On Here x ty t}) c s ks w = absurd c
+  step_right (keeps {side = On Region x ty t}) c s ks w = refl
+  step_right (keeps {side = On Scalar x ty t}) c s ks w = refl
+  step_right (takes lt same) c s ks w = refl
+
+  step_behind : {d d1 : Destination} {side side' : Side} → Step d d1 side side' → IsApart side → (s : Setting) (ks : List Known) (w : Bool) → behind_side (opened s d ks w) side' ≡ opened (behind_side s side) d1 (behind_side (scoped s ks) side).scope false
+  step_behind (keeps {side = On Here x ty t}) c s ks w = absurd c
+  step_behind (keeps {side = On Region x ty t}) c s ks w = refl
+  step_behind (keeps {side = On Scalar x ty t}) c s ks w = refl
+  step_behind (takes lt same) c s ks w = refl
+
+  calls_stay : {d d1 : Destination} {side side' : Side} → Step d d1 side side' → (cs : List (Name × List Atom)) → calls_behind side' cs ≡ calls_behind side cs
+  calls_stay keeps cs = refl
+  calls_stay (takes lt same) cs = refl
+
+  side_step : {d d1 : Destination} {side side' : Side} → Step d d1 side side' → (s : Setting) (b : Before) (ks : List Known) (b' : Before) (w : Bool) → is_empty s.destination ≡ true → Ahead s.scope b ks b' (side_binders side)
+      → R b (met_side core.table s side) → SideNew s ks b' d w side side'
+  side_step (keeps {side = On Here x ty t}) s b ks b' w e a r = absurd (is_apart (On Here x ty t) s b e r)
+  side_step (keeps {side = On Region x ty t}) s b ks b' w e a r = record { lines = wider_side core (On Region x ty t) s b ks b' a r; after = refl }
+  side_step (keeps {side = On Scalar x ty t}) s b ks b' w e a r = record { lines = wider_side core (On Scalar x ty t) s b ks b' a r; after = refl }
+  side_step (takes {h = h} {k = k} {done = done} {x = x} {ty = ty} {t = t} lt same) s b ks b' w e a r =
+      let due = get_or (packed_types core.table k) (length done) Whole in
+      let so = opened s (Open h k done) ks w in
+      let inner : Ty → Setting = λ z. record s { destination = Empty; due = z; scope = ks; whole = false; calls = [] } in
+      let line = SideLine Here x ty in
+      let typed = same_type_is ty due same in
       record {
-        lines = (refl, reachable_append core b' L M lines_l (subst (λ (z : Before). R z M) (sym after_l) lines_r));
-        after = next_append core.table b' L M ∙ (ap (λ (z : Before). next_all core.table z M) after_l ∙ (after_r ∙ sym (next_append core.table b' N O)));
-        setting = es;
+        lines = (
+          least_none (rules core b' (all_reached so) line) (ap not (lt-ltb (length done) (length (packed_types core.table k)) lt), (new_there b'.bound x (let o = a.room' x.0 in let z = own_time x in omega arith), (ap not same, tt))),
+          subst (λ (z : Ty). R (next core.table b' line) (met core.table (inner z) t)) typed ((wider_side core (On Region x ty t) s b ks b' a r).1),
+        );
+        after = ap (λ (z : Ty). next_all core.table (next core.table b' line) (met core.table (inner z) t)) (sym typed);
       }
 
-  left_scoped : (s : Setting) (ks : List Known) (r : Side) → left_of (scoped s ks) r ≡ scoped (left_of s r) ks
-  left_scoped s ks r = refl
+  one_step : {d d1 : Destination} {side side' : Side} → Step d d1 side side' → (s : Setting) (b : Before) (ks : List Known) (b' : Before) (w : Bool) → is_empty s.destination ≡ true → Ahead s.scope b ks b' (side_binders side)
+      → R b (met_side core.table s side) → BindNew s ks b' d d1 w (One side) (One side')
+  one_step {side = side} p s b ks b' w e a r =
+      let n = side_step p s b ks b' w e a r in
+      record { lines = n.lines; after = n.after; setting = λ i. record (step_behind p (is_apart side s b e r) s ks w i) { calls = calls_stay p s.calls i } }
 
-  right_scoped : (s : Setting) (ks : List Known) (l : Side) → right_of (scoped s ks) l ≡ scoped (right_of s l) ks
-  right_scoped s ks (On kind x ty t) = refl
+  -- The left side of a par is met at an empty place, and so is the right one where the left one is none of the fields.
+  both_step : {d d1 d2 : Destination} (fork : Bool) (l l' r r' : Side) → Step d d1 l l' → Step d1 d2 r r' → (s : Setting) (b : Before) (ks : List Known) (b' : Before) (w : Bool) → is_empty s.destination ≡ true
+      → Ahead s.scope b ks b' (side_binders l ++ side_binders r) → R b (met_bind core.table s (Both fork l r)) → BindNew s ks b' d d2 w (Both fork l r) (Both fork l' r')
+  both_step {d} {d1} {d2} fork (On kind x ty t) l' (On other z uy u) r' p q s b ks b' w e a h =
+      let tb = core.table in
+      let l = On kind x ty t in
+      let r = On other z uy u in
+      let L = met_side tb (left_of s r) l in
+      let L' = met_side tb (left_of (opened s d ks w) r') l' in
+      let R' = met_side tb (right_of (opened s d ks w) l') r' in
+      let N = met_side tb (left_of (scoped s ks) r) l in
+      let O = met_side tb (right_of (scoped s ks) l) r in
+      let rs = reachable_split core b L (met_side tb (right_of s l) r) h.1 in
+      let c = is_apart l (left_of s r) b e rs.0 in
+      let e' = still_empty l s c e in
+      let m = side_step p (left_of s r) b ks b' w e (ahead_first (x.0 ∷ binders t) (z.0 ∷ binders u) a) rs.0 in
+      let n = side_step q (right_of s l) (next_all tb b L) ks (next_all tb b' N) w e' (ahead_side tb kind kind x ty t t (z.0 ∷ binders u) (left_of s r) (left_of (scoped s ks) r) (like_itself t) a) rs.1 in
+      let after_l : next_all tb b' L' ≡ next_all tb b' N = ap (λ (v : Setting). next_all tb b' (met_side tb v l')) (step_left q s d ks w) ∙ m.after in
+      record {
+        lines = (
+          refl,
+          reachable_append core b' L' R' (subst (λ (v : Setting). R b' (met_side tb v l')) (sym (step_left q s d ks w)) m.lines)
+              (subst (λ (v : Before). R v R') (sym after_l) (subst (λ (v : Setting). R (next_all tb b' N) (met_side tb v r')) (sym (step_right p c s ks w)) n.lines)),
+        );
+        after =
+            next_append tb b' L' R'
+            ∙ (ap (λ (v : Before). next_all tb v R') after_l
+            ∙ (ap (λ (v : Setting). next_all tb (next_all tb b' N) (met_side tb v r')) (step_right p c s ks w) ∙ (n.after ∙ sym (next_append tb b' N O))));
+        setting = ap (λ (v : Setting). behind_side v r') (step_behind p c s ks w) ∙ step_behind q (is_apart r (right_of s l) (next_all tb b L) e' rs.1) (behind_side s l) (reached x ∷ ks) false;
+      }
 
   prim_stays : (x : Variable) (g : Rattle.gib_syntax.specs.declared.tree.Operator.Operator) (v u : Atom) (s : Setting) (b' : Before) (ks : List Known) (d : Destination) (w : Bool) → R b' (met_bind core.table (scoped s ks) (Prim x g v u)) → R b' (met_bind core.table (opened s d ks w) (Prim x g v u))
   prim_stays x g v u s b' ks d w r =
@@ -260,75 +279,16 @@ module _ (core : CoreTree) where
         tt,
       )
 
-  room_left : (l r : Side) (b : Before) → Room b (side_binders l ++ side_binders r) → Room b (side_binders l)
-  room_left l r b ro y = let q = occurs_append (side_binders l) (side_binders r) y in let o = ro y in omega arith
-
-  room_right : (l r : Side) (s : Setting) (b : Before) → Room b (side_binders l ++ side_binders r) → Room (next_all core.table b (met_side core.table s l)) (side_binders r)
-  room_right l r s b ro y = let q = occurs_append (side_binders l) (side_binders r) y in let o = ro y in let e = side_nums_after core.table l s b y in omega arith
-
-  -- Behind the left side of a par.
-  left_wider : (x : Variable) (kind : Kind) (ty : Ty) (t : Term) (r : Side) (s : Setting) (b : Before) (ks : List Known) (b' : Before) → Wider s.scope b ks b' → Scoped s.scope b → Room b ((x.0 ∷ binders t) ++ side_binders r)
-      → Wider s.scope (next_all core.table b (met_side core.table (left_of s r) (On kind x ty t))) ks (next_all core.table b' (met_side core.table (left_of (scoped s ks) r) (On kind x ty t)))
-  left_wider x kind ty t r s b ks b' w sc ro = record {
-    scope = w.scope;
-    types = λ y m.
-        let q = occurs_append (x.0 ∷ binders t) (side_binders r) y.0 in let o = ro y.0 in let k = sc y m in
-        side_types_after core.table (On kind x ty t) (left_of (scoped s ks) r) b' y (omega arith) ∙ (w.types y m ∙ sym (side_types_after core.table (On kind x ty t) (left_of s r) b y (omega arith)));
-    cased = Rattle.gib_place.proofs.Wider.side_cased_after core.table (On kind x ty t) (left_of (scoped s ks) r) b' ∙ (ap (Rattle.gib_place.proofs.Wider.casing t) w.cased ∙ sym (Rattle.gib_place.proofs.Wider.side_cased_after core.table (On kind x ty t) (left_of s r) b));
-  }
-
-  left_sc : (l r : Side) (s : Setting) (b : Before) → Scoped s.scope b → Scoped s.scope (next_all core.table b (met_side core.table (left_of s r) l))
-  left_sc l r s b sc y m = let k = sc y m in let e = side_nums_after core.table l (left_of s r) b y.0 in omega arith
-
-  -- Two sides that stay, the left one of which is no field.
-  two_new : (fork : Bool) (kind : Kind) (x : Variable) (ty : Ty) (t : Term) (other : Kind) (z : Variable) (uy : Ty) (u : Term) (s : Setting) (b : Before) (ks : List Known) (b' : Before) (d : Destination) (w : Bool) → stands_too kind x s.destination ≡ s.destination → stands_too kind x d ≡ d → ((d : Destination) → stands_too other z d ≡ d)
-      → is_empty s.destination ≡ true → Wider s.scope b ks b' → Scoped s.scope b → Room b ((x.0 ∷ binders t) ++ (z.0 ∷ binders u)) → Room b' ((x.0 ∷ binders t) ++ (z.0 ∷ binders u))
-      → R b (met_bind core.table s (Both fork (On kind x ty t) (On other z uy u))) → BindNew s b ks b' d d w (Both fork (On kind x ty t) (On other z uy u)) (Both fork (On kind x ty t) (On other z uy u))
-  two_new fork kind x ty t other z uy u s b ks b' d w ds dd od e wd sc ro ro' r =
-      let l = On kind x ty t in
-      let rt = On other z uy u in
-      let rs = reachable_split core b (met_side core.table (left_of s rt) l) (met_side core.table (right_of s l) rt) r.1 in
-      let right_empty : is_empty (right_of s l).destination ≡ true = ap is_empty ds ∙ e in
-      both_new fork l rt l rt s b ks b' d d d w
-      (side_stays l (left_of s rt) b ks b' d w e wd sc (room_left l rt b ro) (room_left l rt b' ro') rs.0)
-      (side_stays rt (right_of s l) (next_all core.table b (met_side core.table (left_of s rt) l)) ks (next_all core.table b' (met_side core.table (left_of (scoped s ks) rt) l)) d w right_empty
-      (left_wider x kind ty t rt s b ks b' wd sc ro) (left_sc l rt s b sc) (room_right l rt (left_of s rt) b ro) (room_right l rt (left_of (scoped s ks) rt) b' ro') rs.1)
-      refl
-      (λ i. record { destination = dd i; due = s.due; scope = ks; others = x ∷ s.others; whole = w; calls = s.calls })
-      refl refl
-      (λ i. record { destination = (od (stands_too kind x d) ∙ dd) i; due = s.due; scope = reached z ∷ reached x ∷ ks; others = s.others; whole = false; calls = s.calls })
-
-  stays_two : (fork : Bool) (kind : Kind) (x : Variable) (ty : Ty) (t : Term) (rt : Side) (s : Setting) (b : Before) (ks : List Known) (b' : Before) (d : Destination) (w : Bool) → stands_too kind x s.destination ≡ s.destination → stands_too kind x d ≡ d
-      → is_empty s.destination ≡ true → Wider s.scope b ks b' → Scoped s.scope b → Room b ((x.0 ∷ binders t) ++ side_binders rt) → Room b' ((x.0 ∷ binders t) ++ side_binders rt)
-      → R b (met_bind core.table s (Both fork (On kind x ty t) rt)) → BindNew s b ks b' d d w (Both fork (On kind x ty t) rt) (Both fork (On kind x ty t) rt)
-  stays_two fork kind x ty t (On Region z uy u) s b ks b' d w ds dd e wd sc ro ro' r = two_new fork kind x ty t Region z uy u s b ks b' d w ds dd (λ z. refl) e wd sc ro ro' r
-  stays_two fork kind x ty t (On Scalar z uy u) s b ks b' d w ds dd e wd sc ro ro' r = two_new fork kind x ty t Scalar z uy u s b ks b' d w ds dd (λ z. refl) e wd sc ro ro' r
-  stays_two fork kind x ty t (On Here z uy u) s b ks b' d w ds dd e wd sc ro ro' r =
-      let l = On kind x ty t in
-      let rt = On Here z uy u in
-      let L = met_side core.table (left_of s rt) l in
-      let rs = reachable_split core b L (met_side core.table (right_of s l) rt) r.1 in
-      let right_empty : is_empty (right_of s l).destination ≡ true = ap is_empty ds ∙ e in
-      absurd (both_ways (has_room core.table (right_of s l).destination) (no_room (right_of s l).destination right_empty)
-      (not-false (has_room core.table (right_of s l).destination) (none_broken (rules core (next_all core.table b L) (all_reached (right_of s l)) (SideLine Here z uy)) rs.1.0).0))
-
-  -- The left side of a par is met at an empty place, and so is the right one where the left one is none of the fields.
-  bind_stays : (bd : Bind) (s : Setting) (b : Before) (ks : List Known) (b' : Before) (d : Destination) (w : Bool) → is_empty s.destination ≡ true → is_empty (behind s bd).destination ≡ true → Wider s.scope b ks b' → Scoped s.scope b → Room b (bind_binders bd) → Room b' (bind_binders bd)
-      → R b (met_bind core.table s bd) → BindNew s b ks b' d d w bd bd
-  bind_stays (Past h k) s b ks b' d w e e' wd sc ro ro' r = absurd cc
-  bind_stays (One (On Region x ty t)) s b ks b' d w e e' wd sc ro ro' r = let n = side_stays (On Region x ty t) s b ks b' d w e wd sc ro ro' r in record { lines = n.lines; after = n.after; setting = refl }
-  bind_stays (One (On Scalar x ty t)) s b ks b' d w e e' wd sc ro ro' r = let n = side_stays (On Scalar x ty t) s b ks b' d w e wd sc ro ro' r in record { lines = n.lines; after = n.after; setting = refl }
-  bind_stays (One (On Here x ty t)) s b ks b' d w e e' wd sc ro ro' r =
-      absurd (both_ways (has_room core.table s.destination) (no_room s.destination e) (not-false (has_room core.table s.destination) (none_broken (rules core b (all_reached s) (SideLine Here x ty)) r.0).0))
-  bind_stays (Prim x g v u) s b ks b' d w e e' wd sc ro ro' r = record { lines = prim_stays x g v u s b' ks d w (wider_bind core (Prim x g v u) s b ks b' wd sc ro ro' r); after = refl; setting = refl }
-  bind_stays (Reach y by) s b ks b' d w e e' wd sc ro ro' r = absurd (reaches_none core b s y by r.0)
-  bind_stays (Both fork (On Here x ty t) rt) s b ks b' d w e e' wd sc ro ro' r =
-      absurd (both_ways (has_room core.table s.destination) (no_room s.destination e) (not-false (has_room core.table s.destination) (none_broken (rules core b (all_reached (left_of s rt)) (SideLine Here x ty)) r.1.0).0))
-  bind_stays (Both fork (On Region x ty t) rt) s b ks b' d w e e' wd sc ro ro' r = stays_two fork Region x ty t rt s b ks b' d w refl refl e wd sc ro ro' r
-  bind_stays (Both fork (On Scalar x ty t) rt) s b ks b' d w e e' wd sc ro ro' r = stays_two fork Scalar x ty t rt s b ks b' d w refl refl e wd sc ro ro' r
+  bind_stays : (bd : Bind) (s : Setting) (b : Before) (ks : List Known) (b' : Before) (d : Destination) (w : Bool) → is_empty s.destination ≡ true → is_empty (behind s bd).destination ≡ true → Ahead s.scope b ks b' (bind_binders bd)
+      → R b (met_bind core.table s bd) → BindNew s ks b' d d w bd bd
+  bind_stays (Past h k) s b ks b' d w e e' a r = absurd cc
+  bind_stays (One side) s b ks b' d w e e' a r = one_step keeps s b ks b' w e a r
+  bind_stays (Both fork l r) s b ks b' d w e e' a h = both_step fork l l r r keeps keeps s b ks b' w e a h
+  bind_stays (Prim x g v u) s b ks b' d w e e' a r = record { lines = prim_stays x g v u s b' ks d w (wider_bind core (Prim x g v u) s b ks b' a r); after = refl; setting = refl }
+  bind_stays (Reach y by) s b ks b' d w e e' a r = absurd (reaches_none core b s y by r.0)
 
   -- One more binding is laid: what follows goes on from there.
-  go_on : (s : Setting) (b : Before) (ks : List Known) (b' : Before) (d d1 : Destination) (w : Bool) (bd bd' : Bind) (t : Term) → BindNew s b ks b' d d1 w bd bd'
+  go_on : (s : Setting) (b : Before) (ks : List Known) (b' : Before) (d d1 : Destination) (w : Bool) (bd bd' : Bind) (t : Term) → BindNew s ks b' d d1 w bd bd'
       → R (next_all core.table b' (met_bind core.table (scoped s ks) bd)) (met core.table (opened (behind s bd) d1 (behind (scoped s ks) bd).scope false) t)
       → R b' (met core.table (opened s d ks w) (Then bd' t))
   go_on s b ks b' d d1 w bd bd' t n rest =
@@ -409,7 +369,7 @@ module _ (core : CoreTree) where
               ap not (λ i. end.heads i && ((eq-eqb (length done) (length (packed_types core.table k)) size i && named_there done i) && not (mine i))),
               (
                 ap not (usable_two (all_reached so) ss (as_atoms done) (all_usable_eq (all_reached so) (all_reached (scoped s ks)) ss refl ∙ all_usable_more s b b' ks ss wd end.usable) (usable_each so done st.there)),
-                (ap not (types_more s b b' ks ss (scalar_types (fields_at core.table k.0)) wd end.usable ∙ end.typed), tt),
+                (ap not (types_same s b b' ss (scalar_types (fields_at core.table k.0)) wd.types end.usable ∙ end.typed), tt),
               ),
             ),
           ),
@@ -425,7 +385,7 @@ module _ (core : CoreTree) where
     pointed s b ks b' bs (a.Variable y) w sc ro r u o =
         let m = scopes_back bs s b y r (sym (reached_where_has (behinds s bs).scope y) ∙ u) o in
         let n = sc y m in let q = ro y.0 in
-        (reached_where_has ks y ∙ w.scope y m, w.types y m ∙ sym (mets_types bs s b y (omega arith)))
+        (reached_where_has ks y ∙ w.scope y m, w.types y m ∙ sym ((gains_run bs s b).types y (omega arith)))
 
     abbrev pub Closed : Bool → List Variable → Type 0
     Closed true done = Unit {0}
@@ -469,11 +429,14 @@ module _ (core : CoreTree) where
     due_behinds [] s = refl
     due_behinds (bd ∷ bs) s = due_behinds bs (behind s bd) ∙ due_behind bd s
 
-    half : (bd : Bind) (bs : List Bind) (b : Before) → Room b (bind_binders bd ++ binders_all bs) → Room b (bind_binders bd)
-    half bd bs b ro y = let q = occurs_append (bind_binders bd) (binders_all bs) y in let o = ro y in omega arith
-
-    first_room : (o : Bool) (bd : Bind) (bs : List Bind) (fs : List Field) (b : Before) → ((y : ℕ) → occurs (nums b.bound) y + (occurs (binders_all (bd ∷ bs)) y + (times (variables fs) y + occurs (heads_left o) y)) ≤ 1) → Room b (bind_binders bd)
-    first_room o bd bs fs b ro y = let q = occurs_append (bind_binders bd) (binders_all bs) y in let z = ro y in omega arith
+    bind_ahead : {o : Bool} {bd bd' : Bind} {bs : List Bind} {fs : List Field} {cs : List Bind} {s : Setting} {b : Before} {ks : List Known} {b' : Before} {done : List Variable} {n : ℕ} {be : Before} → Pre o (bd ∷ bs) fs (bd' ∷ cs) s b ks b' done n be
+        → bind_binders bd' ≡ bind_binders bd → Ahead s.scope b ks b' (bind_binders bd)
+    bind_ahead {bd = bd} {bd' = bd'} {bs = bs} {cs = cs} p same = record {
+      wider = p.wider;
+      scoped = p.scoped;
+      room = λ y. let q = occurs_append (bind_binders bd) (binders_all bs) y in let z = p.rooms y in omega arith;
+      room' = λ y. let q = occurs_append (bind_binders bd') (binders_all cs) y in let z = p.room y in let f = ap (λ l. occurs l y) same in omega arith;
+    }
 
     -- Behind a binding that was laid.
     pre_after : (o : Bool) (bd bd' : Bind) (bs : List Bind) (fs gs : List Field) (cs : List Bind) (s : Setting) (b : Before) (ks : List Known) (b' : Before) (done more : List Variable) (n m : ℕ) (be : Before) → Pre o (bd ∷ bs) fs (bd' ∷ cs) s b ks b' done n be
@@ -482,15 +445,16 @@ module _ (core : CoreTree) where
         → Pre o bs gs cs (behind s bd) (next_all core.table b (met_bind core.table s bd)) (behind (scoped s ks) bd).scope (next_all core.table b' (met_bind core.table (scoped s ks) bd)) more m be
     pre_after o bd bd' bs fs gs cs s b ks b' done more n m be p same fewer fields count size stand closed =
         let rs = reachable_split core b (met_bind core.table s bd) (mets core.table (behind s bd) bs) p.lines in
+        let ahead = ahead_behind core bd [] s b ks b' (ahead_less (bind_ahead p same) (λ y. let q = occurs_append (bind_binders bd) [] y in omega arith)) rs.0 in
         record {
           is = p.is ∙ next_append core.table b (met_bind core.table s bd) (mets core.table (behind s bd) bs);
           empty = p.empty;
-          wider = wider_behind core bd s b ks b' p.wider p.scoped (first_room o bd bs fs b p.rooms) rs.0;
-          scoped = scoped_after core bd s b p.scoped rs.0;
+          wider = ahead.wider;
+          scoped = ahead.scoped;
           rooms = λ y.
-              let q = occurs_append (bind_binders bd) (binders_all bs) y in let z = p.rooms y in let e = bind_nums_after core.table bd s b y in let f = fewer y in omega arith;
+              let q = occurs_append (bind_binders bd) (binders_all bs) y in let z = p.rooms y in let e = (gains_bind core.table bd s b).counts y in let f = fewer y in omega arith;
           room = λ y.
-              let q = occurs_append (bind_binders bd') (binders_all cs) y in let z = p.room y in let e = bind_nums_after core.table bd (scoped s ks) b' y in let f = ap (λ l. occurs l y) same in omega arith;
+              let q = occurs_append (bind_binders bd') (binders_all cs) y in let z = p.room y in let e = (gains_bind core.table bd (scoped s ks) b').counts y in let f = ap (λ l. occurs l y) same in omega arith;
           lines = rs.1;
           end = p.end;
           fields = fields;
@@ -499,10 +463,6 @@ module _ (core : CoreTree) where
           stand = stand;
           closed = closed;
         }
-
-    bind_room : (o : Bool) (bd bd' : Bind) (bs : List Bind) (fs : List Field) (cs : List Bind) (s : Setting) (b : Before) (ks : List Known) (b' : Before) (done : List Variable) (n : ℕ) (be : Before) → Pre o (bd ∷ bs) fs (bd' ∷ cs) s b ks b' done n be → bind_binders bd' ≡ bind_binders bd → Room b' (bind_binders bd)
-    bind_room o bd bd' bs fs cs s b ks b' done n be p same y =
-        let q = occurs_append (bind_binders bd') (binders_all cs) y in let z = p.room y in let f = ap (λ l. occurs l y) same in omega arith
 
     -- The type of a region's variable at the end of the line.
     here_type : (x : Variable) (ty : Ty) (bound : List Bound) → type_bound (record { variable = x; ty = ty } ∷ bound) x ≡ Some ty
@@ -529,95 +489,36 @@ module _ (core : CoreTree) where
     is_old s b bs x sc r u o y e =
         sc y (scopes_back bs s b y r (sym (reached_where_has (behinds s bs).scope y) ∙ (sym (ap (is_usable (all_reached (behinds s bs))) e) ∙ u)) (sym (ap (is_one (bound_in bs)) e) ∙ o))
 
-    left_new : (fork : Bool) (x : Variable) (ty : Ty) (t : Term) (rt : Side) (s : Setting) (b : Before) (ks : List Known) (b' : Before) (done : List Variable) (w : Bool) → is_empty s.destination ≡ true → Wider s.scope b ks b' → Scoped s.scope b
-        → Room b ((x.0 ∷ binders t) ++ side_binders rt) → Room b' ((x.0 ∷ binders t) ++ side_binders rt) → R b (met_bind core.table s (Both fork (On Region x ty t) rt))
-        → length done < length (packed_types core.table k) → same_type ty (due_at (length done)) ≡ true
-        → BindNew s b ks b' (Open h k done) (Open h k (done ++ x ∷ [])) w (Both fork (On Region x ty t) rt) (Both fork (On Here x ty t) rt)
-    left_new fork x ty t (On Region z uy u) s b ks b' done w e wd sc ro ro' r lt same =
-        let l = On Region x ty t in let rt = On Region z uy u in
-        let rs = reachable_split core b (met_side core.table (left_of s rt) l) (met_side core.table (right_of s l) rt) r.1 in
-        both_new fork l rt (On Here x ty t) rt s b ks b' (Open h k done) (Open h k (done ++ x ∷ [])) (Open h k (done ++ x ∷ [])) w
-        (side_placed x ty t (left_of s rt) b ks b' h k done w wd sc (room_left l rt b ro) (room_left l rt b' ro') rs.0 lt same)
-        (side_stays rt (right_of s l) (next_all core.table b (met_side core.table (left_of s rt) l)) ks (next_all core.table b' (met_side core.table (left_of (scoped s ks) rt) l)) (Open h k (done ++ x ∷ [])) w e (left_wider x Region ty t rt s b ks b' wd sc ro) (left_sc l rt s b sc) (room_right l rt (left_of s rt) b ro) (room_right l rt (left_of (scoped s ks) rt) b' ro') rs.1)
-        refl refl refl refl refl
-    left_new fork x ty t (On Scalar z uy u) s b ks b' done w e wd sc ro ro' r lt same =
-        let l = On Region x ty t in let rt = On Scalar z uy u in
-        let rs = reachable_split core b (met_side core.table (left_of s rt) l) (met_side core.table (right_of s l) rt) r.1 in
-        both_new fork l rt (On Here x ty t) rt s b ks b' (Open h k done) (Open h k (done ++ x ∷ [])) (Open h k (done ++ x ∷ [])) w
-        (side_placed x ty t (left_of s rt) b ks b' h k done w wd sc (room_left l rt b ro) (room_left l rt b' ro') rs.0 lt same)
-        (side_stays rt (right_of s l) (next_all core.table b (met_side core.table (left_of s rt) l)) ks (next_all core.table b' (met_side core.table (left_of (scoped s ks) rt) l)) (Open h k (done ++ x ∷ [])) w e (left_wider x Region ty t rt s b ks b' wd sc ro) (left_sc l rt s b sc) (room_right l rt (left_of s rt) b ro) (room_right l rt (left_of (scoped s ks) rt) b' ro') rs.1)
-        refl refl refl refl refl
-    left_new fork x ty t (On Here z uy u) s b ks b' done w e wd sc ro ro' r lt same =
-        let l = On Region x ty t in let rt = On Here z uy u in
-        let L = met_side core.table (left_of s rt) l in
-        let rs = reachable_split core b L (met_side core.table (right_of s l) rt) r.1 in
-        absurd (both_ways (has_room core.table s.destination) (no_room s.destination e) (not-false (has_room core.table s.destination) (none_broken (rules core (next_all core.table b L) (all_reached (right_of s l)) (SideLine Here z uy)) rs.1.0).0))
-
-    right_new : (fork : Bool) (lt : Side) (z : Variable) (uy : Ty) (u : Term) (s : Setting) (b : Before) (ks : List Known) (b' : Before) (done : List Variable) (w : Bool) → is_empty s.destination ≡ true → Wider s.scope b ks b' → Scoped s.scope b
-        → Room b (side_binders lt ++ (z.0 ∷ binders u)) → Room b' (side_binders lt ++ (z.0 ∷ binders u)) → R b (met_bind core.table s (Both fork lt (On Region z uy u)))
-        → length done < length (packed_types core.table k) → same_type uy (due_at (length done)) ≡ true
-        → BindNew s b ks b' (Open h k done) (Open h k (done ++ z ∷ [])) w (Both fork lt (On Region z uy u)) (Both fork lt (On Here z uy u))
-    right_new fork (On Region x ty t) z uy u s b ks b' done w e wd sc ro ro' r less same =
-        let l = On Region x ty t in let rt = On Region z uy u in
-        let rs = reachable_split core b (met_side core.table (left_of s rt) l) (met_side core.table (right_of s l) rt) r.1 in
-        both_new fork l rt l (On Here z uy u) s b ks b' (Open h k done) (Open h k done) (Open h k (done ++ z ∷ [])) w
-        (side_stays l (left_of s rt) b ks b' (Open h k done) w e wd sc (room_left l rt b ro) (room_left l rt b' ro') rs.0)
-        (side_placed z uy u (right_of s l) (next_all core.table b (met_side core.table (left_of s rt) l)) ks (next_all core.table b' (met_side core.table (left_of (scoped s ks) rt) l)) h k done w (left_wider x Region ty t rt s b ks b' wd sc ro) (left_sc l rt s b sc) (room_right l rt (left_of s rt) b ro) (room_right l rt (left_of (scoped s ks) rt) b' ro') rs.1 less same)
-        refl refl refl refl refl
-    right_new fork (On Scalar x ty t) z uy u s b ks b' done w e wd sc ro ro' r less same =
-        let l = On Scalar x ty t in let rt = On Region z uy u in
-        let rs = reachable_split core b (met_side core.table (left_of s rt) l) (met_side core.table (right_of s l) rt) r.1 in
-        both_new fork l rt l (On Here z uy u) s b ks b' (Open h k done) (Open h k done) (Open h k (done ++ z ∷ [])) w
-        (side_stays l (left_of s rt) b ks b' (Open h k done) w e wd sc (room_left l rt b ro) (room_left l rt b' ro') rs.0)
-        (side_placed z uy u (right_of s l) (next_all core.table b (met_side core.table (left_of s rt) l)) ks (next_all core.table b' (met_side core.table (left_of (scoped s ks) rt) l)) h k done w (left_wider x Scalar ty t rt s b ks b' wd sc ro) (left_sc l rt s b sc) (room_right l rt (left_of s rt) b ro) (room_right l rt (left_of (scoped s ks) rt) b' ro') rs.1 less same)
-        refl refl refl refl refl
-    right_new fork (On Here x ty t) z uy u s b ks b' done w e wd sc ro ro' r less same =
-        let rt = On Region z uy u in
-        absurd (both_ways (has_room core.table s.destination) (no_room s.destination e) (not-false (has_room core.table s.destination) (none_broken (rules core b (all_reached (left_of s rt)) (SideLine Here x ty)) r.1.0).0))
-
-    two_placed : (fork : Bool) (x : Variable) (ty : Ty) (t : Term) (z : Variable) (uy : Ty) (u : Term) (s : Setting) (b : Before) (ks : List Known) (b' : Before) (done : List Variable) (w : Bool) → Wider s.scope b ks b' → Scoped s.scope b
-        → Room b ((x.0 ∷ binders t) ++ (z.0 ∷ binders u)) → Room b' ((x.0 ∷ binders t) ++ (z.0 ∷ binders u)) → R b (met_bind core.table s (Both fork (On Region x ty t) (On Region z uy u)))
-        → suc (length done) < length (packed_types core.table k) → same_type ty (due_at (length done)) ≡ true → same_type uy (due_at (length (done ++ x ∷ []))) ≡ true
-        → BindNew s b ks b' (Open h k done) (Open h k ((done ++ x ∷ []) ++ z ∷ [])) w (Both fork (On Region x ty t) (On Region z uy u)) (Both fork (On Here x ty t) (On Here z uy u))
-    two_placed fork x ty t z uy u s b ks b' done w wd sc ro ro' r less same same' =
-        let l = On Region x ty t in let rt = On Region z uy u in
-        let rs = reachable_split core b (met_side core.table (left_of s rt) l) (met_side core.table (right_of s l) rt) r.1 in
-        both_new fork l rt (On Here x ty t) (On Here z uy u) s b ks b' (Open h k done) (Open h k (done ++ x ∷ [])) (Open h k ((done ++ x ∷ []) ++ z ∷ [])) w
-        (side_placed x ty t (left_of s rt) b ks b' h k done w wd sc (room_left l rt b ro) (room_left l rt b' ro') rs.0 (omega arith) same)
-        (side_placed z uy u (right_of s l) (next_all core.table b (met_side core.table (left_of s rt) l)) ks (next_all core.table b' (met_side core.table (left_of (scoped s ks) rt) l)) h k (done ++ x ∷ []) w (left_wider x Region ty t rt s b ks b' wd sc ro) (left_sc l rt s b sc) (room_right l rt (left_of s rt) b ro) (room_right l rt (left_of (scoped s ks) rt) b' ro') rs.1 (let e = length_one done x in omega arith) same')
-        refl refl refl refl refl
-
     -- Types at the end of a line.
+    side_type : (x : Variable) (ty : Ty) (t : Term) (s : Setting) (b : Before) → occurs (binders t) x.0 ≡ 0 → type_bound (next_all core.table b (met_side core.table s (On Region x ty t))).bound x ≡ Some ty
+    side_type x ty t s b o = (gains_term core.table t (in_side core.table s Region ty) (next core.table b (SideLine Region x ty))).types x o ∙ here_type x ty b.bound
+
+    bind_type : (bd : Bind) (x : Variable) (ty : Ty) (bs : List Bind) (s : Setting) (b be : Before) → be ≡ next_all core.table b (mets core.table s (bd ∷ bs)) → occurs (binders_all bs) x.0 ≡ 0
+        → type_bound (next_all core.table b (met_bind core.table s bd)).bound x ≡ Some ty → type_bound be.bound x ≡ Some ty
+    bind_type bd x ty bs s b be e o h =
+        ap (λ (z : Before). type_bound z.bound x) (e ∙ next_append core.table b (met_bind core.table s bd) (mets core.table (behind s bd) bs))
+        ∙ ((gains_run bs (behind s bd) (next_all core.table b (met_bind core.table s bd))).types x o ∙ h)
+
     one_type : (x : Variable) (ty : Ty) (t : Term) (bs : List Bind) (s : Setting) (b be : Before) → be ≡ next_all core.table b (mets core.table s (One (On Region x ty t) ∷ bs)) → Room b ((x.0 ∷ binders t) ++ binders_all bs) → type_bound be.bound x ≡ Some ty
     one_type x ty t bs s b be e ro =
-        let bd = One (On Region x ty t) in
         let q = occurs_append (x.0 ∷ binders t) (binders_all bs) x.0 in let o = ro x.0 in let m = own_time x in
-        ap (λ (z : Before). type_bound z.bound x) (e ∙ next_append core.table b (met_bind core.table s bd) (mets core.table (behind s bd) bs))
-        ∙ (mets_types bs (behind s bd) (next_all core.table b (met_bind core.table s bd)) x (omega arith)
-        ∙ (types_after core.table t (in_side core.table s Region ty) (next core.table b (SideLine Region x ty)) x (omega arith) ∙ here_type x ty b.bound))
+        bind_type (One (On Region x ty t)) x ty bs s b be e (omega arith) (side_type x ty t s b (omega arith))
 
     both_type_left : (fork : Bool) (x : Variable) (ty : Ty) (t : Term) (r : Side) (bs : List Bind) (s : Setting) (b be : Before) → be ≡ next_all core.table b (mets core.table s (Both fork (On Region x ty t) r ∷ bs)) → Room b (((x.0 ∷ binders t) ++ side_binders r) ++ binders_all bs) → type_bound be.bound x ≡ Some ty
     both_type_left fork x ty t r bs s b be e ro =
-        let l = On Region x ty t in
-        let bd = Both fork l r in
-        let L = met_side core.table (left_of s r) l in
+        let L = met_side core.table (left_of s r) (On Region x ty t) in
         let q = occurs_append ((x.0 ∷ binders t) ++ side_binders r) (binders_all bs) x.0 in let q' = occurs_append (x.0 ∷ binders t) (side_binders r) x.0 in let o = ro x.0 in let m = own_time x in
-        ap (λ (z : Before). type_bound z.bound x) (e ∙ next_append core.table b (met_bind core.table s bd) (mets core.table (behind s bd) bs))
-        ∙ (mets_types bs (behind s bd) (next_all core.table b (met_bind core.table s bd)) x (omega arith)
-        ∙ (ap (λ (z : Before). type_bound z.bound x) (next_append core.table b L (met_side core.table (right_of s l) r))
-        ∙ (side_types_after core.table r (right_of s l) (next_all core.table b L) x (omega arith)
-        ∙ (types_after core.table t (in_side core.table (left_of s r) Region ty) (next core.table b (SideLine Region x ty)) x (omega arith) ∙ here_type x ty b.bound))))
+        bind_type (Both fork (On Region x ty t) r) x ty bs s b be e (omega arith)
+        (ap (λ (z : Before). type_bound z.bound x) (next_append core.table b L (met_side core.table (right_of s (On Region x ty t)) r))
+        ∙ ((gains_side core.table r (right_of s (On Region x ty t)) (next_all core.table b L)).types x (omega arith) ∙ side_type x ty t (left_of s r) b (omega arith)))
 
     both_type_right : (fork : Bool) (l : Side) (x : Variable) (ty : Ty) (t : Term) (bs : List Bind) (s : Setting) (b be : Before) → be ≡ next_all core.table b (mets core.table s (Both fork l (On Region x ty t) ∷ bs)) → Room b ((side_binders l ++ (x.0 ∷ binders t)) ++ binders_all bs) → type_bound be.bound x ≡ Some ty
     both_type_right fork l x ty t bs s b be e ro =
         let r = On Region x ty t in
-        let bd = Both fork l r in
         let L = met_side core.table (left_of s r) l in
         let q = occurs_append (side_binders l ++ (x.0 ∷ binders t)) (binders_all bs) x.0 in let q' = occurs_append (side_binders l) (x.0 ∷ binders t) x.0 in let o = ro x.0 in let m = own_time x in
-        ap (λ (z : Before). type_bound z.bound x) (e ∙ next_append core.table b (met_bind core.table s bd) (mets core.table (behind s bd) bs))
-        ∙ (mets_types bs (behind s bd) (next_all core.table b (met_bind core.table s bd)) x (omega arith)
-        ∙ (ap (λ (z : Before). type_bound z.bound x) (next_append core.table b L (met_side core.table (right_of s l) r))
-        ∙ (types_after core.table t (in_side core.table (right_of s l) Region ty) (next core.table (next_all core.table b L) (SideLine Region x ty)) x (omega arith) ∙ here_type x ty (next_all core.table b L).bound)))
+        bind_type (Both fork l r) x ty bs s b be e (omega arith)
+        (ap (λ (z : Before). type_bound z.bound x) (next_append core.table b L (met_side core.table (right_of s l) r)) ∙ side_type x ty t (right_of s l) (next_all core.table b L) (omega arith))
 
     line_room : (o : Bool) (bs : List Bind) (fs : List Field) (b : Before) → ((y : ℕ) → occurs (nums b.bound) y + (occurs (binders_all bs) y + (times (variables fs) y + occurs (heads_left o) y)) ≤ 1) → Room b (binders_all bs)
     line_room o bs fs b ro y = let z = ro y in omega arith
@@ -633,6 +534,24 @@ module _ (core : CoreTree) where
 
     right_has : (fork : Bool) (l : Side) (z : Variable) (uy : Ty) (u : Term) (s : Setting) (ks : List Known) → has (behind (scoped s ks) (Both fork l (On Region z uy u))).scope z ≡ true
     right_has fork (On kind x ty t) z uy u s ks = here_has z (reached x ∷ ks)
+
+    -- A binding one of whose sides takes the place of the next field: what follows goes on behind it.
+    one_more : (bd bd' : Bind) (x : Variable) (ty : Ty) {bs : List Bind} {f : Field} {fs : List Field} {cs : List Bind} → once x ≡ true → f.target ≡ a.Variable x → bind_binders bd' ≡ bind_binders bd
+        → (s : Setting) (b : Before) (ks : List Known) (b' : Before) (w : Bool) (done all : List Variable) (n : ℕ) (be : Before) → Pre true (bd ∷ bs) (f ∷ fs) (bd' ∷ cs) s b ks b' done n be → is_empty s.destination ≡ true
+        → type_bound be.bound x ≡ Some ty → has (behind (scoped s ks) bd).scope x ≡ true
+        → (length done < length (packed_types core.table k) → same_type ty (due_at (length done)) ≡ true → R b (met_bind core.table s bd) → BindNew s ks b' (Open h k done) (Open h k (done ++ x ∷ [])) w bd bd')
+        → ((s1 : Setting) (b1 : Before) (ks1 : List Known) (c1 : Before) (n1 : ℕ) → Pre true bs fs cs s1 b1 ks1 c1 (done ++ x ∷ []) n1 be → R c1 (met core.table (opened s1 (Open h k (done ++ x ∷ [])) ks1 false) (prepend cs (Write hw kw ss (as_atoms all)))))
+        → R b' (met core.table (opened s (Open h k done) ks w) (prepend (bd' ∷ cs) (Write hw kw ss (as_atoms all))))
+    one_more bd bd' x ty {bs} {f} {fs} {cs} u g like s b ks b' w done all n be p empty type_x there new further =
+        let rs = reachable_split core b (met_bind core.table s bd) (mets core.table (behind s bd) bs) p.lines in
+        let fo = p.fields.0 in
+        let same = same_due n (length done) ty p.count (region_type be n f x ty fo.typed g type_x) in
+        let less : length done < length (packed_types core.table k) = let i = p.count in let j = p.size in omega arith in
+        let ks1 = (behind (scoped s ks) bd).scope in
+        go_on s b ks b' (Open h k done) (Open h k (done ++ x ∷ [])) w bd bd' (prepend cs (Write hw kw ss (as_atoms all))) (new less same rs.0)
+        (further (behind s bd) (next_all core.table b (met_bind core.table s bd)) ks1 (next_all core.table b' (met_bind core.table (scoped s ks) bd)) (suc n)
+        (pre_after true bd bd' bs (f ∷ fs) fs cs s b ks b' done (done ++ x ∷ []) n (suc n) be p like (λ y. omega arith) p.fields.1 (ap suc p.count ∙ sym (length_one done x)) (let i = p.size in omega arith)
+        (placed_stands (behinds s (bd ∷ bs)) be ks ks1 done n f x u g fo (λ y m. has_behind bd s b ks y rs.0 m) there p.stand) tt))
 
     pub lays_reach : {o : Bool} {bs : List Bind} {fs : List Field} {cs : List Bind} {xs : List Variable} → Lays once (Past h k) o bs fs cs xs
         → (s : Setting) (b : Before) (ks : List Known) (b' : Before) (w : Bool) (done all : List Variable) (n : ℕ) (be : Before) → Pre o bs fs cs s b ks b' done n be → all ≡ done ++ xs
@@ -719,52 +638,24 @@ module _ (core : CoreTree) where
         let rs = reachable_split core b (met_bind core.table s bd) (mets core.table (behind s bd) bs) p.lines in
         let d = place_of o done in
         go_on s b ks b' d d w bd bd (prepend cs (Write hw kw ss (as_atoms all)))
-        (bind_stays bd s b ks b' d w (all_empty (bd ∷ bs) s p.empty) (all_empty bs (behind s bd) p.empty) p.wider p.scoped (first_room o bd bs fs b p.rooms) (bind_room o bd bd bs fs cs s b ks b' done n be p refl) rs.0)
+        (bind_stays bd s b ks b' d w (all_empty (bd ∷ bs) s p.empty) (all_empty bs (behind s bd) p.empty) (bind_ahead p refl) rs.0)
         (lays_reach l (behind s bd) (next_all core.table b (met_bind core.table s bd)) ks1 (next_all core.table b' (met_bind core.table (scoped s ks) bd)) false done all n be
         (pre_after o bd bd bs fs fs cs s b ks b' done done n n be p refl (λ y. omega arith) p.fields p.count p.size (stand_more (behinds s (bd ∷ bs)) be ks ks1 done (λ y m. has_behind bd s b ks y rs.0 m) p.stand) p.closed) e)
     lays_reach (one {x = x} {ty = ty} {t = t} {bs = bs} {f = f} {fs = fs} {cs = cs} {xs = xs} u g l) s b ks b' w done all n be p e =
         let bd : Bind = One (On Region x ty t) in
-        let bd' : Bind = One (On Here x ty t) in
-        let ks1 = reached x ∷ ks in
-        let rs = reachable_split core b (met_bind core.table s bd) (mets core.table (behind s bd) bs) p.lines in
-        let fo = p.fields.0 in
-        let type_x = one_type x ty t bs s b be p.is (line_room true (bd ∷ bs) (f ∷ fs) b p.rooms) in
-        let same = same_due n (length done) ty p.count (region_type be n f x ty fo.typed g type_x) in
-        let less : length done < length (packed_types core.table k) = let i = p.count in let j = p.size in omega arith in
-        let sn = side_placed x ty t s b ks b' h k done w p.wider p.scoped (first_room true bd bs (f ∷ fs) b p.rooms) (bind_room true bd bd' bs (f ∷ fs) cs s b ks b' done n be p refl) rs.0 less same in
-        go_on s b ks b' (Open h k done) (Open h k (done ++ x ∷ [])) w bd bd' (prepend cs (Write hw kw ss (as_atoms all)))
-        (record { lines = sn.lines; after = sn.after; setting = refl })
-        (lays_reach l (behind s bd) (next_all core.table b (met_bind core.table s bd)) ks1 (next_all core.table b' (met_bind core.table (scoped s ks) bd)) false (done ++ x ∷ []) all (suc n) be
-        (pre_after true bd bd' bs (f ∷ fs) fs cs s b ks b' done (done ++ x ∷ []) n (suc n) be p refl (λ y. omega arith) p.fields.1 (ap suc p.count ∙ sym (length_one done x)) (let i = p.size in omega arith)
-        (placed_stands (behinds s (bd ∷ bs)) be ks ks1 done n f x u g fo (λ y m. has_behind bd s b ks y rs.0 m) (here_has x ks) p.stand) tt) (e ∙ shift_one done x xs))
+        one_more bd (One (On Here x ty t)) x ty u g refl s b ks b' w done all n be p (all_empty (bd ∷ bs) s p.empty) (one_type x ty t bs s b be p.is (line_room true (bd ∷ bs) (f ∷ fs) b p.rooms)) (here_has x ks)
+        (λ less same r. one_step (takes less same) s b ks b' w (all_empty (bd ∷ bs) s p.empty) (bind_ahead p refl) r)
+        (λ s1 b1 ks1 c1 n1 pre. lays_reach l s1 b1 ks1 c1 false (done ++ x ∷ []) all n1 be pre (e ∙ shift_one done x xs))
     lays_reach (left {fork = fork} {x = x} {ty = ty} {t = t} {r = r} {bs = bs} {f = f} {fs = fs} {cs = cs} {xs = xs} u g l) s b ks b' w done all n be p e =
         let bd : Bind = Both fork (On Region x ty t) r in
-        let bd' : Bind = Both fork (On Here x ty t) r in
-        let ks1 = (behind (scoped s ks) bd).scope in
-        let rs = reachable_split core b (met_bind core.table s bd) (mets core.table (behind s bd) bs) p.lines in
-        let fo = p.fields.0 in
-        let type_x = both_type_left fork x ty t r bs s b be p.is (line_room true (bd ∷ bs) (f ∷ fs) b p.rooms) in
-        let same = same_due n (length done) ty p.count (region_type be n f x ty fo.typed g type_x) in
-        let less : length done < length (packed_types core.table k) = let i = p.count in let j = p.size in omega arith in
-        go_on s b ks b' (Open h k done) (Open h k (done ++ x ∷ [])) w bd bd' (prepend cs (Write hw kw ss (as_atoms all)))
-        (left_new fork x ty t r s b ks b' done w (all_empty (bd ∷ bs) s p.empty) p.wider p.scoped (first_room true bd bs (f ∷ fs) b p.rooms) (bind_room true bd bd' bs (f ∷ fs) cs s b ks b' done n be p refl) rs.0 less same)
-        (lays_reach l (behind s bd) (next_all core.table b (met_bind core.table s bd)) ks1 (next_all core.table b' (met_bind core.table (scoped s ks) bd)) false (done ++ x ∷ []) all (suc n) be
-        (pre_after true bd bd' bs (f ∷ fs) fs cs s b ks b' done (done ++ x ∷ []) n (suc n) be p refl (λ y. omega arith) p.fields.1 (ap suc p.count ∙ sym (length_one done x)) (let i = p.size in omega arith)
-        (placed_stands (behinds s (bd ∷ bs)) be ks ks1 done n f x u g fo (λ y m. has_behind bd s b ks y rs.0 m) (left_has fork x ty t r s ks) p.stand) tt) (e ∙ shift_one done x xs))
+        one_more bd (Both fork (On Here x ty t) r) x ty u g refl s b ks b' w done all n be p (all_empty (bd ∷ bs) s p.empty) (both_type_left fork x ty t r bs s b be p.is (line_room true (bd ∷ bs) (f ∷ fs) b p.rooms)) (left_has fork x ty t r s ks)
+        (λ less same h. both_step fork (On Region x ty t) (On Here x ty t) r r (takes less same) keeps s b ks b' w (all_empty (bd ∷ bs) s p.empty) (bind_ahead p refl) h)
+        (λ s1 b1 ks1 c1 n1 pre. lays_reach l s1 b1 ks1 c1 false (done ++ x ∷ []) all n1 be pre (e ∙ shift_one done x xs))
     lays_reach (right {fork = fork} {l = sl} {y = x} {uy = ty} {u = t} {bs = bs} {f = f} {fs = fs} {cs = cs} {xs = xs} u g l) s b ks b' w done all n be p e =
         let bd : Bind = Both fork sl (On Region x ty t) in
-        let bd' : Bind = Both fork sl (On Here x ty t) in
-        let ks1 = (behind (scoped s ks) bd).scope in
-        let rs = reachable_split core b (met_bind core.table s bd) (mets core.table (behind s bd) bs) p.lines in
-        let fo = p.fields.0 in
-        let type_x = both_type_right fork sl x ty t bs s b be p.is (line_room true (bd ∷ bs) (f ∷ fs) b p.rooms) in
-        let same = same_due n (length done) ty p.count (region_type be n f x ty fo.typed g type_x) in
-        let less : length done < length (packed_types core.table k) = let i = p.count in let j = p.size in omega arith in
-        go_on s b ks b' (Open h k done) (Open h k (done ++ x ∷ [])) w bd bd' (prepend cs (Write hw kw ss (as_atoms all)))
-        (right_new fork sl x ty t s b ks b' done w (all_empty (bd ∷ bs) s p.empty) p.wider p.scoped (first_room true bd bs (f ∷ fs) b p.rooms) (bind_room true bd bd' bs (f ∷ fs) cs s b ks b' done n be p refl) rs.0 less same)
-        (lays_reach l (behind s bd) (next_all core.table b (met_bind core.table s bd)) ks1 (next_all core.table b' (met_bind core.table (scoped s ks) bd)) false (done ++ x ∷ []) all (suc n) be
-        (pre_after true bd bd' bs (f ∷ fs) fs cs s b ks b' done (done ++ x ∷ []) n (suc n) be p refl (λ y. omega arith) p.fields.1 (ap suc p.count ∙ sym (length_one done x)) (let i = p.size in omega arith)
-        (placed_stands (behinds s (bd ∷ bs)) be ks ks1 done n f x u g fo (λ y m. has_behind bd s b ks y rs.0 m) (right_has fork sl x ty t s ks) p.stand) tt) (e ∙ shift_one done x xs))
+        one_more bd (Both fork sl (On Here x ty t)) x ty u g refl s b ks b' w done all n be p (all_empty (bd ∷ bs) s p.empty) (both_type_right fork sl x ty t bs s b be p.is (line_room true (bd ∷ bs) (f ∷ fs) b p.rooms)) (right_has fork sl x ty t s ks)
+        (λ less same h. both_step fork sl sl (On Region x ty t) (On Here x ty t) keeps (takes less same) s b ks b' w (all_empty (bd ∷ bs) s p.empty) (bind_ahead p refl) h)
+        (λ s1 b1 ks1 c1 n1 pre. lays_reach l s1 b1 ks1 c1 false (done ++ x ∷ []) all n1 be pre (e ∙ shift_one done x xs))
     lays_reach (both {fork = fork} {x = x} {ty = ty} {t = t} {y = z} {uy = uy} {u = v} {bs = bs} {f = f} {g = f'} {fs = fs} {cs = cs} {xs = xs} u g u' g' l) s b ks b' w done all n be p e =
         let bd : Bind = Both fork (On Region x ty t) (On Region z uy v) in
         let bd' : Bind = Both fork (On Here x ty t) (On Here z uy v) in
@@ -777,7 +668,7 @@ module _ (core : CoreTree) where
         let same' = same_due (suc n) (length (done ++ x ∷ [])) uy (ap suc p.count ∙ sym (length_one done x)) (region_type be (suc n) f' z uy fo'.typed g' (both_type_right fork (On Region x ty t) z uy v bs s b be p.is ro)) in
         let less : suc (length done) < length (packed_types core.table k) = let i = p.count in let j = p.size in omega arith in
         go_on s b ks b' (Open h k done) (Open h k ((done ++ x ∷ []) ++ z ∷ [])) w bd bd' (prepend cs (Write hw kw ss (as_atoms all)))
-        (two_placed fork x ty t z uy v s b ks b' done w p.wider p.scoped (first_room true bd bs (f ∷ f' ∷ fs) b p.rooms) (bind_room true bd bd' bs (f ∷ f' ∷ fs) cs s b ks b' done n be p refl) rs.0 less same same')
+        (both_step fork (On Region x ty t) (On Here x ty t) (On Region z uy v) (On Here z uy v) (takes (omega arith) same) (takes (let e = length_one done x in omega arith) same') s b ks b' w (all_empty (bd ∷ bs) s p.empty) (bind_ahead p refl) rs.0)
         (lays_reach l (behind s bd) (next_all core.table b (met_bind core.table s bd)) ks1 (next_all core.table b' (met_bind core.table (scoped s ks) bd)) false ((done ++ x ∷ []) ++ z ∷ []) all (suc (suc n)) be
         (pre_after true bd bd' bs (f ∷ f' ∷ fs) fs cs s b ks b' done ((done ++ x ∷ []) ++ z ∷ []) n (suc (suc n)) be p refl (λ y. omega arith) p.fields.1.1
         (ap suc (ap suc p.count ∙ sym (length_one done x)) ∙ sym (length_one (done ++ x ∷ []) z)) (let i = p.size in omega arith)

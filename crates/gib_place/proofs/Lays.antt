@@ -1,6 +1,7 @@
 -- How a run is laid, one step after another.
 use Rattle.std.proofs.Common.{◌≡◌, Bool, true, false, not, ◌||◌, ◌==◌, if◌then◌else◌, List, [], ◌∷◌, ◌++◌, map, Option, Some, None, refl, sym, ap, ◌∙◌, subst}
 use Rattle.std.proofs.lemmas.Bool.{eqb-true, and_parts, not-true}
+use Rattle.std.proofs.lemmas.List.{append_assoc}
 use Rattle.gib_types.specs.declared.table.Ty.{Ty}
 use Rattle.gib_core.specs.declared.atom.Variable.{Variable}
 use Rattle.gib_core.specs.declared.atom.Atom.{Atom}
@@ -20,10 +21,6 @@ pub is_that : (x : Variable) (y : Atom) → is_variable x y ≡ true → y ≡ a
 is_that x (a.Variable y) e = λ i. a.Variable (record { 0 = eqb-true y.0 x.0 e i })
 is_that x (a.Whole z) e = absurd cc
 is_that x (a.Truth b) e = absurd cc
-
-pub append_append : {A : Type 0} (xs ys zs : List A) → (xs ++ ys) ++ zs ≡ xs ++ (ys ++ zs)
-append_append [] ys zs = refl
-append_append (x ∷ xs) ys zs = ap (λ l. x ∷ l) (append_append xs ys zs)
 
 -- The bindings of a run and the fields of its head, whose room was put yet or not, and what they are laid out as: bindings, and the
 -- variables that stand for the fields.
@@ -193,9 +190,9 @@ module _ (once : Variable → Bool) (room : Bind) where
   further_lay o b bs fs None further h more = stays (more o fs)
   further_lay o b bs fs (Some p) further h more =
       let l = further [] p.left in
-      subst (λ (ys : List Variable). Lays o (b ∷ bs) fs ((rooms o ++ (map pointing p.before ++ p.bind ∷ [])) ++ l.binds) ys) (sym (append_append (variables p.before) p.standing l.standing))
+      subst (λ (ys : List Variable). Lays o (b ∷ bs) fs ((rooms o ++ (map pointing p.before ++ p.bind ∷ [])) ++ l.binds) ys) (sym (append_assoc (variables p.before) p.standing l.standing))
       (subst (λ (ds : List Bind). Lays o (b ∷ bs) fs ds (variables p.before ++ (p.standing ++ l.standing)))
-      (sym (append_append (rooms o) (map pointing p.before ++ p.bind ∷ []) l.binds ∙ ap (λ ds. rooms o ++ ds) (append_append (map pointing p.before) (p.bind ∷ []) l.binds)))
+      (sym (append_assoc (rooms o) (map pointing p.before ++ p.bind ∷ []) l.binds ∙ ap (λ ds. rooms o ++ ds) (append_assoc (map pointing p.before) (p.bind ∷ []) l.binds)))
       (after_room o (b ∷ bs) fs (map pointing p.before ++ p.bind ∷ l.binds) (variables p.before ++ (p.standing ++ l.standing)) (h l.binds l.standing (more true p.left))))
 
   pub lay_lays : (bs : List Bind) (o : Bool) (fs : List Field) → Lays o bs fs (lay once bs (rooms o) fs).binds (lay once bs (rooms o) fs).standing

@@ -1,10 +1,7 @@
--- Lists, mentions and numbers of variables.
+-- Variables numbered anew: their numbers, nodes and lines with other ones.
 pub mod Positions
 pub mod Places
 pub mod Shifted
-pub mod Listed
-pub mod Mentioning
-pub mod Tallied
 pub mod Renames
 pub mod Lines
 -- The walk's steps: the clock, spots, and lines that are laid.
@@ -21,7 +18,6 @@ pub mod Programs
 pub mod Means
 pub mod Erased
 pub mod Sources
-pub mod AtOnce
 pub mod Cores
 -- What is placed breaks no build rule.
 pub mod Wider

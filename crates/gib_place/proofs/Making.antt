@@ -2,7 +2,7 @@
 use Rattle.std.proofs.Common.{◌≡◌, ℕ, ◌+◌, ◌<◌, ◌≤◌, Bool, true, false, if◌then◌else◌, List, [], ◌∷◌, ◌++◌, map, length, drop, get_or, reverse, Option, Some, None, refl, sym, ap, ◌∙◌, subst, arith}
 use Rattle.std.specs.Prelude.{Result, Ok, Err, IfOk}
 use Rattle.std.specs.List.{AllByRecursion}
-use Rattle.std.proofs.lemmas.List.{drop_more, drop_all, reverse-append, append-nil}
+use Rattle.std.proofs.lemmas.List.{drop_more, drop_all, reverse-append, append-nil, append_assoc, map_push}
 use Rattle.gib_core.specs.declared.atom.Variable.{Variable}
 use Rattle.gib_core.specs.declared.atom.Atom.{Atom}
 use Rattle.gib_core.specs.declared.node.Binding.{Binding}
@@ -12,7 +12,7 @@ use Rattle.gib_core.specs.declared.node.Branch.{Branch}
 use Rattle.gib_core.specs.declared.node.Node.{Node}
 use Rattle.gib_core.specs.declared.node.Node.TheVariants as n
 use Rattle.gib_core.specs.declared.node.TermId.{TermId}
-use Rattle.gib_core.specs.Tree.{Term, Then, Write, Point, CallTerm, Give, CaseTerm, IfTerm, Bind, Past, One, Both, Prim, Reach, Side, On, BranchThen, prepend}
+use Rattle.gib_core.specs.Tree.{Term, Then, Write, Point, Give, IfTerm, Bind, Past, One, Both, Prim, Reach, Side, On, BranchThen, prepend}
 use Rattle.gib_core.specs.Inferring.{as_atoms}
 use Rattle.gib_core.specs.Arena.{Grows, IsBindingBelow, IsLine, bind_from, binds_from, branches_from, layer, term_of}
 use Rattle.gib_place.specs.declared.field.Field.{Field}
@@ -22,8 +22,7 @@ use Rattle.gib_place.specs.declared.line.Laid.{Laid as Made}
 use Rattle.gib_place.specs.Placing.{binding_first, room_first, filling_of, ending_of, fill, are_fields, lay, laid_line, place_line, place_inner, inner_bind, inner_branches, place}
 use Rattle.gib_place.specs.Filled.{field_of, IsOtherEnd, LaysLine, filling_from, ending_with}
 use Rattle.gib_place.specs.Made.{MakesTerm, MakesBinding, MakesBindings, MakesSide, MakesBranch, MakesBranches}
-use Rattle.gib_place.proofs.Lays.{append_append}
-use Rattle.gib_place.proofs.Found.{with_field, ending_then, binds_push}
+use Rattle.gib_place.proofs.Found.{with_field, ending_then}
 use Rattle.gib_core.proofs.Fronting.{below_more, branches_below_more, binds_same, branches_same, grows_more, grows_none}
 use Rattle.gib_core.proofs.Lining.{below_push}
 
@@ -32,59 +31,38 @@ pub made_passed : {E : Type 0} (o : Result TermId E) (P Q : TermId → Type 0) �
 made_passed (Ok t) P Q h p = h t p
 made_passed (Err x) P Q h p = tt
 
--- A line that ends otherwise fills no head.
-abbrev Others : Term → Type 0
-Others (Then x rest) = ⊥
-Others (Write h k ss ps) = ⊥
-Others (Point x) = Unit {0}
-Others (CallTerm f xs) = Unit {0}
-Others (Give x) = Unit {0}
-Others (CaseTerm x branches) = Unit {0}
-Others (IfTerm x t u) = Unit {0}
-
 no_field : (o : Option Field) → with_field o None ≡ None
 no_field None = refl
 no_field (Some f) = refl
 
-no_ending : (bs : List Bind) (e : Term) → Others e → ending_of (prepend bs e) ≡ None
-no_ending [] (Then x rest) o = absurd o
-no_ending [] (Write h k ss ps) o = absurd o
-no_ending [] (Point x) o = refl
-no_ending [] (CallTerm f xs) o = refl
-no_ending [] (Give x) o = refl
-no_ending [] (CaseTerm x branches) o = refl
-no_ending [] (IfTerm x t u) o = refl
+-- A line that ends otherwise fills no head.
+no_ending : (bs : List Bind) (e : Term) → ending_of e ≡ None → ending_of (prepend bs e) ≡ None
+no_ending [] e o = o
 no_ending (x ∷ bs) e o = ending_then x (prepend bs e) ∙ ap (with_field (field_of x)) (no_ending bs e o) ∙ no_field (field_of x)
 
-no_filling : (bs : List Bind) (e : Term) → Others e → filling_of (prepend bs e) ≡ None
-no_filling [] (Then x rest) o = absurd o
-no_filling [] (Write h k ss ps) o = absurd o
-no_filling [] (Point x) o = refl
-no_filling [] (CallTerm f xs) o = refl
-no_filling [] (Give x) o = refl
-no_filling [] (CaseTerm x branches) o = refl
-no_filling [] (IfTerm x t u) o = refl
-no_filling (Past h k ∷ bs) e o = ap (room_first h k) (no_ending bs e o)
-no_filling (One s ∷ bs) e o = ap (binding_first (One s)) (no_filling bs e o)
-no_filling (Both fork l r ∷ bs) e o = ap (binding_first (Both fork l r)) (no_filling bs e o)
-no_filling (Prim x f y z ∷ bs) e o = ap (binding_first (Prim x f y z)) (no_filling bs e o)
-no_filling (Reach y by ∷ bs) e o = ap (binding_first (Reach y by)) (no_filling bs e o)
+no_filling : (bs : List Bind) (e : Term) → ending_of e ≡ None → filling_of e ≡ None → filling_of (prepend bs e) ≡ None
+no_filling [] e o p = p
+no_filling (Past h k ∷ bs) e o p = ap (room_first h k) (no_ending bs e o)
+no_filling (One s ∷ bs) e o p = ap (binding_first (One s)) (no_filling bs e o p)
+no_filling (Both fork l r ∷ bs) e o p = ap (binding_first (Both fork l r)) (no_filling bs e o p)
+no_filling (Prim x f y z ∷ bs) e o p = ap (binding_first (Prim x f y z)) (no_filling bs e o p)
+no_filling (Reach y by ∷ bs) e o p = ap (binding_first (Reach y by)) (no_filling bs e o p)
 
-others_from : (f : ℕ → Term) (end : Node) → IsOtherEnd end → Others (layer f (Some end))
-others_from f (n.Then x rest) o = absurd o
-others_from f (n.Write h k ss ps) o = absurd o
-others_from f (n.Point x) o = tt
-others_from f (n.Call g xs) o = tt
-others_from f (n.Give x) o = tt
-others_from f (n.Case x branches) o = tt
-others_from f (n.If x t u) o = tt
+others_none : (f : ℕ → Term) (end : Node) → IsOtherEnd end → (ending_of (layer f (Some end)) ≡ None) × (filling_of (layer f (Some end)) ≡ None)
+others_none f (n.Then x rest) o = absurd o
+others_none f (n.Write h k ss ps) o = absurd o
+others_none f (n.Point x) o = (refl, refl)
+others_none f (n.Call g xs) o = (refl, refl)
+others_none f (n.Give x) o = (refl, refl)
+others_none f (n.Case x branches) o = (refl, refl)
+others_none f (n.If x t u) o = (refl, refl)
 
 pub other_made : (old new : List Node) (bs : List Binding) (made : TermId) (end : Node) → IsOtherEnd end → Grows old new → made.0 < length new → term_of new made.0 ≡ prepend (binds_from (term_of old) bs) (layer (term_of old) (Some end))
     → (once : Variable → Bool) → MakesTerm old new made (place_line once (prepend (binds_from (term_of old) bs) (layer (term_of old) (Some end))))
 other_made old new bs made end o g lt e once = record {
   grows = g;
   inside = lt;
-  is = e ∙ ap (fill once (prepend (binds_from (term_of old) bs) (layer (term_of old) (Some end)))) (sym (no_filling (binds_from (term_of old) bs) (layer (term_of old) (Some end)) (others_from (term_of old) end o)));
+  is = e ∙ ap (fill once (prepend (binds_from (term_of old) bs) (layer (term_of old) (Some end)))) (sym (let q = others_none (term_of old) end o in no_filling (binds_from (term_of old) bs) (layer (term_of old) (Some end)) q.0 q.1));
 }
 
 pub other_passed : {E : Type 0} (old new : List Node) (bs : List Binding) (o : Result TermId E) (end : Node) → IsOtherEnd end → IfOk o (λ _. Grows old new) → IfOk o (λ t. t.0 < length new) → IfOk o (λ t. term_of new t.0 ≡ prepend (binds_from (term_of old) bs) (layer (term_of old) (Some end)))
@@ -178,8 +156,8 @@ bindings_next once f bs i old now new cs ds x d made h lt ex m ed =
       grows = grows_more old now new h.grows m.grows;
       inside = subst (AllByRecursion (IsBindingBelow (length new))) (sym ed) (below_push (length new) cs made (below_more (length now) (length new) cs m.grows.longer h.inside) m.inside);
       are =
-          ap (λ z. z ++ rest) (ap (binds_from (term_of new)) ed ∙ binds_push (term_of new) cs made ∙ (λ j. binds_same now new cs m.grows h.inside j ++ m.is j ∷ []))
-          ∙ append_append (binds_from (term_of now) cs) (inner_bind once (bind_from f x) ∷ []) rest
+          ap (λ z. z ++ rest) (ap (binds_from (term_of new)) ed ∙ map_push (bind_from (term_of new)) cs made ∙ (λ j. binds_same now new cs m.grows h.inside j ++ m.is j ∷ []))
+          ∙ append_assoc (binds_from (term_of now) cs) (inner_bind once (bind_from f x) ∷ []) rest
           ∙ ap (λ z. binds_from (term_of now) cs ++ map (inner_bind once) (binds_from f z)) (sym left)
           ∙ h.are;
     }

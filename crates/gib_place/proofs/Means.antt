@@ -17,7 +17,8 @@ use Rattle.gib_core.specs.Inferring.{as_atoms}
 use Rattle.gib_core.specs.Numbering.{binders, bind_binders, branch_binders}
 use Rattle.gib_core.specs.Rules.{is_among}
 use Rattle.gib_place.specs.declared.field.Field.{Field}
-use Rattle.gib_place.specs.Placing.{count_atom, count_in, count, count_bind, count_branches, pointing, Filling, bound_by, bound_in, is_one, are_fields, place_line, place_inner, inner_bind, inner_branches, place}
+use Rattle.gib_core.specs.Counting.{count_atom, count_in, count, count_bind, count_branches}
+use Rattle.gib_place.specs.Placing.{pointing, Filling, bound_by, bound_in, is_one, are_fields, place_line, place_inner, inner_bind, inner_branches, place}
 use Rattle.gib_place.proofs.Lays.{Lays, ends, opens, puts, stays, one, left, right, both, variables, fields_lay}
 use Rattle.gib_place.proofs.Counts.{occurs, occurs_append, targets, ending_line, filling_line, fields_named, line_by_steps, before_uses, before_binds}
 use Rattle.gib_place.proofs.Fitting.{own_count, not_among, is_told, Fit, fit_less, Unused, told, fields_fit, run_unused, scalars_unused}
@@ -74,10 +75,6 @@ keeps_two x z v w env y e o =
     value_past z w ((x.0, v) ∷ env) y (or_parts (z.0 == y.0) false p.1).0 ∙ value_past x v env y p.0
 
 module _ (tb : Table) (call : Calls) (F : Variable → Bool) where
-  -- A term that does not use what is told means the same without it.
-  Free : Term → Type 0
-  Free t = (y : Variable) → F y ≡ true → count t y ≡ 0
-
   -- One binding, and what follows.
   abbrev Follows : Bind → Environment → Environment → (Environment → Outcome) → (Environment → Outcome) → Type 0
   Follows b env env' go go' = (e e' : Environment) → Agree F e e' → Keeps (bound_by b) [] env e → Keeps (bound_by b) [] env' e' → go' e' ≡ go e
@@ -103,7 +100,7 @@ module _ (tb : Table) (call : Calls) (F : Variable → Bool) where
     pub run_free : (b : Bind) (env env' : Environment) → ((y : Variable) → F y ≡ true → count_bind b y ≡ 0) → Agree F env env' → (go go' : Environment → Outcome) → Follows b env env' go go' → from_there (run tb call b env') go' ≡ from_there (run tb call b env) go
     run_free (Past c k) env env' o h go go' f = f env env' h (λ y p q. refl) (λ y p q. refl)
     run_free (One (On kind x ty t)) env env' o h go go' f =
-        ap (λ z. from_there (having z (λ v. Went ((x.0, v) ∷ env'))) go') (mean_free t env env' o h)
+        ap (λ z. from_there (having z (λ v. Went ((x.0, v) ∷ env'))) go') (mean_free t env env' (λ y m. let e = o y m in omega arith) h)
         ∙ from_having (mean tb call t env) (λ v. Went ((x.0, v) ∷ env)) (λ v. Went ((x.0, v) ∷ env')) go go'
         (λ v. f ((x.0, v) ∷ env) ((x.0, v) ∷ env') (agree_more F x.0 v env env' h) (keeps_one x v env) (keeps_one x v env'))
     run_free (Both fork (On kind x ty t) (On other z uy u)) env env' o h go go' f =
@@ -266,7 +263,7 @@ module _ (tb : Table) (call : Calls) (once : Variable → Bool) where
     bind_means : (b : Bind) → ((y : Variable) → once y ≡ true → count_bind b y ≤ 1) → ((y : ℕ) → occurs (bind_binders b) y ≤ 1) → (env : Environment) → run tb call (inner_bind once b) env ≡ run tb call b env
     bind_means (Past h k) few differs env = refl
     bind_means (One (On kind x ty t)) few differs env =
-        ap (λ o. having o (λ v. Went ((x.0, v) ∷ env))) (term_means t few (λ y. let e = differs y in omega arith) (λ fw df. inner_means t fw df) env)
+        ap (λ o. having o (λ v. Went ((x.0, v) ∷ env))) (term_means t (λ y o. let e = few y o in omega arith) (λ y. let e = differs y in omega arith) (λ fw df. inner_means t fw df) env)
     bind_means (Both fork (On kind x ty t) (On other z uy u)) few differs env =
         λ i. having (term_means t (λ y o. let e = few y o in omega arith) (λ y. let e = differs y in let f = occurs_append (x.0 ∷ binders t) (z.0 ∷ binders u) y in omega arith) (λ fw df. inner_means t fw df) env i)
         (λ v. having (term_means u (λ y o. let e = few y o in omega arith) (λ y. let e = differs y in let f = occurs_append (x.0 ∷ binders t) (z.0 ∷ binders u) y in omega arith) (λ fw df. inner_means u fw df) env i) (λ w. Went ((z.0, w) ∷ (x.0, v) ∷ env)))

@@ -2,7 +2,7 @@
 use Rattle.std.proofs.Common.{◌≡◌, ℕ, zero, suc, ◌+◌, ◌-◌, ◌<◌, ◌≤◌, Bool, true, false, List, [], ◌∷◌, ◌++◌, map, length, take, drop, get_or, Some, None, refl, sym, ap, ◌∙◌, subst, arith}
 use Rattle.std.specs.List.{AllByRecursion}
 use Rattle.std.specs.Prelude.{Result, Ok, Err, OnOk}
-use Rattle.std.proofs.lemmas.List.{drop_more, drop_all, map-append, append-nil}
+use Rattle.std.proofs.lemmas.List.{drop_more, drop_all, map-append, append-nil, append_assoc, take-map, drop-map, drop-drop, take_all, length-drop}
 use Rattle.gib_types.specs.declared.table.ConId.{ConId}
 use Rattle.gib_core.specs.declared.atom.Variable.{Variable}
 use Rattle.gib_core.specs.declared.node.Binding.{Binding}
@@ -17,20 +17,17 @@ use Rattle.gib_place.specs.declared.line.Laid.{Laid as Made}
 use Rattle.gib_place.specs.Late.{Seen, is_late, Timed, binding_variables, run_variables}
 use Rattle.gib_place.specs.Placing.{pointing, bound_by, bound_in, Laid, fields_laid, laid_behind, lay_bind, place_bind, lay}
 use Rattle.gib_place.specs.Filled.{ArePointing, placed_at, AreLate, room_left, laid_with, room_binding, standing_of, Opens, Puts, LaysSpot, Lays, LaysLine, IsLineOf}
-use Rattle.gib_place.proofs.Lays.{append_append}
-use Rattle.gib_place.proofs.Cutting.{map_take, map_drop, drop_drop, take_all, drop_rest, tail_is}
+use Rattle.gib_place.proofs.Cutting.{tail_is}
 use Rattle.gib_core.proofs.Lining.{below_push}
 
 -- What was laid behind other things is laid behind them all.
 behind_twice : (cs bs : List Bind) (ss ts : List Variable) (l : Laid) → laid_behind cs ss (laid_behind bs ts l) ≡ laid_behind (cs ++ bs) (ss ++ ts) l
-behind_twice cs bs ss ts l = λ i. record { binds = sym (append_append cs bs l.binds) i; standing = sym (append_append ss ts l.standing) i }
+behind_twice cs bs ss ts l = λ i. record { binds = sym (append_assoc cs bs l.binds) i; standing = sym (append_assoc ss ts l.standing) i }
 
 -- Some of the pointing bindings are some of the fields.
 pointing_part : (f : ℕ → Term) (n : ℕ) (bs : List Binding) (fs : List Field) (from count : ℕ) → ArePointing f n bs fs → binds_from f (take count (drop from bs)) ≡ map pointing (take count (drop from fs))
 pointing_part f n bs fs from count h =
-    map_take (bind_from f) (drop from bs) count
-    ∙ ap (take count) (map_drop (bind_from f) bs from ∙ ap (drop from) h.are ∙ sym (map_drop pointing fs from))
-    ∙ sym (map_take pointing (drop from fs) count)
+    sym (take-map (bind_from f) count (drop from bs)) ∙ ap (take count) (sym (drop-map (bind_from f) from bs) ∙ ap (drop from) h.are ∙ drop-map pointing from fs) ∙ take-map pointing count (drop from fs)
 
 all_append : (P : Binding → Type 0) (xs ys : List Binding) → AllByRecursion P xs → AllByRecursion P ys → AllByRecursion P (xs ++ ys)
 all_append P [] ys h k = k
@@ -89,7 +86,7 @@ lays_placed f n once late line old new binding spot p below l e =
     ∙ (λ i. room_same f line.head line.constructor old.is_open i ++ (map-append (bind_from f) puts (spot.binding ∷ []) ∙ ap (λ z. z ++ bind_from f spot.binding ∷ []) (pointing_part f n line.pointing.items line.fields.items old.used spot.before p)) i)) in
     record {
       is = λ further.
-          (λ i. laid_behind (parts i) (l.standing i) (further (room_left line.head line.constructor (l.is_open i)) ((ap (λ z. drop z line.fields.items) l.used ∙ sym (drop_drop line.fields.items old.used spot.used)) i)))
+          (λ i. laid_behind (parts i) (l.standing i) (further (room_left line.head line.constructor (l.is_open i)) ((ap (λ z. drop z line.fields.items) l.used ∙ sym (drop-drop spot.used old.used line.fields.items)) i)))
           ∙ sym (behind_twice (binds_from f olds) (room ++ (map pointing before ++ bind_from f spot.binding ∷ [])) old.standing.items (map (λ (g : Field). g.variable) before ++ standing_of spot.first spot.second) (further [] (drop spot.used fields)))
           ∙ ap (λ q. laid_behind (binds_from f olds) old.standing.items (lay_bind room (bind_from f binding) fields q further)) (sym e);
       below = λ h k. subst (AllByRecursion (IsBindingBelow n)) (sym l.bindings)
@@ -173,9 +170,9 @@ laying_end once seen line moment i count laid mid new h le long ec o p f n l =
     let rooms = room_binding line.head line.constructor laid.is_open in
     let fields = drop laid.used line.fields.items in
     let puts = drop laid.used line.pointing.items in
-    let whole : take count puts ≡ puts = take_all puts count (let d = drop_rest line.pointing.items laid.used (let u = h.used in omega arith) in omega arith) in
-    let wholef : take count fields ≡ fields = take_all fields count (let d = drop_rest line.fields.items laid.used h.used in omega arith) in
-    let same : map pointing fields ≡ binds_from f puts = map_drop pointing line.fields.items laid.used ∙ ap (drop laid.used) (sym l.fields.are) ∙ sym (map_drop (bind_from f) line.pointing.items laid.used) in
+    let whole : take count puts ≡ puts = take_all count puts (let d = length-drop laid.used line.pointing.items in let u = h.used in omega arith) in
+    let wholef : take count fields ≡ fields = take_all count fields (let d = length-drop laid.used line.fields.items in let u = h.used in omega arith) in
+    let same : map pointing fields ≡ binds_from f puts = sym (drop-map pointing laid.used line.fields.items) ∙ ap (drop laid.used) (sym l.fields.are) ∙ drop-map (bind_from f) laid.used line.pointing.items in
     let items : new.bindings.items ≡ (laid.bindings.items ++ rooms) ++ puts = p.bindings ∙ (λ j. o.bindings j ++ (ap (λ u. take count (drop u line.pointing.items)) o.used ∙ whole) j) in
     let names : new.standing.items ≡ laid.standing.items ++ map (λ (g : Field). g.variable) fields = p.standing ∙ (λ j. o.standing j ++ map (λ (g : Field). g.variable) ((ap (λ u. take count (drop u line.fields.items)) o.used ∙ wholef) j)) in
     let end : laid_behind (binds_from f laid.bindings.items) laid.standing.items (laid_behind room [] (fields_laid fields)) ≡ lay once (binds_from f line.run.items) (Past line.head line.constructor ∷ []) line.fields.items =
@@ -185,7 +182,7 @@ laying_end once seen line moment i count laid mid new h le long ec o p f n l =
           ap (binds_from f) items
           ∙ map-append (bind_from f) (laid.bindings.items ++ rooms) puts
           ∙ (λ j. (map-append (bind_from f) laid.bindings.items rooms ∙ ap (λ z. binds_from f laid.bindings.items ++ z) (room_same f line.head line.constructor laid.is_open)) j ++ sym same j)
-          ∙ append_append (binds_from f laid.bindings.items) room (map pointing fields)
+          ∙ append_assoc (binds_from f laid.bindings.items) room (map pointing fields)
           ∙ ap (λ (z : Laid). z.binds) end;
       standing = names ∙ ap (λ (z : Laid). z.standing) end;
       below = subst (AllByRecursion (IsBindingBelow n)) (sym items)

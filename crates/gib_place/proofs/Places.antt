@@ -1,12 +1,9 @@
 -- The places of a list, and one more number behind it.
-use Rattle.std.proofs.lemmas.List.{append-nil, drop_more, drop_all}
-use Rattle.std.proofs.Common.{◌≡◌, ℕ, suc, ◌+◌, ◌<◌, ◌≤◌, Bool, true, false, ◌==◌, if◌then◌else◌, List, [], ◌∷◌, ◌++◌, length, drop, get_or, Option, Some, None, refl, sym, ap, ◌∙◌, subst, arith}
+use Rattle.std.proofs.lemmas.List.{drop_more, drop_all}
+use Rattle.std.proofs.Common.{◌≡◌, ℕ, suc, ◌+◌, ◌≤◌, Bool, true, false, ◌==◌, if◌then◌else◌, List, [], ◌∷◌, length, drop, get_or, Option, Some, None, refl, sym, ap, ◌∙◌, subst, arith}
 use Rattle.gib_base.specs.Entries.{entry_at}
-use Rattle.gib_place.specs.declared.mention.Mention.{Mention}
-use Rattle.gib_place.specs.Mentioned.{binder, binders_in}
 use Rattle.gib_place.specs.Numbering.{place_in}
 use Rattle.gib_place.specs.Numbered.{place_from, ArePlaces}
-use Rattle.gib_place.proofs.Lays.{append_append}
 
 abbrev IsPlaced : ℕ → List ℕ → ℕ → Option ℕ → Type 0
 IsPlaced n xs x None = place_in xs x ≡ x + length xs
@@ -47,16 +44,3 @@ places_next xs i j y d place old new ej le e is h set x =
 
 pub places_end : (xs : List ℕ) (i : ℕ) (entries : List (Option ℕ)) → i ≡ 0 → ((x : ℕ) → entry_at entries x ≡ place_from i (drop i xs) x) → (x : ℕ) → entry_at entries x ≡ place_from 0 xs x
 places_end xs i entries e h x = h x ∙ ap (λ k. place_from k (drop k xs) x) e
-
--- Variables that are bound, one after another.
-pub none_bound : (old : List ℕ) → old ≡ old ++ []
-none_bound old = sym (append-nil old)
-
-pub binders_next : (ms : List Mention) (i : ℕ) (m d : Mention) (old now new : List ℕ) → i < length ms → m ≡ get_or ms i d → now ++ binders_in (drop i ms) ≡ old ++ binders_in ms → new ≡ now ++ binder m → new ++ binders_in (drop (i + 1) ms) ≡ old ++ binders_in ms
-binders_next ms i m d old now new lt e h a =
-    let left : drop i ms ≡ m ∷ drop (i + 1) ms = drop_more ms i d lt ∙ ap (λ (z : Mention). z ∷ drop (i + 1) ms) (sym e) in
-    let rest = binders_in (drop (i + 1) ms) in
-    ap (λ l. l ++ rest) a ∙ (append_append now (binder m) rest ∙ (sym (ap (λ l. now ++ binders_in l) left) ∙ h))
-
-pub binders_end : (ms : List Mention) (i : ℕ) (old now : List ℕ) → length ms ≤ i → now ++ binders_in (drop i ms) ≡ old ++ binders_in ms → now ≡ old ++ binders_in ms
-binders_end ms i old now le h = sym (append-nil now) ∙ (ap (λ l. now ++ binders_in l) (sym (drop_all i ms le)) ∙ h)

@@ -1,5 +1,5 @@
 -- Whole cores are placed.
-use Rattle.std.proofs.Common.{◌≡◌, ℕ, zero, suc, ◌+◌, ◌<◌, ◌≤◌, Bool, List, [], ◌∷◌, ◌++◌, map, length, reverse, refl, sym, ap, ◌∙◌, subst, arith, append_assoc}
+use Rattle.std.proofs.Common.{◌≡◌, ℕ, zero, suc, ◌+◌, ◌<◌, ◌≤◌, Bool, List, [], ◌∷◌, ◌++◌, map, length, reverse, sym, ap, ◌∙◌, subst, arith, append_assoc}
 use Rattle.std.specs.Prelude.{Option, Result, Ok, Err, IfOk}
 use Rattle.std.specs.List.{AllByRecursion}
 use Rattle.std.proofs.lemmas.List.{append-nil, map-append, reverse-append}
@@ -20,14 +20,16 @@ use Rattle.gib_core.specs.Inferring.{numbers_from}
 use Rattle.gib_core.specs.Numbering.{binders, AreNumbered}
 use Rattle.gib_core.specs.Reachable.{AreReachable}
 use Rattle.gib_core.proofs.Signatures.{functions_declared, declared_functions}
-use Rattle.gib_place.specs.Placing.{count, place, place_body, is_once, place_function}
+use Rattle.gib_core.specs.Walk.{with_body}
+use Rattle.gib_core.specs.Counting.{count, is_once}
+use Rattle.gib_place.specs.Placing.{place, place_body}
 use Rattle.gib_place.specs.Renaming.{rename}
-use Rattle.gib_place.specs.Numbering.{place_in, variables_in, number_anew, number_function, place_core}
+use Rattle.gib_place.specs.Numbering.{place_in, variables_in, number_anew, place_anew, place_core}
 use Rattle.gib_place.specs.SameSource.{IsSameProgram}
-use Rattle.gib_place.specs.Tallying.{Adds}
+use Rattle.gib_core.specs.Counting.{Adds}
 use Rattle.gib_place.specs.Filled.{once_by}
 use Rattle.gib_place.specs.Made.{MakesTerm, PlacesFunction, PlacesFunctions, PlacesMain}
-use Rattle.gib_place.proofs.Tallied.{once_told}
+use Rattle.gib_core.proofs.Tallied.{once_told}
 use Rattle.gib_core.proofs.Fronting.{grows_more, grows_none}
 use Rattle.gib_core.proofs.Inside.{functions_more, functions_stay, front_inside, last_inside}
 
@@ -72,11 +74,7 @@ main_made old new m g body h = record {
 }
 
 abbrev both : FunctionTerm → FunctionTerm
-both f = number_function (place_function f)
-
-map_both : (fs : List FunctionTerm) → map both fs ≡ map number_function (map place_function fs)
-map_both [] = refl
-map_both (f ∷ fs) = λ i. both f ∷ map_both fs i
+both f = with_body place_anew f
 
 -- Some functions were placed; with those that are left they are all.
 pub record FunctionsSoFar (terms : List Node) (old now : List Node) (all rest done : List CoreFunction) : Type 0 where
@@ -118,9 +116,9 @@ functions_next terms old now new all was left done more x made ew em h p =
 pub functions_end : (terms old new : List Node) (all left done : List CoreFunction) → left ≡ [] → FunctionsSoFar terms old new all left done → PlacesFunctions old new done (map (function_term (term_of terms)) all)
 functions_end terms old new all left done el h =
     let h' : FunctionsSoFar terms old new all [] done = subst (λ z. FunctionsSoFar terms old new all z done) el h in
-    record { grows = h.grows; inside = h.inside; are = h'.are ∙ map_both (map (function_term (term_of terms)) all) }
+    record { grows = h.grows; inside = h.inside; are = h'.are }
 
-placed_declared : (n : ℕ) (gs : List FunctionTerm) → AllByRecursion (λ (g : FunctionTerm). AreDeclared n g.parameters g.result) gs → AllByRecursion (λ (g : FunctionTerm). AreDeclared n g.parameters g.result) (map number_function (map place_function gs))
+placed_declared : (n : ℕ) (gs : List FunctionTerm) → AllByRecursion (λ (g : FunctionTerm). AreDeclared n g.parameters g.result) gs → AllByRecursion (λ (g : FunctionTerm). AreDeclared n g.parameters g.result) (map (with_body place_anew) gs)
 placed_declared n [] h = tt
 placed_declared n (g ∷ gs) h = (h.0, placed_declared n gs h.1)
 

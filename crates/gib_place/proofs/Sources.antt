@@ -7,16 +7,19 @@ use Rattle.gib_syntax.specs.Tree.{DataTree}
 use Rattle.gib_core.specs.Tree.{Term, FunctionTerm, CoreTree}
 use Rattle.gib_core.specs.Erasing.{erase, type_name, parameters_from, erase_function, erase_core, ident}
 use Rattle.gib_core.specs.Numbering.{IsNumbered, AreNumbered}
-use Rattle.gib_core.specs.Met.{Body}
-use Rattle.gib_place.specs.Placing.{count, is_once, place_body, place_function, place_bodies}
+use Rattle.std.specs.List.{AllByRecursion}
+use Rattle.gib_core.specs.Met.{Body, bodies}
+use Rattle.gib_core.specs.Walk.{body_of, body_of_main, with_body}
+use Rattle.gib_core.proofs.Remade.{all_so, functions_of, main_so, remade_erased}
+use Rattle.gib_core.specs.Counting.{count, is_once}
+use Rattle.gib_place.specs.Placing.{place_body, place_bodies}
 use Rattle.gib_place.specs.Renaming.{Renaming}
-use Rattle.gib_place.specs.Numbering.{place_in, variables_in, number_anew}
-use Rattle.gib_place.proofs.AtOnce.{function_at_once, core_at_once}
+use Rattle.gib_place.specs.Numbering.{place_in, variables_in, number_anew, place_anew, place_core}
 use Rattle.gib_place.specs.SameSource.{rename_parameter, rename_expression, IsSameFunction, AreSameFunctions, IsSameProgram}
 use Rattle.gib_place.proofs.Positions.{place_tells, tells_apart}
 use Rattle.gib_place.proofs.Renames.{erase_renamed}
 use Rattle.gib_place.proofs.Erased.{place_leaves}
-use Rattle.gib_place.proofs.Cores.{body_differs, parameters_stay, NumberedBodies, main_numbered}
+use Rattle.gib_place.proofs.Cores.{body_differs, parameters_stay}
 
 names_stay : (r : Renaming) (tb : Table) (n : ℕ) (ps : List Ty) → ((i : ℕ) → i < length ps → r (n + i) ≡ n + i) → parameters_from tb n ps ≡ map (rename_parameter r) (parameters_from tb n ps)
 names_stay r tb n [] h = refl
@@ -40,33 +43,13 @@ module _ (tb : Table) (ps : List Ty) (result : Ty) (t : Term) (numbered : IsNumb
   body_kept : erase tb [] (place_body t) ≡ erase tb [] t
   body_kept = place_leaves tb (is_once t) t (λ y e. let same : count t y ≡ 1 = eqb-true (count t y) 1 e in omega arith) (λ y. let m = body_differs ps result t numbered y in omega arith) []
 
-functions_kept : (tb : Table) (fs : List FunctionTerm) (main : Body) → NumberedBodies fs main → map (erase_function tb) (map place_function fs) ≡ map (erase_function tb) fs
-functions_kept tb [] main h = refl
-functions_kept tb (f ∷ fs) main h = λ i.
-    record {
-      name = (erase_function tb f).name;
-      parameters = (erase_function tb f).parameters;
-      result = (erase_function tb f).result;
-      body = body_kept tb f.parameters f.result f.body h.0 i;
-    }
-    ∷ functions_kept tb fs main h.1 i
-
 -- Before variables are numbered, what is left of a core is exactly what was left of it.
 pub core_kept : (datas : List DataTree) (c : CoreTree) → AreNumbered c → erase_core datas (place_bodies c) ≡ erase_core datas c
 core_kept datas c h =
-    let ps = c.main.parameter ∷ [] in
-    let numbered = main_numbered c.functions (record { parameters = ps; result = c.main.result; term = c.main.body }) h in
-    λ i. record {
-      datas = datas;
-      functions = functions_kept c.table c.functions (record { parameters = ps; result = c.main.result; term = c.main.body }) h i;
-      main = record {
-        parameter = (erase_core datas c).main.parameter;
-        result = (erase_core datas c).main.result;
-        body = body_kept c.table ps c.main.result c.main.body numbered i;
-      };
-    }
+    remade_erased (λ b. place_body b.term) c.offsets c.marked datas c
+    (all_so IsNumbered (λ (b : Body). erase c.table [] (place_body b.term) ≡ erase c.table [] b.term) (λ b n. body_kept c.table b.parameters b.result b.term n) (bodies c) h)
 
-function_left : (tb : Table) (f : FunctionTerm) → IsNumbered (record { parameters = f.parameters; result = f.result; term = f.body }) → IsSameFunction (erase_function tb f) (erase_function tb (function_at_once f))
+function_left : (tb : Table) (f : FunctionTerm) → IsNumbered (body_of f) → IsSameFunction (erase_function tb f) (erase_function tb (with_body place_anew f))
 function_left tb f h = record {
   renaming = place_in (variables_in (length f.parameters) (place_body f.body));
   apart = tells_apart (place_in (variables_in (length f.parameters) (place_body f.body))) (place_tells (variables_in (length f.parameters) (place_body f.body)));
@@ -78,18 +61,19 @@ function_left tb f h = record {
   };
 }
 
-functions_left : (tb : Table) (fs : List FunctionTerm) (main : Body) → NumberedBodies fs main → AreSameFunctions (map (erase_function tb) fs) (map (erase_function tb) (map function_at_once fs))
-functions_left tb [] main h = tt
-functions_left tb (f ∷ fs) main h = (function_left tb f h.0, functions_left tb fs main h.1)
+functions_left : (tb : Table) (fs : List FunctionTerm) → AllByRecursion (λ (f : FunctionTerm). IsNumbered (body_of f)) fs → AreSameFunctions (map (erase_function tb) fs) (map (erase_function tb) (map (with_body place_anew) fs))
+functions_left tb [] h = tt
+functions_left tb (f ∷ fs) h = (function_left tb f h.0, functions_left tb fs h.1)
 
-pub core_left : (datas : List DataTree) (c : CoreTree) → AreNumbered c → IsSameProgram (erase_core datas c) (erase_core datas (core_at_once c))
+pub core_left : (datas : List DataTree) (c : CoreTree) → AreNumbered c → IsSameProgram (erase_core datas c) (erase_core datas (place_core c))
 core_left datas c h =
     let ps = c.main.parameter ∷ [] in
-    let numbered = main_numbered c.functions (record { parameters = ps; result = c.main.result; term = c.main.body }) h in
+    let main = body_of_main c.main in
+    let numbered = main_so IsNumbered main c.functions h in
     let vs = variables_in 1 (place_body c.main.body) in
     record {
       datas = refl;
-      functions = functions_left c.table c.functions (record { parameters = ps; result = c.main.result; term = c.main.body }) h;
+      functions = functions_left c.table c.functions (functions_of IsNumbered main c.functions h);
       main = record {
         renaming = place_in vs;
         apart = tells_apart (place_in vs) (place_tells vs);

@@ -1,5 +1,5 @@
--- Lines that break no rule break none where more is in scope and other variables were bound.
-use Rattle.std.proofs.Common.{◌≡◌, ℕ, zero, suc, ◌+◌, ◌≤◌, Bool, true, false, ◌||◌, ◌==◌, if◌then◌else◌, List, [], ◌∷◌, ◌++◌, map, Some, refl, ap, ◌∙◌, arith}
+-- What stands behind lines: the variables that they bind, with their types, and those that cases are on.
+use Rattle.std.proofs.Common.{◌≡◌, ℕ, zero, suc, ◌+◌, ◌≤◌, Bool, true, false, ◌||◌, ◌==◌, if◌then◌else◌, List, [], ◌∷◌, ◌++◌, map, Some, refl, sym, ap, ◌∙◌, subst, arith}
 use Rattle.std.proofs.lemmas.Bool.{eq-eqb, false_from_ne_true, or_from}
 use Rattle.gib_types.specs.declared.table.Ty.{Ty}
 use Rattle.gib_types.specs.declared.table.ConId.{ConId}
@@ -11,10 +11,13 @@ use Rattle.gib_core.specs.declared.scope.Bound.{Bound}
 use Rattle.gib_core.specs.Tree.{Term, Then, Write, Point, CallTerm, Give, CaseTerm, IfTerm, Bind, Past, One, Both, Prim, Reach, Side, On, Branches, NoBranch, BranchThen}
 use Rattle.gib_core.specs.Inferring.{first_type, further_types}
 use Rattle.gib_core.specs.Numbering.{binders, bind_binders, side_binders, branch_binders}
-use Rattle.gib_core.specs.Met.{Setting, SideLine, CaseLine, in_side, behind, left_of, right_of, in_arm, in_branch, arms_of, met, met_bind, met_side, met_branches}
-use Rattle.gib_core.specs.Rules.{Before, same_type, is_among, is_bound, type_bound, type_of, is_type, has_type, have_types, is_reached, is_usable, all_usable, is_other, any_other, may_write, are_scalars, gives_packed, call_fits, cover, bind_fields, bind_arms, any_bound, arm_variables, side_rules, rules, least, next, next_all}
-use Rattle.gib_place.specs.Placing.{count_atom, count, count_bind, count_branches}
-use Rattle.gib_core.proofs.Along.{none_broken, least_none, next_append, reachable_split}
+use Rattle.gib_core.specs.Met.{Setting, Met, PastLine, SideLine, ParLine, PrimLine, ReachLine, WriteLine, PointLine, CallLine, GiveLine, CaseLine, IfLine, in_side, behind, left_of, right_of, in_arm, in_branch, arms_of, met, met_bind, met_side, met_branches}
+use Rattle.gib_core.specs.Rules.{Before, is_among, is_bound, type_bound, bind_fields, bind_arms, arm_variables, cases_on, next, next_all}
+use Rattle.gib_core.specs.Walk.{Entry, AtLine, AtArm, walk, walk_bind, walk_side}
+use Rattle.gib_core.proofs.Walks.{Joins, walk_joins, bind_joins, side_joins}
+use Rattle.gib_core.proofs.After.{in_turn, step, after_is, bind_after, side_after}
+use Rattle.gib_core.specs.Counting.{count_atom, entry_counts, count, count_bind}
+use Rattle.gib_core.proofs.Along.{next_append}
 use Rattle.gib_place.proofs.Counts.{occurs, occurs_append}
 
 -- The numbers of what was bound.
@@ -116,183 +119,135 @@ arms_past tb (arm ∷ arms) bound y e =
 one_past : (x : Variable) (ty : Ty) (bound : List Bound) (y : Variable) → occurs (x.0 ∷ []) y.0 ≡ 0 → type_bound (record { variable = x; ty = ty } ∷ bound) y ≡ type_bound bound y
 one_past x ty bound y e = ap (λ c. if c then Some ty else type_bound bound y) (false_from_ne_true (x.0 == y.0) (λ m. let s = ap (λ (c : Bool). if c then (suc zero) else zero) m in omega arith))
 
--- The variables that a term cases on, before others.
-abbrev pub cased_on : Atom → List Variable → List Variable
-cased_on (a.Variable x) c = x ∷ c
-cased_on (a.Whole z) c = c
-cased_on (a.Truth t) c = c
+-- The variables that cases are on, behind an entry and behind a term; behind a binding, a side.
+abbrev pub entry_casing : Entry → List Variable → List Variable
+entry_casing (AtLine l) c = cases_on l c
+entry_casing (AtArm k xs) c = c
 
-abbrev mutual
-  pub casing : Term → List Variable → List Variable
-  casing (Then b rest) c = casing rest (casing_bind b c)
-  casing (Write h k ss ps) c = c
-  casing (Point x) c = c
-  casing (CallTerm f xs) c = c
-  casing (Give x) c = c
-  casing (CaseTerm x bs) c = casing_branches bs (cased_on x c)
-  casing (IfTerm x t u) c = casing u (casing t c)
+abbrev pub casing : Term → List Variable → List Variable
+casing t = walk in_turn (λ c. c) entry_casing t
 
-  pub casing_bind : Bind → List Variable → List Variable
-  casing_bind (Past h k) c = c
-  casing_bind (One s) c = casing_side s c
-  casing_bind (Both fork l r) c = casing_side r (casing_side l c)
-  casing_bind (Prim x f y z) c = c
-  casing_bind (Reach y by) c = c
+abbrev pub casing_bind : Bind → List Variable → List Variable
+casing_bind b = walk_bind in_turn (λ c. c) entry_casing b
 
-  pub casing_side : Side → List Variable → List Variable
-  casing_side (On kind x ty t) c = casing t c
+abbrev pub casing_side : Side → List Variable → List Variable
+casing_side s = walk_side in_turn (λ c. c) entry_casing s
 
-  pub casing_branches : Branches → List Variable → List Variable
-  casing_branches NoBranch c = c
-  casing_branches (BranchThen k xs t rest) c = casing_branches rest (casing t c)
+pub case_counts : (x : Atom) (arms : List (ConId × List Variable)) (c : List Variable) (y : Variable) → times (cases_on (CaseLine x arms) c) y.0 ≤ times c y.0 + count_atom y x
+case_counts (a.Variable x) arms c y = omega arith
+case_counts (a.Whole z) arms c y = omega arith
+case_counts (a.Truth t) arms c y = omega arith
 
-pub cased_counts : (x : Atom) (c : List Variable) (y : Variable) → times (cased_on x c) y.0 ≤ times c y.0 + count_atom y x
-cased_counts (a.Variable x) c y = omega arith
-cased_counts (a.Whole z) c y = omega arith
-cased_counts (a.Truth t) c y = omega arith
+entry_casing_counts : (y : Variable) (l : Entry) (c : List Variable) → times (entry_casing l c) y.0 ≤ times c y.0 + entry_counts y l
+entry_casing_counts y (AtLine (CaseLine x arms)) c = case_counts x arms c y
+entry_casing_counts y (AtLine (PastLine h k)) c = omega arith
+entry_casing_counts y (AtLine (SideLine kind x ty)) c = omega arith
+entry_casing_counts y (AtLine ParLine) c = omega arith
+entry_casing_counts y (AtLine (PrimLine x f v w)) c = omega arith
+entry_casing_counts y (AtLine (ReachLine x by)) c = omega arith
+entry_casing_counts y (AtLine (WriteLine h k ss ps)) c = omega arith
+entry_casing_counts y (AtLine (PointLine x)) c = omega arith
+entry_casing_counts y (AtLine (CallLine f xs)) c = omega arith
+entry_casing_counts y (AtLine (GiveLine x)) c = omega arith
+entry_casing_counts y (AtLine (IfLine x)) c = omega arith
+entry_casing_counts y (AtArm k xs) c = omega arith
 
-mutual
-  pub casing_counts : (t : Term) (c : List Variable) (y : Variable) → times (casing t c) y.0 ≤ times c y.0 + count t y
-  casing_counts (Then b rest) c y = let p = bind_casing_counts b c y in let q = casing_counts rest (casing_bind b c) y in omega arith
-  casing_counts (Write h k ss ps) c y = omega arith
-  casing_counts (Point x) c y = omega arith
-  casing_counts (CallTerm f xs) c y = omega arith
-  casing_counts (Give x) c y = omega arith
-  casing_counts (CaseTerm x bs) c y = let p = branches_casing_counts bs (cased_on x c) y in let q = cased_counts x c y in omega arith
-  casing_counts (IfTerm x t u) c y = let p = casing_counts t c y in let q = casing_counts u (casing t c) y in omega arith
+-- A variable is used where a case is on it.
+abbrev Counts : Variable → (List Variable → List Variable) → ℕ → Type 0
+Counts y go n = (c : List Variable) → times (go c) y.0 ≤ times c y.0 + n
 
-  pub bind_casing_counts : (b : Bind) (c : List Variable) (y : Variable) → times (casing_bind b c) y.0 ≤ times c y.0 + count_bind b y
-  bind_casing_counts (Past h k) c y = omega arith
-  bind_casing_counts (One (On kind x ty t)) c y = casing_counts t c y
-  bind_casing_counts (Both fork (On kind x ty t) (On other z uy u)) c y = let p = casing_counts t c y in let q = casing_counts u (casing t c) y in omega arith
-  bind_casing_counts (Prim x f v w) c y = omega arith
-  bind_casing_counts (Reach x by) c y = omega arith
+counts_join : (y : Variable) → Joins (Counts y) in_turn (λ c. c) entry_casing (◌+◌) 0 (entry_counts y)
+counts_join y = record {
+  none = λ c. omega arith;
+  two = λ f g m n p q c. let h = p c in let k = q (f c) in omega arith;
+  one = entry_casing_counts y;
+}
 
-  pub branches_casing_counts : (bs : Branches) (c : List Variable) (y : Variable) → times (casing_branches bs c) y.0 ≤ times c y.0 + count_branches bs y
-  branches_casing_counts NoBranch c y = omega arith
-  branches_casing_counts (BranchThen k xs t rest) c y = let p = casing_counts t c y in let q = branches_casing_counts rest (casing t c) y in omega arith
+pub casing_counts : (t : Term) (c : List Variable) (y : Variable) → times (casing t c) y.0 ≤ times c y.0 + count t y
+casing_counts t c y = walk_joins {R = Counts y} {op = in_turn} {e = λ d. d} {g = entry_casing} {op' = (◌+◌)} {e' = 0} {g' = entry_counts y} (counts_join y) t c
+
+pub bind_casing_counts : (b : Bind) (c : List Variable) (y : Variable) → times (casing_bind b c) y.0 ≤ times c y.0 + count_bind b y
+bind_casing_counts b c y = bind_joins {R = Counts y} {op = in_turn} {e = λ d. d} {g = entry_casing} {op' = (◌+◌)} {e' = 0} {g' = entry_counts y} (counts_join y) b c
+
+-- What stands behind lines that bind these numbers.
+pub record Gains (b c : Before) (xs : List ℕ) : Type 0 where
+  pub counts : (y : ℕ) → occurs (nums c.bound) y ≡ occurs (nums b.bound) y + occurs xs y
+  pub types : (y : Variable) → occurs xs y.0 ≡ 0 → type_bound c.bound y ≡ type_bound b.bound y
+
+pub gains_none : (b : Before) → Gains b b []
+gains_none b = record { counts = λ y. omega arith; types = λ y o. refl }
+
+pub gains_one : (x : Variable) (ty : Ty) (b : Before) → Gains b (record { bound = record { variable = x; ty = ty } ∷ b.bound; cased = b.cased }) (x.0 ∷ [])
+gains_one x ty b = record { counts = λ y. omega arith; types = λ y o. one_past x ty b.bound y o }
+
+pub gains_then : (b c d : Before) (xs ys : List ℕ) → Gains b c xs → Gains c d ys → Gains b d (xs ++ ys)
+gains_then b c d xs ys p q = record {
+  counts = λ y. let m = p.counts y in let n = q.counts y in let r = occurs_append xs ys y in omega arith;
+  types = λ y o. let r = occurs_append xs ys y.0 in q.types y (omega arith) ∙ p.types y (omega arith);
+}
 
 -- What stands behind a term, whatever it is met with.
 module _ (tb : Table) where
-  pub case_cased : (x : Atom) (arms : List (ConId × List Variable)) (b : Before) → (next tb b (CaseLine x arms)).cased ≡ cased_on x b.cased
-  case_cased (a.Variable x) arms b = refl
-  case_cased (a.Whole z) arms b = refl
-  case_cased (a.Truth t) arms b = refl
+  pub gains_both : (b : Before) (ls ms : List Met) (xs ys : List ℕ) → Gains b (next_all tb b ls) xs → Gains (next_all tb b ls) (next_all tb (next_all tb b ls) ms) ys → Gains b (next_all tb b (ls ++ ms)) (xs ++ ys)
+  gains_both b ls ms xs ys p q = subst (λ (z : Before). Gains b z (xs ++ ys)) (sym (next_append tb b ls ms)) (gains_then b (next_all tb b ls) (next_all tb (next_all tb b ls) ms) xs ys p q)
 
   mutual
-    pub nums_after : (t : Term) (s : Setting) (b : Before) (y : ℕ) → occurs (nums (next_all tb b (met tb s t)).bound) y ≡ occurs (nums b.bound) y + occurs (binders t) y
-    nums_after (Then bind rest) s b y =
-        let e = ap (λ (z : Before). occurs (nums z.bound) y) (next_append tb b (met_bind tb s bind) (met tb (behind s bind) rest)) in
-        let p = bind_nums_after bind s b y in
-        let q = nums_after rest (behind s bind) (next_all tb b (met_bind tb s bind)) y in
-        let r = occurs_append (bind_binders bind) (binders rest) y in
-        omega arith
-    nums_after (Write h k ss ps) s b y = omega arith
-    nums_after (Point x) s b y = omega arith
-    nums_after (CallTerm f xs) s b y = omega arith
-    nums_after (Give x) s b y = omega arith
-    nums_after (CaseTerm x bs) s b y =
-        let p = branches_nums_after bs s (next tb b (CaseLine x (arms_of bs))) y in
-        let q = case_nums tb x (arms_of bs) b y in
-        let r = branch_occurs bs y in
-        omega arith
-    nums_after (IfTerm x t u) s b y =
-        let e = ap (λ (z : Before). occurs (nums z.bound) y) (next_append tb b (met tb (in_branch s) t) (met tb (in_branch s) u)) in
-        let p = nums_after t (in_branch s) b y in
-        let q = nums_after u (in_branch s) (next_all tb b (met tb (in_branch s) t)) y in
-        let r = occurs_append (binders t) (binders u) y in
-        omega arith
+    pub gains_term : (t : Term) (s : Setting) (b : Before) → Gains b (next_all tb b (met tb s t)) (binders t)
+    gains_term (Then bind rest) s b =
+        let ls = met_bind tb s bind in gains_both b ls (met tb (behind s bind) rest) (bind_binders bind) (binders rest) (gains_bind bind s b) (gains_term rest (behind s bind) (next_all tb b ls))
+    gains_term (Write h k ss ps) s b = gains_none b
+    gains_term (Point x) s b = gains_none b
+    gains_term (CallTerm f xs) s b = gains_none b
+    gains_term (Give x) s b = gains_none b
+    gains_term (CaseTerm x bs) s b =
+        let p = gains_branches bs s (next tb b (CaseLine x (arms_of bs))) in
+        record {
+          counts = λ y. let m = p.counts y in let q = case_nums tb x (arms_of bs) b y in let r = branch_occurs bs y in omega arith;
+          types = λ y o. let r = branch_occurs bs y.0 in p.types y (omega arith) ∙ arms_past tb (arms_of bs) b.bound y (omega arith);
+        }
+    gains_term (IfTerm x t u) s b =
+        let ls = met tb (in_branch s) t in gains_both b ls (met tb (in_branch s) u) (binders t) (binders u) (gains_term t (in_branch s) b) (gains_term u (in_branch s) (next_all tb b ls))
 
-    pub bind_nums_after : (bind : Bind) (s : Setting) (b : Before) (y : ℕ) → occurs (nums (next_all tb b (met_bind tb s bind)).bound) y ≡ occurs (nums b.bound) y + occurs (bind_binders bind) y
-    bind_nums_after (Past h k) s b y = omega arith
-    bind_nums_after (One side) s b y = side_nums_after side s b y
-    bind_nums_after (Both fork l r) s b y =
-        let e = ap (λ (z : Before). occurs (nums z.bound) y) (next_append tb b (met_side tb (left_of s r) l) (met_side tb (right_of s l) r)) in
-        let p = side_nums_after l (left_of s r) b y in
-        let q = side_nums_after r (right_of s l) (next_all tb b (met_side tb (left_of s r) l)) y in
-        let n = occurs_append (side_binders l) (side_binders r) y in
-        omega arith
-    bind_nums_after (Prim x f v w) s b y = omega arith
-    bind_nums_after (Reach x by) s b y = omega arith
+    pub gains_bind : (bind : Bind) (s : Setting) (b : Before) → Gains b (next_all tb b (met_bind tb s bind)) (bind_binders bind)
+    gains_bind (Past h k) s b = gains_one h (Rattle.gib_core.specs.Rules.type_made tb k) b
+    gains_bind (One side) s b = gains_side side s b
+    gains_bind (Both fork l r) s b =
+        let ls = met_side tb (left_of s r) l in gains_both b ls (met_side tb (right_of s l) r) (side_binders l) (side_binders r) (gains_side l (left_of s r) b) (gains_side r (right_of s l) (next_all tb b ls))
+    gains_bind (Prim x f v w) s b = gains_one x (Rattle.gib_syntax.specs.Typing.operator_type f) b
+    gains_bind (Reach x by) s b = gains_none b
 
-    pub side_nums_after : (side : Side) (s : Setting) (b : Before) (y : ℕ) → occurs (nums (next_all tb b (met_side tb s side)).bound) y ≡ occurs (nums b.bound) y + occurs (side_binders side) y
-    side_nums_after (On kind x ty t) s b y = let p = nums_after t (in_side tb s kind ty) (next tb b (SideLine kind x ty)) y in omega arith
+    pub gains_side : (side : Side) (s : Setting) (b : Before) → Gains b (next_all tb b (met_side tb s side)) (side_binders side)
+    gains_side (On kind x ty t) s b =
+        let c = next tb b (SideLine kind x ty) in gains_then b c (next_all tb c (met tb (in_side tb s kind ty) t)) (x.0 ∷ []) (binders t) (gains_one x ty b) (gains_term t (in_side tb s kind ty) c)
 
-    pub branches_nums_after : (bs : Branches) (s : Setting) (b : Before) (y : ℕ) → occurs (nums (next_all tb b (met_branches tb s bs)).bound) y ≡ occurs (nums b.bound) y + occurs (branch_terms bs) y
-    branches_nums_after NoBranch s b y = omega arith
-    branches_nums_after (BranchThen k xs t rest) s b y =
-        let e = ap (λ (z : Before). occurs (nums z.bound) y) (next_append tb b (met tb (in_arm tb s k xs) t) (met_branches tb s rest)) in
-        let p = nums_after t (in_arm tb s k xs) b y in
-        let q = branches_nums_after rest s (next_all tb b (met tb (in_arm tb s k xs) t)) y in
-        let r = occurs_append (binders t) (branch_terms rest) y in
-        omega arith
+    gains_branches : (bs : Branches) (s : Setting) (b : Before) → Gains b (next_all tb b (met_branches tb s bs)) (branch_terms bs)
+    gains_branches NoBranch s b = gains_none b
+    gains_branches (BranchThen k xs t rest) s b =
+        let ls = met tb (in_arm tb s k xs) t in gains_both b ls (met_branches tb s rest) (binders t) (branch_terms rest) (gains_term t (in_arm tb s k xs) b) (gains_branches rest s (next_all tb b ls))
 
-  mutual
-    pub types_after : (t : Term) (s : Setting) (b : Before) (y : Variable) → occurs (binders t) y.0 ≡ 0 → type_bound (next_all tb b (met tb s t)).bound y ≡ type_bound b.bound y
-    types_after (Then bind rest) s b y o =
-        let r = occurs_append (bind_binders bind) (binders rest) y.0 in
-        ap (λ (z : Before). type_bound z.bound y) (next_append tb b (met_bind tb s bind) (met tb (behind s bind) rest))
-        ∙ (types_after rest (behind s bind) (next_all tb b (met_bind tb s bind)) y (omega arith) ∙ bind_types_after bind s b y (omega arith))
-    types_after (Write h k ss ps) s b y o = refl
-    types_after (Point x) s b y o = refl
-    types_after (CallTerm f xs) s b y o = refl
-    types_after (Give x) s b y o = refl
-    types_after (CaseTerm x bs) s b y o =
-        let r = branch_occurs bs y.0 in
-        branches_types_after bs s (next tb b (CaseLine x (arms_of bs))) y (omega arith) ∙ arms_past tb (arms_of bs) b.bound y (omega arith)
-    types_after (IfTerm x t u) s b y o =
-        let r = occurs_append (binders t) (binders u) y.0 in
-        ap (λ (z : Before). type_bound z.bound y) (next_append tb b (met tb (in_branch s) t) (met tb (in_branch s) u))
-        ∙ (types_after u (in_branch s) (next_all tb b (met tb (in_branch s) t)) y (omega arith) ∙ types_after t (in_branch s) b y (omega arith))
+  -- Of what stands behind, the variables that cases were on.
+  abbrev Cases : (Before → Before) → (List Variable → List Variable) → Type 0
+  Cases go f = (b : Before) → (go b).cased ≡ f b.cased
 
-    pub bind_types_after : (bind : Bind) (s : Setting) (b : Before) (y : Variable) → occurs (bind_binders bind) y.0 ≡ 0 → type_bound (next_all tb b (met_bind tb s bind)).bound y ≡ type_bound b.bound y
-    bind_types_after (Past h k) s b y o = one_past h (Rattle.gib_core.specs.Rules.type_made tb k) b.bound y (omega arith)
-    bind_types_after (One side) s b y o = side_types_after side s b y o
-    bind_types_after (Both fork l r) s b y o =
-        let n = occurs_append (side_binders l) (side_binders r) y.0 in
-        ap (λ (z : Before). type_bound z.bound y) (next_append tb b (met_side tb (left_of s r) l) (met_side tb (right_of s l) r))
-        ∙ (side_types_after r (right_of s l) (next_all tb b (met_side tb (left_of s r) l)) y (omega arith) ∙ side_types_after l (left_of s r) b y (omega arith))
-    bind_types_after (Prim x f v w) s b y o = one_past x (Rattle.gib_syntax.specs.Typing.operator_type f) b.bound y (omega arith)
-    bind_types_after (Reach x by) s b y o = refl
+  cases_join : Joins Cases in_turn (λ b. b) (step tb) in_turn (λ c. c) entry_casing
+  cases_join = record {
+    none = λ b. refl;
+    two = λ go go' f f' p q b. q (go b) ∙ ap f' (p b);
+    one = entry_cases;
+  }
+    where
+      entry_cases : (l : Entry) → Cases (step tb l) (entry_casing l)
+      entry_cases (AtLine l) b = refl
+      entry_cases (AtArm k xs) b = refl
 
-    pub side_types_after : (side : Side) (s : Setting) (b : Before) (y : Variable) → occurs (side_binders side) y.0 ≡ 0 → type_bound (next_all tb b (met_side tb s side)).bound y ≡ type_bound b.bound y
-    side_types_after (On kind x ty t) s b y o = types_after t (in_side tb s kind ty) (next tb b (SideLine kind x ty)) y (omega arith) ∙ one_past x ty b.bound y (omega arith)
+  pub cased_after : (t : Term) (s : Setting) (b : Before) → (next_all tb b (met tb s t)).cased ≡ casing t b.cased
+  cased_after t s b =
+      ap (λ (z : Before). z.cased) (after_is tb t s b) ∙ walk_joins {R = Cases} {op = in_turn} {e = λ c. c} {g = step tb} {op' = in_turn} {e' = λ c. c} {g' = entry_casing} cases_join t b
 
-    pub branches_types_after : (bs : Branches) (s : Setting) (b : Before) (y : Variable) → occurs (branch_terms bs) y.0 ≡ 0 → type_bound (next_all tb b (met_branches tb s bs)).bound y ≡ type_bound b.bound y
-    branches_types_after NoBranch s b y o = refl
-    branches_types_after (BranchThen k xs t rest) s b y o =
-        let r = occurs_append (binders t) (branch_terms rest) y.0 in
-        ap (λ (z : Before). type_bound z.bound y) (next_append tb b (met tb (in_arm tb s k xs) t) (met_branches tb s rest))
-        ∙ (branches_types_after rest s (next_all tb b (met tb (in_arm tb s k xs) t)) y (omega arith) ∙ types_after t (in_arm tb s k xs) b y (omega arith))
+  pub bind_cased_after : (bind : Bind) (s : Setting) (b : Before) → (next_all tb b (met_bind tb s bind)).cased ≡ casing_bind bind b.cased
+  bind_cased_after bind s b =
+      ap (λ (z : Before). z.cased) (bind_after tb bind s b) ∙ bind_joins {R = Cases} {op = in_turn} {e = λ c. c} {g = step tb} {op' = in_turn} {e' = λ c. c} {g' = entry_casing} cases_join bind b
 
-  mutual
-    pub cased_after : (t : Term) (s : Setting) (b : Before) → (next_all tb b (met tb s t)).cased ≡ casing t b.cased
-    cased_after (Then bind rest) s b =
-        ap (λ (z : Before). z.cased) (next_append tb b (met_bind tb s bind) (met tb (behind s bind) rest))
-        ∙ (cased_after rest (behind s bind) (next_all tb b (met_bind tb s bind)) ∙ ap (casing rest) (bind_cased_after bind s b))
-    cased_after (Write h k ss ps) s b = refl
-    cased_after (Point x) s b = refl
-    cased_after (CallTerm f xs) s b = refl
-    cased_after (Give x) s b = refl
-    cased_after (CaseTerm x bs) s b = branches_cased_after bs s (next tb b (CaseLine x (arms_of bs))) ∙ ap (casing_branches bs) (case_cased x (arms_of bs) b)
-    cased_after (IfTerm x t u) s b =
-        ap (λ (z : Before). z.cased) (next_append tb b (met tb (in_branch s) t) (met tb (in_branch s) u))
-        ∙ (cased_after u (in_branch s) (next_all tb b (met tb (in_branch s) t)) ∙ ap (casing u) (cased_after t (in_branch s) b))
-
-    pub bind_cased_after : (bind : Bind) (s : Setting) (b : Before) → (next_all tb b (met_bind tb s bind)).cased ≡ casing_bind bind b.cased
-    bind_cased_after (Past h k) s b = refl
-    bind_cased_after (One side) s b = side_cased_after side s b
-    bind_cased_after (Both fork l r) s b =
-        ap (λ (z : Before). z.cased) (next_append tb b (met_side tb (left_of s r) l) (met_side tb (right_of s l) r))
-        ∙ (side_cased_after r (right_of s l) (next_all tb b (met_side tb (left_of s r) l)) ∙ ap (casing_side r) (side_cased_after l (left_of s r) b))
-    bind_cased_after (Prim x f v w) s b = refl
-    bind_cased_after (Reach x by) s b = refl
-
-    pub side_cased_after : (side : Side) (s : Setting) (b : Before) → (next_all tb b (met_side tb s side)).cased ≡ casing_side side b.cased
-    side_cased_after (On kind x ty t) s b = cased_after t (in_side tb s kind ty) (next tb b (SideLine kind x ty))
-
-    pub branches_cased_after : (bs : Branches) (s : Setting) (b : Before) → (next_all tb b (met_branches tb s bs)).cased ≡ casing_branches bs b.cased
-    branches_cased_after NoBranch s b = refl
-    branches_cased_after (BranchThen k xs t rest) s b =
-        ap (λ (z : Before). z.cased) (next_append tb b (met tb (in_arm tb s k xs) t) (met_branches tb s rest))
-        ∙ (branches_cased_after rest s (next_all tb b (met tb (in_arm tb s k xs) t)) ∙ ap (casing_branches rest) (cased_after t (in_arm tb s k xs) b))
+  pub side_cased_after : (side : Side) (s : Setting) (b : Before) → (next_all tb b (met_side tb s side)).cased ≡ casing_side side b.cased
+  side_cased_after side s b =
+      ap (λ (z : Before). z.cased) (side_after tb side s b) ∙ side_joins {R = Cases} {op = in_turn} {e = λ c. c} {g = step tb} {op' = in_turn} {e' = λ c. c} {g' = entry_casing} cases_join side b

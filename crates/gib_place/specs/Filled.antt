@@ -59,7 +59,8 @@ put_here s = record s { kind = Here }
 -- A side that takes the part of a field of this number, where the fields before it may be put before it.
 abbrev pub side_at : (ℕ → Term) → (List Field → Bool) → BoundTerm → List Field → Option ℕ → Option PlacedSide
 side_at f may s fields None = None
-side_at f may s fields (Some i) = if may (take i fields) then Some (record { before = take i fields; side = side_from f (put_here s); left = drop (suc i) fields }) else None
+side_at f may s fields (Some i) =
+    if may (take i fields) then Some (record { before = take i fields; side = side_from f (put_here s); left = drop (suc i) fields }) else None
 
 -- A side that takes the part of a field of this number.
 abbrev pub side_placed : (ℕ → Term) → BoundTerm → List Field → Option ℕ → Option PlacedSide
@@ -78,7 +79,8 @@ standing_of x (Some y) = x ∷ y ∷ []
 
 -- A binding that is placed so.
 abbrev pub placed_at : (ℕ → Term) → List Field → Spot → PlacedBind
-placed_at f fields s = record { before = take s.before fields; bind = bind_from f s.binding; standing = standing_of s.first s.second; left = drop s.used fields }
+placed_at f fields s =
+    record { before = take s.before fields; bind = bind_from f s.binding; standing = standing_of s.first s.second; left = drop s.used fields }
 
 -- A binding that is placed so, or stays.
 abbrev pub bind_placed : (ℕ → Term) → List Field → Option Spot → Option PlacedBind
@@ -125,18 +127,25 @@ pub record Puts (line : Line) (count : ℕ) (old new : Made) : Type 0 where
 
 -- A binding was placed.
 pub record LaysSpot (line : Line) (spot : Spot) (old new : Made) : Type 0 where
-  pub bindings : new.bindings.items ≡ old.bindings.items ++ (room_binding line.head line.constructor old.is_open ++ (take spot.before (drop old.used line.pointing.items) ++ spot.binding ∷ []))
-  pub standing : new.standing.items ≡ old.standing.items ++ (map (λ (f : Field). f.variable) (take spot.before (drop old.used line.fields.items)) ++ standing_of spot.first spot.second)
+  pub bindings :
+      new.bindings.items
+      ≡ old.bindings.items ++ (room_binding line.head line.constructor old.is_open ++ (take spot.before (drop old.used line.pointing.items) ++ spot.binding ∷ []))
+  pub standing :
+      new.standing.items
+      ≡ old.standing.items ++ (map (λ (f : Field). f.variable) (take spot.before (drop old.used line.fields.items)) ++ standing_of spot.first spot.second)
   pub is_open : new.is_open ≡ true
   pub used : new.used ≡ old.used + spot.used
 
 -- What was laid, and then what follows.
 abbrev pub laid_with : (ℕ → Term) → Line → Made → (List Bind → List Field → Laid) → Laid
-laid_with f line made further = laid_behind (binds_from f made.bindings.items) made.standing.items (further (room_left line.head line.constructor made.is_open) (drop made.used line.fields.items))
+laid_with f line made further =
+    laid_behind (binds_from f made.bindings.items) made.standing.items
+    (further (room_left line.head line.constructor made.is_open) (drop made.used line.fields.items))
 
 -- A binding was laid: placed, or not.
 pub record Lays (f : ℕ → Term) (n : ℕ) (once : Variable → Bool) (late : List Variable) (line : Line) (old new : Made) (binding : Binding) : Type 0 where
-  pub is : (further : List Bind → List Field → Laid) → laid_with f line new further ≡ laid_with f line old (λ room fields. lay_bind room (bind_from f binding) fields (place_bind once late (bind_from f binding) fields) further)
+  pub is : (further : List Bind → List Field → Laid) → laid_with f line new further
+      ≡ laid_with f line old (λ room fields. lay_bind room (bind_from f binding) fields (place_bind once late (bind_from f binding) fields) further)
   pub below : AllByRecursion (IsBindingBelow n) old.bindings.items → IsBindingBelow n binding → AllByRecursion (IsBindingBelow n) new.bindings.items
 
 -- A whole line was laid.

@@ -4,8 +4,6 @@ pub mod Numbering
 pub mod SameSource
 pub mod Numbered
 pub mod Shifting
-pub mod Mentioned
-pub mod Tallying
 pub mod Late
 pub mod Filled
 pub mod Made

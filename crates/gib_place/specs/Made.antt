@@ -10,8 +10,8 @@ use Rattle.gib_core.specs.declared.program.CoreFunction.{CoreFunction}
 use Rattle.gib_core.specs.declared.program.CoreMain.{CoreMain}
 use Rattle.gib_core.specs.Tree.{Term, Bind, Side, Branches, FunctionTerm, MainTerm}
 use Rattle.gib_core.specs.Parts.{IsFunctionInside, function_term, main_term}
-use Rattle.gib_place.specs.Placing.{place_function, place_main}
-use Rattle.gib_place.specs.Numbering.{number_function, number_main}
+use Rattle.gib_core.specs.Walk.{with_body, with_main}
+use Rattle.gib_place.specs.Numbering.{place_anew}
 use Rattle.gib_core.specs.Arena.{Grows, IsBindingBelow, IsBranchBelow, term_of, bind_from, binds_from, side_from, branches_from}
 
 -- A term was made, and those that were there stay.
@@ -56,16 +56,16 @@ pub record MakesBranches (old new : List Node) (made : List Branch) (branches : 
 pub record PlacesFunction (old new : List Node) (made : CoreFunction) (f : FunctionTerm) : Type 0 where
   pub grows : Grows old new
   pub inside : made.body.0 < length new
-  pub is : function_term (term_of new) made ≡ number_function (place_function f)
+  pub is : function_term (term_of new) made ≡ with_body place_anew f
 
 -- The functions were placed.
 pub record PlacesFunctions (old new : List Node) (made : List CoreFunction) (fs : List FunctionTerm) : Type 0 where
   pub grows : Grows old new
   pub inside : AllByRecursion (IsFunctionInside (length new)) made
-  pub are : map (function_term (term_of new)) made ≡ map number_function (map place_function fs)
+  pub are : map (function_term (term_of new)) made ≡ map (with_body place_anew) fs
 
 -- Main was placed.
 pub record PlacesMain (old new : List Node) (made : CoreMain) (m : MainTerm) : Type 0 where
   pub grows : Grows old new
   pub inside : made.body.0 < length new
-  pub is : main_term (term_of new) made ≡ number_main (place_main m)
+  pub is : main_term (term_of new) made ≡ with_main place_anew m

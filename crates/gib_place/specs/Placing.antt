@@ -2,55 +2,20 @@
 --
 -- A line that fills a head is a run of bindings, room for the head, its packed fields, which point to values, and the head. Where
 -- the region of a field's value can begin at the field's own place, the value is put there, and no field points to it.
-use Rattle.std.specs.Prelude.{ℕ, ◌+◌, ◌==◌, Bool, true, false, not, ◌&&◌, if◌then◌else◌, List, [], ◌∷◌, ◌++◌, map, Option, Some, None}
+use Rattle.std.specs.Prelude.{Bool, true, false, not, ◌&&◌, if◌then◌else◌, List, [], ◌∷◌, ◌++◌, map, Option, Some, None}
 use Rattle.gib_types.specs.declared.table.Ty.{Ty}
 use Rattle.gib_types.specs.declared.table.ConId.{ConId}
 use Rattle.gib_core.specs.declared.atom.Variable.{Variable}
 use Rattle.gib_core.specs.declared.atom.Atom.{Atom}
 use Rattle.gib_core.specs.declared.atom.Atom.TheVariants as a
 use Rattle.gib_core.specs.declared.atom.Kind.TheVariants.{Here, Region, Scalar}
-use Rattle.gib_core.specs.Tree.{Term, Then, Write, Point, CallTerm, Give, CaseTerm, IfTerm, Bind, Past, One, Both, Prim, Reach, Side, On, Branches, NoBranch, BranchThen, variable_of, prepend, FunctionTerm, MainTerm, CoreTree}
+use Rattle.gib_core.specs.Tree.{Term, Then, Write, Point, Bind, Past, One, Both, Prim, Reach, Side, On, Branches, variable_of, prepend, CoreTree}
+use Rattle.gib_core.specs.Counting.{is_once}
+use Rattle.gib_core.specs.Walk.{Nested, map_term, map_bind, map_side, map_branches, with_bodies}
 use Rattle.gib_core.specs.Inferring.{as_atoms}
 use Rattle.gib_core.specs.Reaching.{is_variable}
 use Rattle.gib_core.specs.Rules.{is_among}
 use Rattle.gib_place.specs.declared.field.Field.{Field}
-
--- How often an atom is the variable.
-abbrev pub count_atom : Variable → Atom → ℕ
-count_atom x y = if is_variable x y then 1 else 0
-
--- How often atoms are the variable.
-abbrev pub count_in : Variable → List Atom → ℕ
-count_in x [] = 0
-count_in x (y ∷ ys) = count_atom x y + count_in x ys
-
-abbrev mutual
-  -- How often a term uses a variable, itself or in a term that is nested in it. To bind or reach it is no use.
-  pub count : Term → Variable → ℕ
-  count (Then b rest) x = count_bind b x + count rest x
-  count (Write h k ss ps) x = count_in x ss + count_in x ps
-  count (Point y) x = count_atom x y
-  count (CallTerm f ys) x = count_in x ys
-  count (Give y) x = count_atom x y
-  count (CaseTerm y branches) x = count_atom x y + count_branches branches x
-  count (IfTerm y t u) x = count_atom x y + (count t x + count u x)
-
-  -- How often the terms and atoms of a binding use a variable.
-  pub count_bind : Bind → Variable → ℕ
-  count_bind (Past h k) x = 0
-  count_bind (One s) x = count_side s x
-  count_bind (Both fork l r) x = count_side l x + count_side r x
-  count_bind (Prim y f v w) x = count_atom x v + count_atom x w
-  count_bind (Reach y by) x = 0
-
-  -- How often the term of a side uses a variable.
-  pub count_side : Side → Variable → ℕ
-  count_side (On kind y ty t) x = count t x
-
-  -- How often the terms of branches use a variable.
-  pub count_branches : Branches → Variable → ℕ
-  count_branches NoBranch x = 0
-  count_branches (BranchThen k xs t rest) x = count t x + count_branches rest x
 
 -- The field, as the binding that it is.
 abbrev pub pointing : Field → Bind
@@ -245,60 +210,35 @@ fill once t (Some l) =
 abbrev pub place_line : (Variable → Bool) → Term → Term
 place_line once t = fill once t (filling_of t)
 
-abbrev mutual
-  -- A term, with the lines placed that are nested in it.
-  pub place_inner : (Variable → Bool) → Term → Term
-  place_inner once (Then b rest) = Then (inner_bind once b) (place_inner once rest)
-  place_inner once (Write h k ss ps) = Write h k ss ps
-  place_inner once (Point x) = Point x
-  place_inner once (CallTerm f xs) = CallTerm f xs
-  place_inner once (Give x) = Give x
-  place_inner once (CaseTerm x branches) = CaseTerm x (inner_branches once branches)
-  place_inner once (IfTerm x t u) = IfTerm x (place_line once (place_inner once t)) (place_line once (place_inner once u))
+-- Bindings stay, but for the terms of their sides.
+abbrev pub as_bound : Bind → Bind
+as_bound b = b
 
-  -- A binding, with the lines of its terms placed.
-  pub inner_bind : (Variable → Bool) → Bind → Bind
-  inner_bind once (Past h k) = Past h k
-  inner_bind once (One s) = One (inner_side once s)
-  inner_bind once (Both fork l r) = Both fork (inner_side once l) (inner_side once r)
-  inner_bind once (Prim x f y z) = Prim x f y z
-  inner_bind once (Reach y by) = Reach y by
+-- A nested term, with its line placed.
+abbrev pub placed_inside : (Variable → Bool) → Nested → Term → Term
+placed_inside once at t = place_line once t
 
-  -- A side, with its own line and those nested in it placed.
-  pub inner_side : (Variable → Bool) → Side → Side
-  inner_side once (On kind x ty t) = On kind x ty (place_line once (place_inner once t))
+-- A term, with the lines placed that are nested in it; a binding, a side, branches, with the lines of their terms placed.
+abbrev pub place_inner : (Variable → Bool) → Term → Term
+place_inner once t = map_term as_bound (placed_inside once) t
 
-  -- Branches, with the lines of their terms placed.
-  pub inner_branches : (Variable → Bool) → Branches → Branches
-  inner_branches once NoBranch = NoBranch
-  inner_branches once (BranchThen k xs t rest) = BranchThen k xs (place_line once (place_inner once t)) (inner_branches once rest)
+abbrev pub inner_bind : (Variable → Bool) → Bind → Bind
+inner_bind once b = map_bind as_bound (placed_inside once) b
+
+abbrev pub inner_side : (Variable → Bool) → Side → Side
+inner_side once s = map_side as_bound (placed_inside once) s
+
+abbrev pub inner_branches : (Variable → Bool) → Branches → Branches
+inner_branches once bs = map_branches as_bound (placed_inside once) bs
 
 -- A line, placed whole.
 abbrev pub place : (Variable → Bool) → Term → Term
 place once t = place_line once (place_inner once t)
 
--- A body uses a variable once.
-abbrev pub is_once : Term → Variable → Bool
-is_once body x = count body x == 1
-
 -- A body, with the lines of all its terms placed.
 abbrev pub place_body : Term → Term
 place_body t = place (is_once t) t
 
--- A function whose body is placed.
-abbrev pub place_function : FunctionTerm → FunctionTerm
-place_function f = record f { body = place_body f.body }
-
--- Main, whose body is placed.
-abbrev pub place_main : MainTerm → MainTerm
-place_main m = record { parameter = m.parameter; result = m.result; body = place_body m.body }
-
 -- A core whose bodies are placed. Its variables keep their numbers.
 abbrev pub place_bodies : CoreTree → CoreTree
-place_bodies core = record {
-  table = core.table;
-  functions = map place_function core.functions;
-  main = place_main core.main;
-  offsets = core.offsets;
-  marked = core.marked;
-}
+place_bodies core = with_bodies (λ b. place_body b.term) core

@@ -36,7 +36,8 @@ pub record BranchShifted (r : Renaming) (base : ℕ) (old new : Branch) : Type 0
 -- Branches with other numbers.
 pub record BranchesShifted (r : Renaming) (base : ℕ) (old new : List Branch) : Type 0 where
   pub below : (id : ℕ) → AllByRecursion (IsBranchBelow id) old → AllByRecursion (IsBranchBelow (base + id)) new
-  pub are : (id : ℕ) (f g : ℕ → Term) → AllByRecursion (IsBranchBelow id) old → Shifts r base id f g → branches_from g new ≡ rename_branches r (branches_from f old)
+  pub are : (id : ℕ) (f g : ℕ → Term) → AllByRecursion (IsBranchBelow id) old → Shifts r base id f g
+      → branches_from g new ≡ rename_branches r (branches_from f old)
 
 -- A node with other numbers.
 pub record NodeShifted (r : Renaming) (base : ℕ) (old new : Node) : Type 0 where

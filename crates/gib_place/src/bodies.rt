@@ -1,56 +1,19 @@
 //! The bodies of functions and of main.
 
-ghost use Rattle.std.specs.Prelude.{◌≡◌, ◌<◌, [], length, map, IfOk};
+ghost use Rattle.std.specs.Prelude.{◌≡◌, ◌<◌, length, map, IfOk};
 ghost use Rattle.std.specs.List.{AllByRecursion};
 ghost use Rattle.gib_core.specs.Arena.{term_of};
 ghost use Rattle.gib_core.specs.Parts.{IsFunctionInside, function_term, main_term};
-ghost use Rattle.gib_place.specs.Numbering.{number_anew, variables_in};
-ghost use Rattle.gib_place.specs.Placing.{count, place_body as body_placed};
-ghost use Rattle.gib_place.specs.Tallying.{Adds};
+ghost use Rattle.gib_place.specs.Numbering.{number_anew};
+ghost use Rattle.gib_place.specs.Placing.{place_body as body_placed};
 ghost use Rattle.gib_place.specs.Made.{MakesTerm, PlacesFunction, PlacesFunctions, PlacesMain};
 
-use crate::copying::copy_term;
-use crate::listing::mentions_of;
-use crate::numbers::{Numbers, push_binders};
-use crate::scratch::Scratch;
-use crate::tally::{Tally, tally_of};
+use crate::placing::{Placing, Scratch};
+use crate::renumber::{copy_term, numbers_of};
 use crate::walk::place_term;
 use gib_base::Memory;
-use gib_core::{CoreFunction, CoreMain, TermId, Terms};
-use std::alloc::{AllocError, Global};
-
-/// How often a body uses its variables.
-fn uses_of(alloc: Global, terms: &Terms, id: TermId) -> Result<Tally, Memory>
-    requires { id.0 < length terms.now }
-    ensures { IfOk result (λ tally. Adds [] tally (count (term_of terms.now id.0))) }
-{
-    let mentions = mentions_of(alloc, terms, id)?;
-    tally_of(alloc, &mentions)
-}
-
-/// The variables of a body: its parameters, and those that it binds in the order of the text.
-fn numbers_of(
-    alloc: Global,
-    terms: &Terms,
-    parameters: usize,
-    id: TermId,
-) -> Result<Numbers, Memory>
-    requires { id.0 < length terms.now }
-    ensures { IfOk result (λ numbers. numbers ≡ variables_in parameters (term_of terms.now id.0)) }
-{
-    let Ok(count) = u32::try_from(parameters) else {
-        return Err(AllocError);
-    };
-    let mentions = mentions_of(alloc, terms, id)?;
-    let mut order = Vec::new(alloc);
-    let mut i = 0;
-    'parameters: while i < count {
-        order.push(i)?;
-        i += 1;
-    }
-    push_binders(&mut order, &mentions)?;
-    Numbers::make(alloc, order)
-}
+use gib_core::{CoreFunction, CoreMain, TermId, Terms, uses_of};
+use std::alloc::Global;
 
 /// A body with so many parameters: its fields are placed, and then its variables are numbered. What is placed stands in
 /// terms of its own before it is numbered.
@@ -66,7 +29,12 @@ fn place_body(
 {
     let once = uses_of(alloc, terms, id)?;
     let mut scratch = Scratch::new(alloc);
-    let placed = place_term(alloc, &once, terms, &mut scratch, id)?;
+    let placing = Placing {
+        alloc,
+        once: &once,
+        terms,
+    };
+    let placed = place_term(&placing, &mut scratch, id)?;
     let numbers = numbers_of(alloc, &scratch.terms, parameters, placed)?;
     copy_term(alloc, &numbers, &scratch.terms, placed, made)
 }

@@ -1,19 +1,22 @@
-//! Which line fills a head.
+//! Which line fills a head, and what becomes of it.
 
-ghost use Rattle.std.specs.Prelude.{◌≡◌, ◌<◌, suc, List, take, drop, length, IfOk};
+ghost use Rattle.std.specs.Prelude.{◌≡◌, ◌<◌, suc, Bool, List, [], ◌∷◌, take, drop, length, Some, IfOk};
 ghost use Rattle.std.specs.List.{AllByRecursion};
 ghost use Rattle.gib_types.specs.declared.table.ConId.{ConId as Con};
-ghost use Rattle.gib_core.specs.Arena.{IsBindingBelow, term_of, bind_from, binds_from};
-ghost use Rattle.gib_core.specs.Tree.{Write, prepend};
+ghost use Rattle.gib_core.specs.Arena.{IsBindingBelow, PartsBelow, term_of, bind_from, binds_from, layer};
+ghost use Rattle.gib_core.specs.Tree.{Past, Write, prepend};
 ghost use Rattle.gib_core.specs.declared.atom.Atom.{Atom as Operand};
 ghost use Rattle.gib_core.specs.declared.atom.Variable.{Variable as X};
-ghost use Rattle.gib_place.specs.Placing.{ending_of, filling_of, room_first};
-ghost use Rattle.gib_place.specs.Filled.{field_of as field_in, ending_from, bindings_first, room_in, filling_from, AreFound, IsFound};
+ghost use Rattle.gib_place.specs.Placing.{ending_of, filling_of, room_first, place_line, laid_line, lay as laid};
+ghost use Rattle.gib_place.specs.Filled.{field_of as field_in, ending_from, bindings_first, room_in, filling_from, AreFound, IsFound, once_by, ending_with, IsLineOf, IsOtherEnd};
+ghost use Rattle.gib_place.specs.Made.{MakesTerm};
 
 use crate::field::Field;
-use crate::line::Line;
+use crate::laying::{are_fields, atoms_of, lay};
+use crate::line::{Head, Line};
+use crate::placing::{Placing, Scratch};
 use gib_base::Memory;
-use gib_core::{Binding, Kind, Node, Terms, Variable};
+use gib_core::{Binding, Kind, Node, TermId, Terms, Variable};
 use gib_types::ConId;
 use std::alloc::Global;
 
@@ -121,4 +124,79 @@ pub fn line_of(alloc: Global, terms: &Terms, bindings: &[Binding]) -> Result<Opt
         }
     }
     Ok(None)
+}
+
+/// A line whose end fills no head.
+pub fn put_other_line(
+    scratch: &mut Scratch,
+    bindings: Vec<Binding>,
+    end: Node,
+) -> Result<TermId, Memory>
+    requires bindings { AllByRecursion (IsBindingBelow (length scratch.old.terms)) bindings.items }
+    requires end { PartsBelow end (length scratch.old.terms) }
+    requires other { IsOtherEnd end }
+    ensures { IfOk result (λ made. (once : X → Bool) → MakesTerm scratch.old.terms scratch.new.terms made (place_line once (prepend (binds_from (term_of scratch.old.terms) bindings.items) (layer (term_of scratch.old.terms) (Some end))))) }
+{
+    scratch.terms.put_line(bindings, end)
+}
+
+/// A line that fills a head, as it is.
+fn put_write(terms: &mut Terms, bindings: Vec<Binding>, head: Head) -> Result<TermId, Memory>
+    requires { AllByRecursion (IsBindingBelow (length terms.old)) bindings.items }
+    ensures { IfOk result (λ made. MakesTerm terms.old terms.new made (prepend (binds_from (term_of terms.old) bindings.items) (Write head.variable head.constructor head.scalars.items head.packed.items))) }
+{
+    let write = Node::Write {
+        head: head.variable,
+        constructor: head.constructor,
+        scalars: head.scalars,
+        packed: head.packed,
+    };
+    terms.put_line(bindings, write)
+}
+
+/// A line that fills a head, laid anew.
+fn fill_line(
+    placing: &Placing,
+    scratch: &mut Scratch,
+    line: Line,
+    head: Head,
+) -> Result<TermId, Memory>
+    requires { IsLineOf (term_of scratch.old.terms) (length scratch.old.terms) line }
+    ensures { IfOk result (λ made. MakesTerm scratch.old.terms scratch.new.terms made (laid_line (ending_with head line.fields.items) (laid (once_by placing.now.once.now) (binds_from (term_of scratch.old.terms) line.run.items) (Past line.head line.constructor ∷ []) line.fields.items))) }
+{
+    let laid = lay(placing, &mut scratch.times, &line)?;
+    let packed = atoms_of(placing.alloc, &laid.standing)?;
+    put_write(
+        &mut scratch.terms,
+        laid.bindings,
+        Head {
+            variable: head.variable,
+            constructor: head.constructor,
+            scalars: head.scalars,
+            packed,
+        },
+    )
+}
+
+/// A line whose end fills a head, with the fields placed that can be.
+pub fn fill(
+    placing: &Placing,
+    scratch: &mut Scratch,
+    bindings: Vec<Binding>,
+    head: Head,
+) -> Result<TermId, Memory>
+    requires { AllByRecursion (IsBindingBelow (length scratch.old.terms)) bindings.items }
+    ensures { IfOk result (λ made. MakesTerm scratch.old.terms scratch.new.terms made (place_line (once_by placing.now.once.now) (prepend (binds_from (term_of scratch.old.terms) bindings.items) (Write head.variable head.constructor head.scalars.items head.packed.items)))) }
+{
+    let found = line_of(placing.alloc, &scratch.terms, &bindings)?;
+    match found {
+        None => put_write(&mut scratch.terms, bindings, head),
+        Some(line) => {
+            if are_fields(placing.once, &line.fields, &head.packed) {
+                fill_line(placing, scratch, line, head)
+            } else {
+                put_write(&mut scratch.terms, bindings, head)
+            }
+        }
+    }
 }

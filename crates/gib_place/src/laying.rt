@@ -11,24 +11,12 @@ ghost use Rattle.gib_place.specs.Filled.{once_by, ArePointing, AreLate, Opens, P
 
 use crate::field::Field;
 use crate::line::{Laid, Line, Spot};
-use crate::spots::{is_variable, spot_of};
-use crate::tally::Tally;
+use crate::placing::Placing;
+use crate::spots::{Moment, is_variable, spot_of};
 use crate::times::bind_run;
 use gib_base::Memory;
-use gib_core::{Atom, Binding, Clock, Variable};
+use gib_core::{Atom, Binding, Clock, Tally, Variable};
 use std::alloc::{AllocError, Global};
-
-/// More bindings behind others.
-fn extend_bindings(bindings: &mut Vec<Binding>, more: &[Binding]) -> Result<(), Memory>
-    ensures { OnOk result (bindings.new.items ≡ bindings.old.items ++ more.now) }
-{
-    let mut i = 0;
-    'more: while i < more.len() {
-        bindings.push(more[i])?;
-        i += 1;
-    }
-    Ok(())
-}
 
 /// The variables of fields behind others.
 fn extend_standing(standing: &mut Vec<Variable>, fields: &[Field]) -> Result<(), Memory>
@@ -76,7 +64,8 @@ fn put_fields(laid: &mut Laid, line: &Line, count: usize) -> Result<(), Memory>
     ensures { OnOk result (Puts line.now count laid.old laid.new) }
 {
     let end = laid.used + count;
-    extend_bindings(&mut laid.bindings, &line.pointing[laid.used..end])?;
+    laid.bindings
+        .extend_from_slice(&line.pointing[laid.used..end])?;
     extend_standing(&mut laid.standing, &line.fields[laid.used..end])?;
     laid.used = end;
     Ok(())
@@ -102,20 +91,13 @@ fn lay_spot(laid: &mut Laid, line: &Line, spot: Spot) -> Result<(), Memory>
 }
 
 /// A binding is laid: where it can be placed it is, else it stays.
-fn lay_binding(
-    laid: &mut Laid,
-    line: &Line,
-    once: &Tally,
-    times: &Clock,
-    moment: u64,
-    binding: Binding,
-) -> Result<(), Memory>
+fn lay_binding(laid: &mut Laid, line: &Line, at: &Moment, binding: Binding) -> Result<(), Memory>
     requires used { laid.old.used ≤ length line.now.fields.items }
     requires pointing { length line.now.pointing.items ≡ length line.now.fields.items }
-    ensures lays { OnOk result ((f : ℕ → Term) (n : ℕ) (late : List X) → ArePointing f n line.now.pointing.items line.now.fields.items → AreLate times.now moment late → Lays f n (once_by once.now) late line.now laid.old laid.new binding) }
+    ensures lays { OnOk result ((f : ℕ → Term) (n : ℕ) (late : List X) → ArePointing f n line.now.pointing.items line.now.fields.items → AreLate at.now.times.now at.now.time late → Lays f n (once_by at.now.once.now) late line.now laid.old laid.new binding) }
     ensures used { OnOk result (laid.new.used ≤ length line.now.fields.items) }
 {
-    match spot_of(once, times, moment, binding, &line.fields[laid.used..]) {
+    match spot_of(at, binding, &line.fields[laid.used..]) {
         None => {
             laid.bindings.push(binding)?;
             Ok(())
@@ -125,24 +107,29 @@ fn lay_binding(
 }
 
 /// A line that fills a head, with the fields placed that can be.
-pub fn lay(alloc: Global, once: &Tally, times: &mut Clock, line: &Line) -> Result<Laid, Memory>
+pub fn lay(placing: &Placing, times: &mut Clock, line: &Line) -> Result<Laid, Memory>
     requires { length line.now.pointing.items ≡ length line.now.fields.items }
-    ensures { IfOk result (λ laid. (f : ℕ → Term) (n : ℕ) → IsLineOf f n line.now → LaysLine f n (once_by once.now) line.now laid) }
+    ensures { IfOk result (λ laid. (f : ℕ → Term) (n : ℕ) → IsLineOf f n line.now → LaysLine f n (once_by placing.now.once.now) line.now laid) }
 {
-    let mut moment = bind_run(times, &line.run)?;
+    let mut time = bind_run(times, &line.run)?;
     let mut laid = Laid {
-        bindings: Vec::new(alloc),
-        standing: Vec::new(alloc),
+        bindings: Vec::new(placing.alloc),
+        standing: Vec::new(placing.alloc),
         is_open: false,
         used: 0,
     };
     let mut i = 0;
     'run: while i < line.run.len() {
-        let Some(next) = moment.checked_add(1) else {
+        let Some(next) = time.checked_add(1) else {
             return Err(AllocError);
         };
-        moment = next;
-        lay_binding(&mut laid, line, once, times, moment, line.run[i])?;
+        time = next;
+        let at = Moment {
+            once: placing.once,
+            times: &*times,
+            time,
+        };
+        lay_binding(&mut laid, line, &at, line.run[i])?;
         i += 1;
     }
     open_head(&mut laid, line)?;

@@ -13,19 +13,15 @@ ghost use Rattle.gib_place.specs.Numbering.{place_core};
 ghost use Rattle.gib_place.specs.SameSource.{IsSameProgram};
 
 mod bodies;
-mod copying;
 mod examples;
 pub mod field;
 mod filling;
 pub mod law;
 mod laying;
 pub mod line;
-mod listing;
-pub mod mention;
-mod numbers;
-mod scratch;
+mod placing;
+mod renumber;
 mod spots;
-mod tally;
 mod times;
 mod walk;
 

@@ -13,9 +13,16 @@ ghost use Rattle.gib_place.specs.Filled.{once_by, cut_from, put_here as here, si
 
 use crate::field::Field;
 use crate::line::Spot;
-use crate::tally::Tally;
 use crate::times::is_bound_later;
-use gib_core::{Atom, Binding, BoundTerm, Clock, Kind, Variable};
+use gib_core::{Atom, Binding, BoundTerm, Clock, Kind, Tally, Variable};
+
+/// A moment of a run: which variables are used once, when variables were bound, and the time of the moment.
+#[derive(Clone, Copy)]
+pub struct Moment<'a> {
+    pub once: &'a Tally,
+    pub times: &'a Clock,
+    pub time: u64,
+}
 
 /// Whether an atom is the variable.
 pub fn is_variable(x: Variable, atom: Atom) -> bool
@@ -86,20 +93,18 @@ fn is_any_late(times: &Clock, moment: u64, also: Option<Variable>, fields: &[Fie
 
 /// The number of the field whose part a side takes. The values of the fields before it are there already.
 fn free_target(
-    once: &Tally,
-    times: &Clock,
-    moment: u64,
+    at: &Moment,
     also: Option<Variable>,
     side: BoundTerm,
     fields: &[Field],
 ) -> Option<usize>
-    ensures side { (f : ℕ → Term) → place_side (once_by once.now) (λ fs. not (list_any (λ (g : Pointing). is_late_or times.now moment also g.target) fs)) (side_from f side) fields.now ≡ side_placed f side fields.now result }
+    ensures side { (f : ℕ → Term) → place_side (once_by at.now.once.now) (λ fs. not (list_any (λ (g : Pointing). is_late_or at.now.times.now at.now.time also g.target) fs)) (side_from f side) fields.now ≡ side_placed f side fields.now result }
     ensures inside { IsPlace (length fields.now) result }
 {
-    match target_of(once, side, fields) {
+    match target_of(at.once, side, fields) {
         None => None,
         Some(count) => {
-            if is_any_late(times, moment, also, &fields[..count]) {
+            if is_any_late(at.times, at.time, also, &fields[..count]) {
                 None
             } else {
                 Some(count)
@@ -119,18 +124,12 @@ fn put_here(side: BoundTerm) -> BoundTerm
 }
 
 /// How a binding of one side is placed.
-fn spot_of_one(
-    once: &Tally,
-    times: &Clock,
-    moment: u64,
-    side: BoundTerm,
-    fields: &[Field],
-) -> Option<Spot>
-    ensures bind { (f : ℕ → Term) (late : List X) → AreLate times.now moment late → place_bind (once_by once.now) late (One (side_from f side)) fields.now ≡ bind_placed f fields.now result }
+fn spot_of_one(at: &Moment, side: BoundTerm, fields: &[Field]) -> Option<Spot>
+    ensures bind { (f : ℕ → Term) (late : List X) → AreLate at.now.times.now at.now.time late → place_bind (once_by at.now.once.now) late (One (side_from f side)) fields.now ≡ bind_placed f fields.now result }
     ensures inside { IsSpot (length fields.now) result }
     ensures below { (n : ℕ) → side.term.0 < n → IsSpotBelow n result }
 {
-    match free_target(once, times, moment, None, side, fields) {
+    match free_target(at, None, side, fields) {
         None => None,
         Some(count) => Some(Spot {
             before: count,
@@ -197,21 +196,15 @@ fn spot_of_both(
 }
 
 /// How a par is placed: its left side, and then its right side.
-fn spot_of_par(
-    once: &Tally,
-    times: &Clock,
-    moment: u64,
-    sides: (bool, BoundTerm, BoundTerm),
-    fields: &[Field],
-) -> Option<Spot>
-    ensures bind { (f : ℕ → Term) (late : List X) → AreLate times.now moment late → place_bind (once_by once.now) late (Both sides.0 (side_from f sides.1) (side_from f sides.2)) fields.now ≡ bind_placed f fields.now result }
+fn spot_of_par(at: &Moment, sides: (bool, BoundTerm, BoundTerm), fields: &[Field]) -> Option<Spot>
+    ensures bind { (f : ℕ → Term) (late : List X) → AreLate at.now.times.now at.now.time late → place_bind (once_by at.now.once.now) late (Both sides.0 (side_from f sides.1) (side_from f sides.2)) fields.now ≡ bind_placed f fields.now result }
     ensures inside { IsSpot (length fields.now) result }
     ensures below { (n : ℕ) → sides.1.term.0 < n → sides.2.term.0 < n → IsSpotBelow n result }
 {
     let (fork, left, right) = sides;
-    match free_target(once, times, moment, Some(right.variable), left, fields) {
-        Some(count) => Some(spot_of_both(once, fork, left, right, fields, count)),
-        None => match free_target(once, times, moment, Some(left.variable), right, fields) {
+    match free_target(at, Some(right.variable), left, fields) {
+        Some(count) => Some(spot_of_both(at.once, fork, left, right, fields, count)),
+        None => match free_target(at, Some(left.variable), right, fields) {
             None => None,
             Some(count) => Some(Spot {
                 before: count,
@@ -229,23 +222,15 @@ fn spot_of_par(
 }
 
 /// How a binding is placed before others, which bind what is bound after a moment.
-pub fn spot_of(
-    once: &Tally,
-    times: &Clock,
-    moment: u64,
-    binding: Binding,
-    fields: &[Field],
-) -> Option<Spot>
-    ensures bind { (f : ℕ → Term) (late : List X) → AreLate times.now moment late → place_bind (once_by once.now) late (bind_from f binding) fields.now ≡ bind_placed f fields.now result }
+pub fn spot_of(at: &Moment, binding: Binding, fields: &[Field]) -> Option<Spot>
+    ensures bind { (f : ℕ → Term) (late : List X) → AreLate at.now.times.now at.now.time late → place_bind (once_by at.now.once.now) late (bind_from f binding) fields.now ≡ bind_placed f fields.now result }
     ensures inside { IsSpot (length fields.now) result }
     ensures below { (n : ℕ) → IsBindingBelow n binding → IsSpotBelow n result }
 {
     match binding {
         Binding::Past { .. } => None,
-        Binding::One(side) => spot_of_one(once, times, moment, side, fields),
-        Binding::Par { fork, left, right } => {
-            spot_of_par(once, times, moment, (fork, left, right), fields)
-        }
+        Binding::One(side) => spot_of_one(at, side, fields),
+        Binding::Par { fork, left, right } => { spot_of_par(at, (fork, left, right), fields) }
         Binding::Prim { .. } => None,
         Binding::Reach { .. } => None,
     }

@@ -8,49 +8,40 @@ ghost use Rattle.gib_place.specs.Placing.{place, place_line, place_inner, inner_
 ghost use Rattle.gib_place.specs.Filled.{once_by};
 ghost use Rattle.gib_place.specs.Made.{MakesTerm, MakesBinding, MakesBindings, MakesSide, MakesBranch, MakesBranches};
 
+use crate::filling::{fill, put_other_line};
 use crate::line::Head;
-use crate::scratch::{Scratch, fill, put_other_line};
-use crate::tally::Tally;
+use crate::placing::{Placing, Scratch};
 use gib_base::Memory;
-use gib_core::{Binding, BoundTerm, Branch, Node, TermId, Terms};
-use std::alloc::Global;
+use gib_core::{Binding, BoundTerm, Branch, Node, TermId};
 
 /// A term with the fields of all its lines placed. This recurses as deep as terms are nested in bindings and branches,
 /// and not along a line.
 #[cycle(place)]
-pub fn place_term(
-    alloc: Global,
-    once: &Tally,
-    terms: &Terms,
-    scratch: &mut Scratch,
-    id: TermId,
-) -> Result<TermId, Memory>
-    requires { id.0 < length terms.now }
-    ensures { IfOk result (λ made. MakesTerm scratch.old.terms scratch.new.terms made (place (once_by once.now) (term_of terms.now id.0))) }
+pub fn place_term(placing: &Placing, scratch: &mut Scratch, id: TermId) -> Result<TermId, Memory>
+    requires { id.0 < length placing.now.terms.now }
+    ensures { IfOk result (λ made. MakesTerm scratch.old.terms scratch.new.terms made (place (once_by placing.now.once.now) (term_of placing.now.terms.now id.0))) }
 {
-    let (bindings, last) = terms.line(alloc, id)?;
-    let bindings = place_bindings(alloc, once, terms, scratch, id, &bindings)?;
-    place_end(alloc, once, terms, scratch, bindings, last)
+    let (bindings, last) = placing.terms.line(placing.alloc, id)?;
+    let bindings = place_bindings(placing, scratch, id, &bindings)?;
+    place_end(placing, scratch, bindings, last)
 }
 
 /// The bindings of the line of a number, whose terms stand below it.
 #[cycle(place)]
 fn place_bindings(
-    alloc: Global,
-    once: &Tally,
-    terms: &Terms,
+    placing: &Placing,
     scratch: &mut Scratch,
     parent: TermId,
     bindings: &[Binding],
 ) -> Result<Vec<Binding>, Memory>
-    requires inside { parent.0 < length terms.now }
+    requires inside { parent.0 < length placing.now.terms.now }
     requires below { AllByRecursion (IsBindingBelow parent.0) bindings.now }
-    ensures { IfOk result (λ made. MakesBindings scratch.old.terms scratch.new.terms made.items (map (inner_bind (once_by once.now)) (binds_from (term_of terms.now) bindings.now))) }
+    ensures { IfOk result (λ made. MakesBindings scratch.old.terms scratch.new.terms made.items (map (inner_bind (once_by placing.now.once.now)) (binds_from (term_of placing.now.terms.now) bindings.now))) }
 {
-    let mut placed = Vec::new(alloc);
+    let mut placed = Vec::new(placing.alloc);
     let mut i = 0;
     'bindings: while i < bindings.len() {
-        let binding = place_binding(alloc, once, terms, scratch, parent, bindings[i])?;
+        let binding = place_binding(placing, scratch, parent, bindings[i])?;
         placed.push(binding)?;
         i += 1;
     }
@@ -60,26 +51,24 @@ fn place_bindings(
 /// A binding of the line of a number.
 #[cycle(place)]
 fn place_binding(
-    alloc: Global,
-    once: &Tally,
-    terms: &Terms,
+    placing: &Placing,
     scratch: &mut Scratch,
     parent: TermId,
     binding: Binding,
 ) -> Result<Binding, Memory>
-    requires inside { parent.0 < length terms.now }
+    requires inside { parent.0 < length placing.now.terms.now }
     requires below { IsBindingBelow parent.0 binding }
-    ensures { IfOk result (λ made. MakesBinding scratch.old.terms scratch.new.terms made (inner_bind (once_by once.now) (bind_from (term_of terms.now) binding))) }
+    ensures { IfOk result (λ made. MakesBinding scratch.old.terms scratch.new.terms made (inner_bind (once_by placing.now.once.now) (bind_from (term_of placing.now.terms.now) binding))) }
 {
     match binding {
         Binding::Past { .. } => Ok(binding),
         Binding::One(side) => {
-            let side = place_side(alloc, once, terms, scratch, side)?;
+            let side = place_side(placing, scratch, side)?;
             Ok(Binding::One(side))
         }
         Binding::Par { fork, left, right } => {
-            let left = place_side(alloc, once, terms, scratch, left)?;
-            let right = place_side(alloc, once, terms, scratch, right)?;
+            let left = place_side(placing, scratch, left)?;
+            let right = place_side(placing, scratch, right)?;
             Ok(Binding::Par { fork, left, right })
         }
         Binding::Prim { .. } => Ok(binding),
@@ -90,35 +79,31 @@ fn place_binding(
 /// A variable with the term that it is bound to.
 #[cycle(place)]
 fn place_side(
-    alloc: Global,
-    once: &Tally,
-    terms: &Terms,
+    placing: &Placing,
     scratch: &mut Scratch,
     side: BoundTerm,
 ) -> Result<BoundTerm, Memory>
-    requires { side.term.0 < length terms.now }
-    ensures { IfOk result (λ made. MakesSide scratch.old.terms scratch.new.terms made (inner_side (once_by once.now) (side_from (term_of terms.now) side))) }
+    requires { side.term.0 < length placing.now.terms.now }
+    ensures { IfOk result (λ made. MakesSide scratch.old.terms scratch.new.terms made (inner_side (once_by placing.now.once.now) (side_from (term_of placing.now.terms.now) side))) }
 {
-    let term = place_term(alloc, once, terms, scratch, side.term)?;
+    let term = place_term(placing, scratch, side.term)?;
     Ok(BoundTerm { term, ..side })
 }
 
 /// The end of a line, with its bindings in front, whose nested lines are placed.
 #[cycle(place)]
 fn place_end(
-    alloc: Global,
-    once: &Tally,
-    terms: &Terms,
+    placing: &Placing,
     scratch: &mut Scratch,
     bindings: Vec<Binding>,
     id: TermId,
 ) -> Result<TermId, Memory>
-    requires inside { id.0 < length terms.now }
-    requires end { IsEnd (term_of terms.now id.0) }
+    requires inside { id.0 < length placing.now.terms.now }
+    requires end { IsEnd (term_of placing.now.terms.now id.0) }
     requires below { AllByRecursion (IsBindingBelow (length scratch.old.terms)) bindings.items }
-    ensures { IfOk result (λ made. MakesTerm scratch.old.terms scratch.new.terms made (place_line (once_by once.now) (prepend (binds_from (term_of scratch.old.terms) bindings.items) (place_inner (once_by once.now) (term_of terms.now id.0))))) }
+    ensures { IfOk result (λ made. MakesTerm scratch.old.terms scratch.new.terms made (place_line (once_by placing.now.once.now) (prepend (binds_from (term_of scratch.old.terms) bindings.items) (place_inner (once_by placing.now.once.now) (term_of placing.now.terms.now id.0))))) }
 {
-    match terms.node(id) {
+    match placing.terms.node(id) {
         Node::Then(_, _) => unreachable!(),
         Node::Write {
             head,
@@ -126,17 +111,17 @@ fn place_end(
             scalars,
             packed,
         } => {
-            let head = Head::copied(alloc, *head, *constructor, scalars, packed)?;
-            fill(alloc, once, scratch, bindings, head)
+            let head = Head::copied(placing.alloc, *head, *constructor, scalars, packed)?;
+            fill(placing, scratch, bindings, head)
         }
         Node::Point(atom) => put_other_line(scratch, bindings, Node::Point(*atom)),
         Node::Call(name, arguments) => {
-            let arguments = Vec::from_slice(alloc, arguments)?;
+            let arguments = Vec::from_slice(placing.alloc, arguments)?;
             put_other_line(scratch, bindings, Node::Call(*name, arguments))
         }
         Node::Give(atom) => put_other_line(scratch, bindings, Node::Give(*atom)),
         Node::Case { subject, branches } => {
-            let branches = place_branches(alloc, once, terms, scratch, id, branches)?;
+            let branches = place_branches(placing, scratch, id, branches)?;
             let subject = *subject;
             put_other_line(scratch, bindings, Node::Case { subject, branches })
         }
@@ -145,18 +130,14 @@ fn place_end(
             then_part,
             else_part,
         } => {
-            let then_part = place_term(alloc, once, terms, scratch, *then_part)?;
-            let else_part = place_term(alloc, once, terms, scratch, *else_part)?;
-            let condition = *condition;
-            put_other_line(
-                scratch,
-                bindings,
-                Node::If {
-                    condition,
-                    then_part,
-                    else_part,
-                },
-            )
+            let then_part = place_term(placing, scratch, *then_part)?;
+            let else_part = place_term(placing, scratch, *else_part)?;
+            let end = Node::If {
+                condition: *condition,
+                then_part,
+                else_part,
+            };
+            put_other_line(scratch, bindings, end)
         }
     }
 }
@@ -164,22 +145,20 @@ fn place_end(
 /// The branches of the case of a number.
 #[cycle(place)]
 fn place_branches(
-    alloc: Global,
-    once: &Tally,
-    terms: &Terms,
+    placing: &Placing,
     scratch: &mut Scratch,
     parent: TermId,
     branches: &[Branch],
 ) -> Result<Vec<Branch>, Memory>
-    requires inside { parent.0 < length terms.now }
+    requires inside { parent.0 < length placing.now.terms.now }
     requires below { AllByRecursion (IsBranchBelow parent.0) branches.now }
-    ensures { IfOk result (λ made. MakesBranches scratch.old.terms scratch.new.terms made.items (inner_branches (once_by once.now) (branches_from (term_of terms.now) branches.now))) }
+    ensures { IfOk result (λ made. MakesBranches scratch.old.terms scratch.new.terms made.items (inner_branches (once_by placing.now.once.now) (branches_from (term_of placing.now.terms.now) branches.now))) }
 {
-    let mut reversed = Vec::new(alloc);
+    let mut reversed = Vec::new(placing.alloc);
     let mut i = branches.len();
     'branches: while i > 0 {
         i -= 1;
-        let branch = place_branch(alloc, once, terms, scratch, &branches[i])?;
+        let branch = place_branch(placing, scratch, &branches[i])?;
         reversed.push(branch)?;
     }
     reversed.reverse();
@@ -188,18 +167,12 @@ fn place_branches(
 
 /// A branch.
 #[cycle(place)]
-fn place_branch(
-    alloc: Global,
-    once: &Tally,
-    terms: &Terms,
-    scratch: &mut Scratch,
-    branch: &Branch,
-) -> Result<Branch, Memory>
-    requires { branch.now.term.0 < length terms.now }
-    ensures { IfOk result (λ made. MakesBranch scratch.old.terms scratch.new.terms made branch.now (place (once_by once.now) (term_of terms.now branch.now.term.0))) }
+fn place_branch(placing: &Placing, scratch: &mut Scratch, branch: &Branch) -> Result<Branch, Memory>
+    requires { branch.now.term.0 < length placing.now.terms.now }
+    ensures { IfOk result (λ made. MakesBranch scratch.old.terms scratch.new.terms made branch.now (place (once_by placing.now.once.now) (term_of placing.now.terms.now branch.now.term.0))) }
 {
-    let term = place_term(alloc, once, terms, scratch, branch.term)?;
-    let variables = Vec::from_slice(alloc, &branch.variables)?;
+    let term = place_term(placing, scratch, branch.term)?;
+    let variables = Vec::from_slice(placing.alloc, &branch.variables)?;
     Ok(Branch {
         constructor: branch.constructor,
         variables,

@@ -4,7 +4,7 @@ use Rattle.gib_place.proofs.Onward.{Laying}
 use Rattle.gib_place.proofs.laying.lay.Given as goal
 
 abbrev pub invariant-run : goal.invariant-run
-invariant-run l = Laying (once_by l.once) l.times l.line l.moment l.i l.laid
+invariant-run l = Laying (once_by l.placing.once.now) l.times l.line l.time l.i l.laid
 
 abbrev pub decreases-run : goal.decreases-run
 decreases-run l = length l.line.run.items - l.i

@@ -12,39 +12,39 @@ use Rattle.gib_place.proofs.walk.+place.Goals as goal
 
 pub place_bindings-bindings-preserved : goal.place_bindings-bindings-preserved
 place_bindings-bindings-preserved t c =
-    bindings_next (once_by c.args.once.now) (term_of c.args.terms.now) c.args.bindings.now c.bindings.i c.args.scratch.now.terms c.bindings.scratch.terms c.place_binding.new.scratch.terms c.bindings.placed.items c.push.new.self.items _ _ c.in_ok-binding.binding c.bindings.invariant (omega arith) refl c.in_ok-binding.ensures c.in_ok-push.ensures.items
+    bindings_next (once_by c.args.placing.now.once.now) (term_of c.args.placing.now.terms.now) c.args.bindings.now c.bindings.i c.args.scratch.now.terms c.bindings.scratch.terms c.place_binding.new.scratch.terms c.bindings.placed.items c.push.new.self.items _ _ c.in_ok-binding.binding c.bindings.invariant (omega arith) refl c.in_ok-binding.ensures c.in_ok-push.ensures.items
 
 pub place_branches-branches-preserved : goal.place_branches-branches-preserved
 place_branches-branches-preserved t c =
-    (omega arith, branches_next (once_by c.args.once.now) (term_of c.args.terms.now) c.args.scratch.now.terms c.branches.scratch.terms c.place_branch.new.scratch.terms c.in_ok-branch.branch c.index-branches-i.result c.index-branches-i.result c.branches.reversed.items c.push.new.self.items c.args.branches.now (c.branches.i - 1) c.branches.i (omega arith) c.branches.invariant.0 c.index-branches-i.is c.in_ok-push.ensures.items c.branches.invariant.1 c.in_ok-branch.ensures)
+    (omega arith, branches_next (once_by c.args.placing.now.once.now) (term_of c.args.placing.now.terms.now) c.args.scratch.now.terms c.branches.scratch.terms c.place_branch.new.scratch.terms c.in_ok-branch.branch c.index-branches-i.result c.index-branches-i.result c.branches.reversed.items c.push.new.self.items c.args.branches.now (c.branches.i - 1) c.branches.i (omega arith) c.branches.invariant.0 c.index-branches-i.is c.in_ok-push.ensures.items c.branches.invariant.1 c.in_ok-branch.ensures)
 
 pub place_end-returns-in-Point : goal.place_end-returns-in-Point
 place_end-returns-in-Point t c =
-    end_passed (once_by c.args.once.now) c.args.terms.now c.args.scratch.now.terms c.args.scratch.now.terms c.put_other_line.new.scratch.terms c.args.id.0 c.args.bindings.items (n.Point c.in-Point.atom) (n.Point c.in-Point.atom) c.node.result.now c.put_other_line.result (grows_none c.args.scratch.now.terms) c.requires.below c.node.ensures.0 c.in-Point.is refl c.put_other_line.ensures
+    end_passed (once_by c.args.placing.now.once.now) c.args.placing.now.terms.now c.args.scratch.now.terms c.args.scratch.now.terms c.put_other_line.new.scratch.terms c.args.id.0 c.args.bindings.items (n.Point c.in-Point.atom) (n.Point c.in-Point.atom) c.node.result.now c.put_other_line.result (grows_none c.args.scratch.now.terms) c.requires.below c.node.ensures.0 c.in-Point.is refl c.put_other_line.ensures
 
 pub place_end-returns-in_ok-arguments-in-Call : goal.place_end-returns-in_ok-arguments-in-Call
 place_end-returns-in_ok-arguments-in-Call t c =
-    end_passed (once_by c.args.once.now) c.args.terms.now c.args.scratch.now.terms c.args.scratch.now.terms c.put_other_line-in-Call.new.scratch.terms c.args.id.0 c.args.bindings.items (n.Call c.in-Call.name c.in_ok-arguments-in-Call.arguments) (n.Call c.in-Call.name c.in-Call.arguments) c.node.result.now c.put_other_line-in-Call.result (grows_none c.args.scratch.now.terms) c.requires.below c.node.ensures.0 c.in-Call.is
+    end_passed (once_by c.args.placing.now.once.now) c.args.placing.now.terms.now c.args.scratch.now.terms c.args.scratch.now.terms c.put_other_line-in-Call.new.scratch.terms c.args.id.0 c.args.bindings.items (n.Call c.in-Call.name c.in_ok-arguments-in-Call.arguments) (n.Call c.in-Call.name c.in-Call.arguments) c.node.result.now c.put_other_line-in-Call.result (grows_none c.args.scratch.now.terms) c.requires.below c.node.ensures.0 c.in-Call.is
     (ap (CallTerm c.in-Call.name) (c.in_ok-arguments-in-Call.ensures.items ∙ c.deref-in-Call.ensures.value)) c.put_other_line-in-Call.ensures
 
 pub place_end-returns-in-Give : goal.place_end-returns-in-Give
 place_end-returns-in-Give t c =
-    end_passed (once_by c.args.once.now) c.args.terms.now c.args.scratch.now.terms c.args.scratch.now.terms c.put_other_line-in-Give.new.scratch.terms c.args.id.0 c.args.bindings.items (n.Give c.in-Give.atom) (n.Give c.in-Give.atom) c.node.result.now c.put_other_line-in-Give.result (grows_none c.args.scratch.now.terms) c.requires.below c.node.ensures.0 c.in-Give.is refl c.put_other_line-in-Give.ensures
+    end_passed (once_by c.args.placing.now.once.now) c.args.placing.now.terms.now c.args.scratch.now.terms c.args.scratch.now.terms c.put_other_line-in-Give.new.scratch.terms c.args.id.0 c.args.bindings.items (n.Give c.in-Give.atom) (n.Give c.in-Give.atom) c.node.result.now c.put_other_line-in-Give.result (grows_none c.args.scratch.now.terms) c.requires.below c.node.ensures.0 c.in-Give.is refl c.put_other_line-in-Give.ensures
 
 pub place_end-returns-in_ok-branches-in-Case : goal.place_end-returns-in_ok-branches-in-Case
 place_end-returns-in_ok-branches-in-Case t c =
-    end_passed (once_by c.args.once.now) c.args.terms.now c.args.scratch.now.terms c.place_branches.new.scratch.terms c.put_other_line-in-Case.new.scratch.terms c.args.id.0 c.args.bindings.items (n.Case c.in-Case.subject c.in_ok-branches-in-Case.branches) (n.Case c.in-Case.subject c.in-Case.branches) c.node.result.now c.put_other_line-in-Case.result c.in_ok-branches-in-Case.ensures.grows c.requires.below c.node.ensures.0 c.in-Case.is
-    (ap (CaseTerm c.in-Case.subject) (c.in_ok-branches-in-Case.ensures.are ∙ ap (λ z. inner_branches (once_by c.args.once.now) (branches_from (term_of c.args.terms.now) z)) c.deref-in-Case.ensures.value)) c.put_other_line-in-Case.ensures
+    end_passed (once_by c.args.placing.now.once.now) c.args.placing.now.terms.now c.args.scratch.now.terms c.place_branches.new.scratch.terms c.put_other_line-in-Case.new.scratch.terms c.args.id.0 c.args.bindings.items (n.Case c.in-Case.subject c.in_ok-branches-in-Case.branches) (n.Case c.in-Case.subject c.in-Case.branches) c.node.result.now c.put_other_line-in-Case.result c.in_ok-branches-in-Case.ensures.grows c.requires.below c.node.ensures.0 c.in-Case.is
+    (ap (CaseTerm c.in-Case.subject) (c.in_ok-branches-in-Case.ensures.are ∙ ap (λ z. inner_branches (once_by c.args.placing.now.once.now) (branches_from (term_of c.args.placing.now.terms.now) z)) c.deref-in-Case.ensures.value)) c.put_other_line-in-Case.ensures
 
 pub place_end-returns-in_ok-else_part-in-If : goal.place_end-returns-in_ok-else_part-in-If
 place_end-returns-in_ok-else_part-in-If t c =
     let a = c.in_ok-then_part-in-If.ensures in
     let b = c.in_ok-else_part-in-If.ensures in
-    end_passed (once_by c.args.once.now) c.args.terms.now c.args.scratch.now.terms c.place_term-in-If.new.scratch.terms c.put_other_line-in-If.new.scratch.terms c.args.id.0 c.args.bindings.items (n.If c.in-If.condition c.in_ok-then_part-in-If.then_part c.in_ok-else_part-in-If.else_part) (n.If c.in-If.condition c.in-If.then_part c.in-If.else_part) c.node.result.now c.put_other_line-in-If.result
+    end_passed (once_by c.args.placing.now.once.now) c.args.placing.now.terms.now c.args.scratch.now.terms c.place_term-in-If.new.scratch.terms c.put_other_line-in-If.new.scratch.terms c.args.id.0 c.args.bindings.items (n.If c.in-If.condition c.in_ok-then_part-in-If.then_part c.in_ok-else_part-in-If.else_part) (n.If c.in-If.condition c.in-If.then_part c.in-If.else_part) c.node.result.now c.put_other_line-in-If.result
     (grows_more c.args.scratch.now.terms c.place_term.new.scratch.terms c.place_term-in-If.new.scratch.terms a.grows b.grows) c.requires.below c.node.ensures.0 c.in-If.is
-    (if_made (once_by c.args.once.now) (term_of c.args.terms.now) c.args.scratch.now.terms c.place_term.new.scratch.terms c.place_term-in-If.new.scratch.terms c.in-If.condition c.in-If.then_part c.in-If.else_part c.in_ok-then_part-in-If.then_part c.in_ok-else_part-in-If.else_part a b) c.put_other_line-in-If.ensures
+    (if_made (once_by c.args.placing.now.once.now) (term_of c.args.placing.now.terms.now) c.args.scratch.now.terms c.place_term.new.scratch.terms c.place_term-in-If.new.scratch.terms c.in-If.condition c.in-If.then_part c.in-If.else_part c.in_ok-then_part-in-If.then_part c.in_ok-else_part-in-If.else_part a b) c.put_other_line-in-If.ensures
 
 pub place_term-returns : goal.place_term-returns
 place_term-returns t c =
-    made_passed c.place_end.result _ _ (λ made. line_placed (once_by c.args.once.now) c.args.terms.now c.args.scratch.now.terms c.place_bindings.new.scratch.terms c.place_end.new.scratch.terms c.args.id.0 c.in_ok-bindings.last.0 c.in_ok-bindings.bindings.items c.in_ok-bindings-2.bindings.items made c.in_ok-bindings.ensures
-    (subst (λ (z : List Binding). MakesBindings c.args.scratch.now.terms c.place_bindings.new.scratch.terms c.in_ok-bindings-2.bindings.items (map (inner_bind (once_by c.args.once.now)) (binds_from (term_of c.args.terms.now) z))) c.deref.ensures.value c.in_ok-bindings-2.ensures)) c.place_end.ensures
+    made_passed c.place_end.result _ _ (λ made. line_placed (once_by c.args.placing.now.once.now) c.args.placing.now.terms.now c.args.scratch.now.terms c.place_bindings.new.scratch.terms c.place_end.new.scratch.terms c.args.id.0 c.in_ok-bindings.last.0 c.in_ok-bindings.bindings.items c.in_ok-bindings-2.bindings.items made c.in_ok-bindings.ensures
+    (subst (λ (z : List Binding). MakesBindings c.args.scratch.now.terms c.place_bindings.new.scratch.terms c.in_ok-bindings-2.bindings.items (map (inner_bind (once_by c.args.placing.now.once.now)) (binds_from (term_of c.args.placing.now.terms.now) z))) c.deref.ensures.value c.in_ok-bindings-2.ensures)) c.place_end.ensures

@@ -28,13 +28,13 @@ abbrev pub decreases-place_branch : goal.decreases-place_branch
 decreases-place_branch l = 6 * l.branch.now.term.0 + 6
 
 abbrev pub invariant-place_bindings-bindings : goal.invariant-place_bindings-bindings
-invariant-place_bindings-bindings l = BindingsSoFar (once_by l.once) (term_of l.terms) l.bindings l.i l.fn.scratch.terms l.scratch.terms l.placed.items
+invariant-place_bindings-bindings l = BindingsSoFar (once_by l.placing.once.now) (term_of l.placing.terms.now) l.bindings l.i l.fn.scratch.terms l.scratch.terms l.placed.items
 
 abbrev pub decreases-place_bindings-bindings : goal.decreases-place_bindings-bindings
 decreases-place_bindings-bindings l = length l.bindings - l.i
 
 abbrev pub invariant-place_branches-branches : goal.invariant-place_branches-branches
-invariant-place_branches-branches l = (l.i ≤ length l.branches) × MakesBranches l.fn.scratch.terms l.scratch.terms (reverse l.reversed.items) (inner_branches (once_by l.once) (branches_from (term_of l.terms) (drop l.i l.branches)))
+invariant-place_branches-branches l = (l.i ≤ length l.branches) × MakesBranches l.fn.scratch.terms l.scratch.terms (reverse l.reversed.items) (inner_branches (once_by l.placing.once.now) (branches_from (term_of l.placing.terms.now) (drop l.i l.branches)))
 
 abbrev pub decreases-place_branches-branches : goal.decreases-place_branches-branches
 decreases-place_branches-branches l = l.i

@@ -1,8 +1,0 @@
-use Rattle.std.proofs.Common.{arith}
-use Rattle.gib_core.specs.Arena.{term_of}
-use Rattle.gib_place.proofs.Listed.{branches_next}
-use Rattle.gib_place.proofs.listing.+list.Goals as goal
-
-pub list_branches-branches-preserved : goal.list_branches-branches-preserved
-list_branches-branches-preserved t c =
-    branches_next (term_of c.args.terms.now) c.args.branches.now c.branches.i c.index-branches-i.result c.index-branches-i.result c.args.mentions.now.items c.branches.mentions.items c.list_branch.new.mentions.items (omega arith) c.index-branches-i.is c.branches.invariant c.in_ok-list_branch.ensures

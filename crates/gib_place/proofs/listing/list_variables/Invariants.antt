@@ -1,9 +1,0 @@
-use Rattle.std.proofs.Common.{◌≡◌, ◌++◌, ◌-◌, length, drop}
-use Rattle.gib_place.specs.Mentioned.{all_bound}
-use Rattle.gib_place.proofs.listing.list_variables.Given as goal
-
-abbrev pub invariant-variables : goal.invariant-variables
-invariant-variables l = l.mentions.items ++ all_bound (drop l.i l.variables) ≡ l.fn.mentions.items ++ all_bound l.variables
-
-abbrev pub decreases-variables : goal.decreases-variables
-decreases-variables l = length l.variables - l.i
