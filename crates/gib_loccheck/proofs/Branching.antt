@@ -6,7 +6,7 @@ use Rattle.gib_core.specs.Tree.{CoreTree, Term}
 use Rattle.gib_core.specs.Arena.{branches_from, IsBranchBelow}
 use Rattle.gib_core.specs.Met.{Met, met_branches}
 use Rattle.gib_loccheck.specs.declared.state.Walk.{Walk}
-use Rattle.gib_loccheck.specs.declared.state.Target.{Target}
+use Rattle.gib_loccheck.specs.declared.target.Target.{Target}
 use Rattle.gib_loccheck.specs.Views.{setting_of}
 use Rattle.gib_loccheck.specs.Judging.{Passes, Kept}
 

@@ -9,7 +9,7 @@ use Rattle.gib_core.specs.declared.scope.Bound.{Bound}
 use Rattle.gib_core.specs.declared.scope.Known.{Known}
 use Rattle.gib_core.specs.Met.{known}
 use Rattle.gib_core.specs.Rules.{is_bound, type_bound}
-use Rattle.gib_loccheck.specs.declared.scope.InScope.{InScope}
+use Rattle.gib_loccheck.specs.declared.index.scope.InScope.{InScope}
 use Rattle.gib_loccheck.specs.Found.{AreTypes, AreMarked, AreKnown, known_of, is_found}
 
 pub types_put : (bound : List Bound) (old new : List (Option Ty)) (b : Bound) → AreTypes bound old

@@ -5,15 +5,19 @@ use Rattle.gib_core.specs.Tree.{CoreTree}
 use Rattle.gib_core.specs.Met.{Met}
 use Rattle.gib_core.specs.Rules.{Before, Broken, or_later, or_else, least, rules, next, next_all, broken_from}
 use Rattle.gib_loccheck.specs.declared.state.Walk.{Walk}
-use Rattle.gib_loccheck.specs.declared.state.Target.{Target}
+use Rattle.gib_loccheck.specs.declared.target.Target.{Target}
 use Rattle.gib_loccheck.specs.declared.fault.LocFault.{LocFault}
 use Rattle.gib_loccheck.specs.declared.fault.LocFault.TheVariants as fault
 use Rattle.gib_loccheck.specs.Views.{before_of, setting_of, call_of}
-use Rattle.gib_loccheck.specs.Judging.{Passes, Blames, Kept, Stays}
+use Rattle.std.specs.Prelude.{Result, Ok, Err}
+use Rattle.gib_loccheck.specs.Judging.{Passes, Blames, Kept, Checks, Stays}
 
 or_later-else : (r : Option ℕ) (p : ℕ) (a b : Broken) → or_later r p (or_else a b) ≡ or_else (or_later r p a) b
 or_later-else None p a b = refl
 or_later-else (Some r) p a b = refl
+
+pub kept_then : (a b c : Walk) → Kept a b → Kept b c → Kept a c
+kept_then a b c p q = record { scope = q.scope ∙ p.scope; others = q.others ∙ p.others; calls = q.calls ∙ p.calls }
 
 module _ (core : CoreTree) where
   pub broken-append : (p : ℕ) (b : Before) (xs ys : List Met)
@@ -51,6 +55,11 @@ module _ (core : CoreTree) where
   blames_back fault.Memory a b xs ys p h = tt {0}
   blames_back (fault.Rule r q) a b xs ys p h = later a b xs ys p ∙ h
 
+  -- What the walk answers of lines behind others that pass.
+  pub checks_then : (a b c : Walk) (xs ys : List Met) (r : Result (Unit {0}) LocFault) → Passes core a b xs → Kept a b → Checks core b c ys r → Checks core a c (xs ++ ys) r
+  checks_then a b c xs ys (Ok x) p k h = (passes_then a b c xs ys p h.0, kept_then a b c k h.1)
+  checks_then a b c xs ys (Err e) p k h = blames_back e a b xs ys p h
+
   pub passes_none : (a : Walk) → Passes core a a []
   passes_none a = record { unbroken = refl; before = refl; place = omega arith }
 
@@ -74,6 +83,3 @@ stays_same a = record { bound = refl; cased = refl; place = refl }
 
 pub setting-kept : (old new : Walk) (t : Target) → Kept old new → setting_of new t ≡ setting_of old t
 setting-kept old new t k = (λ i. record { destination = (setting_of old t).destination; due = t.due; scope = reverse (k.scope i); others = reverse (k.others i); whole = t.whole; calls = reverse (map call_of (k.calls i)) })
-
-pub kept_then : (a b c : Walk) → Kept a b → Kept b c → Kept a c
-kept_then a b c p q = record { scope = q.scope ∙ p.scope; others = q.others ∙ p.others; calls = q.calls ∙ p.calls }

@@ -4,7 +4,6 @@ pub mod Searching
 pub mod Telling
 pub mod Scoping
 -- Lines, branches and bodies, one behind another.
-pub mod OneLine
 pub mod Judges
 pub mod Lining
 pub mod Arms

@@ -11,7 +11,7 @@ use Rattle.gib_core.specs.Tree.{CoreTree, Then}
 use Rattle.gib_core.specs.Arena.{Opens, PartsBelow, IsBindingBelow, term_of, bind_from, layer}
 use Rattle.gib_core.specs.Met.{Setting, Met, met, met_bind, behind}
 use Rattle.gib_loccheck.specs.declared.state.Walk.{Walk}
-use Rattle.gib_loccheck.specs.declared.state.Target.{Target}
+use Rattle.gib_loccheck.specs.declared.target.Target.{Target}
 use Rattle.gib_loccheck.specs.declared.fault.LocFault.{LocFault}
 use Rattle.gib_loccheck.specs.Views.{setting_of, at_line, call_of}
 use Rattle.gib_loccheck.specs.Judging.{Passes, Blames, Kept, Binds, Stays}

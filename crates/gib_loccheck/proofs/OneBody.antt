@@ -10,7 +10,7 @@ use Rattle.gib_core.specs.Parts.{Parts, IsFunctionInside, core_of, function_term
 use Rattle.gib_core.specs.Met.{Body, met, met_body, bodies, opening, result_place}
 use Rattle.gib_core.specs.Rules.{Broken, or_else, broken_from, broken_in, before_body, first_broken}
 use Rattle.gib_loccheck.specs.declared.state.Walk.{Walk}
-use Rattle.gib_loccheck.specs.declared.state.Target.{Target}
+use Rattle.gib_loccheck.specs.declared.target.Target.{Target}
 use Rattle.gib_loccheck.specs.declared.fault.LocFault.{LocFault}
 use Rattle.gib_loccheck.specs.declared.fault.LocFault.TheVariants as fault
 use Rattle.gib_loccheck.specs.Views.{before_of, setting_of, at_line, destination_of}

@@ -11,7 +11,7 @@ use Rattle.gib_core.specs.Tree.{CoreTree}
 use Rattle.gib_core.specs.Met.{Setting}
 use Rattle.gib_core.specs.Rules.{Before, is_usable, is_other, all_usable, any_other, may_reach, by_access}
 use Rattle.gib_loccheck.specs.declared.state.Walk.{Walk}
-use Rattle.gib_loccheck.specs.declared.state.Target.{Target}
+use Rattle.gib_loccheck.specs.declared.target.Target.{Target}
 use Rattle.gib_loccheck.specs.Views.{in_scope, setting_of}
 
 pub usable_same : (w : Walk) (t : Target) (x : Atom) → is_usable (in_scope w) x ≡ is_usable (setting_of w t) x

@@ -13,7 +13,7 @@ use Rattle.gib_core.specs.Ending.{call_ends}
 use Rattle.gib_core.specs.Met.{Setting, behind, behind_side, call_too}
 use Rattle.gib_core.specs.Rules.{one_tells, is_outside}
 use Rattle.gib_loccheck.specs.declared.state.Walk.{Walk}
-use Rattle.gib_loccheck.specs.declared.state.Target.{Target}
+use Rattle.gib_loccheck.specs.declared.target.Target.{Target}
 use Rattle.gib_loccheck.specs.declared.state.Told.{Told}
 use Rattle.gib_loccheck.specs.Views.{call_of, calls_of, setting_of}
 use Rattle.gib_loccheck.specs.Judging.{Kept, Binds, Tells}

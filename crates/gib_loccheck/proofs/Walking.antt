@@ -1,24 +1,26 @@
 -- The lines of a term, from those of its parts.
-use Rattle.std.proofs.Common.{◌≡◌, ℕ, ◌-◌, ◌≤◌, false, List, [], ◌∷◌, ◌++◌, refl, sym, ap, ◌∙◌, subst, arith, take, drop, get_or, length, append_assoc}
+use Rattle.std.proofs.Common.{◌≡◌, ℕ, ◌-◌, ◌≤◌, false, List, [], ◌∷◌, ◌++◌, refl, sym, ap, ◌∙◌, subst, arith, take, drop, get_or, length, map, reverse, append_assoc}
 use Rattle.std.proofs.Math.Seq.{take-length}
+use Rattle.std.proofs.lemmas.List.{reverse-append}
+use Rattle.std.specs.Prelude.{Result}
 use Rattle.gib_types.specs.declared.table.Ty.{Ty}
 use Rattle.gib_types.specs.declared.table.ConId.{ConId}
+use Rattle.gib_syntax.specs.declared.tree.Operator.{Operator}
 use Rattle.gib_core.specs.declared.atom.Variable.{Variable}
 use Rattle.gib_core.specs.declared.atom.Atom.{Atom}
 use Rattle.gib_core.specs.declared.atom.Kind.{Kind}
 use Rattle.gib_core.specs.declared.node.Branch.{Branch}
-use Rattle.gib_core.specs.Tree.{CoreTree, Term, IfTerm, CaseTerm, Bind, Both, Side, On, variable_of}
+use Rattle.gib_core.specs.Tree.{CoreTree, Term, IfTerm, CaseTerm, Bind, Prim, Both, Side, On, variable_of}
 use Rattle.gib_core.specs.Arena.{branches_from}
-use Rattle.gib_core.specs.Met.{Setting, Met, ParLine, CaseLine, IfLine, met, met_bind, met_side, met_branches, behind, behind_side, in_arm, in_branch, arms_of}
+use Rattle.gib_core.specs.Met.{Setting, Met, ParLine, CaseLine, IfLine, met, met_bind, met_side, met_branches, reached, behind, behind_side, in_arm, in_branch, arms_of}
 use Rattle.gib_loccheck.specs.declared.state.Walk.{Walk}
-use Rattle.gib_loccheck.specs.declared.state.Target.{Target}
+use Rattle.gib_loccheck.specs.declared.target.Target.{Target}
 use Rattle.gib_loccheck.specs.declared.fault.LocFault.{LocFault}
 use Rattle.gib_loccheck.specs.declared.fault.LocFault.TheVariants as fault
-use Rattle.gib_loccheck.specs.Views.{in_scope, setting_of, at_line, arms_in, arm_of}
-use Rattle.gib_loccheck.specs.Judging.{one, Passes, Blames, Kept, Binds, with_other, past_field}
+use Rattle.gib_loccheck.specs.Views.{in_scope, setting_of, at_line, arms_in, arm_of, destination_of, call_of}
+use Rattle.gib_loccheck.specs.Judging.{one, Passes, Blames, Kept, Checks, Binds, Enters, with_other, past_field}
 use Rattle.gib_loccheck.proofs.Branching.{ArmsSoFar}
-use Rattle.gib_loccheck.proofs.Judges.{passes_then, blames_front, blames_back, setting-kept, kept_then}
-use Rattle.gib_loccheck.proofs.OneLine.{if_passes, if_blames}
+use Rattle.gib_loccheck.proofs.Judges.{passes_then, checks_then, blames_front, blames_back, setting-kept, kept_then}
 
 pub arms_known : (f : ℕ → Term) (bs : List Branch) → arms_of (branches_from f bs) ≡ arms_in bs
 arms_known f [] = refl
@@ -41,16 +43,31 @@ binds_both a b c inner target t l r p q = record {
   setting = q.setting ∙ ap (λ z. behind_side z r) p.setting;
 }
 
+-- An operation, behind which its variable is in scope.
+pub binds_prim : (a b c : Walk) (target next : Target) (x : Variable) (f : Operator) (y z : Atom) → Kept a b → Enters b c (reached x)
+    → ((w : Walk) → setting_of w next ≡ record (setting_of w target) { whole = false }) → Binds a c next (behind (setting_of a target) (Prim x f y z))
+binds_prim a b c target next x f y z k h e =
+    let grown : c.scope.items ≡ a.scope.items ++ reached x ∷ [] = h.scope ∙ ap (λ ks. ks ++ reached x ∷ []) k.scope in
+    let front : reverse c.scope.items ≡ reached x ∷ reverse a.scope.items = ap reverse grown ∙ reverse-append a.scope.items (reached x ∷ []) in
+    let others : c.others.items ≡ a.others.items = h.others ∙ k.others in
+    let calls : c.calls.items ≡ a.calls.items = h.calls ∙ k.calls in
+    record {
+      more = reached x ∷ [];
+      scope = grown;
+      others = others;
+      setting = e c ∙ (λ i. record { destination = destination_of target.destination; due = target.due; scope = front i; others = reverse (others i); whole = false; calls = reverse (map call_of (calls i)) });
+    }
+
 module _ (core : CoreTree) where
   -- A case: its subject, and its branches.
-  pub case_passes : (a b c : Walk) (target : Target) (x : Atom) (f : ℕ → Term) (bs : List Branch)
-      → Passes core a b (one (setting_of a target) (CaseLine x (arms_in bs))) → Kept a b → Passes core b c (met_branches core.table (setting_of b target) (branches_from f bs))
-      → Passes core a c (met core.table (setting_of a target) (CaseTerm x (branches_from f bs)))
-  case_passes a b c target x f bs p k q =
+  pub case_checks : (a b c : Walk) (target : Target) (x : Atom) (f : ℕ → Term) (bs : List Branch) (r : Result (Unit {0}) LocFault)
+      → Passes core a b (one (setting_of a target) (CaseLine x (arms_in bs))) → Kept a b → Checks core b c (met_branches core.table (setting_of b target) (branches_from f bs)) r
+      → Checks core a c (met core.table (setting_of a target) (CaseTerm x (branches_from f bs))) r
+  case_checks a b c target x f bs r p k q =
       let s = setting_of a target in
       let p' = subst (λ (z : List (ConId × List Variable)). Passes core a b (one s (CaseLine x z))) (sym (arms_known f bs)) p in
-      let q' = subst (λ (z : Setting). Passes core b c (met_branches core.table z (branches_from f bs))) (setting-kept a b target k) q in
-      passes_then core a b c (one s (CaseLine x (arms_of (branches_from f bs)))) (met_branches core.table s (branches_from f bs)) p' q'
+      let q' = subst (λ (z : Setting). Checks core b c (met_branches core.table z (branches_from f bs)) r) (setting-kept a b target k) q in
+      checks_then core a b c (one s (CaseLine x (arms_of (branches_from f bs)))) (met_branches core.table s (branches_from f bs)) r p' k q'
 
   pub case_blames_subject : (e : LocFault) (a : Walk) (target : Target) (x : Atom) (f : ℕ → Term) (bs : List Branch)
       → Blames core a (one (setting_of a target) (CaseLine x (arms_in bs))) e → Blames core a (met core.table (setting_of a target) (CaseTerm x (branches_from f bs))) e
@@ -59,58 +76,37 @@ module _ (core : CoreTree) where
       let h' = subst (λ (z : List (ConId × List Variable)). Blames core a (one s (CaseLine x z)) e) (sym (arms_known f bs)) h in
       blames_front core e a (one s (CaseLine x (arms_of (branches_from f bs)))) (met_branches core.table s (branches_from f bs)) h'
 
-  pub case_blames_arms : (e : LocFault) (a b : Walk) (target : Target) (x : Atom) (f : ℕ → Term) (bs : List Branch)
-      → Passes core a b (one (setting_of a target) (CaseLine x (arms_in bs))) → Kept a b → Blames core b (met_branches core.table (setting_of b target) (branches_from f bs)) e
-      → Blames core a (met core.table (setting_of a target) (CaseTerm x (branches_from f bs))) e
-  case_blames_arms e a b target x f bs p k q =
-      let s = setting_of a target in
-      let p' = subst (λ (z : List (ConId × List Variable)). Passes core a b (one s (CaseLine x z))) (sym (arms_known f bs)) p in
-      let q' = subst (λ (z : Setting). Blames core b (met_branches core.table z (branches_from f bs)) e) (setting-kept a b target k) q in
-      blames_back core e a b (one s (CaseLine x (arms_of (branches_from f bs)))) (met_branches core.table s (branches_from f bs)) p' q'
-
   -- Both branches of an `if`.
   inner_same : (a b : Walk) (target inner : Target) → Kept a b → ((w : Walk) → setting_of w inner ≡ record (setting_of w target) { whole = false }) → at_line (setting_of b inner) ≡ in_branch (setting_of a target)
   inner_same a b target inner k e = ap at_line (e b ∙ ap (λ (z : Setting). record z { whole = false }) (setting-kept a b target k))
 
-  pub if_else_passes : (a b c d : Walk) (target first second : Target) (x : Atom) (t u : Term)
-      → Passes core a b (one (in_scope a) (IfLine x)) → Kept a b → ((w : Walk) → setting_of w first ≡ record (setting_of w target) { whole = false })
+  pub if_else_checks : (a b c d : Walk) (target first second : Target) (x : Atom) (t u : Term) (o : Result (Unit {0}) LocFault)
+      → Passes core a b (one (setting_of a target) (IfLine x)) → Kept a b → ((w : Walk) → setting_of w first ≡ record (setting_of w target) { whole = false })
       → Passes core b c (met core.table (at_line (setting_of b first)) t) → Kept b c → ((w : Walk) → setting_of w second ≡ record (setting_of w target) { whole = false })
-      → Passes core c d (met core.table (at_line (setting_of c second)) u)
-      → Passes core a d (met core.table (setting_of a target) (IfTerm x t u))
-  if_else_passes a b c d target first second x t u p k e q l f r =
+      → Checks core c d (met core.table (at_line (setting_of c second)) u) o
+      → Checks core a d (met core.table (setting_of a target) (IfTerm x t u)) o
+  if_else_checks a b c d target first second x t u o p k e q l f r =
       let s = setting_of a target in
       let q' = subst (λ (z : Setting). Passes core b c (met core.table z t)) (inner_same a b target first k e) q in
-      let r' = subst (λ (z : Setting). Passes core c d (met core.table z u)) (inner_same a c target second (kept_then a b c k l) f) r in
-      passes_then core a b d (one s (IfLine x)) (met core.table (in_branch s) t ++ met core.table (in_branch s) u) (if_passes core a b target x p)
-      (passes_then core b c d (met core.table (in_branch s) t) (met core.table (in_branch s) u) q' r')
+      let r' = subst (λ (z : Setting). Checks core c d (met core.table z u) o) (inner_same a c target second (kept_then a b c k l) f) r in
+      checks_then core a b d (one s (IfLine x)) (met core.table (in_branch s) t ++ met core.table (in_branch s) u) o p k
+      (checks_then core b c d (met core.table (in_branch s) t) (met core.table (in_branch s) u) o q' l r')
 
   pub if_else_blames_first : (e : LocFault) (a b : Walk) (target first : Target) (x : Atom) (t u : Term)
-      → Passes core a b (one (in_scope a) (IfLine x)) → Kept a b → ((w : Walk) → setting_of w first ≡ record (setting_of w target) { whole = false })
+      → Passes core a b (one (setting_of a target) (IfLine x)) → Kept a b → ((w : Walk) → setting_of w first ≡ record (setting_of w target) { whole = false })
       → Blames core b (met core.table (at_line (setting_of b first)) t) e
       → Blames core a (met core.table (setting_of a target) (IfTerm x t u)) e
   if_else_blames_first e a b target first x t u p k i q =
       let s = setting_of a target in
       let q' = subst (λ (z : Setting). Blames core b (met core.table z t) e) (inner_same a b target first k i) q in
-      blames_back core e a b (one s (IfLine x)) (met core.table (in_branch s) t ++ met core.table (in_branch s) u) (if_passes core a b target x p)
+      blames_back core e a b (one s (IfLine x)) (met core.table (in_branch s) t ++ met core.table (in_branch s) u) p
       (blames_front core e b (met core.table (in_branch s) t) (met core.table (in_branch s) u) q')
 
-  pub if_else_blames_second : (e : LocFault) (a b c : Walk) (target first second : Target) (x : Atom) (t u : Term)
-      → Passes core a b (one (in_scope a) (IfLine x)) → Kept a b → ((w : Walk) → setting_of w first ≡ record (setting_of w target) { whole = false })
-      → Passes core b c (met core.table (at_line (setting_of b first)) t) → Kept b c → ((w : Walk) → setting_of w second ≡ record (setting_of w target) { whole = false })
-      → Blames core c (met core.table (at_line (setting_of c second)) u) e
-      → Blames core a (met core.table (setting_of a target) (IfTerm x t u)) e
-  if_else_blames_second e a b c target first second x t u p k i q l f r =
-      let s = setting_of a target in
-      let q' = subst (λ (z : Setting). Passes core b c (met core.table z t)) (inner_same a b target first k i) q in
-      let r' = subst (λ (z : Setting). Blames core c (met core.table z u) e) (inner_same a c target second (kept_then a b c k l) f) r in
-      blames_back core e a b (one s (IfLine x)) (met core.table (in_branch s) t ++ met core.table (in_branch s) u) (if_passes core a b target x p)
-      (blames_back core e b c (met core.table (in_branch s) t) (met core.table (in_branch s) u) q' r')
-
   pub if_else_blames_condition : (e : LocFault) (a : Walk) (target : Target) (x : Atom) (t u : Term)
-      → Blames core a (one (in_scope a) (IfLine x)) e → Blames core a (met core.table (setting_of a target) (IfTerm x t u)) e
+      → Blames core a (one (setting_of a target) (IfLine x)) e → Blames core a (met core.table (setting_of a target) (IfTerm x t u)) e
   if_else_blames_condition e a target x t u h =
       let s = setting_of a target in
-      blames_front core e a (one s (IfLine x)) (met core.table (in_branch s) t ++ met core.table (in_branch s) u) (if_blames core a target x e h)
+      blames_front core e a (one s (IfLine x)) (met core.table (in_branch s) t ++ met core.table (in_branch s) u) h
 
   -- Two sides.
   par_passes : (a b : Walk) (s : Setting) → Passes core a b (one (in_scope a) ParLine) → Passes core a b (one s ParLine)
@@ -123,19 +119,19 @@ module _ (core : CoreTree) where
       → with_other x (setting_of b next) ≡ with_other x (past_field kind x (setting_of a target))
   past_kept a b target next kind x k e = ap (with_other x) (e b ∙ ap (past_field kind x) (setting-kept a b target k))
 
-  pub sides_pass : (a b c d : Walk) (target next : Target) (kind : Kind) (x : Variable) (ty : Ty) (t : Term) (r : Side) (y : Variable) → y ≡ variable_of r
+  pub sides_check : (a b c d : Walk) (target next : Target) (kind : Kind) (x : Variable) (ty : Ty) (t : Term) (r : Side) (y : Variable) (o : Result (Unit {0}) LocFault) → y ≡ variable_of r
       → Passes core a b (one (in_scope a) ParLine) → Kept a b
       → Passes core b c (met_side core.table (with_other y (setting_of b target)) (On kind x ty t)) → Kept b c
       → ((w : Walk) → setting_of w next ≡ past_field kind x (setting_of w target))
-      → Passes core c d (met_side core.table (with_other x (setting_of c next)) r)
-      → Passes core a d (met_bind core.table (setting_of a target) (Both false (On kind x ty t) r))
-  sides_pass a b c d target next kind x ty t r y same p k q l e h =
+      → Checks core c d (met_side core.table (with_other x (setting_of c next)) r) o
+      → Checks core a d (met_bind core.table (setting_of a target) (Both false (On kind x ty t) r)) o
+  sides_check a b c d target next kind x ty t r y o same p k q l e h =
       let s = setting_of a target in
       let y' = variable_of r in
       let q' = subst (λ (z : Setting). Passes core b c (met_side core.table z (On kind x ty t))) (other_kept a b target y k ∙ ap (λ v. with_other v s) same) q in
-      let h' = subst (λ (z : Setting). Passes core c d (met_side core.table z r)) (past_kept a c target next kind x (kept_then a b c k l) e) h in
-      passes_then core a b d (one s ParLine) (met_side core.table (with_other y' s) (On kind x ty t) ++ met_side core.table (with_other x (past_field kind x s)) r) (par_passes a b s p)
-      (passes_then core b c d (met_side core.table (with_other y' s) (On kind x ty t)) (met_side core.table (with_other x (past_field kind x s)) r) q' h')
+      let h' = subst (λ (z : Setting). Checks core c d (met_side core.table z r) o) (past_kept a c target next kind x (kept_then a b c k l) e) h in
+      checks_then core a b d (one s ParLine) (met_side core.table (with_other y' s) (On kind x ty t) ++ met_side core.table (with_other x (past_field kind x s)) r) o (par_passes a b s p) k
+      (checks_then core b c d (met_side core.table (with_other y' s) (On kind x ty t)) (met_side core.table (with_other x (past_field kind x s)) r) o q' l h')
 
   pub sides_blame_left : (e : LocFault) (a b : Walk) (target : Target) (kind : Kind) (x : Variable) (ty : Ty) (t : Term) (r : Side) (y : Variable) → y ≡ variable_of r
       → Passes core a b (one (in_scope a) ParLine) → Kept a b
@@ -147,20 +143,6 @@ module _ (core : CoreTree) where
       let q' = subst (λ (z : Setting). Blames core b (met_side core.table z (On kind x ty t)) e) (other_kept a b target y k ∙ ap (λ v. with_other v s) same) q in
       blames_back core e a b (one s ParLine) (met_side core.table (with_other y' s) (On kind x ty t) ++ met_side core.table (with_other x (past_field kind x s)) r) (par_passes a b s p)
       (blames_front core e b (met_side core.table (with_other y' s) (On kind x ty t)) (met_side core.table (with_other x (past_field kind x s)) r) q')
-
-  pub sides_blame_right : (e : LocFault) (a b c : Walk) (target next : Target) (kind : Kind) (x : Variable) (ty : Ty) (t : Term) (r : Side) (y : Variable) → y ≡ variable_of r
-      → Passes core a b (one (in_scope a) ParLine) → Kept a b
-      → Passes core b c (met_side core.table (with_other y (setting_of b target)) (On kind x ty t)) → Kept b c
-      → ((w : Walk) → setting_of w next ≡ past_field kind x (setting_of w target))
-      → Blames core c (met_side core.table (with_other x (setting_of c next)) r) e
-      → Blames core a (met_bind core.table (setting_of a target) (Both false (On kind x ty t) r)) e
-  sides_blame_right e a b c target next kind x ty t r y same p k q l i h =
-      let s = setting_of a target in
-      let y' = variable_of r in
-      let q' = subst (λ (z : Setting). Passes core b c (met_side core.table z (On kind x ty t))) (other_kept a b target y k ∙ ap (λ v. with_other v s) same) q in
-      let h' = subst (λ (z : Setting). Blames core c (met_side core.table z r) e) (past_kept a c target next kind x (kept_then a b c k l) i) h in
-      blames_back core e a b (one s ParLine) (met_side core.table (with_other y' s) (On kind x ty t) ++ met_side core.table (with_other x (past_field kind x s)) r) (par_passes a b s p)
-      (blames_back core e b c (met_side core.table (with_other y' s) (On kind x ty t)) (met_side core.table (with_other x (past_field kind x s)) r) q' h')
 
   pub sides_blame_par : (e : LocFault) (a : Walk) (target : Target) (l r : Side) → Blames core a (one (in_scope a) ParLine) e → Blames core a (met_bind core.table (setting_of a target) (Both false l r)) e
   sides_blame_par fault.Memory a target l r h = tt {0}

@@ -7,7 +7,7 @@ use Rattle.gib_core.specs.declared.scope.Bound.{Bound}
 use Rattle.gib_core.specs.declared.scope.Known.{Known}
 use Rattle.gib_core.specs.Met.{known}
 use Rattle.gib_core.specs.Rules.{is_among, type_bound}
-use Rattle.gib_loccheck.specs.declared.scope.InScope.{InScope}
+use Rattle.gib_loccheck.specs.declared.index.scope.InScope.{InScope}
 
 -- Items, the newest last.
 pub record Listed (A : Type 0) : Type 0 where

@@ -1,15 +1,15 @@
 -- What the walk answers.
-use Rattle.std.specs.Prelude.{◌≡◌, ◌+◌, List, [], ◌∷◌, ◌++◌, length, reverse, Some, None}
+use Rattle.std.specs.Prelude.{◌≡◌, ◌+◌, List, [], ◌∷◌, ◌++◌, length, reverse, Some, None, Result, Ok, Err}
 use Rattle.gib_types.specs.declared.table.Ty.{Ty}
 use Rattle.gib_core.specs.declared.atom.Variable.{Variable}
 use Rattle.gib_core.specs.declared.atom.Atom.{Atom}
 use Rattle.gib_core.specs.declared.atom.Kind.{Kind}
 use Rattle.gib_core.specs.declared.scope.Known.{Known}
-use Rattle.gib_core.specs.Tree.{CoreTree, Term}
-use Rattle.gib_core.specs.Met.{Setting, Met, Line, CaseLine, stands_too, reached_too, call_too, known}
+use Rattle.gib_core.specs.Tree.{CoreTree, Term, Bind}
+use Rattle.gib_core.specs.Met.{Setting, Met, Line, CaseLine, met_bind, behind, stands_too, reached_too, call_too, known}
 use Rattle.gib_core.specs.Rules.{Broken, broken_from, next_all, cases_on}
 use Rattle.gib_loccheck.specs.declared.state.Walk.{Walk}
-use Rattle.gib_loccheck.specs.declared.state.Target.{Target}
+use Rattle.gib_loccheck.specs.declared.target.Target.{Target}
 use Rattle.gib_loccheck.specs.declared.fault.LocFault.{LocFault}
 use Rattle.gib_loccheck.specs.declared.fault.LocFault.TheVariants as fault
 use Rattle.gib_loccheck.specs.Views.{before_of, setting_of, calls_of}
@@ -44,12 +44,22 @@ pub record Kept (old new : Walk) : Type 0 where
   pub others : new.others.items ≡ old.others.items
   pub calls : new.calls.items ≡ old.calls.items
 
+-- What the walk answers of lines: it stands behind them with the same in scope, or it names the first rule that they break.
+abbrev pub Checks : CoreTree → Walk → Walk → List Met → Result (Unit {0}) LocFault → Type 0
+Checks core old new lines (Ok x) = Passes core old new lines × Kept old new
+Checks core old new lines (Err e) = Blames core old lines e
+
 -- More is in scope, and what stands behind is met with this.
 pub record Binds (old new : Walk) (target : Target) (now : Setting) : Type 0 where
   pub more : List Known
   pub scope : new.scope.items ≡ old.scope.items ++ more
   pub others : new.others.items ≡ old.others.items
   pub setting : setting_of new target ≡ now
+
+-- What the walk answers of a binding: it stands behind it and has what is due there, or it names the first rule that is broken.
+abbrev pub ChecksBinding : CoreTree → Walk → Walk → Setting → Bind → Result Target LocFault → Type 0
+ChecksBinding core old new s b (Ok t) = Passes core old new (met_bind core.table s b) × Binds old new t (behind s b)
+ChecksBinding core old new s b (Err e) = Blames core old (met_bind core.table s b) e
 
 -- One more variable was bound, and nothing else is new.
 pub record BindsToo (old new : Walk) (x : Variable) (ty : Ty) : Type 0 where

@@ -15,9 +15,9 @@ use Rattle.gib_core.specs.Met.{Destination, Nowhere, Empty, Open, Setting, in_ar
 use Rattle.gib_core.specs.Rules.{Before, Judgement, rule_number, judged, any_other, is_bound, have_types, gives_packed, is_empty, all_usable, call_fits}
 use Rattle.gib_loccheck.specs.declared.state.Walk.{Walk}
 use Rattle.gib_loccheck.specs.declared.state.Told.{Told}
-use Rattle.gib_loccheck.specs.declared.state.Target.{Target}
-use Rattle.gib_loccheck.specs.declared.state.Destination.{Destination as Stored}
-use Rattle.gib_loccheck.specs.declared.state.Destination.TheVariants as d
+use Rattle.gib_loccheck.specs.declared.target.Target.{Target}
+use Rattle.gib_loccheck.specs.declared.target.Destination.{Destination as Stored}
+use Rattle.gib_loccheck.specs.declared.target.Destination.TheVariants as d
 
 -- Where a value is put.
 abbrev pub destination_of : Stored → Destination

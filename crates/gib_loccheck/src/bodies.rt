@@ -10,12 +10,13 @@ ghost use Rattle.gib_loccheck.specs.Views.{destination_of};
 ghost use Rattle.gib_loccheck.specs.Judging.{Says};
 ghost use Rattle.gib_loccheck.specs.Bodies.{Pass, Blame, Opens, bodies_of};
 
-use crate::bindings::enter;
-use crate::bound::{BoundVariables, MarkedVariables};
 use crate::fault::LocFault;
-use crate::indexed::IndexedCore;
-use crate::scope::Scope;
-use crate::state::{Destination, Target, Walk};
+use crate::index::bound::{BoundVariables, MarkedVariables};
+use crate::index::indexed::IndexedCore;
+use crate::index::scope::Scope;
+use crate::lines::enter;
+use crate::state::Walk;
+use crate::target::{Destination, Target};
 use crate::walk::check_term;
 use gib_base::Memory;
 use gib_core::{Bound, CoreFunction, TermId, Variable};

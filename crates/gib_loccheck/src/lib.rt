@@ -11,29 +11,22 @@ ghost use Rattle.gib_core.specs.Rules.{AreBuilt, first_broken};
 ghost use Rattle.gib_loccheck.specs.Answers.{IsMemory, IsMemoryOr, IsFirst};
 
 mod atoms;
-mod bindings;
 mod bodies;
-mod bound;
-mod calls;
-mod cases;
-mod entry;
 pub mod examples;
 mod fault;
-mod flagging;
-mod indexed;
+mod index;
 pub mod law;
 mod lines;
-mod rules;
-mod scope;
 mod state;
 mod table;
+mod target;
 mod walk;
 
 use bodies::check_bodies;
 pub use fault::LocFault;
 use gib_core::law::{built_is_unbroken, reaching_makes_built};
 use gib_core::{Checked, Core};
-use indexed::IndexedCore;
+use index::indexed::IndexedCore;
 use std::alloc::Global;
 
 /// A core that breaks no build rule.

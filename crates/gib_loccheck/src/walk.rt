@@ -1,25 +1,31 @@
 //! The walk over the terms of one body, in the order of the text.
 
-ghost use Rattle.std.specs.Prelude.{◌<◌, length, false, Some, IfOk, IfErr};
+ghost use Rattle.std.specs.Prelude.{◌<◌, length, false, Some};
 ghost use Rattle.std.specs.List.{AllByRecursion};
 ghost use Rattle.gib_core.specs.Tree.{CaseTerm, IfTerm, One, Both};
 ghost use Rattle.gib_core.specs.Arena.{Opens, IsEnd, IsBindingBelow, IsBranchBelow, layer, term_of, side_from, bind_from, branches_from};
 ghost use Rattle.gib_core.specs.Parts.{core_of};
-ghost use Rattle.gib_core.specs.Met.{met, met_bind, met_side, met_branches, behind, in_arm};
+ghost use Rattle.gib_core.specs.Met.{met, met_bind, met_side, met_branches, in_arm};
 ghost use Rattle.gib_loccheck.specs.Views.{setting_of, at_line};
-ghost use Rattle.gib_loccheck.specs.Judging.{Passes, Blames, Kept, Binds, with_other};
+ghost use Rattle.gib_loccheck.specs.Judging.{Checks, ChecksBinding, with_other};
 
-use crate::bindings::{
-    add_other, begin_line, behind_field, behind_operation, enter_side, enter_sides, leave,
-    leave_line, open_arm, open_head, reach_field, tell, without_call,
-};
 use crate::fault::LocFault;
-use crate::indexed::IndexedCore;
-use crate::lines::{
-    judge_call, judge_case, judge_give, judge_if, judge_par, judge_point, judge_side, judge_write,
-};
-use crate::rules::Head;
-use crate::state::{Target, Walk};
+use crate::index::indexed::IndexedCore;
+use crate::lines::arm::open_arm;
+use crate::lines::call::judge_call;
+use crate::lines::case::judge_case;
+use crate::lines::condition::judge_if;
+use crate::lines::give::judge_give;
+use crate::lines::par::{add_other, enter_sides, judge_par};
+use crate::lines::past::open_head;
+use crate::lines::point::judge_point;
+use crate::lines::prim::behind_operation;
+use crate::lines::reach::reach_field;
+use crate::lines::side::{enter_side, judge_side, tell};
+use crate::lines::write::{Head, judge_write};
+use crate::lines::{begin_line, leave, leave_line};
+use crate::state::Walk;
+use crate::target::Target;
 use gib_core::{Atom, Binding, BoundTerm, Branch, Node, TermId, Variable};
 
 /// The term of a number.
@@ -39,9 +45,7 @@ pub fn check_term(
     id: TermId,
 ) -> Result<(), LocFault>
     requires { id.0 < length core.now.terms }
-    ensures passes { IfOk result (λ _. Passes (core_of core.now) walk.old walk.new (met core.now.table (at_line (setting_of walk.old target)) (term_of core.now.terms id.0))) }
-    ensures kept { IfOk result (λ _. Kept walk.old walk.new) }
-    ensures broken { IfErr result (Blames (core_of core.now) walk.old (met core.now.table (at_line (setting_of walk.old target)) (term_of core.now.terms id.0))) }
+    ensures { Checks (core_of core.now) walk.old walk.new (met core.now.table (at_line (setting_of walk.old target)) (term_of core.now.terms id.0)) result }
 {
     let outer = walk.scope.len();
     let calls = begin_line(walk);
@@ -70,9 +74,7 @@ fn check_end(
     requires inside { id.0 < length core.now.terms }
     requires node { Opens core.now.terms id.0 node.now }
     requires end { IsEnd (layer (term_of core.now.terms) (Some node.now)) }
-    ensures passes { IfOk result (λ _. Passes (core_of core.now) walk.old walk.new (met core.now.table (setting_of walk.old target.now) (term_of core.now.terms id.0))) }
-    ensures kept { IfOk result (λ _. Kept walk.old walk.new) }
-    ensures broken { IfErr result (Blames (core_of core.now) walk.old (met core.now.table (setting_of walk.old target.now) (term_of core.now.terms id.0))) }
+    ensures { Checks (core_of core.now) walk.old walk.new (met core.now.table (setting_of walk.old target.now) (term_of core.now.terms id.0)) result }
 {
     match node {
         Node::Then(_, _) => unreachable!(),
@@ -115,9 +117,7 @@ fn check_binding(
 ) -> Result<Target, LocFault>
     requires inside { parent.0 < length core.now.terms }
     requires below { IsBindingBelow parent.0 binding }
-    ensures passes { IfOk result (λ _. Passes (core_of core.now) walk.old walk.new (met_bind core.now.table (setting_of walk.old target.now) (bind_from (term_of core.now.terms) binding))) }
-    ensures binds { IfOk result (λ t. Binds walk.old walk.new t (behind (setting_of walk.old target.now) (bind_from (term_of core.now.terms) binding))) }
-    ensures broken { IfErr result (Blames (core_of core.now) walk.old (met_bind core.now.table (setting_of walk.old target.now) (bind_from (term_of core.now.terms) binding))) }
+    ensures { ChecksBinding (core_of core.now) walk.old walk.new (setting_of walk.old target.now) (bind_from (term_of core.now.terms) binding) result }
 {
     match binding {
         Binding::Past { head, constructor } => { open_head(core, walk, target, head, constructor) }
@@ -144,11 +144,9 @@ fn check_side(
 ) -> Result<(), LocFault>
     requires inside { parent.0 < length core.now.terms }
     requires below { bound.term.0 < parent.0 }
-    ensures passes { IfOk result (λ _. Passes (core_of core.now) walk.old walk.new (met_side core.now.table (setting_of walk.old target.now) (side_from (term_of core.now.terms) bound))) }
-    ensures kept { IfOk result (λ _. Kept walk.old walk.new) }
-    ensures broken { IfErr result (Blames (core_of core.now) walk.old (met_side core.now.table (setting_of walk.old target.now) (side_from (term_of core.now.terms) bound))) }
+    ensures { Checks (core_of core.now) walk.old walk.new (met_side core.now.table (setting_of walk.old target.now) (side_from (term_of core.now.terms) bound)) result }
 {
-    judge_side(core, walk, target, bound.kind, bound.variable, bound.ty)?;
+    judge_side(core, walk, target, bound)?;
     let inner = target.in_side(core.types(), bound.kind, bound.ty);
     check_term(core, walk, inner, bound.term)
 }
@@ -164,12 +162,10 @@ fn bind_side(
 ) -> Result<Target, LocFault>
     requires inside { parent.0 < length core.now.terms }
     requires below { bound.term.0 < parent.0 }
-    ensures passes { IfOk result (λ _. Passes (core_of core.now) walk.old walk.new (met_bind core.now.table (setting_of walk.old target.now) (One (side_from (term_of core.now.terms) bound)))) }
-    ensures binds { IfOk result (λ t. Binds walk.old walk.new t (behind (setting_of walk.old target.now) (One (side_from (term_of core.now.terms) bound)))) }
-    ensures broken { IfErr result (Blames (core_of core.now) walk.old (met_bind core.now.table (setting_of walk.old target.now) (One (side_from (term_of core.now.terms) bound)))) }
+    ensures { ChecksBinding (core_of core.now) walk.old walk.new (setting_of walk.old target.now) (One (side_from (term_of core.now.terms) bound)) result }
 {
     check_side(core, walk, target, parent, bound)?;
-    let next = enter_side(walk, target, bound.kind, bound.variable)?;
+    let next = enter_side(walk, target, bound)?;
     tell(core, walk, bound.term)?;
     Ok(next)
 }
@@ -186,9 +182,7 @@ fn check_beside(
 ) -> Result<(), LocFault>
     requires inside { parent.0 < length core.now.terms }
     requires below { bound.term.0 < parent.0 }
-    ensures passes { IfOk result (λ _. Passes (core_of core.now) walk.old walk.new (met_side core.now.table (with_other other (setting_of walk.old target.now)) (side_from (term_of core.now.terms) bound))) }
-    ensures kept { IfOk result (λ _. Kept walk.old walk.new) }
-    ensures broken { IfErr result (Blames (core_of core.now) walk.old (met_side core.now.table (with_other other (setting_of walk.old target.now)) (side_from (term_of core.now.terms) bound))) }
+    ensures { Checks (core_of core.now) walk.old walk.new (met_side core.now.table (with_other other (setting_of walk.old target.now)) (side_from (term_of core.now.terms) bound)) result }
 {
     let outer = walk.others.len();
     add_other(walk, other)?;
@@ -210,13 +204,11 @@ fn check_sides(
     requires inside { parent.0 < length core.now.terms }
     requires left { left.term.0 < parent.0 }
     requires right { right.term.0 < parent.0 }
-    ensures passes { IfOk result (λ _. Passes (core_of core.now) walk.old walk.new (met_bind core.now.table (setting_of walk.old target.now) (Both false (side_from (term_of core.now.terms) left) (side_from (term_of core.now.terms) right)))) }
-    ensures kept { IfOk result (λ _. Kept walk.old walk.new) }
-    ensures broken { IfErr result (Blames (core_of core.now) walk.old (met_bind core.now.table (setting_of walk.old target.now) (Both false (side_from (term_of core.now.terms) left) (side_from (term_of core.now.terms) right)))) }
+    ensures { Checks (core_of core.now) walk.old walk.new (met_bind core.now.table (setting_of walk.old target.now) (Both false (side_from (term_of core.now.terms) left) (side_from (term_of core.now.terms) right))) result }
 {
     judge_par(walk)?;
     check_beside(core, walk, target, parent, left, right.variable)?;
-    let next = behind_field(target, left.kind, left.variable)?;
+    let next = target.behind_field(left.kind, left.variable)?;
     check_beside(core, walk, &next, parent, right, left.variable)
 }
 
@@ -233,9 +225,7 @@ fn bind_sides(
     requires inside { parent.0 < length core.now.terms }
     requires left { left.term.0 < parent.0 }
     requires right { right.term.0 < parent.0 }
-    ensures passes { IfOk result (λ _. Passes (core_of core.now) walk.old walk.new (met_bind core.now.table (setting_of walk.old target.now) (Both false (side_from (term_of core.now.terms) left) (side_from (term_of core.now.terms) right)))) }
-    ensures binds { IfOk result (λ t. Binds walk.old walk.new t (behind (setting_of walk.old target.now) (Both false (side_from (term_of core.now.terms) left) (side_from (term_of core.now.terms) right)))) }
-    ensures broken { IfErr result (Blames (core_of core.now) walk.old (met_bind core.now.table (setting_of walk.old target.now) (Both false (side_from (term_of core.now.terms) left) (side_from (term_of core.now.terms) right)))) }
+    ensures { ChecksBinding (core_of core.now) walk.old walk.new (setting_of walk.old target.now) (Both false (side_from (term_of core.now.terms) left) (side_from (term_of core.now.terms) right)) result }
 {
     check_sides(core, walk, target, parent, left, right)?;
     let next = enter_sides(walk, target, left, right)?;
@@ -254,9 +244,7 @@ fn check_case(
 ) -> Result<(), LocFault>
     requires inside { parent.0 < length core.now.terms }
     requires below { AllByRecursion (IsBranchBelow parent.0) branches.now }
-    ensures passes { IfOk result (λ _. Passes (core_of core.now) walk.old walk.new (met core.now.table (setting_of walk.old target.now) (CaseTerm atom (branches_from (term_of core.now.terms) branches.now)))) }
-    ensures kept { IfOk result (λ _. Kept walk.old walk.new) }
-    ensures broken { IfErr result (Blames (core_of core.now) walk.old (met core.now.table (setting_of walk.old target.now) (CaseTerm atom (branches_from (term_of core.now.terms) branches.now)))) }
+    ensures { Checks (core_of core.now) walk.old walk.new (met core.now.table (setting_of walk.old target.now) (CaseTerm atom (branches_from (term_of core.now.terms) branches.now))) result }
 {
     judge_case(core, walk, target, atom, branches)?;
     check_branches(core, walk, target, parent, branches)
@@ -273,9 +261,7 @@ fn check_branches(
 ) -> Result<(), LocFault>
     requires inside { parent.0 < length core.now.terms }
     requires below { AllByRecursion (IsBranchBelow parent.0) branches.now }
-    ensures passes { IfOk result (λ _. Passes (core_of core.now) walk.old walk.new (met_branches core.now.table (setting_of walk.old target.now) (branches_from (term_of core.now.terms) branches.now))) }
-    ensures kept { IfOk result (λ _. Kept walk.old walk.new) }
-    ensures broken { IfErr result (Blames (core_of core.now) walk.old (met_branches core.now.table (setting_of walk.old target.now) (branches_from (term_of core.now.terms) branches.now))) }
+    ensures { Checks (core_of core.now) walk.old walk.new (met_branches core.now.table (setting_of walk.old target.now) (branches_from (term_of core.now.terms) branches.now)) result }
 {
     let mut left = branches;
     'branches: while let [branch, after @ ..] = left {
@@ -296,9 +282,7 @@ fn check_branch(
 ) -> Result<(), LocFault>
     requires inside { parent.0 < length core.now.terms }
     requires below { branch.now.term.0 < parent.0 }
-    ensures passes { IfOk result (λ _. Passes (core_of core.now) walk.old walk.new (met core.now.table (in_arm core.now.table (setting_of walk.old target.now) branch.now.constructor branch.now.variables.items) (term_of core.now.terms branch.now.term.0))) }
-    ensures kept { IfOk result (λ _. Kept walk.old walk.new) }
-    ensures broken { IfErr result (Blames (core_of core.now) walk.old (met core.now.table (in_arm core.now.table (setting_of walk.old target.now) branch.now.constructor branch.now.variables.items) (term_of core.now.terms branch.now.term.0))) }
+    ensures { Checks (core_of core.now) walk.old walk.new (met core.now.table (in_arm core.now.table (setting_of walk.old target.now) branch.now.constructor branch.now.variables.items) (term_of core.now.terms branch.now.term.0)) result }
 {
     let outer = walk.scope.len();
     let inner = open_arm(core, walk, target, branch)?;
@@ -319,13 +303,11 @@ fn check_if(
 ) -> Result<(), LocFault>
     requires first { then_part.0 < length core.now.terms }
     requires second { else_part.0 < length core.now.terms }
-    ensures passes { IfOk result (λ _. Passes (core_of core.now) walk.old walk.new (met core.now.table (setting_of walk.old target.now) (IfTerm atom (term_of core.now.terms then_part.0) (term_of core.now.terms else_part.0)))) }
-    ensures kept { IfOk result (λ _. Kept walk.old walk.new) }
-    ensures broken { IfErr result (Blames (core_of core.now) walk.old (met core.now.table (setting_of walk.old target.now) (IfTerm atom (term_of core.now.terms then_part.0) (term_of core.now.terms else_part.0)))) }
+    ensures { Checks (core_of core.now) walk.old walk.new (met core.now.table (setting_of walk.old target.now) (IfTerm atom (term_of core.now.terms then_part.0) (term_of core.now.terms else_part.0))) result }
 {
-    judge_if(core, walk, atom)?;
-    let first = without_call(target)?;
+    judge_if(core, walk, target, atom)?;
+    let first = target.without_call()?;
     check_term(core, walk, first, then_part)?;
-    let second = without_call(target)?;
+    let second = target.without_call()?;
     check_term(core, walk, second, else_part)
 }
