@@ -1,7 +1,8 @@
 //! Calls and their ends: they have no memory action.
 
 ghost use Rattle.std.specs.Prelude.{◌≡◌, ◌<◌, ◌+◌, ◌^◌, ℕ, List};
-ghost use Rattle.gib_machine.specs.Machine.{word, words, called, returned, gives, unwound, slots_at, widest};
+ghost use Rattle.gib_machine.specs.State.{word, words, widest};
+ghost use Rattle.gib_machine.specs.Machine.{called, returned, gives, unwound, slots_at};
 ghost use Rattle.gib_machine.specs.Machine as m;
 ghost use Rattle.gib_machine.specs.Stepping.{with_tails};
 ghost use Rattle.gib_machine.specs.declared.turn.Turn.TheVariants as turns;

@@ -2,7 +2,7 @@
 
 ghost use Rattle.std.specs.Prelude.{◌≡◌, ◌≤◌, ◌<◌, ◌-◌, ◌^◌, ℕ, suc, min};
 ghost use Rattle.gib_mem.specs.Memory.{AreKnown, Reads};
-ghost use Rattle.gib_machine.specs.Machine.{left_in, word_end, with_part};
+ghost use Rattle.gib_machine.specs.State.{left_in, word_end, with_part};
 
 use gib_mem::{Mem, WORD_BYTES};
 

@@ -4,7 +4,7 @@ ghost use Rattle.std.specs.Prelude.{◌≡◌, ◌<◌, ◌≤◌, ◌+◌, ◌-
 ghost use Rattle.std.specs.Int.{w64, to_le_bytes};
 ghost use Rattle.gib_mem.specs.Memory.{Owned, after_puts};
 ghost use Rattle.gib_machine.specs.Items.{Bytes, bytes_of};
-ghost use Rattle.gib_machine.specs.Machine.{left_in};
+ghost use Rattle.gib_machine.specs.State.{left_in};
 
 use gib_mem::{Mem, WORD_BYTES};
 use std::marker::Model;

@@ -1,7 +1,8 @@
 //! Instructions that open and finish regions.
 
 ghost use Rattle.std.specs.Prelude.{◌≡◌, ◌<◌, ◌+◌, ◌^◌, ℕ};
-ghost use Rattle.gib_machine.specs.Machine.{sets, opens, closed};
+ghost use Rattle.gib_machine.specs.State.{sets};
+ghost use Rattle.gib_machine.specs.Machine.{opens, closed};
 ghost use Rattle.gib_machine.specs.Stepping.{Made, with_tails};
 ghost use Rattle.gib_machine.specs.declared.turn.Turn.TheVariants as turns;
 

@@ -1,8 +1,10 @@
 //! What becomes of a right side at a fork and at a join. Whoever runs the tasks decides it.
 
 ghost use Rattle.std.specs.Prelude.{◌≡◌, ◌<◌, ◌≤◌, ◌+◌, ◌-◌, ◌^◌, ℕ, List, drop, length, None, Some, IfOk, IfSome, IfNone, slice_get};
-ghost use Rattle.gib_machine.specs.Machine.{AtFork, AtJoin, next, fork_of, right_of, left_starts, takes, joins, unwound, unwinding};
-ghost use Rattle.gib_machine.specs.Machine as m;
+ghost use Rattle.gib_machine.specs.State.{AtFork, AtJoin};
+ghost use Rattle.gib_machine.specs.Machine.{next, unwound};
+ghost use Rattle.gib_machine.specs.Sides.{fork_of, right_of, left_starts, takes, joins, unwinding};
+ghost use Rattle.gib_machine.specs.Sides as m;
 ghost use Rattle.gib_machine.specs.Frames.{FitsFrame};
 ghost use Rattle.gib_machine.specs.Starting.{forking_of, waiting_of};
 ghost use Rattle.gib_code.specs.Program.{Runs};

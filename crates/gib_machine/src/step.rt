@@ -2,7 +2,8 @@
 
 ghost use Rattle.std.specs.Prelude.{◌≡◌, ◌<◌, ◌+◌, ◌^◌, Some, slice_get, false};
 ghost use Rattle.gib_code.specs.Instruction.{instruction_of, IsFine};
-ghost use Rattle.gib_machine.specs.Machine.{begin, next, widest};
+ghost use Rattle.gib_machine.specs.State.{widest};
+ghost use Rattle.gib_machine.specs.Machine.{begin, next};
 ghost use Rattle.gib_code.specs.Program.{Runs};
 ghost use Rattle.gib_machine.specs.Stepping.{with_tails, at_rest, Made, Can, CanStep, IsSmallAsk};
 

@@ -1,7 +1,7 @@
 //! Instructions on where the value of a variable ends: they have no memory action.
 
 ghost use Rattle.std.specs.Prelude.{◌≡◌, ◌<◌, ◌+◌, ◌%◌, ◌^◌, ℕ, get_or};
-ghost use Rattle.gib_machine.specs.Machine.{slot, end_at, sets, tells};
+ghost use Rattle.gib_machine.specs.State.{slot, end_at, sets, tells};
 ghost use Rattle.gib_machine.specs.declared.turn.Turn.TheVariants as turns;
 
 use crate::state::Machine;

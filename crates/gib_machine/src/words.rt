@@ -1,7 +1,8 @@
 //! Instructions on the words of the frame: they have no memory action.
 
 ghost use Rattle.std.specs.Prelude.{◌≡◌, ◌<◌, ◌+◌, ◌%◌, ◌==◌, ◌^◌, ℕ, List, IsTrue, if◌then◌else◌};
-ghost use Rattle.gib_machine.specs.Machine.{slot, word, sets, went, went_to};
+ghost use Rattle.gib_machine.specs.State.{slot, word, sets, went, went_to};
+ghost use Rattle.gib_machine.specs.State as st;
 ghost use Rattle.gib_machine.specs.Machine as m;
 ghost use Rattle.gib_machine.specs.Stepping.{with_tails};
 ghost use Rattle.gib_machine.specs.declared.turn.Turn.TheVariants as turns;
@@ -95,7 +96,7 @@ impl Machine {
 
     pub(crate) fn stands_here(&mut self, to: u32) -> Turn
         requires next { self.old.ip + 1 < 2 ^ 32 }
-        ensures state { self.new ≡ sets self.old to (m.cursor self.old.regions) }
+        ensures state { self.new ≡ sets self.old to (st.cursor self.old.regions) }
         ensures turn { result ≡ turns.Went }
     {
         let at = self.openings.cursor();

@@ -1,6 +1,7 @@
 use Rattle.std.proofs.Common.{◌≡◌, ◌≤◌, ◌*◌, ◌++◌, length}
 use Rattle.gib_types.specs.Table.{scalar_types}
-use Rattle.gib_machine.specs.Machine.{words, scalar_bytes}
+use Rattle.gib_machine.specs.State.{words}
+use Rattle.gib_machine.specs.Machine.{scalar_bytes}
 use Rattle.gib_machine.proofs.placing.push_scalars.Given as goal
 
 abbrev pub invariant-fields : goal.invariant-fields

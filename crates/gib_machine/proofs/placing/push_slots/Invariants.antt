@@ -1,6 +1,6 @@
 use Rattle.std.proofs.Common.{◌≡◌, ◌≤◌, ◌+◌, ◌*◌, ◌++◌, length, map}
 use Rattle.gib_packed.specs.Head.{addresses}
-use Rattle.gib_machine.specs.Machine.{slot}
+use Rattle.gib_machine.specs.State.{slot}
 use Rattle.gib_machine.proofs.placing.push_slots.Given as goal
 
 abbrev pub invariant-places : goal.invariant-places

@@ -1,6 +1,6 @@
 use Rattle.std.proofs.Common.{◌≡◌, length, map, max}
 use Rattle.gib_code.specs.Instruction.{instruction_of}
-use Rattle.gib_machine.specs.Machine.{nesting_from}
+use Rattle.gib_machine.specs.State.{nesting_from}
 use Rattle.gib_machine.proofs.starting.nesting.Given as goal
 
 abbrev pub invariant-instructions : goal.invariant-instructions

@@ -1,5 +1,5 @@
 use Rattle.std.proofs.Common.{◌≡◌, length, max}
-use Rattle.gib_machine.specs.Machine as m
+use Rattle.gib_machine.specs.State as m
 use Rattle.gib_machine.proofs.starting.widest.Given as goal
 
 abbrev pub invariant-functions : goal.invariant-functions

@@ -1,6 +1,7 @@
 use Rattle.std.proofs.Common.{rules, ◌≡◌, ◌-◌, ℕ, sym, subst}
 use Rattle.gib_region.specs.Region.{Begins}
-use Rattle.gib_machine.specs.Machine.{sets, opened}
+use Rattle.gib_machine.specs.State.{sets}
+use Rattle.gib_machine.specs.Machine.{opened}
 use Rattle.gib_machine.specs.Stepping.{with_tails}
 use Rattle.gib_machine.proofs.Latest.{begun}
 use Rattle.gib_machine.proofs.state.Machine.begins.Goals as goal

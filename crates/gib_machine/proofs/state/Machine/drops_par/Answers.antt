@@ -1,6 +1,7 @@
 use Rattle.std.proofs.Common.{ap, ◌∙◌, drop}
 use Rattle.gib_machine.specs.contracts.state.Machine.{the_view}
-use Rattle.gib_machine.specs.Machine.{State, unwound}
+use Rattle.gib_machine.specs.State.{State}
+use Rattle.gib_machine.specs.Machine.{unwound}
 use Rattle.gib_machine.specs.Openings.{Opened}
 use Rattle.gib_machine.specs.Stepping.{with_tails}
 use Rattle.gib_machine.proofs.Unwinds.{unwound_same}

@@ -1,7 +1,8 @@
 use Rattle.std.proofs.Common.{◌≡◌, ℕ, suc, ap, sym, ◌∙◌, drop, add-one}
 use Rattle.std.specs.Prelude.{None}
 use Rattle.gib_machine.specs.contracts.state.Machine.{the_view}
-use Rattle.gib_machine.specs.Machine.{State, Ready, answered, unwinding, joins}
+use Rattle.gib_machine.specs.State.{State, Ready}
+use Rattle.gib_machine.specs.Sides.{answered, unwinding, joins}
 use Rattle.gib_machine.specs.Openings.{Opened, par_from}
 use Rattle.gib_machine.specs.Stepping.{with_tails}
 use Rattle.gib_machine.proofs.Unwinds.{join_goes}
