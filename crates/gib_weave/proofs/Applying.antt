@@ -9,7 +9,9 @@ use Rattle.gib_mem.specs.Memory.{Memory, with_drawn, after_puts, after_draw}
 use Rattle.gib_region.specs.Region.{IsFull}
 use Rattle.gib_core.specs.Tree.{CoreTree}
 use Rattle.gib_code.specs.Program.{CodeTree}
-use Rattle.gib_machine.specs.Machine.{State, Ask, Silent, Get, Put, Draw, AtFork, AtJoin, Ended, Waiting, left_starts, joins, next, right_of, side_start, takes}
+use Rattle.gib_machine.specs.State.{State, Ask, Silent, Get, Put, Draw, AtFork, AtJoin, Ended}
+use Rattle.gib_machine.specs.Machine.{next}
+use Rattle.gib_machine.specs.Sides.{Waiting, left_starts, joins, right_of, side_start, takes}
 use Rattle.gib_machine.specs.Stepping.{CanStep, Made, stand_of, with_tails}
 use Rattle.gib_machine.specs.declared.turn.Turn.{Turn}
 use Rattle.gib_machine.specs.declared.turn.Turn.TheVariants as turn

@@ -1,7 +1,6 @@
 -- Fields are reached, and a line goes on with other sorts.
-use Rattle.std.proofs.Common.{◌≡◌, ℕ, ◌+◌, ◌<◌, ◌≤◌, Bool, true, false, ◌==◌, cond, List, length, refl, sym, ap, subst, ◌∙◌, arith}
+use Rattle.std.proofs.Common.{◌≡◌, ℕ, ◌+◌, ◌<◌, Bool, true, false, ◌==◌, cond, List, length, refl, sym, ap, subst, ◌∙◌, arith}
 use Rattle.std.proofs.lemmas.Bool.{true≢false, or_left, or_right}
-use Rattle.gib_types.specs.declared.table.Ty.{Ty}
 use Rattle.gib_types.specs.declared.table.Ty.TheVariants.{Truth}
 use Rattle.gib_types.specs.Table.{fields_at}
 use Rattle.gib_types.specs.Layout.{LaidOut, is_among}
@@ -19,31 +18,30 @@ use Rattle.gib_core.specs.Meaning.{value}
 use Rattle.gib_code.specs.Instruction as i
 use Rattle.gib_code.specs.Program.{CodeTree, IsAt}
 use Rattle.gib_core.specs.Low.{operand, field_of, Field as StoredField, reaching}
-use Rattle.gib_machine.specs.Machine.{end_at, times, nesting, Slots, slot, set, word, Frame, Open as OpenRegion, Silent, next, cursor, went, went_to}
+use Rattle.gib_machine.specs.State.{end_at, Slots, slot, set, word, Frame, Open as OpenRegion, Silent, cursor, went, went_to, State, sets}
+use Rattle.gib_machine.specs.Machine.{next}
 use Rattle.gib_weave.proofs.Basics.{set_both}
 use Rattle.gib_core.specs.Cost.{Cost, plus, choose_cost}
 use Rattle.gib_weave.proofs.Counts.{goes_on_counted}
-use Rattle.gib_core.specs.Fits.{is_settled, put, Sort, Outside, Absent, Scalar, Held, Placed, Loose, AtHead, Field, Scope, is_there, has_slot, Dest, Nowhere, Empty, Open, dest_type, Fits, cased}
+use Rattle.gib_core.specs.Fits.{is_settled, put, Sort, Outside, Absent, Scalar, Held, Placed, Loose, AtHead, Field, Scope, is_there, has_slot, Dest, Nowhere, Empty, Open, Fits, cased}
 use Rattle.gib_packed.specs.Reaching.{there}
-use Rattle.gib_weave.specs.Environment.{AreGiven, Ctx, IsPlaced, IsAtHead, IsField, Has, HasAll, IsDest, Matches}
+use Rattle.gib_weave.specs.Environment.{Ctx, IsPlaced, IsAtHead, IsField, Has, HasAll, IsDest}
 use Rattle.gib_weave.specs.EndWords.{IsTold, HasEnd}
-use Rattle.gib_weave.specs.Continuing.{given_of, Plain, KSide, KLast, IsInBody, pars_of, side_of, Kont, KEnd, KHere, KRegion, KScalar, KCall, KCallScalar, end_of, needs_of, due, root, Goes, Under, AllUnder, Calm, AllCalm, nest, IsCode, Agrees}
-use Rattle.gib_weave.specs.Owing.{costs, Owed, sides_of, resume, means}
-use Rattle.gib_weave.specs.Paying.{Share, Counted, left_costs, later_costs}
-use Rattle.gib_weave.specs.Places.{Owned, covers, HaveRoom, TailsHaveRoom, IsSmall, Apart, AllRoom}
-use Rattle.gib_weave.specs.Stacks.{Stack}
-use Rattle.gib_weave.specs.Sound.{AtTerm, at_term, Safe, rests, Moves, silent}
+use Rattle.gib_weave.specs.Continuing.{given_of, Plain, KSide, KLast, Kont, KEnd, KHere, KRegion, KScalar, KCall, KCallScalar, end_of, needs_of, Goes, Under, AllUnder, Calm, AllCalm, IsCode, Agrees}
+use Rattle.gib_weave.specs.Owing.{costs, Owed, resume, means}
+use Rattle.gib_weave.specs.Paying.{Share, Counted, later_costs}
+use Rattle.gib_weave.specs.Places.{Owned, heads}
+use Rattle.gib_weave.specs.Sound.{AtTerm, at_term, Safe, rests, Moves, silent, InMemory, OnLine}
 use Rattle.gib_weave.specs.Starting.{AreBodies}
 use Rattle.gib_weave.proofs.Basics.{by_test, put-other, set-same, set-other, set-length, end-same, end-other, ends-length, both-other}
-use Rattle.gib_weave.proofs.Move.{goes_settled, closes_keeps, given_keeps, given_bind, end_kept, MovedOne, Moved, moved_same, AllMoved, Stack-moved, Keeps, Has-keeps, Fields-keeps, with_var, HasAll-set, IsDest-bind, all_under_bind, all_under_goes, goes-refl, covers_head, code_put, is_field}
-use Rattle.gib_weave.proofs.Places.{Apart-less}
-use Rattle.gib_weave.proofs.Lines.{all_calm_less}
+use Rattle.gib_weave.proofs.Move.{goes_settled, closes_keeps, given_keeps, given_bind, end_kept, MovedOne, Moved, moved_same, AllMoved, Stack-moved, Keeps, Has-keeps, Fields-keeps, with_var, HasAll-set, IsDest-bind, all_under_bind, all_under_goes, goes-refl, code_put, is_field}
 use Rattle.gib_weave.proofs.Scalars.{scalar_word}
 use Rattle.gib_weave.proofs.Readings.{get_one, skip_looks, dec_small}
 use Rattle.gib_weave.proofs.Numbers.{reads_number}
 use Rattle.gib_weave.proofs.Opens.{few_packed}
-use Rattle.gib_weave.proofs.Ends.{Levels, at_rest, step_is}
+use Rattle.gib_weave.proofs.Ends.{step_is}
 use Rattle.gib_core.proofs.Fine.{few_fields}
+use Rattle.gib_weave.proofs.Lines.{line_less, room_less}
 
 -- One slot changes that inner lines alone rely on.
 
@@ -145,97 +143,49 @@ IsDest-sort laid s sl c cur x w en so h (Open t y k xs dues) st nh g =
 pub goes_sort : (sc : Scope) (x : ℕ) (so : Sort) → Goes (sc x) so → (y : ℕ) → Goes (sc y) (put sc x so y)
 goes_sort sc x so g y = by_test y x (λ b. Goes (sc y) (cond b so (sc y))) (λ e. subst (λ (z : ℕ). Goes (sc z) so) (sym e) g) (λ e. goes-refl (sc y))
 
-module _ (core : CoreTree) (code : CodeTree) (owed : Owed) (own : Owned) (sh : Share) (lv : Levels) (ty : Ty) (rm : ℕ) where
-  -- a line, whichever term of it is next
-  pub record Line (s : Store) (sl : Slots) (fs : List Frame) (rs : List OpenRegion) (ts : List ℕ) (c : Ctx) (k : Kont) (m : ℕ → Bool) : Type 0 where
-    pub kind : dest_type c.dest ≡ due k
-    pub matches : Matches code.laid s sl c (cursor rs)
-    pub stack : Stack core code s k sl fs c.front rs
-    pub under : AllUnder c.scope c.env k
-    pub given : AreGiven c 0 (given_of k)
-    pub calm : AllCalm m k
-    pub places : Apart own s (covers code.laid c k (at_rest lv ty 0 0 sl fs 0 rs ts))
-    pub rooms : HaveRoom rs
-    pub tail_rooms : TailsHaveRoom ts
-    pub small : IsSmall s
-    pub result : ty ≡ root k
-    pub type : owed.ty ≡ root k
-    pub pars : lv.pars ≡ pars_of k
-    pub side : lv.side ≡ side_of k
-    pub free : IsInBody k
+-- A line with what its task has in memory.
+pub record Line (core : CoreTree) (code : CodeTree) (own : Owned) (s : Store) (sl : Slots) (fs : List Frame) (rs : List OpenRegion) (ts : List ℕ) (c : Ctx) (k : Kont) (m : ℕ → Bool) : Type 0 where
+  pub on : OnLine core code s sl fs rs c k m
+  pub memory : InMemory own s (heads code.laid c.head c.dest k) rs ts
 
-  pub line_of : (s : Store) (ip : ℕ) (sl : Slots) (fs : List Frame) (n : ℕ) (rs : List OpenRegion) (ts : List ℕ) (t : Term) (c : Ctx) (k : Kont) → AtTerm core code owed own sh s (at_rest lv ty rm ip sl fs n rs ts) t c k → Line s sl fs rs ts c k (cased t)
-  line_of s ip sl fs n rs ts t c k at = record { kind = at.kind; matches = at.matches; stack = at.stack; under = at.under; given = at.given; calm = at.calm; places = at.places; rooms = at.rooms; tail_rooms = at.tail_rooms; small = at.small; result = at.result; type = at.type; pars = at.pars; side = at.side; free = at.free }
+-- A variable is at another place, or reached: what its new sort, slot and head's place say
+pub record Resorted (laid : LaidOut) (s : Store) (sl : Slots) (c : Ctx) (m : ℕ → Bool) (x w en : ℕ) (so : Sort) (h : ℕ) : Type 0 where
+  pub stays : StaysHead c x so h
+  pub unheld : c.scope x ≡ Held → ⊥
+  pub has : Has laid s (with_sort c x so h) so w (value_in c.env x) (c.pl x) h
+  pub ends : HasEnd laid s so w en (value_in c.env x) (c.pl x)
+  pub settled : is_settled so ≡ true
+  pub kept : is_settled (c.scope x) ≡ true → 0 < end_at sl x → 0 < en
+  pub goes : Goes (c.scope x) so
+  pub follow : (o : Ctx) → Under o c.scope c.env → Calm m o → Follow laid s sl o x w en
 
-  pub term_at : (s : Store) (ip : ℕ) (sl : Slots) (fs : List Frame) (n : ℕ) (rs : List OpenRegion) (ts : List ℕ) (t : Term) (c : Ctx) (k : Kont) (m : ℕ → Bool) → Line s sl fs rs ts c k m → IsCode core code c.line.within c.scope ip t (end_of c.line.overs k) → Fits core (needs_of k) t c.scope c.dest c.line → ((y : ℕ) → cased t y ≡ true → m y ≡ true) → resume core n k (means core n t c.env) ≡ owed.all → sides_of core n lv.level k ≡ owed.sides → nest t + times n (nesting code) ≤ rm → nest t ≤ nesting code → AllRoom (nesting code) n rm k → Counted rs (left_costs core n lv.level (Plain t) c.env k) sh → AtTerm core code owed own sh s (at_rest lv ty rm ip sl fs n rs ts) t c k
-  term_at s ip sl fs n rs ts t c k m l low fits less ow sd ne nar ar counted = record {
-    ready = refl;
-    low = low;
-    fits = fits;
-    kind = l.kind;
-    matches = l.matches;
-    stack = l.stack;
-    under = l.under;
-    given = l.given;
-    calm = all_calm_less m (cased t) k less l.calm;
-    places = l.places;
-    rooms = l.rooms;
-    tail_rooms = l.tail_rooms;
-    small = l.small;
-    owes = ow;
-    sides = sd;
-    pars = l.pars;
-    side = l.side;
-    free = l.free;
-    result = l.result;
-    type = l.type;
-    counted = counted;
-    narrow = nar;
-    nests = ne;
-    all_room = ar;
-  }
-
+module _ {core : CoreTree} {code : CodeTree} {own : Owned} {s : Store} {sl : Slots} {fs : List Frame} {rs : List OpenRegion} {ts : List ℕ} {c : Ctx} {k : Kont} {m : ℕ → Bool} where
   -- a variable is bound whose slot is as it should be
-  pub line_var : (s : Store) (sl : Slots) (fs : List Frame) (rs : List OpenRegion) (ts : List ℕ) (c : Ctx) (k : Kont) (m : ℕ → Bool) (x : ℕ) (so : Sort) (v : Datum) (pl : ℕ) → Line s sl fs rs ts c k m → c.scope x ≡ Absent
-      → Has code.laid s (with_var c x so v pl) so (slot sl x) v pl (c.hd x) → HasEnd code.laid s so (slot sl x) (end_at sl x) v pl → Line s sl fs rs ts (with_var c x so v pl) k m
-  line_var s sl fs rs ts c k m x so v pl l new has he = record {
-    kind = l.kind;
-    matches = record { vars = HasAll-set code.laid s sl c x so v pl new has he l.matches.vars; dest = IsDest-bind code.laid s sl c (cursor rs) x so v pl c.dest new l.matches.dest };
-    stack = l.stack;
-    under = all_under_bind c.scope c.env k x so v new l.under;
-    given = given_bind c x so v pl (given_of k) new l.given;
-    calm = l.calm;
-    places = Apart-less l.places (λ q. let h = covers_head code.laid c (with_var c x so v pl) c.dest q refl in omega arith);
-    rooms = l.rooms;
-    tail_rooms = l.tail_rooms;
-    small = l.small;
-    result = l.result;
-    type = l.type;
-    pars = l.pars;
-    side = l.side;
-    free = l.free;
+  pub line_var : (x : ℕ) (so : Sort) (v : Datum) (pl : ℕ) → Line core code own s sl fs rs ts c k m → c.scope x ≡ Absent
+      → Has code.laid s (with_var c x so v pl) so (slot sl x) v pl (c.hd x) → HasEnd code.laid s so (slot sl x) (end_at sl x) v pl → Line core code own s sl fs rs ts (with_var c x so v pl) k m
+  line_var x so v pl l new has he = record {
+    on = record {
+      kind = l.on.kind;
+      matches = record { vars = HasAll-set code.laid s sl c x so v pl new has he l.on.matches.vars; dest = IsDest-bind code.laid s sl c (cursor rs) x so v pl c.dest new l.on.matches.dest };
+      stack = l.on.stack;
+      under = all_under_bind c.scope c.env k x so v new l.on.under;
+      given = given_bind c x so v pl (given_of k) new l.on.given;
+      calm = l.on.calm;
+    };
+    memory = l.memory;
   }
 
-  -- a variable is at another place, or reached
-  pub line_sort : (s : Store) (sl : Slots) (fs : List Frame) (rs : List OpenRegion) (ts : List ℕ) (c : Ctx) (k : Kont) (m : ℕ → Bool) (x w en : ℕ) (so : Sort) (h : ℕ) → Line s sl fs rs ts c k m → StaysHead c x so h → (c.scope x ≡ Held → ⊥)
-      → Has code.laid s (with_sort c x so h) so w (value_in c.env x) (c.pl x) h → HasEnd code.laid s so w en (value_in c.env x) (c.pl x) → is_settled so ≡ true → (is_settled (c.scope x) ≡ true → 0 < end_at sl x → 0 < en) → Goes (c.scope x) so → ((o : Ctx) → Under o c.scope c.env → Calm m o → Follow code.laid s sl o x w en)
-      → Line s (set_both sl x w en) fs rs ts (with_sort c x so h) k m
-  line_sort s sl fs rs ts c k m x w en so h l st nh has he sso kp g f = record {
-    kind = l.kind;
-    matches = record { vars = HasAll-sort code.laid s sl c x w en so h st has he sso kp l.matches.vars; dest = IsDest-sort code.laid s sl c (cursor rs) x w en so h c.dest st nh l.matches.dest };
-    stack = Stack-moved core code s k sl (set_both sl x w en) fs c.front rs (all_moved_at code.laid s sl c.scope c.env m k x w en (l.matches.vars.wide x st.slot) l.matches.vars.even nh f l.under l.calm) l.stack;
-    under = all_under_goes c.scope (put c.scope x so) c.env c.env k (goes_sort c.scope x so g) (λ y h. refl) l.under;
-    given = given_keeps c (with_sort c x so h) 0 (given_of k) (keeps_sort c x so h st) (goes_sort c.scope x so g) l.given;
-    calm = l.calm;
-    places = Apart-less l.places (λ q. let h = covers_head code.laid c (with_sort c x so h) c.dest q refl in omega arith);
-    rooms = l.rooms;
-    tail_rooms = l.tail_rooms;
-    small = l.small;
-    result = l.result;
-    type = l.type;
-    pars = l.pars;
-    side = l.side;
-    free = l.free;
+  pub line_sort : (x w en : ℕ) (so : Sort) (h : ℕ) → Line core code own s sl fs rs ts c k m → Resorted code.laid s sl c m x w en so h → Line core code own s (set_both sl x w en) fs rs ts (with_sort c x so h) k m
+  line_sort x w en so h l r = record {
+    on = record {
+      kind = l.on.kind;
+      matches = record { vars = HasAll-sort code.laid s sl c x w en so h r.stays r.has r.ends r.settled r.kept l.on.matches.vars; dest = IsDest-sort code.laid s sl c (cursor rs) x w en so h c.dest r.stays r.unheld l.on.matches.dest };
+      stack = Stack-moved core code s k sl (set_both sl x w en) fs c.front rs (all_moved_at code.laid s sl c.scope c.env m k x w en (l.on.matches.vars.wide x r.stays.slot) l.on.matches.vars.even r.unheld r.follow l.on.under l.on.calm) l.on.stack;
+      under = all_under_goes c.scope (put c.scope x so) c.env c.env k (goes_sort c.scope x so r.goes) (λ y h. refl) l.on.under;
+      given = given_keeps c (with_sort c x so h) 0 (given_of k) (keeps_sort c x so h r.stays) (goes_sort c.scope x so r.goes) l.on.given;
+      calm = l.on.calm;
+    };
+    memory = l.memory;
   }
 
 -- Reaching a field.
@@ -266,78 +216,110 @@ end_field laid s (Field t' z' x' k' p') t z x k p w w' e e' pl v g h = tt
 field_stays : (c : Ctx) (y t z x k p h : ℕ) → c.scope y ≡ Field t z x k p → StaysHead c y (Placed t) h
 field_stays c y t z x k p h e = record { there = refl; slot = ap has_slot e; same = λ o g. absurd (field_not t z x k p (AtHead o) refl (sym e ∙ g)) }
 
-module _ (core : CoreTree) (code : CodeTree) (owed : Owed) (own : Owned) (sh : Share) (lv : Levels) (ty : Ty) (rm : ℕ) where
+module _ (core : CoreTree) (code : CodeTree) (owed : Owed) (own : Owned) (sh : Share) where
   -- y is at its place
-  pub reached : (s : Store) (ip ip' : ℕ) (sl : Slots) (fs : List Frame) (n : ℕ) (rs : List OpenRegion) (ts : List ℕ) (y : Variable) (access : Rattle.gib_core.specs.declared.atom.Access.Access) (u : Term) (c : Ctx) (k : Kont) (t z x con p : ℕ) → c.scope y.0 ≡ Field t z x con p
-      → AtTerm core code owed own sh s (at_rest lv ty rm ip sl fs n rs ts) (Then (Reach y access) u) c k → IsCode core code c.line.within c.scope ip' u (end_of c.line.overs k) → Fits core (needs_of k) u (put c.scope y.0 (Placed t)) c.dest c.line
-      → Safe core code owed own sh s (at_rest lv ty rm ip' (set sl y.0 (c.pl y.0)) fs n rs ts)
-  reached s ip ip' sl fs n rs ts y access u c k t z x con p e at lu fit =
-      let fld : IsField code.laid s c t z x con p (value_in c.env y.0) (c.pl y.0) = subst (λ (so : Sort). Has code.laid s c so (slot sl y.0) (value_in c.env y.0) (c.pl y.0) (c.hd y.0)) e (at.matches.vars.has y.0) in
+  pub reached : {s : Store} {m : State} {c : Ctx} {k : Kont} (y : Variable) (access : Rattle.gib_core.specs.declared.atom.Access.Access) (u : Term) (t z x con p : ℕ) → c.scope y.0 ≡ Field t z x con p
+      → AtTerm core code owed own sh s m (Then (Reach y access) u) c k → IsCode core code c.line.within c.scope (m.ip + 1) u (end_of c.line.overs k) → Fits core (needs_of k) u (put c.scope y.0 (Placed t)) c.dest c.line
+      → Safe core code owed own sh s (sets m y.0 (c.pl y.0))
+  reached {s} {m} {c} {k} y access u t z x con p e at lu fit =
+      let fld : IsField code.laid s c t z x con p (value_in c.env y.0) (c.pl y.0) = subst (λ (so : Sort). Has code.laid s c so (slot m.words y.0) (value_in c.env y.0) (c.pl y.0) (c.hd y.0)) e (at.line.matches.vars.has y.0) in
       let w = c.pl y.0 in
       let h = c.hd y.0 in
-      let here : IsPlaced code.laid s t w w (value_in c.env y.0) = record { same = refl; stands = fld.stands } in
-      let l = line_sort core code owed own sh lv ty rm s sl fs rs ts c k (cased u) y.0 w 0 (Placed t) h (line_of core code owed own sh lv ty rm s ip sl fs n rs ts (Then (Reach y access) u) c k at) (field_stays c y.0 t z x con p h e) (λ g. field_not t z x con p Held refl (sym e ∙ g))
-      here (record { near = λ q. there; ends = λ q. absurd (omega (arith, q)) }) refl (λ g. absurd (true≢false (sym (sym (ap is_settled e) ∙ g)))) (subst (λ (so : Sort). Goes so (Placed t)) (sym e) refl)
-      (λ o un ca. let go = subst (λ (so : Sort). Goes (o.scope y.0) so) e (un.sorts y.0) in record {
-        one = moved_field code.laid s (o.scope y.0) t z x con p (slot sl y.0) w (value_in o.env y.0) go;
-        end_of = end_field code.laid s (o.scope y.0) t z x con p (slot sl y.0) w (end_at sl y.0) 0 (o.pl y.0) (value_in o.env y.0) go;
-        kept = λ g. absurd (true≢false (sym (goes_settled (o.scope y.0) (Field t z x con p) go g)));
+      let l : Line core code own s (set_both m.words y.0 w 0) m.frames m.regions m.tails (with_sort c y.0 (Placed t) h) k (cased u) = line_sort y.0 w 0 (Placed t) h (record { on = at.line; memory = at.memory }) (record {
+        stays = field_stays c y.0 t z x con p h e;
+        unheld = λ g. field_not t z x con p Held refl (sym e ∙ g);
+        has = record { same = refl; stands = fld.stands };
+        ends = record { near = λ q. there; ends = λ q. absurd (omega (arith, q)) };
+        settled = refl;
+        kept = λ g. absurd (true≢false (sym (sym (ap is_settled e) ∙ g)));
+        goes = subst (λ (so : Sort). Goes so (Placed t)) (sym e) refl;
+        follow = λ o un ca. let go = subst (λ (so : Sort). Goes (o.scope y.0) so) e (un.sorts y.0) in record {
+          one = moved_field code.laid s (o.scope y.0) t z x con p (slot m.words y.0) w (value_in o.env y.0) go;
+          end_of = end_field code.laid s (o.scope y.0) t z x con p (slot m.words y.0) w (end_at m.words y.0) 0 (o.pl y.0) (value_in o.env y.0) go;
+          kept = λ g. absurd (true≢false (sym (goes_settled (o.scope y.0) (Field t z x con p) go g)));
+        };
       }) in
-      rests (at_term (term_at core code owed own sh lv ty rm s ip' (set sl y.0 w) fs n rs ts u (with_sort c y.0 (Placed t) h) k (cased u) l (code_put y.0 (Placed t) refl lu) fit (λ q g. g) at.owes at.sides (let h = at.nests in omega (arith, h)) (let h = at.narrow in omega (arith, h)) at.all_room (goes_on_counted (record { regions = omega arith; items = omega arith }) at.counted)))
+      rests (at_term {u = Plain u} {c = with_sort c y.0 (Placed t) h} {k = k} record {
+        ready = refl;
+        low = code_put y.0 (Placed t) refl lu;
+        fits = fit;
+        line = l.on;
+        memory = l.memory;
+        ties = at.ties;
+        owes = at.owes;
+        counted = goes_on_counted (record { regions = omega arith; items = omega arith }) at.counted;
+        room = room_less (omega arith) at.room;
+      })
 
-module _ (core : CoreTree) (code : CodeTree) (ok : AreBodies core code) (owed : Owed) (own : Owned) (sh : Share) (lv : Levels) (ty : Ty) (rm : ℕ) where
-  pub does_skip : (s : Store) (ip : ℕ) (sl : Slots) (fs : List Frame) (n : ℕ) (rs : List OpenRegion) (ts : List ℕ) (y z : Variable) (u : Term) (c : Ctx) (k : Kont) → IsAt code ip (i.Skip y.0 z.0) → IsCode core code c.line.within c.scope (ip + 1) u (end_of c.line.overs k)
-      → AtTerm core code owed own sh s (at_rest lv ty rm ip sl fs n rs ts) (Then (Reach y (by.Skip z)) u) c k → Moves core code owed own sh s (at_rest lv ty rm ip sl fs n rs ts)
-  does_skip s ip sl fs n rs ts y z u c k e lu at =
+module _ (core : CoreTree) (code : CodeTree) (ok : AreBodies core code) (owed : Owed) (own : Owned) (sh : Share) where
+  pub does_skip : {s : Store} {m : State} {c : Ctx} {k : Kont} (y z : Variable) (u : Term) → IsAt code m.ip (i.Skip y.0 z.0) → IsCode core code c.line.within c.scope (m.ip + 1) u (end_of c.line.overs k)
+      → AtTerm core code owed own sh s m (Then (Reach y (by.Skip z)) u) c k → Moves core code owed own sh s m
+  does_skip {s} {m} {c} {k} y z u e lu at =
       let t = at.fits.0 in
-      let fld : IsField code.laid s c t z.0 at.fits.1 at.fits.2 at.fits.3 (value_in c.env y.0) (c.pl y.0) = subst (λ (so : Sort). Has code.laid s c so (slot sl y.0) (value_in c.env y.0) (c.pl y.0) (c.hd y.0)) at.fits.5 (at.matches.vars.has y.0) in
-      let pz : IsPlaced code.laid s at.fits.4 (slot sl z.0) (c.pl z.0) (value_in c.env z.0) = subst (λ (so : Sort). Has code.laid s c so (slot sl z.0) (value_in c.env z.0) (c.pl z.0) (c.hd z.0)) at.fits.6 (at.matches.vars.has z.0) in
+      let fld : IsField code.laid s c t z.0 at.fits.1 at.fits.2 at.fits.3 (value_in c.env y.0) (c.pl y.0) = subst (λ (so : Sort). Has code.laid s c so (slot m.words y.0) (value_in c.env y.0) (c.pl y.0) (c.hd y.0)) at.fits.5 (at.line.matches.vars.has y.0) in
+      let pz : IsPlaced code.laid s at.fits.4 (slot m.words z.0) (c.pl z.0) (value_in c.env z.0) = subst (λ (so : Sort). Has code.laid s c so (slot m.words z.0) (value_in c.env z.0) (c.pl z.0) (c.hd z.0)) at.fits.6 (at.line.matches.vars.has z.0) in
       let w = c.pl y.0 in
-      let over = reached core code owed own sh lv ty rm s ip (ip + 1) sl fs n rs ts y (by.Skip z) u c k t z.0 at.fits.1 at.fits.2 at.fits.3 at.fits.5 at lu at.fits.7 in
-      let sk = skip_looks core code owed own sh (λ k. let i = few_packed (fields_at code.laid.table k) in let j = few_fields code.laid.table ok.table k in omega (arith, i, j)) s (at_rest lv ty rm ip sl fs n rs ts) y.0 (slot sl z.0) fld.type_before w (value_in c.env z.0) (subst (λ (q : ℕ). Dec code.laid s q fld.type_before (value_in c.env z.0) w) (sym pz.same) fld.before) at.small over in
-      get_one core code owed own sh (step_is core code owed own sh lv ty rm (at_rest lv ty rm ip sl fs n rs ts) (i.Skip y.0 z.0) refl e) sk.known sk.goes
+      let over = reached core code owed own sh y (by.Skip z) u t z.0 at.fits.1 at.fits.2 at.fits.3 at.fits.5 at lu at.fits.7 in
+      let sk = skip_looks core code owed own sh (λ k. let i = few_packed (fields_at code.laid.table k) in let j = few_fields code.laid.table ok.table k in omega (arith, i, j)) s m y.0 (slot m.words z.0) fld.type_before w (value_in c.env z.0) (subst (λ (q : ℕ). Dec code.laid s q fld.type_before (value_in c.env z.0) w) (sym pz.same) fld.before) at.memory.small over in
+      get_one core code owed own sh (step_is code m (i.Skip y.0 z.0) at.ready e) sk.known sk.goes
 
-  pub does_offset : (s : Store) (ip : ℕ) (sl : Slots) (fs : List Frame) (n : ℕ) (rs : List OpenRegion) (ts : List ℕ) (y : Variable) (u : Term) (c : Ctx) (k : Kont) (stored : List StoredField) → Agrees stored c.scope → IsAt code ip (reaching stored y by.Offset) → IsCode core code c.line.within c.scope (ip + 1) u (end_of c.line.overs k)
-      → AtTerm core code owed own sh s (at_rest lv ty rm ip sl fs n rs ts) (Then (Reach y by.Offset) u) c k → Moves core code owed own sh s (at_rest lv ty rm ip sl fs n rs ts)
-  does_offset s ip sl fs n rs ts y u c k stored ag e lu at =
+  pub does_offset : {s : Store} {m : State} {c : Ctx} {k : Kont} (y : Variable) (u : Term) (stored : List StoredField) → Agrees stored c.scope → IsAt code m.ip (reaching stored y by.Offset) → IsCode core code c.line.within c.scope (m.ip + 1) u (end_of c.line.overs k)
+      → AtTerm core code owed own sh s m (Then (Reach y by.Offset) u) c k → Moves core code owed own sh s m
+  does_offset {s} {m} {c} {k} y u stored ag e lu at =
       let t = at.fits.0 in
       let z = at.fits.1 in
       let x = at.fits.2 in
       let con = at.fits.3 in
       let p = at.fits.4 in
-      let fld : IsField code.laid s c t z x con p (value_in c.env y.0) (c.pl y.0) = subst (λ (so : Sort). Has code.laid s c so (slot sl y.0) (value_in c.env y.0) (c.pl y.0) (c.hd y.0)) at.fits.5 (at.matches.vars.has y.0) in
-      let hx : IsAtHead code.laid s fld.owner_type (slot sl x) (c.hd x) (value_in c.env x) = subst (λ (so : Sort). Has code.laid s c so (slot sl x) (value_in c.env x) (c.pl x) (c.hd x)) fld.owner (at.matches.vars.has x) in
+      let fld : IsField code.laid s c t z x con p (value_in c.env y.0) (c.pl y.0) = subst (λ (so : Sort). Has code.laid s c so (slot m.words y.0) (value_in c.env y.0) (c.pl y.0) (c.hd y.0)) at.fits.5 (at.line.matches.vars.has y.0) in
+      let hx : IsAtHead code.laid s fld.owner_type (slot m.words x) (c.hd x) (value_in c.env x) = subst (λ (so : Sort). Has code.laid s c so (slot m.words x) (value_in c.env x) (c.pl x) (c.hd x)) fld.owner (at.line.matches.vars.has x) in
       let w = c.pl y.0 in
       let same = ag.agrees y.0 t z x con p at.fits.5 in
-      let ex : IsAt code ip (i.Offset y.0 x p) = subst (λ (q : ℕ). IsAt code ip (i.Offset y.0 x q)) same.1 (subst (λ (q : ℕ). IsAt code ip (i.Offset y.0 q (field_of stored y.0).place)) same.0 e) in
+      let ex : IsAt code m.ip (i.Offset y.0 x p) = subst (λ (q : ℕ). IsAt code m.ip (i.Offset y.0 x q)) same.1 (subst (λ (q : ℕ). IsAt code m.ip (i.Offset y.0 q (field_of stored y.0).place)) same.0 e) in
       let has : is_among code.laid.with_offsets con ≡ true = subst (λ (q : LaidOut). is_among q.with_offsets con ≡ true) (sym ok.laid) at.fits.6 in
-      let bytes : Holds s (slot sl x + p) (address w) = subst (λ (q : ℕ). Holds s (q + p) (address w)) (sym hx.same) (fld.stored has) in
-      reads_number core code owed own sh s w (dec_small at.small fld.stands.dec) (at_rest lv ty rm ip sl fs n rs ts) y.0 (slot sl x + p) bytes
-      (step_is core code owed own sh lv ty rm (at_rest lv ty rm ip sl fs n rs ts) (i.Offset y.0 x p) refl ex)
-      (reached core code owed own sh lv ty rm s ip (ip + 1) sl fs n rs ts y by.Offset u c k t z x con p at.fits.5 at lu at.fits.7)
+      let bytes : Holds s (slot m.words x + p) (address w) = subst (λ (q : ℕ). Holds s (q + p) (address w)) (sym hx.same) (fld.stored has) in
+      reads_number core code owed own sh s w (dec_small at.memory.small fld.stands.dec) m y.0 (slot m.words x + p) bytes (step_is code m (i.Offset y.0 x p) at.ready ex)
+      (reached core code owed own sh y by.Offset u t z x con p at.fits.5 at lu at.fits.7)
 
-module _ (core : CoreTree) (code : CodeTree) (owed : Owed) (own : Owned) (sh : Share) (lv : Levels) (ty : Ty) (rm : ℕ) where
-  pub does_if : (s : Store) (ip l : ℕ) (sl : Slots) (fs : List Frame) (n : ℕ) (rs : List OpenRegion) (ts : List ℕ) (x : Atom) (u v : Term) (c : Ctx) (k : Kont) → IsAt code ip (i.Unless (operand x) l) → IsCode core code c.line.within c.scope (ip + 1) u (end_of c.line.overs k) → IsCode core code c.line.within c.scope l v (end_of c.line.overs k)
-      → AtTerm core code owed own sh s (at_rest lv ty rm ip sl fs n rs ts) (IfTerm x u v) c k → Moves core code owed own sh s (at_rest lv ty rm ip sl fs n rs ts)
-  does_if s ip l sl fs n rs ts x u v c k e lu lv' at =
-      let w = scalar_word code.laid s sl c x Truth refl at.matches.vars at.fits.0 in
+module _ (core : CoreTree) (code : CodeTree) (owed : Owed) (own : Owned) (sh : Share) where
+  pub does_if : {s : Store} {m : State} {c : Ctx} {k : Kont} (l : ℕ) (x : Atom) (u v : Term) → IsAt code m.ip (i.Unless (operand x) l) → IsCode core code c.line.within c.scope (m.ip + 1) u (end_of c.line.overs k) → IsCode core code c.line.within c.scope l v (end_of c.line.overs k)
+      → AtTerm core code owed own sh s m (IfTerm x u v) c k → Moves core code owed own sh s m
+  does_if {s} {m} {c} {k} l x u v e lu lv at =
+      let w = scalar_word code.laid s m.words c x Truth refl at.line.matches.vars at.fits.0 in
       go w.0 w.1 w.2
     where
-      line : Line core code owed own sh lv ty rm s sl fs rs ts c k (cased (IfTerm x u v))
-      line = line_of core code owed own sh lv ty rm s ip sl fs n rs ts (IfTerm x u v) c k at
+      asks : (b : Bool) → word m.words (operand x) ≡ bit b → next code m ≡ Silent (cond (bit b == 0) (went_to m l) (went m))
+      asks b h = step_is code m (i.Unless (operand x) l) at.ready e ∙ ap (λ (q : ℕ). Silent (cond (q == 0) (went_to m l) (went m))) h
 
-      asks : (b : Bool) → word sl (operand x) ≡ bit b → next code (at_rest lv ty rm ip sl fs n rs ts) ≡ Silent (cond (bit b == 0) (went_to (at_rest lv ty rm ip sl fs n rs ts) l) (went (at_rest lv ty rm ip sl fs n rs ts)))
-      asks b h = step_is core code owed own sh lv ty rm (at_rest lv ty rm ip sl fs n rs ts) (i.Unless (operand x) l) refl e ∙ ap (λ (q : ℕ). Silent (cond (q == 0) (went_to (at_rest lv ty rm ip sl fs n rs ts) l) (went (at_rest lv ty rm ip sl fs n rs ts)))) h
-
-      owes : (b : Bool) → value c.env x ≡ truth b → resume core n k (choose b (means core n u c.env) (means core n v c.env)) ≡ owed.all
-      owes b h = ap (λ (q : Datum). resume core n k (choose (is_true q) (means core n u c.env) (means core n v c.env))) (sym h) ∙ at.owes
+      owes : (b : Bool) → value c.env x ≡ truth b → resume core m.depth k (choose b (means core m.depth u c.env) (means core m.depth v c.env)) ≡ owed.all
+      owes b h = ap (λ (q : Datum). resume core m.depth k (choose (is_true q) (means core m.depth u c.env) (means core m.depth v c.env))) (sym h) ∙ at.owes
 
       both : Bool → Cost
-      both b = plus (choose_cost b (costs core n lv.level u c.env) (costs core n lv.level v c.env)) (later_costs core n lv.level k (choose b (means core n u c.env) (means core n v c.env)))
+      both b = plus (choose_cost b (costs core m.depth m.level u c.env) (costs core m.depth m.level v c.env)) (later_costs core m.depth m.level k (choose b (means core m.depth u c.env) (means core m.depth v c.env)))
 
-      counted : (b : Bool) → value c.env x ≡ truth b → Counted rs (both b) sh
-      counted b h = subst (λ (q : Datum). Counted rs (both (is_true q)) sh) h at.counted
+      counted : (b : Bool) → value c.env x ≡ truth b → Counted m.regions (both b) sh
+      counted b h = subst (λ (q : Datum). Counted m.regions (both (is_true q)) sh) h at.counted
 
-      go : (b : Bool) → value c.env x ≡ truth b → word sl (operand x) ≡ bit b → Moves core code owed own sh s (at_rest lv ty rm ip sl fs n rs ts)
-      go true h g = silent (asks true g) (rests (at_term (term_at core code owed own sh lv ty rm s (ip + 1) sl fs n rs ts u c k (cased (IfTerm x u v)) line lu at.fits.1 (λ y q. or_left (cased u y) (cased v y) q) (owes true h) at.sides (let h = at.nests in omega (arith, h)) (let h = at.narrow in omega (arith, h)) at.all_room (counted true h))))
-      go false h g = silent (asks false g) (rests (at_term (term_at core code owed own sh lv ty rm s l sl fs n rs ts v c k (cased (IfTerm x u v)) line lv' at.fits.2 (λ y q. or_right (cased u y) (cased v y) q) (owes false h) at.sides (let h = at.nests in omega (arith, h)) (let h = at.narrow in omega (arith, h)) at.all_room (counted false h))))
+      go : (b : Bool) → value c.env x ≡ truth b → word m.words (operand x) ≡ bit b → Moves core code owed own sh s m
+      go true h g = silent (asks true g) (rests (at_term {u = Plain u} {c = c} {k = k} record {
+        ready = refl;
+        low = lu;
+        fits = at.fits.1;
+        line = line_less (λ y q. or_left (cased u y) (cased v y) q) at.line;
+        memory = at.memory;
+        ties = at.ties;
+        owes = owes true h;
+        counted = counted true h;
+        room = room_less (omega arith) at.room;
+      }))
+      go false h g = silent (asks false g) (rests (at_term {u = Plain v} {c = c} {k = k} record {
+        ready = refl;
+        low = lv;
+        fits = at.fits.2;
+        line = line_less (λ y q. or_right (cased u y) (cased v y) q) at.line;
+        memory = at.memory;
+        ties = at.ties;
+        owes = owes false h;
+        counted = counted false h;
+        room = room_less (omega arith) at.room;
+      }))

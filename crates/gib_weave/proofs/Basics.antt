@@ -1,10 +1,10 @@
 -- Functions and words changed at one place; places; bytes that are put.
-use Rattle.std.proofs.Common.{◌≡◌, ℕ, suc, ◌+◌, ◌<◌, ◌≤◌, Bool, true, false, List, [], ◌∷◌, length, cond, eqb, nat_lt, nat_le, slice_set, refl, sym, ap, ◌∙◌, arith}
+use Rattle.std.proofs.Common.{◌≡◌, ℕ, suc, ◌+◌, ◌<◌, ◌≤◌, Bool, true, false, List, [], ◌∷◌, length, cond, eqb, nat_lt, nat_le, slice_set, refl, sym, ap, subst, ◌∙◌, arith}
 use Rattle.std.proofs.lemmas.Bool.{eq-eqb, ne_eqb, eqb-true, true≢false}
 use Rattle.std.proofs.lemmas.List.{get_or-set_same, get_or-set_other, length-set}
 use Rattle.std.proofs.lemmas.Bool.Decides.{nat_tests}
 use Rattle.gib_mem.specs.Memory.{Cell, byte, Store, set_cell, Holds, none, more, Grows}
-use Rattle.gib_machine.specs.Machine.{Slots, slot, end_at, set}
+use Rattle.gib_machine.specs.State.{Slots, slot, end_at, set}
 use Rattle.gib_weave.specs.EndWords.{WithEnd, both}
 use Rattle.gib_core.specs.Fits.{put}
 use Rattle.gib_weave.specs.Places.{within, IsSmall, Owned, put_all, AllFresh}
@@ -23,6 +23,18 @@ put-same f x v = ap (λ b. cond b v (f x)) (eq-eqb x x refl)
 
 pub put-other : {A : Type 0} (f : ℕ → A) (x y : ℕ) (v : A) → (y ≡ x → ⊥) → put f x v y ≡ f y
 put-other f x y v ne = ap (λ b. cond b v (f y)) (ne_eqb y x ne)
+
+-- of each number, of one and of all others
+pub one_and_others : (x : ℕ) (P : ℕ → Type 0) → P x → ((y : ℕ) → (y ≡ x → ⊥) → P y) → (y : ℕ) → P y
+one_and_others x P h k y = by_test y x (λ b. P y) (λ e. subst P (sym e) h) (k y)
+
+-- of two and of all others
+pub two_and_others : (x y : ℕ) (P : ℕ → Type 0) → P x → P y → ((z : ℕ) → (z ≡ x → ⊥) → (z ≡ y → ⊥) → P z) → (z : ℕ) → P z
+two_and_others x y P h g k = one_and_others x P h (λ z a. one_and_others y (λ z. (z ≡ x → ⊥) → P z) (λ a. g) (λ z b a. k z a b) z a)
+
+-- the same of the values of a function that was changed at one place
+pub put_each : {A : Type 0} (f : ℕ → A) (x : ℕ) (v : A) (P : ℕ → A → Type 0) → P x v → ((y : ℕ) → (y ≡ x → ⊥) → P y (f y)) → (y : ℕ) → P y (put f x v y)
+put_each f x v P h k y = by_test y x (λ b. P y (cond b v (f y))) (λ e. subst (λ (q : ℕ). P q v) (sym e) h) (k y)
 
 pub set-same : (sl : Slots) (x w : ℕ) → x < length sl.vars → slot (set sl x w) x ≡ w
 set-same sl x w h = get_or-set_same sl.vars x w 0 h

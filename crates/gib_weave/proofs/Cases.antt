@@ -11,7 +11,6 @@ use Rattle.gib_types.specs.Tree.{Datum, whole, truth, con, Data, more, list_of}
 use Rattle.gib_types.specs.Tree as tree
 use Rattle.gib_syntax.specs.Meaning.{Environment, value_in, Outcome, choose}
 use Rattle.gib_mem.specs.Memory.{Store, byte, Holds}
-use Rattle.gib_mem.specs.Memory as mem
 use Rattle.gib_packed.specs.Scalars.{bit, scalars, number}
 use Rattle.gib_packed.specs.Head.{address, addresses, offset_bytes}
 use Rattle.gib_packed.specs.Decoding as d
@@ -25,7 +24,8 @@ use Rattle.gib_code.specs.Instruction.{Instruction}
 use Rattle.gib_code.specs.Instruction as i
 use Rattle.gib_code.specs.Program.{CodeTree, AreAt, none, one_more}
 use Rattle.gib_core.specs.Low.{arm_end, LeafAt, Low, LowArms, no_arm, arm, End, laid_of, field_of, Field as StoredField, further_fields, with_fields, scalar_reads, first_reach, arm_opening}
-use Rattle.gib_machine.specs.Machine.{end_at, Slots, slot, set, Frame, Open as OpenRegion, label_of}
+use Rattle.gib_machine.specs.State.{end_at, Slots, slot, set, Frame, Open as OpenRegion, State}
+use Rattle.gib_machine.specs.Machine.{label_of}
 use Rattle.gib_weave.specs.EndWords.{WithEnd, both, EndWord}
 use Rattle.gib_core.specs.Cost.{Cost, cost_branches, call_costs, choose_cost}
 use Rattle.gib_core.specs.Ending.{Within, last_packed}
@@ -40,7 +40,7 @@ use Rattle.gib_weave.proofs.Basics.{by_test, put-same, put-other, set-same, set-
 use Rattle.gib_weave.proofs.Move.{Keeps, keeps_var, with_var, agrees_put, bound-same}
 use Rattle.gib_weave.proofs.Readings.{get_one}
 use Rattle.gib_weave.proofs.Numbers.{reads_number}
-use Rattle.gib_weave.proofs.Ends.{first_at, rest_at, held_end, Levels, at_rest, step_is, silently}
+use Rattle.gib_weave.proofs.Ends.{first_at, rest_at, held_end, at_rest, step_is, silently}
 use Rattle.gib_weave.proofs.Arms.{Line, line_var}
 use Rattle.gib_packed.proofs.StoredLemmas.{Holds-front, Holds-behind}
 use Rattle.gib_packed.proofs.HoldsLemmas.{Holds-rest, Holds-first}
@@ -212,41 +212,45 @@ slots_fit sc w (Tree t ∷ ts) (y ∷ ys) (more v vs) sl n lt ev =
 
 -- What an arm begins with runs.
 
-module _ (core : CoreTree) (code : CodeTree) (owed : Owed) (own : Owned) (sh : Share) (lv : Levels) (ty : Ty) (rm : ℕ) where
-  pub run_scalars : (s : Store) (fs : List Frame) (n : ℕ) (rs : List OpenRegion) (tls : List ℕ) (sc : Scope) (x a : ℕ) (ts : List Ty) (ys : List Variable) (vs : Data) (places : List ℕ) (b z p ip m : ℕ) (sl : Slots)
-      → AreNew sc ts ys → (sc x ≡ Absent → ⊥) → Decs code.laid s b ts vs places z → Holds s (a + p) (scalars vs) → slot sl x ≡ a → AreAt code ip (scalar_reads x p ts ys) m
-      → Safe core code owed own sh s (at_rest lv ty rm m (scalar_slots ts ys vs sl) fs n rs tls) → Safe core code owed own sh s (at_rest lv ty rm ip sl fs n rs tls)
-  run_scalars s fs n rs tls sc x a _ ys _ _ b z p ip _ sl nw nb d.done h e none g = g
-  run_scalars s fs n rs tls sc x a _ [] _ _ b z p ip m sl nw nb (d.whole_field fits ds) h e at g = absurd nw
-  run_scalars s fs n rs tls sc x a _ (y ∷ ys) _ _ b z p ip m sl nw nb (d.whole_field {i = int} {ts = ts} {vs = vs} {places = places} fits ds) h e at g =
+module _ (core : CoreTree) (code : CodeTree) (owed : Owed) (own : Owned) (sh : Share) (s : Store) (m : State) (x a l : ℕ) where
+  stay : {ip : ℕ} {sl : Slots} → AreAt code ip [] l → Safe core code owed own sh s (at_rest m l sl) → Safe core code owed own sh s (at_rest m ip sl)
+  stay none g = g
+
+  pub run_scalars : (sc : Scope) (ts : List Ty) (ys : List Variable) (vs : Data) (places : List ℕ) (b z p ip : ℕ) (sl : Slots)
+      → AreNew sc ts ys → (sc x ≡ Absent → ⊥) → Decs code.laid s b ts vs places z → Holds s (a + p) (scalars vs) → slot sl x ≡ a → AreAt code ip (scalar_reads x p ts ys) l
+      → Safe core code owed own sh s (at_rest m l (scalar_slots ts ys vs sl)) → Safe core code owed own sh s (at_rest m ip sl)
+  run_scalars sc _ ys _ _ b z p ip sl nw nb d.done h e ar g = stay ar g
+  run_scalars sc _ [] _ _ b z p ip sl nw nb (d.whole_field fits ds) h e at g = absurd nw
+  run_scalars sc _ (y ∷ ys) _ _ b z p ip sl nw nb (d.whole_field {i = int} {ts = ts} {vs = vs} {places = places} fits ds) h e at g =
       let w = cast_unsigned w64 int in
       let sl' = set sl y.0 w in
       let q : a + p + length (number int) ≡ a + (p + 8) = omega arith in
-      let rest = run_scalars s fs n rs tls (put sc y.0 Held) x a ts ys vs places b z (p + 8) (ip + 1) m sl' nw.1 (next_bound sc y.0 x nb) ds (subst (λ (r : ℕ). Holds s r (scalars vs)) q (Holds-behind (a + p) (number int) (scalars vs) h)) (set-other sl y.0 x w (not_this sc y.0 x nw.0 nb) ∙ e) (rest_at at) g in
-      moves (reads_number core code owed own sh s w (Fits-lt-pow (Fits-of_z fits)) (at_rest lv ty rm ip sl fs n rs tls) y.0 (slot sl x + p) (subst (λ (r : ℕ). Holds s (r + p) (number int)) (sym e) (Holds-front (a + p) (number int) (scalars vs) h))
-      (step_is core code owed own sh lv ty rm (at_rest lv ty rm ip sl fs n rs tls) (i.Whole y.0 x p) refl (first_at at)) rest)
-  run_scalars s fs n rs tls sc x a _ [] _ _ b z p ip m sl nw nb (d.truth_field ds) h e at g = absurd nw
-  run_scalars s fs n rs tls sc x a _ (y ∷ ys) _ _ b z p ip m sl nw nb (d.truth_field {b = bool} {ts = ts} {vs = vs} {places = places} ds) h e at g =
+      let rest = run_scalars (put sc y.0 Held) ts ys vs places b z (p + 8) (ip + 1) sl' nw.1 (next_bound sc y.0 x nb) ds (subst (λ (r : ℕ). Holds s r (scalars vs)) q (Holds-behind (a + p) (number int) (scalars vs) h)) (set-other sl y.0 x w (not_this sc y.0 x nw.0 nb) ∙ e) (rest_at at) g in
+      moves (reads_number core code owed own sh s w (Fits-lt-pow (Fits-of_z fits)) (at_rest m ip sl) y.0 (slot sl x + p) (subst (λ (r : ℕ). Holds s (r + p) (number int)) (sym e) (Holds-front (a + p) (number int) (scalars vs) h))
+      (step_is code (at_rest m ip sl) (i.Whole y.0 x p) refl (first_at at)) rest)
+  run_scalars sc _ [] _ _ b z p ip sl nw nb (d.truth_field ds) h e at g = absurd nw
+  run_scalars sc _ (y ∷ ys) _ _ b z p ip sl nw nb (d.truth_field {b = bool} {ts = ts} {vs = vs} {places = places} ds) h e at g =
       let w = bit bool in
       let sl' = set sl y.0 w in
       let q : a + p + 1 ≡ a + (p + 1) = omega arith in
-      let rest = run_scalars s fs n rs tls (put sc y.0 Held) x a ts ys vs places b z (p + 1) (ip + 1) m sl' nw.1 (next_bound sc y.0 x nb) ds (subst (λ (r : ℕ). Holds s r (scalars vs)) q (Holds-rest h)) (set-other sl y.0 x w (not_this sc y.0 x nw.0 nb) ∙ e) (rest_at at) g in
-      moves (get_one core code owed own sh (step_is core code owed own sh lv ty rm (at_rest lv ty rm ip sl fs n rs tls) (i.Truth y.0 x p) refl (first_at at)) (subst (λ (r : ℕ). s (r + p) ≡ byte w) (sym e) (Holds-first h)) rest)
-  run_scalars s fs n rs tls sc x a _ [] _ _ b z p ip m sl nw nb (d.tree_field dec ds) h e at g = absurd nw
-  run_scalars s fs n rs tls sc x a _ (y ∷ ys) _ _ b z p ip m sl nw nb (d.tree_field {y = mid} {t = t} {v = v} {ts = ts} {vs = vs} {places = places} dec ds) h e at g =
-      run_scalars s fs n rs tls (put sc y.0 Held) x a ts ys vs places mid z p ip m sl nw.1 (next_bound sc y.0 x nb) ds (subst (λ (r : List ℕ). Holds s (a + p) (r ++ scalars vs)) (Dec-no_scalar dec) h) e at g
+      let rest = run_scalars (put sc y.0 Held) ts ys vs places b z (p + 1) (ip + 1) sl' nw.1 (next_bound sc y.0 x nb) ds (subst (λ (r : ℕ). Holds s r (scalars vs)) q (Holds-rest h)) (set-other sl y.0 x w (not_this sc y.0 x nw.0 nb) ∙ e) (rest_at at) g in
+      moves (get_one core code owed own sh (step_is code (at_rest m ip sl) (i.Truth y.0 x p) refl (first_at at)) (subst (λ (r : ℕ). s (r + p) ≡ byte w) (sym e) (Holds-first h)) rest)
+  run_scalars sc _ [] _ _ b z p ip sl nw nb (d.tree_field dec ds) h e at g = absurd nw
+  run_scalars sc _ (y ∷ ys) _ _ b z p ip sl nw nb (d.tree_field {y = mid} {t = t} {v = v} {ts = ts} {vs = vs} {places = places} dec ds) h e at g =
+      run_scalars (put sc y.0 Held) ts ys vs places mid z p ip sl nw.1 (next_bound sc y.0 x nb) ds (subst (λ (r : List ℕ). Holds s (a + p) (r ++ scalars vs)) (Dec-no_scalar dec) h) e at g
 
-  pub run_first : (s : Store) (fs : List Frame) (n : ℕ) (rs : List OpenRegion) (tls : List ℕ) (x a head : ℕ) (ts : List Ty) (ys : List Variable) (ip m : ℕ) (sl : Slots) → a + head < 2 ^ 64 → slot sl x ≡ a → AreAt code ip (first_reach x head ts ys) m
-      → Safe core code owed own sh s (at_rest lv ty rm m (first_slots (a + head) ts ys sl) fs n rs tls) → Safe core code owed own sh s (at_rest lv ty rm ip sl fs n rs tls)
-  run_first s fs n rs tls x a head [] ys ip _ sl sm e none g = g
-  run_first s fs n rs tls x a head (u ∷ ts) [] ip _ sl sm e none g = g
-  run_first s fs n rs tls x a head (Whole ∷ ts) (y ∷ ys) ip m sl sm e at g = run_first s fs n rs tls x a head ts ys ip m sl sm e at g
-  run_first s fs n rs tls x a head (Truth ∷ ts) (y ∷ ys) ip m sl sm e at g = run_first s fs n rs tls x a head ts ys ip m sl sm e at g
-  run_first s fs n rs tls x a head (Tree t ∷ ts) (y ∷ ys) ip m sl sm e (one_more f none) g =
+  pub run_first : (head : ℕ) (ts : List Ty) (ys : List Variable) (ip : ℕ) (sl : Slots) → a + head < 2 ^ 64 → slot sl x ≡ a → AreAt code ip (first_reach x head ts ys) l
+      → Safe core code owed own sh s (at_rest m l (first_slots (a + head) ts ys sl)) → Safe core code owed own sh s (at_rest m ip sl)
+  run_first head [] ys ip sl sm e ar g = stay ar g
+  run_first head (u ∷ ts) [] ip sl sm e ar g = stay ar g
+  run_first head (Whole ∷ ts) (y ∷ ys) ip sl sm e at g = run_first head ts ys ip sl sm e at g
+  run_first head (Truth ∷ ts) (y ∷ ys) ip sl sm e at g = run_first head ts ys ip sl sm e at g
+  run_first head (Tree t ∷ ts) (y ∷ ys) ip sl sm e ar g =
+      let f = first_at ar in
       let q : (a + head) % 2 ^ 64 ≡ a + head = omega (arith, sm) in
-      silently core code owed own sh lv ty rm {m = at_rest lv ty rm ip sl fs n rs tls} {m' = at_rest lv ty rm (ip + 1) (set sl y.0 ((slot sl x + head) % 2 ^ 64)) fs n rs tls} refl f refl
-      (subst (λ (q : ℕ). Safe core code owed own sh s (at_rest lv ty rm (ip + 1) (set sl y.0 ((q + head) % 2 ^ 64)) fs n rs tls)) (sym e)
-      (subst (λ (r : ℕ). Safe core code owed own sh s (at_rest lv ty rm (ip + 1) (set sl y.0 r) fs n rs tls)) (sym q) g))
+      silently {m = at_rest m ip sl} {m' = at_rest m (ip + 1) (set sl y.0 ((slot sl x + head) % 2 ^ 64))} refl f refl
+      (subst (λ (q : ℕ). Safe core code owed own sh s (at_rest m (ip + 1) (set sl y.0 ((q + head) % 2 ^ 64)))) (sym e)
+      (subst (λ (r : ℕ). Safe core code owed own sh s (at_rest m (ip + 1) (set sl y.0 r))) (sym q) (stay (rest_at ar) g)))
 
 -- The fields come into the line.
 
@@ -280,58 +284,58 @@ stored_due (Some z) places = addresses places
 now_absent : (sc : Scope) (c : Ctx) (y : ℕ) (so : Sort) (v : Datum) (at : ℕ) → ((q : ℕ) → sc q ≡ Absent → c.scope q ≡ Absent) → (q : ℕ) → put sc y Held q ≡ Absent → (with_var c y so v at).scope q ≡ Absent
 now_absent sc c y so v at h q = by_test q y (λ b. cond b Held (sc q) ≡ Absent → cond b so (c.scope q) ≡ Absent) (λ e g. absurd cc) (λ e g. h q g)
 
-module _ (core : CoreTree) (code : CodeTree) (owed : Owed) (own : Owned) (sh : Share) (lv : Levels) (ty : Ty) (rm : ℕ) where
-  pub record ArmLine (s : Store) (F : Slots) (fs : List Frame) (rs : List OpenRegion) (tls : List ℕ) (kt : Kont) (m : ℕ → Bool) (dest : Dest) (sc : Scope) (env : Environment) (x o : ℕ) (v : Datum) (ln : FitsLine) (hx z w : ℕ) (lst : Option ℕ) : Type 0 where
+module _ (core : CoreTree) (code : CodeTree) (own : Owned) (s : Store) (F : Slots) (fs : List Frame) (rs : List OpenRegion) (tls : List ℕ) (kt : Kont) (m : ℕ → Bool) (x k o w : ℕ) where
+  pub record ArmLine (dest : Dest) (sc : Scope) (env : Environment) (v : Datum) (ln : FitsLine) (hx z : ℕ) (lst : Option ℕ) : Type 0 where
     pub ctx : Ctx
     pub head : ctx.scope x ≡ AtHead o
     pub worth : value_in ctx.env x ≡ v
     pub scope : ctx.scope ≡ sc
     pub values : ctx.env ≡ env
     pub goal : ctx.dest ≡ dest
-    pub line : Line core code owed own sh lv ty rm s F fs rs tls ctx kt m
+    pub line : Line core code own s F fs rs tls ctx kt m
     pub ends : ctx.line ≡ ln
     pub place : ctx.hd x ≡ hx
     pub last : BeforeIs code.laid s ctx z w lst
 
-  worth_is : {s : Store} {F : Slots} {fs : List Frame} {rs : List OpenRegion} {tls : List ℕ} {kt : Kont} {m : ℕ → Bool} {dest : Dest} {sc : Scope} {env : Environment} {x o : ℕ} {v w : Datum} {ln : FitsLine} {hx z a : ℕ} {lst : Option ℕ} → v ≡ w → ArmLine s F fs rs tls kt m dest sc env x o v ln hx z a lst → ArmLine s F fs rs tls kt m dest sc env x o w ln hx z a lst
+  worth_is : {dest : Dest} {sc : Scope} {env : Environment} {v v' : Datum} {ln : FitsLine} {hx z : ℕ} {lst : Option ℕ} → v ≡ v' → ArmLine dest sc env v ln hx z lst → ArmLine dest sc env v' ln hx z lst
   worth_is e r = record { ctx = r.ctx; head = r.head; worth = r.worth ∙ e; scope = r.scope; values = r.values; goal = r.goal; line = r.line; ends = r.ends; place = r.place; last = r.last }
 
-  pub extend : (s : Store) (F : Slots) (fs : List Frame) (rs : List OpenRegion) (tls : List ℕ) (kt : Kont) (m : ℕ → Bool) (x k o w : ℕ) (ts : List Ty) (ys : List Variable) (vs : Data) (places : List ℕ) (at z p : ℕ) (before : Option ℕ) (c : Ctx) (sc : Scope)
+  pub extend : (ts : List Ty) (ys : List Variable) (vs : Data) (places : List ℕ) (at z p : ℕ) (before : Option ℕ) (c : Ctx) (sc : Scope)
       → AreNew sc ts ys → ((q : ℕ) → sc q ≡ Absent → c.scope q ≡ Absent) → Decs code.laid s at ts vs places z → SlotsFit F w before ts ys vs → BeforeIs code.laid s c at w before
-      → (is_among code.laid.with_offsets k ≡ true → Holds s (c.hd x + p) (stored_due before places)) → c.scope x ≡ AtHead o → Line core code owed own sh lv ty rm s F fs rs tls c kt m
-      → ArmLine s F fs rs tls kt m c.dest (arm_scope x k p before ts ys c.scope) (bind ys (list_of vs) c.env) x o (value_in c.env x) c.line (c.hd x) z w (number_of_var (last_packed (var_of before) ts ys))
-  extend s F fs rs tls kt m x k o w _ [] _ _ at z p before c sc nw ab d.done sf bi st hx l = record { ctx = c; head = hx; worth = refl; scope = refl; values = refl; goal = refl; line = l; ends = refl; place = refl; last = subst (BeforeIs code.laid s c at w) (sym (same_var before)) bi }
-  extend s F fs rs tls kt m x k o w _ (y ∷ ys) _ _ at z p before c sc nw ab d.done sf bi st hx l = absurd nw
-  extend s F fs rs tls kt m x k o w _ [] _ _ at z p before c sc nw ab (d.whole_field fits ds) sf bi st hx l = absurd nw
-  extend s F fs rs tls kt m x k o w _ (y ∷ ys) _ _ at z p before c sc nw ab (d.whole_field {i = int} {ts = ts} {vs = vs} {places = places} fits ds) sf bi st hx l =
+      → (is_among code.laid.with_offsets k ≡ true → Holds s (c.hd x + p) (stored_due before places)) → c.scope x ≡ AtHead o → Line core code own s F fs rs tls c kt m
+      → ArmLine c.dest (arm_scope x k p before ts ys c.scope) (bind ys (list_of vs) c.env) (value_in c.env x) c.line (c.hd x) z (number_of_var (last_packed (var_of before) ts ys))
+  extend _ [] _ _ at z p before c sc nw ab d.done sf bi st hx l = record { ctx = c; head = hx; worth = refl; scope = refl; values = refl; goal = refl; line = l; ends = refl; place = refl; last = subst (BeforeIs code.laid s c at w) (sym (same_var before)) bi }
+  extend _ (y ∷ ys) _ _ at z p before c sc nw ab d.done sf bi st hx l = absurd nw
+  extend _ [] _ _ at z p before c sc nw ab (d.whole_field fits ds) sf bi st hx l = absurd nw
+  extend _ (y ∷ ys) _ _ at z p before c sc nw ab (d.whole_field {i = int} {ts = ts} {vs = vs} {places = places} fits ds) sf bi st hx l =
       let new = ab y.0 nw.0 in
       let c1 = with_var c y.0 (Scalar Whole) (whole int) 0 in
       let ke = keeps_var c y.0 (Scalar Whole) (whole int) 0 new in
-      let l1 = line_var core code owed own sh lv ty rm s F fs rs tls c kt m y.0 (Scalar Whole) (whole int) 0 l new (int, refl, fits, sf.0) tt in
-      worth_is (ke.values x (ap is_there hx)) (extend s F fs rs tls kt m x k o w ts ys vs places at z p before c1 (put sc y.0 Held) nw.1 (now_absent sc c y.0 (Scalar Whole) (whole int) 0 ab) ds sf.1 (before_keeps code.laid s c c1 at w before ke bi) st (ke.at_head x o hx) l1)
-  extend s F fs rs tls kt m x k o w _ [] _ _ at z p before c sc nw ab (d.truth_field ds) sf bi st hx l = absurd nw
-  extend s F fs rs tls kt m x k o w _ (y ∷ ys) _ _ at z p before c sc nw ab (d.truth_field {b = bool} {ts = ts} {vs = vs} {places = places} ds) sf bi st hx l =
+      let l1 = line_var y.0 (Scalar Whole) (whole int) 0 l new (int, refl, fits, sf.0) tt in
+      worth_is (ke.values x (ap is_there hx)) (extend ts ys vs places at z p before c1 (put sc y.0 Held) nw.1 (now_absent sc c y.0 (Scalar Whole) (whole int) 0 ab) ds sf.1 (before_keeps code.laid s c c1 at w before ke bi) st (ke.at_head x o hx) l1)
+  extend _ [] _ _ at z p before c sc nw ab (d.truth_field ds) sf bi st hx l = absurd nw
+  extend _ (y ∷ ys) _ _ at z p before c sc nw ab (d.truth_field {b = bool} {ts = ts} {vs = vs} {places = places} ds) sf bi st hx l =
       let new = ab y.0 nw.0 in
       let c1 = with_var c y.0 (Scalar Truth) (truth bool) 0 in
       let ke = keeps_var c y.0 (Scalar Truth) (truth bool) 0 new in
-      let l1 = line_var core code owed own sh lv ty rm s F fs rs tls c kt m y.0 (Scalar Truth) (truth bool) 0 l new (bool, refl, sf.0) tt in
-      worth_is (ke.values x (ap is_there hx)) (extend s F fs rs tls kt m x k o w ts ys vs places at z p before c1 (put sc y.0 Held) nw.1 (now_absent sc c y.0 (Scalar Truth) (truth bool) 0 ab) ds sf.1 (before_keeps code.laid s c c1 at w before ke bi) st (ke.at_head x o hx) l1)
-  extend s F fs rs tls kt m x k o w _ [] _ _ at z p before c sc nw ab (d.tree_field dec ds) sf bi st hx l = absurd nw
-  extend s F fs rs tls kt m x k o w _ (y ∷ ys) _ _ at z p None c sc nw ab (d.tree_field {y = mid} {t = t} {v = v} {ts = ts} {vs = vs} {places = places} dec ds) sf bi st hx l =
+      let l1 = line_var y.0 (Scalar Truth) (truth bool) 0 l new (bool, refl, sf.0) tt in
+      worth_is (ke.values x (ap is_there hx)) (extend ts ys vs places at z p before c1 (put sc y.0 Held) nw.1 (now_absent sc c y.0 (Scalar Truth) (truth bool) 0 ab) ds sf.1 (before_keeps code.laid s c c1 at w before ke bi) st (ke.at_head x o hx) l1)
+  extend _ [] _ _ at z p before c sc nw ab (d.tree_field dec ds) sf bi st hx l = absurd nw
+  extend _ (y ∷ ys) _ _ at z p None c sc nw ab (d.tree_field {y = mid} {t = t} {v = v} {ts = ts} {vs = vs} {places = places} dec ds) sf bi st hx l =
       let new = ab y.0 nw.0 in
       let so = Placed t.0 in
       let c1 = with_var c y.0 so v at in
       let ke = keeps_var c y.0 so v at new in
-      let l1 = line_var core code owed own sh lv ty rm s F fs rs tls c kt m y.0 so v at l new (record { same = ap (λ (b : WithEnd). b.word) sf.0 ∙ bi; stands = record { end = mid; dec = dec } }) (subst (λ (q : ℕ). EndWord code.laid s t.0 q (slot F y.0) (end_at F y.0) v) bi (held_end F y.0 sf.0)) in
+      let l1 = line_var y.0 so v at l new (record { same = ap (λ (b : WithEnd). b.word) sf.0 ∙ bi; stands = record { end = mid; dec = dec } }) (subst (λ (q : ℕ). EndWord code.laid s t.0 q (slot F y.0) (end_at F y.0) v) bi (held_end F y.0 sf.0)) in
       let bf : BeforeIs code.laid s c1 mid w (Some y.0) = (ap is_there (put-same c.scope y.0 so), (t.0, subst (λ (q : ℕ). Dec code.laid s q t.0 (value_in c1.env y.0) mid) (sym (put-same c.pl y.0 at)) (subst (λ (q : Datum). Dec code.laid s at t.0 q mid) (sym (bound-same c.env y.0 v)) dec))) in
-      worth_is (ke.values x (ap is_there hx)) (extend s F fs rs tls kt m x k o w ts ys vs places mid z p (Some y.0) c1 (put sc y.0 Held) nw.1 (now_absent sc c y.0 so v at ab) ds sf.1 bf st (ke.at_head x o hx) l1)
-  extend s F fs rs tls kt m x k o w _ (y ∷ ys) _ _ at z p (Some b) c sc nw ab (d.tree_field {y = mid} {t = t} {v = v} {ts = ts} {vs = vs} {places = places} dec ds) sf bi st hx l =
+      worth_is (ke.values x (ap is_there hx)) (extend ts ys vs places mid z p (Some y.0) c1 (put sc y.0 Held) nw.1 (now_absent sc c y.0 so v at ab) ds sf.1 bf st (ke.at_head x o hx) l1)
+  extend _ (y ∷ ys) _ _ at z p (Some b) c sc nw ab (d.tree_field {y = mid} {t = t} {v = v} {ts = ts} {vs = vs} {places = places} dec ds) sf bi st hx l =
       let new = ab y.0 nw.0 in
       let so = Field t.0 b x k p in
       let c1 = with_var c y.0 so v at in
       let ke = keeps_var c y.0 so v at new in
       let b1 = before_keeps code.laid s c c1 at w (Some b) ke bi in
-      let l1 = line_var core code owed own sh lv ty rm s F fs rs tls c kt m y.0 so v at l new (record {
+      let l1 = line_var y.0 so v at l new (record {
         there = b1.0;
         owner_type = o;
         owner = ke.at_head x o hx;
@@ -342,7 +346,7 @@ module _ (core : CoreTree) (code : CodeTree) (owed : Owed) (own : Owned) (sh : S
       }) tt in
       let bf : BeforeIs code.laid s c1 mid w (Some y.0) = (ap is_there (put-same c.scope y.0 so), (t.0, subst (λ (q : ℕ). Dec code.laid s q t.0 (value_in c1.env y.0) mid) (sym (put-same c.pl y.0 at)) (subst (λ (q : Datum). Dec code.laid s at t.0 q mid) (sym (bound-same c.env y.0 v)) dec))) in
       let q : c.hd x + p + length (address at) ≡ c.hd x + (p + 8) = omega arith in
-      worth_is (ke.values x (ap is_there hx)) (extend s F fs rs tls kt m x k o w ts ys vs places mid z (p + 8) (Some y.0) c1 (put sc y.0 Held) nw.1 (now_absent sc c y.0 so v at ab) ds sf bf
+      worth_is (ke.values x (ap is_there hx)) (extend ts ys vs places mid z (p + 8) (Some y.0) c1 (put sc y.0 Held) nw.1 (now_absent sc c y.0 so v at ab) ds sf bf
       (λ e. subst (λ (r : ℕ). Holds s r (addresses places)) q (Holds-behind (c.hd x + p) (address at) (addresses places) (st e))) (ke.at_head x o hx) l1)
 
 -- Where the code reads fields.
@@ -391,29 +395,30 @@ pub record FoundArm (core : CoreTree) (code : CodeTree) (w : Within) (ns : Needs
   pub meaning : o ≡ means core n term (bind variables (list_of vs) env)
   pub cost : price ≡ costs core n lv term (bind variables (list_of vs) env)
 
-pub find : (core : CoreTree) (code : CodeTree) (w : Within) (ns : Needs) (ln : FitsLine) (fs : List StoredField) (x : ℕ) (e : End) (sc : Scope) (dest : Dest) (n lv : ℕ) (vs : Data) (env : Environment) (cs : ℕ → Bool) (top k at z : ℕ) (bs : Branches) (arms : List Arm) → LowArms core code w fs x at arms bs e z → BranchesFit core ns bs x sc dest ln → has_branch bs k ≡ true → ((y : ℕ) → branches_cased bs y ≡ true → cs y ≡ true) → branches_nest bs ≤ top
-    → FoundArm core code w ns ln fs x e sc dest n vs env cs top k (label_of arms k) (mean_branches core.table (core_calls core n) bs (con k vs) env) lv (cost_branches core.table (core_calls core n) (call_costs core n) lv bs (con k vs) env)
-find core code w ns ln fs x e sc dest n lv vs env cs top k at z _ _ no_arm f h cl ne = absurd (true≢false (sym h))
-find core code w ns ln fs x e sc dest n lv vs env cs top k at z _ _ (arm {m = m} {n = n'} {l = l} {c = c} {ys = ys} {u = u} {bs = bs} {arms = arms} op lf lo rest) f h cl ne =
-    by_test c.0 k (λ b. (b || has_branch bs k) ≡ true → FoundArm core code w ns ln fs x e sc dest n vs env cs top k (cond b at (label_of arms k)) (choose b (means core n u (bind ys (list_of vs) env)) (mean_branches core.table (core_calls core n) bs (con k vs) env)) lv (choose_cost b (costs core n lv u (bind ys (list_of vs) env)) (cost_branches core.table (core_calls core n) (call_costs core n) lv bs (con k vs) env)))
-    (λ q g. subst (λ (j : ℕ). FoundArm core code w ns ln fs x e sc dest n vs env cs top j at (means core n u (bind ys (list_of vs) env)) lv (costs core n lv u (bind ys (list_of vs) env))) q (record {
-      variables = ys;
-      term = u;
-      start = m;
-      until = l;
-      opening = op;
-      after = n';
-      leaf = lf;
-      low = lo;
-      new = f.0;
-      fits = f.1;
-      calm = λ y r. cl y (or_left (cased u y) (branches_cased bs y) r);
-      nests = omega (arith, ne);
-      meaning = refl;
-      cost = refl;
-    }))
-    (λ q g. find core code w ns ln fs x e sc dest n lv vs env cs top k l z bs arms rest f.2 g (λ y r. cl y (or_right (cased u y) (branches_cased bs y) r)) (omega (arith, ne)))
-    h
+module _ (core : CoreTree) (code : CodeTree) (w : Within) (ns : Needs) (ln : FitsLine) (fs : List StoredField) (x : ℕ) (e : End) (sc : Scope) (dest : Dest) (n lv : ℕ) (vs : Data) (env : Environment) (cs : ℕ → Bool) (top k : ℕ) where
+  pub find : (at z : ℕ) (bs : Branches) (arms : List Arm) → LowArms core code w fs x at arms bs e z → BranchesFit core ns bs x sc dest ln → has_branch bs k ≡ true → ((y : ℕ) → branches_cased bs y ≡ true → cs y ≡ true) → branches_nest bs ≤ top
+      → FoundArm core code w ns ln fs x e sc dest n vs env cs top k (label_of arms k) (mean_branches core.table (core_calls core n) bs (con k vs) env) lv (cost_branches core.table (core_calls core n) (call_costs core n) lv bs (con k vs) env)
+  find at z _ _ no_arm f h cl ne = absurd (true≢false (sym h))
+  find at z _ _ (arm {m = m} {n = n'} {l = l} {c = c} {ys = ys} {u = u} {bs = bs} {arms = arms} op lf lo rest) f h cl ne =
+      by_test c.0 k (λ b. (b || has_branch bs k) ≡ true → FoundArm core code w ns ln fs x e sc dest n vs env cs top k (cond b at (label_of arms k)) (choose b (means core n u (bind ys (list_of vs) env)) (mean_branches core.table (core_calls core n) bs (con k vs) env)) lv (choose_cost b (costs core n lv u (bind ys (list_of vs) env)) (cost_branches core.table (core_calls core n) (call_costs core n) lv bs (con k vs) env)))
+      (λ q g. subst (λ (j : ℕ). FoundArm core code w ns ln fs x e sc dest n vs env cs top j at (means core n u (bind ys (list_of vs) env)) lv (costs core n lv u (bind ys (list_of vs) env))) q (record {
+        variables = ys;
+        term = u;
+        start = m;
+        until = l;
+        opening = op;
+        after = n';
+        leaf = lf;
+        low = lo;
+        new = f.0;
+        fits = f.1;
+        calm = λ y r. cl y (or_left (cased u y) (branches_cased bs y) r);
+        nests = omega (arith, ne);
+        meaning = refl;
+        cost = refl;
+      }))
+      (λ q g. find l z bs arms rest f.2 g (λ y r. cl y (or_right (cased u y) (branches_cased bs y) r)) (omega (arith, ne)))
+      h
 
 -- fields of which none is packed end where they begin
 pub no_tree_end : {laid : LaidOut} {s : Store} {a z : ℕ} {ts : List Ty} {vs : Data} {places : List ℕ} → packed_count ts ≡ 0 → Decs laid s a ts vs places z → z ≡ a

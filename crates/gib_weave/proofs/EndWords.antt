@@ -9,7 +9,7 @@ use Rattle.gib_packed.specs.Decoding as d
 use Rattle.gib_packed.specs.Decoding.{Points, Dec}
 use Rattle.gib_packed.specs.Reaching.{Turns, there, turn}
 use Rattle.gib_packed.proofs.Unique.{Dec-same}
-use Rattle.gib_machine.specs.Machine.{tell}
+use Rattle.gib_machine.specs.State.{tell}
 use Rattle.gib_weave.specs.Environment.{Ctx, IsField}
 use Rattle.gib_weave.specs.EndWords.{EndWord}
 

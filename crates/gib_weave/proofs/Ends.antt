@@ -13,7 +13,8 @@ use Rattle.gib_core.specs.Tree.{CoreTree}
 use Rattle.gib_code.specs.Instruction.{Instruction, Got, OverEnd, Return}
 use Rattle.gib_code.specs.Program.{CodeTree, IsAt, AreAt, none, one_more}
 use Rattle.gib_core.specs.Low.{ending, Over, over_all, got_from, gots, operands}
-use Rattle.gib_machine.specs.Machine.{times, nesting, Slots, slot, Frame, Open as OpenRegion, State, Doing, Ready, Ask, Silent, next, begin, goes_on, cursor, Unwinding, unwound, stopped, Par, backs_at, ends_side, answer_of, told, words, end_at}
+use Rattle.gib_machine.specs.State.{times, nesting, Slots, slot, Frame, Open as OpenRegion, State, Ready, Silent, cursor, Unwinding, Par, told, words, end_at}
+use Rattle.gib_machine.specs.Machine.{next, begin, goes_on, unwound, stopped, backs_at, ends_side, answer_of}
 use Rattle.gib_weave.specs.EndWords.{WithEnd, both, IsTold, EndWord}
 use Rattle.std.specs.Prelude.{◌==◌}
 use Rattle.std.proofs.lemmas.Bool.{true≢false}
@@ -25,17 +26,17 @@ use Rattle.gib_core.specs.Meaning.{value}
 use Rattle.gib_core.specs.declared.atom.Ended.{Ended}
 use Rattle.gib_core.specs.Ending.{Within, ended, has_ended, call_ends}
 use Rattle.gib_weave.proofs.Counts.{Paid, finish_counted}
-use Rattle.gib_core.specs.Fits.{Sort, Absent, AtomsFit, Meets, Runs, and_also, finally, call_tells, tell_line, is_settled, tree_type, put, Placed, more}
+use Rattle.gib_core.specs.Fits.{Sort, Absent, AtomsFit, Meets, Runs, and_also, finally, call_tells, tell_line, is_settled, tree_type, put, Placed, more, Dest, dest_type}
 use Rattle.gib_packed.specs.Reaching.{Turns, there}
-use Rattle.gib_weave.specs.Environment.{Given, givens, Gave, AreGiven, AllClose, HasAll, Ctx, StandsAt, IsPlaced}
+use Rattle.gib_weave.specs.Environment.{Given, givens, Gave, AreGiven, AllClose, HasAll, Ctx, StandsAt, IsPlaced, Matches}
 use Rattle.gib_weave.specs.Continuing.{given_of, Rest, Plain, Part, Meet, Leave, Last, KSide, KLast, rest_pars, pars_of, side_of, Kont, KEnd, KHere, KRegion, KScalar, KCall, KCallScalar, AllUnder, end_of, needs_of, due, root}
-use Rattle.gib_weave.specs.Owing.{debt_of, no_debt, level_after, Owed, rest_sides, sides_of, Debt, resume}
+use Rattle.gib_weave.specs.Owing.{debt_of, no_debt, level_after, Owed, rest_sides, sides_of, Debt, resume, rest_means}
 use Rattle.gib_weave.specs.Paying.{Share, Counted, left_costs, later_costs}
-use Rattle.gib_weave.specs.Places.{Owned, kont_covers, rest_covers, tail_covers, HaveRoom, TailsHaveRoom, IsSmall, Apart, AllRoom}
-use Rattle.gib_weave.specs.Stacks.{IsRoot, Stack}
+use Rattle.gib_weave.specs.Places.{Owned, kont_covers, AllRoom, HasRoom, heads, freed}
+use Rattle.gib_weave.specs.Stacks.{IsRoot, Stack, Waits}
 use Rattle.gib_machine.specs.Levels.{lefts}
-use Rattle.gib_weave.specs.Sound.{counts, AtRest, means_why, unwinds, IsAnswer, at_term, over, Safe, rests, moves, silent, Moves}
-use Rattle.gib_weave.proofs.Move.{with_var, with_dest, HasAll-set, HasAll-dest, keeps_dest, IsDest-bind, IsDest-more, all_under_bind, covers_more, covers_head, rest_code_put, HasAll-moved, Stack-moved, goes-refl, tree_settled, settled_there, other, with_line, HasAll-line, Matches-line, IsDest-line, given_bind}
+use Rattle.gib_weave.specs.Sound.{counts, AtRest, means_why, unwinds, IsAnswer, at_term, over, Safe, rests, moves, silent, Moves, InMemory, IsTied, Ties, ties_of}
+use Rattle.gib_weave.proofs.Move.{with_var, with_dest, HasAll-set, HasAll-dest, keeps_dest, IsDest-bind, IsDest-more, all_under_bind, covers_more, rest_code_put, HasAll-moved, Stack-moved, goes-refl, tree_settled, settled_there, other, with_line, HasAll-line, Matches-line, IsDest-line, given_bind, is_field}
 use Rattle.gib_weave.proofs.Basics.{by_test, put-other}
 use Rattle.gib_weave.proofs.Tolds.{Tells, told_known, told_still, told_now, settled_slot, settled_not_held, moved_told, all_moved_told, gives_back, over_tells}
 use Rattle.gib_weave.proofs.Lines.{follows}
@@ -43,45 +44,16 @@ use Rattle.gib_weave.proofs.Uses.{sides_bound}
 use Rattle.gib_weave.proofs.Places.{Apart-less, finished_covers, finished_rooms}
 use Rattle.gib_core.proofs.TypesKnown.{dest_more}
 
--- The level left, the `par`s, whether the task is a stolen side, and how many words a frame may have.
-pub record Levels : Type 0 where
-  pub level : ℕ
-  pub gave : List ℕ
-  pub pars : List Par
-  pub side : Option ℕ
-  pub width : ℕ
+-- A machine between two instructions, at this one and with these slots.
+abbrev pub at_rest : State → (ip : ℕ) → Slots → State
+at_rest m ip sl = record m { ip = ip; words = sl; doing = Ready }
 
-abbrev pub at_rest : Levels → Ty → ℕ → ℕ → Slots → List Frame → ℕ → List OpenRegion → List ℕ → State
-at_rest lv ty rm ip sl fs n rs ts = record { room = rm; width = lv.width; gave = lv.gave; ip = ip; words = sl; frames = fs; depth = n; level = lv.level; pars = lv.pars; side = lv.side; regions = rs; tails = ts; result = ty; doing = Ready }
+pub resting : (m : State) → m.doing ≡ Ready → at_rest m m.ip m.words ≡ m
+resting m r = λ j. record m { doing = sym r j }
 
--- what is a task's own may be more
-pub widen : {core : CoreTree} {code : CodeTree} {owed : Owed} {own own' : Owned} {sh : Share} {s : Store} {m : State} {u : Rest} {c : Ctx} {k : Kont} → ((q : ℕ) → own q ≤ own' q) → AtRest core code owed own sh s m u c k → AtRest core code owed own' sh s m u c k
-widen h at = record {
-  ready = at.ready;
-  low = at.low;
-  fits = at.fits;
-  kind = at.kind;
-  matches = at.matches;
-  stack = at.stack;
-  under = at.under;
-  given = at.given;
-  calm = at.calm;
-  places = record { mine = λ q. let x = at.places.mine q in let y = h q in omega arith; once = at.places.once; fresh = at.places.fresh };
-  rooms = at.rooms;
-  tail_rooms = at.tail_rooms;
-  small = at.small;
-  owes = at.owes;
-  sides = at.sides;
-  pars = at.pars;
-  side = at.side;
-  free = at.free;
-  result = at.result;
-  type = at.type;
-  counted = at.counted;
-  narrow = at.narrow;
-  nests = at.nests;
-  all_room = at.all_room;
-}
+-- the places of other heads, where they cover no more
+pub heads_less : {own : Owned} {s : Store} {g h : ℕ → ℕ} {rs : List OpenRegion} {ts : List ℕ} → ((q : ℕ) → g q ≤ h q) → InMemory own s h rs ts → InMemory own s g rs ts
+heads_less le at = record { places = Apart-less at.places (λ q. let i = le q in omega (arith, i)); rooms = at.rooms; tail_rooms = at.tail_rooms; small = at.small }
 
 abbrev pub type_number : Ty → ℕ
 type_number Whole = 0
@@ -196,117 +168,149 @@ told_side sl c ic x so v at n asked inner before q = go (c.line.told q) refl
     go true e h = before q e
     go false e h = record { settled = ap is_settled (put-other c.scope x q so (other c.scope q x (settled_there (c.scope q) (asked q h)) n)) ∙ asked q h; some = (inner q h).some }
 
-module _ (core : CoreTree) (code : CodeTree) (owed : Owed) (own : Owned) (sh : Share) (lv : Levels) (ty : Ty) (rm : ℕ) where
-  pub step_is : (m : State) (i : Instruction) → m.doing ≡ Ready → IsAt code m.ip i → next code m ≡ begin code m (Some i)
-  step_is m i r e = ap (goes_on code m) r ∙ ap (begin code m) e
+pub step_is : (code : CodeTree) (m : State) (i : Instruction) → m.doing ≡ Ready → IsAt code m.ip i → next code m ≡ begin code m (Some i)
+step_is code m i r e = ap (goes_on code m) r ∙ ap (begin code m) e
 
-  pub silently : {s : Store} {m m' : State} {i : Instruction} → m.doing ≡ Ready → IsAt code m.ip i → begin code m (Some i) ≡ Silent m' → Safe core code owed own sh s m' → Safe core code owed own sh s m
-  silently {m = m} {i = i} r e b h = moves (silent (step_is m i r e ∙ b) h)
+pub silently : {core : CoreTree} {code : CodeTree} {owed : Owed} {own : Owned} {sh : Share} {s : Store} {m m' : State} {i : Instruction} → m.doing ≡ Ready → IsAt code m.ip i → begin code m (Some i) ≡ Silent m' → Safe core code owed own sh s m' → Safe core code owed own sh s m
+silently {code = code} {m = m} {i = i} r e b h = moves (silent (step_is code m i r e ∙ b) h)
 
-  -- the ends before a return are told, the innermost first
-  pub overs_run : (s : Store) (fs : List Frame) (n : ℕ) (rs : List OpenRegion) (ts : List ℕ) (c : Ctx) (k : Kont) (a z : ℕ) (is : List Instruction) (os : List Over) (T : ℕ → Bool) (ip : ℕ) (sl : Slots) → AreAt code ip (over_all os ++ is) z → AllClose code.laid s c os → Runs T os → AllUnder c.scope c.env k → Led core code s sl fs rs c k a T
-      → ((m : ℕ) (sl' : Slots) → AreAt code m is z → sl'.vars ≡ sl.vars → Led core code s sl' fs rs c k a (finally T os) → Safe core code owed own sh s (at_rest lv ty rm m sl' fs n rs ts)) → Safe core code owed own sh s (at_rest lv ty rm ip sl fs n rs ts)
-  overs_run s fs n rs ts c k a z is [] T ip sl e cl ru un h go = go ip sl e refl h
-  overs_run s fs n rs ts c k a z is (o ∷ os) T ip sl e cl ru un h go =
+-- the ends before a return are told, the innermost first
+module _ (core : CoreTree) (code : CodeTree) (owed : Owed) (own : Owned) (sh : Share) (s : Store) (m : State) (c : Ctx) (k : Kont) (a z : ℕ) (un : AllUnder c.scope c.env k) where
+  overs_run : (is : List Instruction) (os : List Over) (T : ℕ → Bool) (ip : ℕ) (sl : Slots) → AreAt code ip (over_all os ++ is) z → AllClose code.laid s c os → Runs T os → Led core code s sl m.frames m.regions c k a T
+      → ((l : ℕ) (sl' : Slots) → AreAt code l is z → sl'.vars ≡ sl.vars → Led core code s sl' m.frames m.regions c k a (finally T os) → Safe core code owed own sh s (at_rest m l sl')) → Safe core code owed own sh s (at_rest m ip sl)
+  overs_run is [] T ip sl e cl ru h go = go ip sl e refl h
+  overs_run is (o ∷ os) T ip sl e cl ru h go =
       let f = h.knows o.field ru.0 in
-      silently {m = at_rest lv ty rm ip sl fs n rs ts} refl (first_at e) refl
-      (overs_run s fs n rs ts c k a z is os (and_also T o.tree) (ip + 1) (told sl o.tree (end_at sl o.field)) (rest_at e) cl.1 ru.1 un
-      (led_told core code s sl fs rs c k a o.tree (end_at sl o.field) T (and_also T o.tree) (ap is_settled cl.0.head) (over_tells code.laid s sl c o h.vars cl.0 f) un (λ q. also_less T o.tree q) (λ q. f.some) h) go)
+      silently {m = at_rest m ip sl} refl (first_at e) refl
+      (overs_run is os (and_also T o.tree) (ip + 1) (told sl o.tree (end_at sl o.field)) (rest_at e) cl.1 ru.1
+      (led_told core code s sl m.frames m.regions c k a o.tree (end_at sl o.field) T (and_also T o.tree) (ap is_settled cl.0.head) (over_tells code.laid s sl c o h.vars cl.0 f) un (λ q. also_less T o.tree q) (λ q. f.some) h) go)
 
-  pub overs_move : (s : Store) (fs : List Frame) (n : ℕ) (rs : List OpenRegion) (ts : List ℕ) (c : Ctx) (k : Kont) (a z : ℕ) (is : List Instruction) (os : List Over) (T : ℕ → Bool) (ip : ℕ) (sl : Slots) → AreAt code ip (over_all os ++ is) z → AllClose code.laid s c os → Runs T os → AllUnder c.scope c.env k → Led core code s sl fs rs c k a T
-      → ((m : ℕ) (sl' : Slots) → AreAt code m is z → sl'.vars ≡ sl.vars → Led core code s sl' fs rs c k a (finally T os) → Moves core code owed own sh s (at_rest lv ty rm m sl' fs n rs ts)) → Moves core code owed own sh s (at_rest lv ty rm ip sl fs n rs ts)
-  overs_move s fs n rs ts c k a z is [] T ip sl e cl ru un h go = go ip sl e refl h
-  overs_move s fs n rs ts c k a z is (o ∷ os) T ip sl e cl ru un h go =
+  pub overs_move : (is : List Instruction) (os : List Over) (T : ℕ → Bool) → m.doing ≡ Ready → AreAt code m.ip (over_all os ++ is) z → AllClose code.laid s c os → Runs T os → Led core code s m.words m.frames m.regions c k a T
+      → ((l : ℕ) (sl : Slots) → AreAt code l is z → sl.vars ≡ m.words.vars → Led core code s sl m.frames m.regions c k a (finally T os) → Moves core code owed own sh s (at_rest m l sl)) → Moves core code owed own sh s m
+  overs_move is [] T r e cl ru h go = subst (λ (q : State). Moves core code owed own sh s q) (resting m r) (go m.ip m.words e refl h)
+  overs_move is (o ∷ os) T r e cl ru h go =
       let f = h.knows o.field ru.0 in
-      silent (step_is (at_rest lv ty rm ip sl fs n rs ts) (OverEnd o.tree o.field) refl (first_at e))
-      (overs_run s fs n rs ts c k a z is os (and_also T o.tree) (ip + 1) (told sl o.tree (end_at sl o.field)) (rest_at e) cl.1 ru.1 un
-      (led_told core code s sl fs rs c k a o.tree (end_at sl o.field) T (and_also T o.tree) (ap is_settled cl.0.head) (over_tells code.laid s sl c o h.vars cl.0 f) un (λ q. also_less T o.tree q) (λ q. f.some) h) (λ m sl' e' sv hl. moves (go m sl' e' sv hl)))
+      silent (step_is code m (OverEnd o.tree o.field) r (first_at e))
+      (overs_run is os (and_also T o.tree) (m.ip + 1) (told m.words o.tree (end_at m.words o.field)) (rest_at e) cl.1 ru.1
+      (led_told core code s m.words m.frames m.regions c k a o.tree (end_at m.words o.field) T (and_also T o.tree) (ap is_settled cl.0.head) (over_tells code.laid s m.words c o h.vars cl.0 f) un (λ q. also_less T o.tree q) (λ q. f.some) h) (λ l sl e' sv hl. moves (go l sl e' sv hl)))
 
   -- a variable is told what the call gave for its j-th parameter, where that is ended
-  got_one : (s : Store) (fs : List Frame) (n : ℕ) (rs : List OpenRegion) (ts : List ℕ) (c : Ctx) (k : Kont) (a z x j : ℕ) (is : List Instruction) (T : ℕ → Bool) (ip : ℕ) (sl : Slots) (b : Bool) → AreAt code ip (cond b (Got x j ∷ is) is) z → is_settled (c.scope x) ≡ true → Tells code.laid s (c.scope x) (slot sl x) (value_in c.env x) (get_or lv.gave j 0) → (b ≡ true → 0 < get_or lv.gave j 0)
-      → AllUnder c.scope c.env k → Led core code s sl fs rs c k a T
-      → ((m : ℕ) (sl' : Slots) → AreAt code m is z → sl'.vars ≡ sl.vars → Led core code s sl' fs rs c k a (and_is T x b) → Safe core code owed own sh s (at_rest lv ty rm m sl' fs n rs ts)) → Safe core code owed own sh s (at_rest lv ty rm ip sl fs n rs ts)
-  got_one s fs n rs ts c k a z x j is T ip sl false e st tl some un h go = go ip sl e refl (led_less core code s sl fs rs c k a T (and_is T x false) (λ q. by_test x q (λ b. (T q || (b && false)) ≡ true → T q ≡ true) (λ e i. or_none (T q) i) (λ e i. or_none (T q) i)) h)
-  got_one s fs n rs ts c k a z x j is T ip sl true e st tl some un h go =
-      silently {m = at_rest lv ty rm ip sl fs n rs ts} refl (first_at e) refl
-      (go (ip + 1) (told sl x (get_or lv.gave j 0)) (rest_at e) refl (led_told core code s sl fs rs c k a x (get_or lv.gave j 0) T (and_is T x true) st tl un (λ q. is_less T x q true) (λ q. some refl) h))
+  got_one : (x j : ℕ) (is : List Instruction) (T : ℕ → Bool) (ip : ℕ) (sl : Slots) (b : Bool) → AreAt code ip (cond b (Got x j ∷ is) is) z → is_settled (c.scope x) ≡ true → Tells code.laid s (c.scope x) (slot sl x) (value_in c.env x) (get_or m.gave j 0) → (b ≡ true → 0 < get_or m.gave j 0)
+      → Led core code s sl m.frames m.regions c k a T
+      → ((l : ℕ) (sl' : Slots) → AreAt code l is z → sl'.vars ≡ sl.vars → Led core code s sl' m.frames m.regions c k a (and_is T x b) → Safe core code owed own sh s (at_rest m l sl')) → Safe core code owed own sh s (at_rest m ip sl)
+  got_one x j is T ip sl false e st tl some h go = go ip sl e refl (led_less core code s sl m.frames m.regions c k a T (and_is T x false) (λ q. by_test x q (λ b. (T q || (b && false)) ≡ true → T q ≡ true) (λ e i. or_none (T q) i) (λ e i. or_none (T q) i)) h)
+  got_one x j is T ip sl true e st tl some h go =
+      silently {m = at_rest m ip sl} refl (first_at e) refl
+      (go (ip + 1) (told sl x (get_or m.gave j 0)) (rest_at e) refl (led_told core code s sl m.frames m.regions c k a x (get_or m.gave j 0) T (and_is T x true) st tl un (λ q. is_less T x q true) (λ q. some refl) h))
 
-  -- the ends that a call gave are told to its arguments, in their order
-  pub gots_run : (es : List Ended) (f : ℕ) (s : Store) (fs : List Frame) (n : ℕ) (rs : List OpenRegion) (ts : List ℕ) (o c : Ctx) (k : Kont) (a : ℕ) (words0 : Slots) (xs : List Atom) (ps : List Ty) (j ip z : ℕ) (sl : Slots) (T : ℕ → Bool) → AreAt code ip (got_from es f j xs) z → AtomsFit o.scope xs ps
-      → ((y : ℕ) → is_settled (o.scope y) ≡ true → (c.scope y ≡ o.scope y) × (slot sl y ≡ slot words0 y) × (value_in c.env y ≡ value_in o.env y))
-      → Gave code.laid s lv.gave j (givens ps (words words0 (operands xs)) (map (value o.env) xs)) → ((q : ℕ) → has_ended es f q ≡ true → 0 < get_or lv.gave q 0) → AllUnder c.scope c.env k → Led core code s sl fs rs c k a T
-      → ((sl' : Slots) → sl'.vars ≡ sl.vars → Led core code s sl' fs rs c k a (λ q. T q || call_ends es f j xs (record { 0 = q })) → Safe core code owed own sh s (at_rest lv ty rm z sl' fs n rs ts)) → Safe core code owed own sh s (at_rest lv ty rm ip sl fs n rs ts)
-  gots_run es f s fs n rs ts o c k a words0 [] [] j ip _ sl T none fit know gave asked un h go = go sl refl (led_less core code s sl fs rs c k a T (λ q. T q || false) (λ q e. or_none (T q) e) h)
-  gots_run es f s fs n rs ts o c k a words0 [] (p ∷ ps) j ip z sl T e fit know gave asked un h go = absurd fit
-  gots_run es f s fs n rs ts o c k a words0 (x ∷ xs) [] j ip z sl T e fit know gave asked un h go = absurd fit
-  gots_run es f s fs n rs ts o c k a words0 (atom.Whole i ∷ xs) (Whole ∷ ps) j ip z sl T e fit know gave asked un h go = gots_run es f s fs n rs ts o c k a words0 xs ps (suc j) ip z sl T e fit.1 know gave asked un h go
-  gots_run es f s fs n rs ts o c k a words0 (atom.Whole i ∷ xs) (Truth ∷ ps) j ip z sl T e fit know gave asked un h go = absurd fit.0
-  gots_run es f s fs n rs ts o c k a words0 (atom.Whole i ∷ xs) (Tree t ∷ ps) j ip z sl T e fit know gave asked un h go = absurd fit.0
-  gots_run es f s fs n rs ts o c k a words0 (atom.Truth b ∷ xs) (Whole ∷ ps) j ip z sl T e fit know gave asked un h go = absurd fit.0
-  gots_run es f s fs n rs ts o c k a words0 (atom.Truth b ∷ xs) (Truth ∷ ps) j ip z sl T e fit know gave asked un h go = gots_run es f s fs n rs ts o c k a words0 xs ps (suc j) ip z sl T e fit.1 know gave asked un h go
-  gots_run es f s fs n rs ts o c k a words0 (atom.Truth b ∷ xs) (Tree t ∷ ps) j ip z sl T e fit know gave asked un h go = absurd fit.0
-  gots_run es f s fs n rs ts o c k a words0 (atom.Variable x ∷ xs) (Whole ∷ ps) j ip z sl T e fit know gave asked un h go =
-      let w = know x.0 (ap is_settled fit.0) in
-      got_one s fs n rs ts c k a z x.0 j (got_from es f (suc j) xs) T ip sl (has_ended es f j) e (ap is_settled w.0 ∙ (ap is_settled fit.0))
-      (λ u g p. absurd (none-some _ (sym (ap tree_type (w.0 ∙ fit.0)) ∙ g)))
-      (asked j) un h
-      (λ m sl1 e1 sv h1. gots_run es f s fs n rs ts o c k a words0 xs ps (suc j) m z sl1 (and_is T x.0 (has_ended es f j)) e1 fit.1 (λ y g. let i = know y g in (i.0, ap (λ (q : List ℕ). get_or q y 0) sv ∙ i.1, i.2)) gave asked un h1
-      (λ sl2 sv2 h2. go sl2 (sv2 ∙ sv) (led_less core code s sl2 fs rs c k a (λ q. and_is T x.0 (has_ended es f j) q || call_ends es f (suc j) xs (record { 0 = q })) (λ q. T q || call_ends es f j (atom.Variable x ∷ xs) (record { 0 = q })) (λ q i. got_also (T q) (x.0 == q) (has_ended es f j) (call_ends es f (suc j) xs (record { 0 = q })) i) h2)))
-  gots_run es f s fs n rs ts o c k a words0 (atom.Variable x ∷ xs) (Truth ∷ ps) j ip z sl T e fit know gave asked un h go =
-      let w = know x.0 (ap is_settled fit.0) in
-      got_one s fs n rs ts c k a z x.0 j (got_from es f (suc j) xs) T ip sl (has_ended es f j) e (ap is_settled w.0 ∙ (ap is_settled fit.0))
-      (λ u g p. absurd (none-some _ (sym (ap tree_type (w.0 ∙ fit.0)) ∙ g)))
-      (asked j) un h
-      (λ m sl1 e1 sv h1. gots_run es f s fs n rs ts o c k a words0 xs ps (suc j) m z sl1 (and_is T x.0 (has_ended es f j)) e1 fit.1 (λ y g. let i = know y g in (i.0, ap (λ (q : List ℕ). get_or q y 0) sv ∙ i.1, i.2)) gave asked un h1
-      (λ sl2 sv2 h2. go sl2 (sv2 ∙ sv) (led_less core code s sl2 fs rs c k a (λ q. and_is T x.0 (has_ended es f j) q || call_ends es f (suc j) xs (record { 0 = q })) (λ q. T q || call_ends es f j (atom.Variable x ∷ xs) (record { 0 = q })) (λ q i. got_also (T q) (x.0 == q) (has_ended es f j) (call_ends es f (suc j) xs (record { 0 = q })) i) h2)))
-  gots_run es f s fs n rs ts o c k a words0 (atom.Variable x ∷ xs) (Tree t ∷ ps) j ip z sl T e fit know gave asked un h go =
-      let w = know x.0 (tree_settled (o.scope x.0) t.0 fit.0) in
-      got_one s fs n rs ts c k a z x.0 j (got_from es f (suc j) xs) T ip sl (has_ended es f j) e (ap is_settled w.0 ∙ (tree_settled (o.scope x.0) t.0 fit.0))
-      (λ u g p. subst (λ (q : ℕ). Dec code.laid s (slot sl x.0) q (value_in c.env x.0) (get_or lv.gave j 0)) (same_Some _ _ (sym fit.0 ∙ (sym (ap tree_type w.0) ∙ g))) (subst (λ (q : ℕ). Dec code.laid s q t.0 (value_in c.env x.0) (get_or lv.gave j 0)) (sym w.1) (subst (λ (q : Datum). Dec code.laid s (slot words0 x.0) t.0 q (get_or lv.gave j 0)) (sym w.2) (gave.0 p))))
-      (asked j) un h
-      (λ m sl1 e1 sv h1. gots_run es f s fs n rs ts o c k a words0 xs ps (suc j) m z sl1 (and_is T x.0 (has_ended es f j)) e1 fit.1 (λ y g. let i = know y g in (i.0, ap (λ (q : List ℕ). get_or q y 0) sv ∙ i.1, i.2)) gave.1 asked un h1
-      (λ sl2 sv2 h2. go sl2 (sv2 ∙ sv) (led_less core code s sl2 fs rs c k a (λ q. and_is T x.0 (has_ended es f j) q || call_ends es f (suc j) xs (record { 0 = q })) (λ q. T q || call_ends es f j (atom.Variable x ∷ xs) (record { 0 = q })) (λ q i. got_also (T q) (x.0 == q) (has_ended es f j) (call_ends es f (suc j) xs (record { 0 = q })) i) h2)))
+-- the line behind a call still knows the arguments, in the slots of the call
+pub record Still (o c : Ctx) (words sl : Slots) : Type 0 where
+  pub still : (y : ℕ) → is_settled (o.scope y) ≡ true → (c.scope y ≡ o.scope y) × (slot sl y ≡ slot words y) × (value_in c.env y ≡ value_in o.env y)
+
+still_there : {o c : Ctx} {words sl sl' : Slots} → sl'.vars ≡ sl.vars → Still o c words sl → Still o c words sl'
+still_there e h = record { still = λ y g. let i = h.still y g in (i.0, ap (λ (q : List ℕ). get_or q y 0) e ∙ i.1, i.2) }
+
+-- the ends that a call gave are told to its arguments, in their order
+module _ (core : CoreTree) (code : CodeTree) (owed : Owed) (own : Owned) (sh : Share) (s : Store) (m : State) (c : Ctx) (k : Kont) (a z : ℕ) (un : AllUnder c.scope c.env k) (o : Ctx) (words0 : Slots) where
+  module _ (es : List Ended) (f : ℕ) (asked : (q : ℕ) → has_ended es f q ≡ true → 0 < get_or m.gave q 0) where
+    gots_run : (xs : List Atom) (ps : List Ty) (j ip : ℕ) (sl : Slots) (T : ℕ → Bool) → AreAt code ip (got_from es f j xs) z → AtomsFit o.scope xs ps → Still o c words0 sl
+        → Gave code.laid s m.gave j (givens ps (words words0 (operands xs)) (map (value o.env) xs)) → Led core code s sl m.frames m.regions c k a T
+        → ((sl' : Slots) → sl'.vars ≡ sl.vars → Led core code s sl' m.frames m.regions c k a (λ q. T q || call_ends es f j xs (record { 0 = q })) → Safe core code owed own sh s (at_rest m z sl')) → Safe core code owed own sh s (at_rest m ip sl)
+    gots_run [] [] j ip sl T none fit know gave h go = go sl refl (led_less core code s sl m.frames m.regions c k a T (λ q. T q || false) (λ q e. or_none (T q) e) h)
+    gots_run [] (p ∷ ps) j ip sl T e fit know gave h go = absurd fit
+    gots_run (x ∷ xs) [] j ip sl T e fit know gave h go = absurd fit
+    gots_run (atom.Whole i ∷ xs) (Whole ∷ ps) j ip sl T e fit know gave h go = gots_run xs ps (suc j) ip sl T e fit.1 know gave h go
+    gots_run (atom.Whole i ∷ xs) (Truth ∷ ps) j ip sl T e fit know gave h go = absurd fit.0
+    gots_run (atom.Whole i ∷ xs) (Tree t ∷ ps) j ip sl T e fit know gave h go = absurd fit.0
+    gots_run (atom.Truth b ∷ xs) (Whole ∷ ps) j ip sl T e fit know gave h go = absurd fit.0
+    gots_run (atom.Truth b ∷ xs) (Truth ∷ ps) j ip sl T e fit know gave h go = gots_run xs ps (suc j) ip sl T e fit.1 know gave h go
+    gots_run (atom.Truth b ∷ xs) (Tree t ∷ ps) j ip sl T e fit know gave h go = absurd fit.0
+    gots_run (atom.Variable x ∷ xs) (Whole ∷ ps) j ip sl T e fit know gave h go =
+        let w = know.still x.0 (ap is_settled fit.0) in
+        got_one core code owed own sh s m c k a z un x.0 j (got_from es f (suc j) xs) T ip sl (has_ended es f j) e (ap is_settled w.0 ∙ ap is_settled fit.0)
+        (λ u g p. absurd (none-some _ (sym (ap tree_type (w.0 ∙ fit.0)) ∙ g)))
+        (asked j) h
+        (λ l sl1 e1 sv h1. gots_run xs ps (suc j) l sl1 (and_is T x.0 (has_ended es f j)) e1 fit.1 (still_there sv know) gave h1
+        (λ sl2 sv2 h2. go sl2 (sv2 ∙ sv) (led_less core code s sl2 m.frames m.regions c k a (λ q. and_is T x.0 (has_ended es f j) q || call_ends es f (suc j) xs (record { 0 = q })) (λ q. T q || call_ends es f j (atom.Variable x ∷ xs) (record { 0 = q })) (λ q i. got_also (T q) (x.0 == q) (has_ended es f j) (call_ends es f (suc j) xs (record { 0 = q })) i) h2)))
+    gots_run (atom.Variable x ∷ xs) (Truth ∷ ps) j ip sl T e fit know gave h go =
+        let w = know.still x.0 (ap is_settled fit.0) in
+        got_one core code owed own sh s m c k a z un x.0 j (got_from es f (suc j) xs) T ip sl (has_ended es f j) e (ap is_settled w.0 ∙ ap is_settled fit.0)
+        (λ u g p. absurd (none-some _ (sym (ap tree_type (w.0 ∙ fit.0)) ∙ g)))
+        (asked j) h
+        (λ l sl1 e1 sv h1. gots_run xs ps (suc j) l sl1 (and_is T x.0 (has_ended es f j)) e1 fit.1 (still_there sv know) gave h1
+        (λ sl2 sv2 h2. go sl2 (sv2 ∙ sv) (led_less core code s sl2 m.frames m.regions c k a (λ q. and_is T x.0 (has_ended es f j) q || call_ends es f (suc j) xs (record { 0 = q })) (λ q. T q || call_ends es f j (atom.Variable x ∷ xs) (record { 0 = q })) (λ q i. got_also (T q) (x.0 == q) (has_ended es f j) (call_ends es f (suc j) xs (record { 0 = q })) i) h2)))
+    gots_run (atom.Variable x ∷ xs) (Tree t ∷ ps) j ip sl T e fit know gave h go =
+        let w = know.still x.0 (tree_settled (o.scope x.0) t.0 fit.0) in
+        got_one core code owed own sh s m c k a z un x.0 j (got_from es f (suc j) xs) T ip sl (has_ended es f j) e (ap is_settled w.0 ∙ tree_settled (o.scope x.0) t.0 fit.0)
+        (λ u g p. subst (λ (q : ℕ). Dec code.laid s (slot sl x.0) q (value_in c.env x.0) (get_or m.gave j 0)) (same_Some _ _ (sym fit.0 ∙ (sym (ap tree_type w.0) ∙ g))) (subst (λ (q : ℕ). Dec code.laid s q t.0 (value_in c.env x.0) (get_or m.gave j 0)) (sym w.1) (subst (λ (q : Datum). Dec code.laid s (slot words0 x.0) t.0 q (get_or m.gave j 0)) (sym w.2) (gave.0 p))))
+        (asked j) h
+        (λ l sl1 e1 sv h1. gots_run xs ps (suc j) l sl1 (and_is T x.0 (has_ended es f j)) e1 fit.1 (still_there sv know) gave.1 h1
+        (λ sl2 sv2 h2. go sl2 (sv2 ∙ sv) (led_less core code s sl2 m.frames m.regions c k a (λ q. and_is T x.0 (has_ended es f j) q || call_ends es f (suc j) xs (record { 0 = q })) (λ q. T q || call_ends es f j (atom.Variable x ∷ xs) (record { 0 = q })) (λ q i. got_also (T q) (x.0 == q) (has_ended es f j) (call_ends es f (suc j) xs (record { 0 = q })) i) h2)))
 
   -- none stand inside a side of a `par`
-  pub gots_all : (wi : Within) (f : ℕ) (s : Store) (fs : List Frame) (n : ℕ) (rs : List OpenRegion) (ts : List ℕ) (o c : Ctx) (k : Kont) (a : ℕ) (words0 : Slots) (xs : List Atom) (ps : List Ty) (ip z : ℕ) (sl : Slots) (T : ℕ → Bool) → AreAt code ip (gots wi core f xs) z → AtomsFit o.scope xs ps
-      → ((y : ℕ) → is_settled (o.scope y) ≡ true → (c.scope y ≡ o.scope y) × (slot sl y ≡ slot words0 y) × (value_in c.env y ≡ value_in o.env y))
-      → Gave code.laid s lv.gave 0 (givens ps (words words0 (operands xs)) (map (value o.env) xs)) → ((q : ℕ) → has_ended (ended core) f q ≡ true → 0 < get_or lv.gave q 0) → AllUnder c.scope c.env k → Led core code s sl fs rs c k a T
-      → ((sl' : Slots) → sl'.vars ≡ sl.vars → Led core code s sl' fs rs c k a (λ q. T q || call_tells wi core f xs q) → Safe core code owed own sh s (at_rest lv ty rm z sl' fs n rs ts)) → Safe core code owed own sh s (at_rest lv ty rm ip sl fs n rs ts)
-  gots_all wi f s fs n rs ts o c k a words0 xs ps ip z sl T e fit know gave asked un h go = by_par wi.par e go
+  pub gots_all : (wi : Within) (f : ℕ) (xs : List Atom) (ps : List Ty) (T : ℕ → Bool) → m.doing ≡ Ready → AreAt code m.ip (gots wi core f xs) z → AtomsFit o.scope xs ps → Still o c words0 m.words
+      → Gave code.laid s m.gave 0 (givens ps (words words0 (operands xs)) (map (value o.env) xs)) → ((q : ℕ) → has_ended (ended core) f q ≡ true → 0 < get_or m.gave q 0) → Led core code s m.words m.frames m.regions c k a T
+      → ((sl : Slots) → sl.vars ≡ m.words.vars → Led core code s sl m.frames m.regions c k a (λ q. T q || call_tells wi core f xs q) → Safe core code owed own sh s (at_rest m z sl)) → Safe core code owed own sh s m
+  gots_all wi f xs ps T r e fit know gave asked h go = subst (λ (q : State). Safe core code owed own sh s q) (resting m r) (by_par wi.par e go)
     where
-      stay : {l m : ℕ} → AreAt code l [] m → Safe core code owed own sh s (at_rest lv ty rm m sl fs n rs ts) → Safe core code owed own sh s (at_rest lv ty rm l sl fs n rs ts)
+      stay : {l z : ℕ} → AreAt code l [] z → Safe core code owed own sh s (at_rest m z m.words) → Safe core code owed own sh s (at_rest m l m.words)
       stay none i = i
 
-      by_par : (b : Bool) → AreAt code ip (cond b [] (got_from (ended core) f 0 xs)) z
-          → ((sl' : Slots) → sl'.vars ≡ sl.vars → Led core code s sl' fs rs c k a (λ q. T q || cond b false (call_ends (ended core) f 0 xs (record { 0 = q }))) → Safe core code owed own sh s (at_rest lv ty rm z sl' fs n rs ts)) → Safe core code owed own sh s (at_rest lv ty rm ip sl fs n rs ts)
-      by_par true r g = stay r (g sl refl (led_less core code s sl fs rs c k a T (λ q. T q || false) (λ q e. or_none (T q) e) h))
-      by_par false r g = gots_run (ended core) f s fs n rs ts o c k a words0 xs ps 0 ip z sl T r fit know gave asked un h g
+      by_par : (b : Bool) → AreAt code m.ip (cond b [] (got_from (ended core) f 0 xs)) z
+          → ((sl : Slots) → sl.vars ≡ m.words.vars → Led core code s sl m.frames m.regions c k a (λ q. T q || cond b false (call_ends (ended core) f 0 xs (record { 0 = q }))) → Safe core code owed own sh s (at_rest m z sl)) → Safe core code owed own sh s (at_rest m m.ip m.words)
+      by_par true e g = stay e (g m.words refl (led_less core code s m.words m.frames m.regions c k a T (λ q. T q || false) (λ q e. or_none (T q) e) h))
+      by_par false e g = gots_run (ended core) f asked xs ps 0 m.ip m.words T e fit know gave h g
+
+-- The ties of the lines that wait.
+abbrev pub ties_behind : CoreTree → (d n : ℕ) → Kont → Ties
+ties_behind core d n k = record { debts = sides_of core d n k; marks = pars_of k; variable = side_of k; root = root k }
+
+module _ (core : CoreTree) (code : CodeTree) (owed : Owed) (own : Owned) (sh : Share) where
+  -- what a task has for a line that goes on, once x is bound to v
+  pub record Resumes (s : Store) (m : State) (x : ℕ) (v : Datum) (u : Rest) (c : Ctx) (after : Dest) (k : Kont) : Type 0 where
+    pub ready : m.doing ≡ Ready
+    pub stack : Stack core code s k m.words m.frames c.front m.regions
+    pub memory : InMemory own s (heads code.laid c.head after k) m.regions m.tails
+    pub ties : IsTied owed m.pars m.side m.result (ties_of core m.depth m.level u c.env k)
+    pub owes : resume core m.depth k (rest_means core m.depth u ((x, v) ∷ c.env)) ≡ owed.all
+    pub counted : Counted m.regions (left_costs core m.depth m.level u ((x, v) ∷ c.env) k) sh
+    pub room : HasRoom (times m.depth (nesting code)) u m.room × AllRoom (nesting code) m.depth (freed u m.room) k
+
+  -- a line that waited goes on
+  pub comes : {s : Store} {m : State} {sl : Slots} {x : ℕ} {so : Sort} {u : Rest} {c : Ctx} {after : Dest} {cur : ℕ} {k : Kont} (v : Datum) (pl : ℕ) → is_field so ≡ false → dest_type after ≡ dest_type c.dest → Waits core code s sl m.ip x so u c after cur k
+      → Resumes s m x v u c after k → Matches code.laid s m.words (with_dest (with_line (with_var c x so v pl) (tell_line c.line.pending c.line)) after) (cursor m.regions)
+      → AtRest core code owed own sh s m u (with_dest (with_line (with_var c x so v pl) (tell_line c.line.pending c.line)) after) k
+  comes {m = m} {x = x} {so = so} {u = u} {c = c} {k = k} v pl nf kd w g ma = record {
+    ready = g.ready;
+    low = rest_code_put core code c.line.within c.scope m.ip u (end_of c.line.overs k) x so nf w.low;
+    fits = w.fits;
+    line = record { kind = kd ∙ w.kind; matches = ma; stack = g.stack; under = all_under_bind c.scope c.env k x so v w.new w.under; given = given_bind c x so v pl (given_of k) w.new w.given; calm = w.calm };
+    memory = g.memory;
+    ties = record { sides = sides_bound core m.depth m.level x v u c.env k (sides_of core m.depth (level_after m.level u) k) w.free ∙ g.ties.sides; pars = g.ties.pars; side = g.ties.side; result = g.ties.result; type = g.ties.type };
+    owes = g.owes;
+    counted = g.counted;
+    room = record { free = follows x u k w.free; narrow = w.narrow; nests = g.room.0; all_room = g.room.1 };
+  }
 
   -- the tree v of the type t stands at a, and the code of what follows a term is next
-  pub record Stood (s : Store) (ip : ℕ) (sl : Slots) (fs : List Frame) (n : ℕ) (rs : List OpenRegion) (ts : List ℕ) (c : Ctx) (told : ℕ → Bool) (k : Kont) (t : ℕ) (v : Datum) (a : ℕ) : Type 0 where
+  pub record Stood (s : Store) (m : State) (c : Ctx) (told : ℕ → Bool) (k : Kont) (t : ℕ) (v : Datum) (a : ℕ) : Type 0 where
     pub until : ℕ
-    pub ends : AreAt code ip (ending (end_of c.line.overs k)) until
+    pub ready : m.doing ≡ Ready
+    pub ends : AreAt code m.ip (ending (end_of c.line.overs k)) until
     pub under : AllUnder c.scope c.env k
     pub given : AreGiven c 0 (given_of k)
     pub meets : Meets (needs_of k) told c.line.overs
-    pub led : Led core code s sl fs rs c k a told
+    pub led : Led core code s m.words m.frames m.regions c k a told
     pub tree : due k ≡ Tree (record { 0 = t })
-    pub dec : Dec code.laid s a t v (cursor rs)
-    pub places : Apart own s (λ q. kont_covers code.laid k q + (rest_covers rs q + tail_covers ts q))
-    pub rooms : HaveRoom rs
-    pub tail_rooms : TailsHaveRoom ts
-    pub small : IsSmall s
-    pub owes : resume core n k (Gives v) ≡ owed.all
-    pub sides : sides_of core n lv.level k ≡ owed.sides
-    pub pars : lv.pars ≡ pars_of k
-    pub side : lv.side ≡ side_of k
-    pub result : ty ≡ root k
-    pub type : owed.ty ≡ root k
-    pub counted : Counted rs (later_costs core n lv.level k (Gives v)) sh
-    pub all_room : AllRoom (nesting code) n rm k
+    pub dec : Dec code.laid s a t v (cursor m.regions)
+    pub memory : InMemory own s (kont_covers code.laid k) m.regions m.tails
+    pub ties : IsTied owed m.pars m.side m.result (ties_behind core m.depth m.level k)
+    pub owes : resume core m.depth k (Gives v) ≡ owed.all
+    pub counted : Counted m.regions (later_costs core m.depth m.level k (Gives v)) sh
+    pub all_room : AllRoom (nesting code) m.depth m.room k
 
   -- the whole task's tree
-  at_root : (s : Store) (a : ℕ) (rs : List OpenRegion) (t : ℕ) (v : Datum) (u : Ty) → u ≡ Tree (record { 0 = t }) → IsRoot u a rs → Dec code.laid s a t v (cursor rs) → Gives v ≡ owed.all → IsAnswer code.laid s u owed.all (Rattle.gib_code.specs.declared.answer.Answer.TheVariants.At (Rattle.gib_machine.specs.Machine.start_of rs))
+  at_root : (s : Store) (a : ℕ) (rs : List OpenRegion) (t : ℕ) (v : Datum) (u : Ty) → u ≡ Tree (record { 0 = t }) → IsRoot u a rs → Dec code.laid s a t v (cursor rs) → Gives v ≡ owed.all → IsAnswer code.laid s u owed.all (Rattle.gib_code.specs.declared.answer.Answer.TheVariants.At (Rattle.gib_machine.specs.State.start_of rs))
   at_root s a rs t v Whole e h d o = absurd cc
   at_root s a rs t v Truth e h d o = absurd cc
   at_root s a [] t v (Tree u) e h d o = absurd h
@@ -314,106 +318,76 @@ module _ (core : CoreTree) (code : CodeTree) (owed : Owed) (own : Owned) (sh : S
   at_root s a (r ∷ q ∷ rs) t v (Tree u) e h d o = absurd h
 
   -- a stolen side's tree
-  pub tree_answer : (s : Store) (u : Ty) (t w : ℕ) (v : Datum) → u ≡ Tree (record { 0 = t }) → StandsAt code.laid s t w v → Gives v ≡ owed.all → IsAnswer code.laid s u owed.all (answer_of u w)
+  tree_answer : (s : Store) (u : Ty) (t w : ℕ) (v : Datum) → u ≡ Tree (record { 0 = t }) → StandsAt code.laid s t w v → Gives v ≡ owed.all → IsAnswer code.laid s u owed.all (answer_of u w)
   tree_answer s Whole t w v e h o = absurd cc
   tree_answer s Truth t w v e h o = absurd cc
   tree_answer s (Tree u) t w v e h o = (t, v, e, sym o, h)
 
 module _ (core : CoreTree) (code : CodeTree) (owed : Owed) (own : Owned) (sh : Share) where
-  pub ends : (lv : Levels) (ty : Ty) (rm : ℕ) (k : Kont) (s : Store) (ip : ℕ) (sl : Slots) (fs : List Frame) (n : ℕ) (rs : List OpenRegion) (ts : List ℕ) (c : Ctx) (T : ℕ → Bool) (t : ℕ) (v : Datum) (a : ℕ) → Stood core code owed own sh lv ty rm s ip sl fs n rs ts c T k t v a → Safe core code owed own sh s (at_rest lv ty rm ip sl fs n rs ts)
-  ends lv ty rm (KEnd u) s ip sl [] n rs ts ic T t v a h =
-      overs_run core code owed own sh lv ty rm s [] n rs ts ic (KEnd u) a h.until (Return ∷ []) ic.line.overs T ip sl h.ends h.led.vars.closes h.meets.0 h.under h.led (λ m sl' e sv hl. silently core code owed own sh lv ty rm {m = at_rest lv ty rm m sl' [] n rs ts} refl (first_at e) refl (rests (over refl (sym h.sides) (subst (λ (z : Ty). IsAnswer code.laid s z owed.all (Rattle.gib_code.specs.declared.answer.Answer.TheVariants.At (Rattle.gib_machine.specs.Machine.start_of rs))) (sym h.type) (at_root core code owed own sh lv ty rm s a rs t v u h.tree h.led.stack h.dec h.owes)))))
-  ends lv ty rm (KEnd u) s ip sl (f ∷ fs) n rs ts ic T t v a h = absurd h.led.stack
-  ends lv ty rm (KSide y u) s ip sl fs n rs ts ic T t v a h = absurd (true≢false (ap is_scalar h.tree))
-  ends lv ty rm (KLast l y q) s ip sl [] n [] ts ic T t v a h = absurd h.led.stack
-  ends lv ty rm (KLast l y q) s ip sl [] n (r ∷ []) ts ic T t v a h =
-      let at = at_rest lv ty rm l sl [] n (r ∷ []) ts in
-      silently core code owed own sh lv ty rm refl (first_at h.ends) refl (silently core code owed own sh lv ty rm {m = at} refl h.led.stack.0 (ap (backs_at at) h.pars ∙ ap (ends_side at) h.side)
-      (rests (over refl (sym h.sides) (subst (λ (z : Ty). IsAnswer code.laid s owed.ty owed.all (answer_of z (slot sl y))) (h.type ∙ sym h.result) (tree_answer core code owed own sh lv ty rm s owed.ty t (slot sl y) v (h.type ∙ h.tree) (subst (λ (z : ℕ). StandsAt code.laid s t z v) (sym h.led.stack.1) (record { end = r.cur; dec = h.dec })) h.owes)))))
-  ends lv ty rm (KLast l y q) s ip sl [] n (r ∷ r' ∷ rs) ts ic T t v a h = absurd h.led.stack
-  ends lv ty rm (KLast l y q) s ip sl (f ∷ fs) n rs ts ic T t v a h = absurd h.led.stack
-  ends lv ty rm (KHere l x s' u c k) s ip sl fs n rs ts ic T t v a h =
+  -- by the machine's frames and regions
+  ends_by : (k : Kont) (s : Store) (m : State) (fs : List Frame) (rs : List OpenRegion) (c : Ctx) (T : ℕ → Bool) (t : ℕ) (v : Datum) (a : ℕ) → Stood core code owed own sh s (record m { frames = fs; regions = rs }) c T k t v a → Safe core code owed own sh s (record m { frames = fs; regions = rs })
+  ends_by (KEnd u) s m [] rs ic T t v a h =
+      moves (overs_move core code owed own sh s (record m { frames = []; regions = rs }) ic (KEnd u) a h.until h.under (Return ∷ []) ic.line.overs T h.ready h.ends h.led.vars.closes h.meets.0 h.led (λ l sl e sv hl. silent (step_is code (at_rest (record m { frames = []; regions = rs }) l sl) Return refl (first_at e)) (rests (over refl (sym h.ties.sides) (subst (λ (z : Ty). IsAnswer code.laid s z owed.all (Rattle.gib_code.specs.declared.answer.Answer.TheVariants.At (Rattle.gib_machine.specs.State.start_of rs))) (sym h.ties.type) (at_root core code owed own sh s a rs t v u h.tree h.led.stack h.dec h.owes))))))
+  ends_by (KEnd u) s m (f ∷ fs) rs ic T t v a h = absurd h.led.stack
+  ends_by (KSide y u) s m fs rs ic T t v a h = absurd (true≢false (ap is_scalar h.tree))
+  ends_by (KLast l y q) s m [] [] ic T t v a h = absurd h.led.stack
+  ends_by (KLast l y q) s m [] (r ∷ []) ic T t v a h =
+      let at = record m { ip = l; frames = []; regions = r ∷ []; doing = Ready } in
+      silently h.ready (first_at h.ends) refl (silently {m = at} refl h.led.stack.0 (ap (backs_at at) h.ties.pars ∙ ap (ends_side at) h.ties.side)
+      (rests (over refl (sym h.ties.sides) (subst (λ (z : Ty). IsAnswer code.laid s owed.ty owed.all (answer_of z (slot m.words y))) (h.ties.type ∙ sym h.ties.result) (tree_answer core code owed own sh s owed.ty t (slot m.words y) v (h.ties.type ∙ h.tree) (subst (λ (z : ℕ). StandsAt code.laid s t z v) (sym h.led.stack.1) (record { end = r.cur; dec = h.dec })) h.owes)))))
+  ends_by (KLast l y q) s m [] (r ∷ r' ∷ rs) ic T t v a h = absurd h.led.stack
+  ends_by (KLast l y q) s m (f ∷ fs) rs ic T t v a h = absurd h.led.stack
+  ends_by (KHere l x s' u c k) s m fs rs ic T t v a h =
       let w = h.led.stack.2 in
       let dec : Dec code.laid s a s' v (cursor rs) = subst (λ (z : ℕ). Dec code.laid s a z v (cursor rs)) (sym (same_tree s' t h.tree)) h.dec in
-      let place : IsPlaced code.laid s s' (slot sl x) a v = record { same = ap (λ (b : WithEnd). b.word) h.led.stack.0; stands = record { end = cursor rs; dec = dec } } in
+      let place : IsPlaced code.laid s s' (slot m.words x) a v = record { same = ap (λ (b : WithEnd). b.word) h.led.stack.0; stands = record { end = cursor rs; dec = dec } } in
       let ln = tell_line c.line.pending c.line in
       let c1 = with_var c x (Placed s') v a in
       let c1' = with_line c1 ln in
       let c2 = with_dest c1' (more c.dest x) in
-      let hs = HasAll-set code.laid s sl c x (Placed s') v a w.new place (held_end sl x h.led.stack.0) w.matches.vars in
-      silently core code owed own sh lv ty rm refl (first_at h.ends) refl (rests (at_term {u = u} {c = c2} {k = k} record {
-        ready = refl;
-        low = rest_code_put core code c.line.within c.scope l u (end_of c.line.overs k) x (Placed s') refl w.low;
-        fits = w.fits;
-        free = follows x u k w.free;
-        pars = h.pars;
-        side = h.side;
-        sides = sides_bound core n lv.level x v u c.env k (sides_of core n (level_after lv.level u) k) w.free ∙ h.sides;
-        kind = dest_more c.dest x ∙ w.kind;
-        matches = record {
-          vars = let hl = HasAll-line {c = c1} ln (told_side sl c ic x (Placed s') v a w.new w.asked (λ q e. h.led.knows q (h.meets q e)) hs.told) hs.closes hs in HasAll-dest {c = c1'} {c' = c2} refl (keeps_dest c1' (more c.dest x)) hl (λ y. refl) (λ y. refl) (λ y. refl) hl.told hl.closes;
-          dest = IsDest-line code.laid s sl (with_dest c1 (more c.dest x)) (cursor rs) (more c.dest x) ln (IsDest-more code.laid s sl c a (cursor rs) x s' v c.dest w.new h.led.stack.1 dec w.matches.dest);
-        };
-        stack = h.led.stack.3;
-        under = all_under_bind c.scope c.env k x (Placed s') v w.new w.under;
-        given = given_bind c x (Placed s') v a (given_of k) w.new w.given;
-        calm = w.calm;
-        places = Apart-less h.places (λ q. let e = covers_more code.laid c c2 c.dest x q refl in omega arith);
-        rooms = h.rooms;
-        tail_rooms = h.tail_rooms;
-        small = h.small;
-        owes = h.owes;
-        result = h.result;
-        type = h.type;
-        counted = h.counted;
-        narrow = w.narrow;
-        nests = h.all_room.0;
-        all_room = h.all_room.1;
-      }))
-  ends lv ty rm (KRegion l x s' u c k) s ip sl fs n [] ts ic T t v a h = absurd h.led.stack
-  ends lv ty rm (KRegion l x s' u c k) s ip sl fs n (r ∷ rs) ts ic T t v a h =
+      let hs = HasAll-set code.laid s m.words c x (Placed s') v a w.new place (held_end m.words x h.led.stack.0) w.matches.vars in
+      let hl = HasAll-line {c = c1} ln (told_side m.words c ic x (Placed s') v a w.new w.asked (λ q e. h.led.knows q (h.meets q e)) hs.told) hs.closes hs in
+      silently h.ready (first_at h.ends) refl (rests (at_term (comes core code owed own sh v a refl (dest_more c.dest x) w
+      (record { ready = refl; stack = h.led.stack.3; memory = heads_less (λ q. let e = covers_more code.laid c.head c.dest x k q in omega (arith, e)) h.memory; ties = h.ties; owes = h.owes; counted = h.counted; room = h.all_room })
+      (record {
+        vars = HasAll-dest {c = c1'} {c' = c2} refl (keeps_dest c1' (more c.dest x)) hl (λ y. refl) (λ y. refl) (λ y. refl) hl.told hl.closes;
+        dest = IsDest-line code.laid s m.words (with_dest c1 (more c.dest x)) (cursor rs) (more c.dest x) ln (IsDest-more code.laid s m.words c a (cursor rs) x s' v c.dest w.new h.led.stack.1 dec w.matches.dest);
+      }))))
+  ends_by (KRegion l x s' u c k) s m fs [] ic T t v a h = absurd h.led.stack
+  ends_by (KRegion l x s' u c k) s m fs (r ∷ rs) ic T t v a h =
       let w = h.led.stack.3 in
       let dec : Dec code.laid s a s' v r.cur = subst (λ (z : ℕ). Dec code.laid s a z v r.cur) (sym (same_tree s' t h.tree)) h.dec in
-      let place : IsPlaced code.laid s s' (slot sl x) a v = record { same = ap (λ (b : WithEnd). b.word) h.led.stack.0; stands = record { end = r.cur; dec = dec } } in
-      let paid : Paid rs (left_costs core n lv.level u ((x, v) ∷ c.env) k) sh 0 = finish_counted r rs (later_costs core n lv.level (KRegion l x s' u c k) (Gives v)) (left_costs core n lv.level u ((x, v) ∷ c.env) k) sh (record { regions = omega arith; items = omega arith }) h.counted in
-      silently core code owed own sh lv ty rm refl (first_at h.ends) refl (silently core code owed own sh lv ty rm refl h.led.stack.2 refl (counts paid.spends (rests (at_term {u = u} {c = with_line (with_var c x (Placed s') v a) (tell_line c.line.pending c.line)} {k = k} record {
+      let place : IsPlaced code.laid s s' (slot m.words x) a v = record { same = ap (λ (b : WithEnd). b.word) h.led.stack.0; stands = record { end = r.cur; dec = dec } } in
+      let paid : Paid rs (left_costs core m.depth m.level u ((x, v) ∷ c.env) k) sh 0 = finish_counted r rs (later_costs core m.depth m.level (KRegion l x s' u c k) (Gives v)) (left_costs core m.depth m.level u ((x, v) ∷ c.env) k) sh (record { regions = omega arith; items = omega arith }) h.counted in
+      let hs = HasAll-set code.laid s m.words c x (Placed s') v a w.new place (held_end m.words x h.led.stack.0) w.matches.vars in
+      silently h.ready (first_at h.ends) refl (silently refl h.led.stack.2 refl (counts paid.spends (rests (at_term (comes core code owed own paid.share v a refl refl w
+      (record {
         ready = refl;
-        low = rest_code_put core code c.line.within c.scope (l + 1) u (end_of c.line.overs k) x (Placed s') refl w.low;
-        fits = w.fits;
-        free = follows x u k w.free;
-        pars = h.pars;
-        side = h.side;
-        sides = sides_bound core n lv.level x v u c.env k (sides_of core n (level_after lv.level u) k) w.free ∙ h.sides;
-        kind = w.kind;
-        matches = let hs = HasAll-set code.laid s sl c x (Placed s') v a w.new place (held_end sl x h.led.stack.0) w.matches.vars in Matches-line (tell_line c.line.pending c.line) (told_side sl c ic x (Placed s') v a w.new w.asked (λ q e. h.led.knows q (h.meets q e)) hs.told) hs.closes (record { vars = hs; dest = IsDest-bind code.laid s sl c (cursor rs) x (Placed s') v a c.dest w.new w.matches.dest });
         stack = h.led.stack.4;
-        under = all_under_bind c.scope c.env k x (Placed s') v w.new w.under;
-        given = given_bind c x (Placed s') v a (given_of k) w.new w.given;
-        calm = w.calm;
-        places = Apart-less h.places (λ q. let e = covers_head code.laid c (with_var c x (Placed s') v a) c.dest q refl in let f = finished_covers r rs ts q in omega arith);
-        rooms = h.rooms.1;
-        tail_rooms = finished_rooms r.cur ts h.rooms.0 h.tail_rooms;
-        small = h.small;
+        memory = record { places = Apart-less h.memory.places (λ q. let f = finished_covers r rs m.tails q in omega (arith, f)); rooms = h.memory.rooms.1; tail_rooms = finished_rooms r.cur m.tails h.memory.rooms.0 h.memory.tail_rooms; small = h.memory.small };
+        ties = h.ties;
         owes = h.owes;
-        result = h.result;
-        type = h.type;
         counted = paid.counted;
-        narrow = w.narrow;
-        nests = h.all_room.0;
-        all_room = h.all_room.1;
-      }))))
-  ends lv ty rm (KScalar l x u' u c k) s ip sl fs n rs ts ic T t v a h = absurd (true≢false (sym h.led.stack.0 ∙ ap is_scalar h.tree))
-  ends lv ty rm (KCall gs wc k) s ip sl [] n rs ts ic T t v a h = absurd h.led.stack
-  ends lv ty rm (KCall gs wc k) s ip sl (f ∷ fs) n rs ts ic T t v a h =
-      overs_run core code owed own sh lv ty rm s (f ∷ fs) n rs ts ic (KCall gs wc k) a h.until (Return ∷ []) ic.line.overs T ip sl h.ends h.led.vars.closes h.meets.0 h.under h.led
-      (λ m sl' e sv hl.
-      let lv' : Levels = record { level = lv.level; gave = sl'.ends; pars = lv.pars; side = lv.side; width = lv.width } in
+        room = h.all_room;
+      })
+      (Matches-line (tell_line c.line.pending c.line) (told_side m.words c ic x (Placed s') v a w.new w.asked (λ q e. h.led.knows q (h.meets q e)) hs.told) hs.closes (record { vars = hs; dest = IsDest-bind code.laid s m.words c (cursor rs) x (Placed s') v a c.dest w.new w.matches.dest })))))))
+  ends_by (KScalar l x u' u c k) s m fs rs ic T t v a h = absurd (true≢false (sym h.led.stack.0 ∙ ap is_scalar h.tree))
+  ends_by (KCall gs wc k) s m [] rs ic T t v a h = absurd h.led.stack
+  ends_by (KCall gs wc k) s m (f ∷ fs) rs ic T t v a h =
+      let old = record m { frames = f ∷ fs; regions = rs } in
+      moves (overs_move core code owed own sh s old ic (KCall gs wc k) a h.until h.under (Return ∷ []) ic.line.overs T h.ready h.ends h.led.vars.closes h.meets.0 h.led
+      (λ l sl e sv hl.
+      let back = record m { ip = f.back; words = f.words; frames = fs; regions = rs; gave = sl.ends; depth = suc m.depth; doing = Ready } in
       let st = hl.stack in
       let b = st.6 in
-      silently core code owed own sh lv ty rm {m = at_rest lv ty rm m sl' (f ∷ fs) n rs ts} refl (first_at e) refl
-      (gots_all core code owed own sh lv' ty rm st.3.within st.3.name s fs (suc n) rs ts wc wc k a f.words st.3.arguments st.3.parameters f.back st.1 f.words wc.line.told st.3.gots st.3.fits (λ y g. (refl, refl, refl))
-      (subst (λ (r : List (Option Given)). Gave code.laid s sl'.ends 0 r) st.3.given (gives_back code.laid s sl' ic 0 gs hl.vars h.given))
-      (λ q g. (hl.knows q (h.meets.1 q (st.3.asked q g))).some) b.under (record { vars = b.vars; stack = st.7; knows = b.vars.told })
-      (λ sl2 sv2 h2. ends lv' ty rm k s st.1 sl2 fs (suc n) rs ts wc (λ q. wc.line.told q || call_tells st.3.within core st.3.name st.3.arguments q) t v a record { until = st.2; ends = st.4; under = b.under; given = b.given; meets = b.meets; led = h2; tree = h.tree; dec = h.dec; places = h.places; rooms = h.rooms; tail_rooms = h.tail_rooms; small = h.small; owes = h.owes; sides = h.sides; pars = h.pars; side = h.side; result = h.result; type = h.type; counted = h.counted; all_room = h.all_room })))
-  ends lv ty rm (KCallScalar x u' gs u c k) s ip sl [] n rs ts ic T t v a h = absurd h.led.stack
-  ends lv ty rm (KCallScalar x u' gs u c k) s ip sl (f ∷ fs) n rs ts ic T t v a h = absurd (true≢false (sym h.led.stack.0 ∙ ap is_scalar h.tree))
+      silent (step_is code (at_rest old l sl) Return refl (first_at e))
+      (gots_all core code owed own sh s back wc k a st.1 b.under wc f.words st.3.within st.3.name st.3.arguments st.3.parameters wc.line.told refl st.3.gots st.3.fits (record { still = λ y g. (refl, refl, refl) })
+      (subst (λ (r : List (Option Given)). Gave code.laid s sl.ends 0 r) st.3.given (gives_back code.laid s sl ic 0 gs hl.vars h.given))
+      (λ q g. (hl.knows q (h.meets.1 q (st.3.asked q g))).some) (record { vars = b.vars; stack = st.7; knows = b.vars.told })
+      (λ sl2 sv2 h2. ends_by k s (at_rest back st.1 sl2) fs rs wc (λ q. wc.line.told q || call_tells st.3.within core st.3.name st.3.arguments q) t v a
+      record { until = st.2; ready = refl; ends = st.4; under = b.under; given = b.given; meets = b.meets; led = h2; tree = h.tree; dec = h.dec; memory = h.memory; ties = h.ties; owes = h.owes; counted = h.counted; all_room = h.all_room }))))
+  ends_by (KCallScalar x u' gs u c k) s m [] rs ic T t v a h = absurd h.led.stack
+  ends_by (KCallScalar x u' gs u c k) s m (f ∷ fs) rs ic T t v a h = absurd (true≢false (sym h.led.stack.0 ∙ ap is_scalar h.tree))
+
+  pub ends : {s : Store} {m : State} {c : Ctx} {T : ℕ → Bool} {k : Kont} {t : ℕ} {v : Datum} {a : ℕ} → Stood core code owed own sh s m c T k t v a → Safe core code owed own sh s m
+  ends {s} {m} {c} {T} {k} {t} {v} {a} h = ends_by k s m m.frames m.regions c T t v a h

@@ -3,7 +3,8 @@ use Rattle.std.proofs.Common.{◌≡◌, ℕ, suc, List, length, Bool, cond, ref
 use Rattle.gib_mem.specs.Memory.{Store}
 use Rattle.gib_code.specs.Program.{CodeTree}
 use Rattle.gib_core.specs.Tree.{CoreTree}
-use Rattle.gib_machine.specs.Machine.{State, Ask, Silent, Get, Put, Draw, AtFork, Doing, next, goes_on}
+use Rattle.gib_machine.specs.State.{State, Ask, Silent, Get, Put, Draw, AtFork, Doing}
+use Rattle.gib_machine.specs.Machine.{next, goes_on}
 use Rattle.gib_weave.specs.Owing.{Debt, Owed, level_after}
 use Rattle.gib_weave.specs.Paying.{Share}
 use Rattle.gib_weave.specs.Places.{Owned}
@@ -30,7 +31,7 @@ module _ (core : CoreTree) (code : CodeTree) (owed : Owed) where
 
   rest_open : (own : Owned) (sh : Share) (s : Store) (m : State) → Rests core code owed own sh s m → next code m ≡ AtFork → lefts m.pars ≡ length owed.sides
   rest_open own sh s m (at_term {u} {c} {k} a) e =
-      ap lefts a.pars ∙ lefts_rest core m.depth m.level u c.env _ _ (lefts_sides core m.depth (level_after m.level u) k) ∙ ap (λ (ds : List Debt). length ds) a.sides
+      ap lefts a.ties.pars ∙ lefts_rest core m.depth m.level u c.env _ _ (lefts_sides core m.depth (level_after m.level u) k) ∙ ap (λ (ds : List Debt). length ds) a.ties.sides
   rest_open own sh s m (unwinds u) e =
       ap lefts u.pars ∙ ap (λ (b : Bool). cond b (suc (lefts u.outer)) (lefts u.outer)) u.left ∙ u.count
   rest_open own sh s m (over {a} d z h) e = absurd (let f = ended_there m _ _ d refl e in cc)

@@ -7,7 +7,8 @@ use Rattle.gib_types.specs.declared.table.Ty.{Ty}
 use Rattle.gib_core.specs.Cost.{Cost}
 use Rattle.gib_core.specs.Tree.{CoreTree}
 use Rattle.gib_code.specs.Program.{CodeTree, Runs}
-use Rattle.gib_machine.specs.Machine.{State, Ask, Silent, Get, Put, Draw, joins, side_start, takes, widest}
+use Rattle.gib_machine.specs.State.{State, Ask, Silent, Get, Put, Draw, widest}
+use Rattle.gib_machine.specs.Sides.{joins, side_start, takes}
 use Rattle.gib_machine.specs.Stepping.{KeepsWidth}
 use Rattle.gib_machine.proofs.Widths.{step_keeps_width, left_keeps_width, take_keeps_width, join_keeps_width}
 use Rattle.gib_weave.specs.Applied.{CanGo, HaveWidth}
@@ -15,7 +16,7 @@ use Rattle.gib_weave.specs.Starting.{AreBodies}
 use Rattle.gib_weave.specs.Weave.{Weave, Task, Status, Event, IsOn, Next, Sound, asks, ended_task, no_task, task, with_sides}
 use Rattle.gib_weave.specs.Weave as w
 use Rattle.gib_weave.proofs.Calls.{can_of}
-use Rattle.gib_weave.proofs.Events.{owes_next}
+use Rattle.gib_weave.proofs.Acts.{owes_next}
 
 pub can_go : (core : CoreTree) (code : CodeTree) → AreBodies core code → (ty : Ty) (o : Outcome) (whole : Cost) (v : Weave) → Runs code → Sound core code ty o whole v
     → HaveWidth code v.tasks → CanGo code v
@@ -23,7 +24,7 @@ can_go core code ok ty o whole v runs sd wide = record {
   runs = runs;
   alone = sd.shared.alone;
   widths = wide;
-  can = λ i run. can_of core code (sd.family.owed i) (sd.family.own i) (sd.family.share i) v.memory (task v.tasks i).state (asks code v i) (owes_next core code ok ty o whole v sd i (asks code v i) run refl);
+  can = λ i run. can_of core code (sd.family i).owed (sd.family i).own (sd.family i).share v.memory (task v.tasks i).state (asks code v i) (owes_next core code ok ty o whole v sd i (asks code v i) run refl);
 }
 
 -- Each event leaves the frames of those that run of one width.

@@ -8,14 +8,29 @@ use Rattle.gib_mem.specs.Memory.{Store, Grows}
 use Rattle.gib_packed.specs.Decoding.{Dec}
 use Rattle.gib_packed.proofs.Grow as g
 use Rattle.gib_code.specs.Program.{CodeTree}
-use Rattle.gib_machine.specs.Machine.{end_at, Slots, slot, Frame, Open as OpenRegion}
+use Rattle.gib_machine.specs.State.{end_at, Slots, slot, Frame, Open as OpenRegion}
+use Rattle.gib_machine.specs.Sides.{Waiting}
 use Rattle.gib_core.specs.Fits.{Sort, Outside, Absent, Scalar, Held, Placed, Loose, AtHead, Field, Dest, Nowhere, Empty, Open}
 use Rattle.gib_core.specs.Low.{Over}
 use Rattle.gib_weave.specs.Environment.{AllClose, Ctx, StandsAt, Has, HasAll, Fields, none, field, IsDest, Matches}
 use Rattle.gib_weave.specs.EndWords.{EndWord, HasEnd}
 use Rattle.gib_packed.specs.Reaching.{Turns, there, turn}
 use Rattle.gib_weave.specs.Continuing.{Rest, KSide, KLast, Kont, KEnd, KHere, KRegion, KScalar, KCall, KCallScalar}
+use Rattle.gib_weave.specs.Owing.{Debt}
+use Rattle.gib_weave.specs.Sound.{SideSafe}
 use Rattle.gib_weave.specs.Stacks.{Waits, Stack}
+
+-- Stores that grow.
+
+pub grows_same : (s : Store) → Grows s s
+grows_same s = record { kept = λ q b h. h }
+
+pub grows_on : {s r q : Store} → Grows s r → Grows r q → Grows s q
+grows_on g h = record { kept = λ a b e. h.kept a b (g.kept a b e) }
+
+-- a right side that is not begun
+pub side_grows : {core : CoreTree} {code : CodeTree} {d : Debt} {s r : Store} {x : Waiting} → Grows s r → SideSafe core code d s x → SideSafe core code d r x
+side_grows g h = record { safe = λ q k sm. h.safe q (grows_on g k) sm }
 
 pub Dec-grows : {laid : LaidOut} {s r : Store} {a t z : ℕ} {v : Datum} → Grows s r → Dec laid s a t v z → Dec laid r a t v z
 Dec-grows h d = g.Dec-grows h d

@@ -7,7 +7,8 @@ use Rattle.gib_mem.specs.Memory as mem
 use Rattle.gib_mem.specs.Memory.{Store, Memory, Cell, absent, fresh, byte, after_puts, after_draw, Holds, Reads}
 use Rattle.gib_code.specs.declared.answer.Answer.TheVariants as answer
 use Rattle.gib_code.specs.Program.{CodeTree}
-use Rattle.gib_machine.specs.Machine.{Ask, Silent, Get, Put, Draw, AtFork, AtJoin, Ended, left_starts, right_of, side_start, joins, takes}
+use Rattle.gib_machine.specs.State.{Ask, Silent, Get, Put, Draw, AtFork, AtJoin, Ended}
+use Rattle.gib_machine.specs.Sides.{left_starts, right_of, side_start, joins, takes}
 use Rattle.gib_weave.specs.Weave as ev
 use Rattle.gib_weave.specs.Weave.{Waits, Runs, Stage, Running, Finished, Joined, Weave, Event, Step, Fork, Steal, Take, Finish, Join, task, moved, with_sides, ended_task, no_task, asks, IsOn, Next, Legal, none, more, oldest, is_running}
 use Rattle.gib_weave.specs.Worked.{code, start, steps_then, stolen, taken, in_place}

@@ -1,26 +1,28 @@
 -- A line waits while a part of it runs.
-use Rattle.std.proofs.Common.{◌≡◌, ℕ, suc, ◌<◌, ◌≤◌, Bool, true, false, cond, ◌∷◌, length, refl, sym, ap, subst, ◌∙◌}
+use Rattle.std.proofs.Common.{◌≡◌, ℕ, suc, ◌<◌, ◌≤◌, Bool, true, false, cond, List, ◌∷◌, length, refl, sym, ap, subst, ◌∙◌, arith}
 use Rattle.std.proofs.lemmas.Bool.{false≢true}
 use Rattle.gib_types.specs.declared.table.Ty.{Ty}
 use Rattle.gib_types.specs.Layout.{LaidOut}
 use Rattle.gib_types.specs.Tree.{Datum}
 use Rattle.gib_syntax.specs.Meaning.{Environment, value_in, Outcome, Gives, Stops, Reason, with_value}
-use Rattle.gib_mem.specs.Memory.{Store}
+use Rattle.gib_mem.specs.Memory.{Store, Grows}
 use Rattle.gib_core.specs.declared.atom.Variable.{Variable}
 use Rattle.gib_core.specs.declared.atom.Kind.{Kind}
 use Rattle.gib_core.specs.Tree.{Term, Then, One, On, CoreTree}
 use Rattle.gib_core.specs.Meaning.{from_there, having, Went}
 use Rattle.gib_code.specs.Program.{CodeTree}
 use Rattle.gib_core.specs.Ending.{Within}
-use Rattle.gib_machine.specs.Machine.{end_at, nesting, Slots, slot, set}
-use Rattle.gib_core.specs.Fits.{put, Sort, Outside, Absent, Scalar, Held, Placed, Loose, AtHead, Field, Scope, new_line, await, await_call, tell_line, is_settled, is_there, has_slot, loosen_one, loosen, Dest, Nowhere, Empty, Open, dest_type, cased}
-use Rattle.gib_weave.specs.Environment.{AreGiven, Ctx, StandsAt, Has, HasAll, IsDest, Matches}
+use Rattle.gib_machine.specs.State.{end_at, nesting, Slots, slot, set, Frame, Open as OpenRegion, cursor}
+use Rattle.gib_core.specs.Fits.{put, Sort, Outside, Absent, Scalar, Held, Placed, Loose, AtHead, Field, Scope, new_line, await, await_call, tell_line, is_settled, is_there, has_slot, loosen_one, loosen, Dest, Nowhere, Empty, Open, cased}
+use Rattle.gib_weave.specs.Environment.{Ctx, StandsAt, Has, HasAll, IsDest, Matches}
 use Rattle.gib_weave.specs.EndWords.{HasEnd}
-use Rattle.gib_weave.specs.Continuing.{given_of, Rest, Plain, Part, Meet, Leave, Last, KSide, KLast, Follows, Next, RestCode, RestFits, rest_cased, rest_nest, Kont, KEnd, KHere, KRegion, KScalar, KCall, KCallScalar, Goes, Under, AllUnder, Calm, AllCalm, due, end_of, needs_of}
+use Rattle.gib_weave.specs.Continuing.{given_of, Rest, Plain, Part, Meet, Leave, Last, KSide, KLast, Follows, Next, RestCode, RestFits, rest_cased, rest_nest, nest, Kont, KEnd, KHere, KRegion, KScalar, KCall, KCallScalar, Goes, Under, AllUnder, Calm, AllCalm, end_of, needs_of}
 use Rattle.gib_weave.specs.Owing.{means, resume}
 use Rattle.gib_weave.specs.Stacks.{Waits}
+use Rattle.gib_weave.specs.Sound.{OnLine, MayFollow}
+use Rattle.gib_weave.proofs.Grow.{Matches-grows, Stack-grows}
 use Rattle.gib_weave.proofs.Basics.{by_test, put-other, set-other, set-length, end-other, ends-length}
-use Rattle.gib_weave.proofs.Move.{with_line, HasAll-line, settled_there, Matches-line, closes_keeps, given_keeps, end_kept, other, goes-refl, under_goes, all_under_goes, goes_new, Keeps, Has-keeps, Fields-keeps, absent_slot, rest_code_loosen}
+use Rattle.gib_weave.proofs.Move.{Moved, AllMoved, Matches-moved, Stack-moved, moved_set, all_moved_set, not_there, with_line, HasAll-line, settled_there, Matches-line, closes_keeps, given_keeps, end_kept, other, goes-refl, under_goes, all_under_goes, goes_new, Keeps, Has-keeps, Fields-keeps, absent_slot, rest_code_loosen}
 
 -- Trees may be elsewhere.
 
@@ -261,23 +263,44 @@ from_having x env (Gives v) go = refl
 pub side_means : (core : CoreTree) (n : ℕ) (kind : Kind) (x : Variable) (ty : Ty) (t u : Term) (env : Environment) → means core n (Then (One (On kind x ty t)) u) env ≡ with_value (means core n t env) (λ v. means core n u ((x.0, v) ∷ env))
 side_means core n kind x ty t u env = from_having x.0 env (means core n t env) (λ e. means core n u e)
 
--- a line waits for the value of x, which a term with such cases makes
-pub waiting : (core : CoreTree) (code : CodeTree) (s : Store) (sl : Slots) (at x : ℕ) (so : Sort) (t : Term) (f g : ℕ → Bool) (u : Rest) (c : Ctx) (after : Dest) (cur : ℕ) (k : Kont)
-    → RestCode core code c.line.within c.scope at u (end_of c.line.overs k) → RestFits core (needs_of k) u (put (loosen (cased t) c.scope) x so) after (tell_line f c.line) → ((q : ℕ) → f q ≡ true → is_settled (c.scope q) ≡ true) → c.scope x ≡ Absent → Matches code.laid s sl c cur → AllUnder c.scope c.env k → AreGiven c 0 (given_of k) → AllCalm (rest_cased u) k → dest_type c.dest ≡ due k → Follows x u k → rest_nest u ≤ nesting code
-    → Waits core code s sl at x so u (loosened (cased t) (pend f g c)) after cur k
-waiting core code s sl at x so t f g u c after cur k low fits asked new m under gv calm kind free nar = record {
-  free = free;
-  narrow = nar;
-  low = rest_code_loosen core code c.line.within c.scope at u (end_of c.line.overs k) (cased t) low;
-  fits = fits;
-  asked = λ q e. loosen-settled (cased t q) (c.scope q) ∙ asked q e;
-  new = loosen-absent (cased t x) (c.scope x) new;
-  matches = Matches-loosen (cased t) (Matches-pend f g m);
-  under = all_under_loosen c.scope c.env k (cased t) under;
-  given = given_keeps c (loosened (cased t) (pend f g c)) 0 (given_of k) (record { there = λ y h. loosen-there (cased t y) (c.scope y) ∙ h; places = λ y h. refl; values = λ y h. refl; at_head = λ y o e. loosen-head (cased t y) (c.scope y) o e; heads = λ y o e. refl }) (λ y. goes_loosen (cased t y) (c.scope y)) gv;
-  calm = calm;
-  kind = kind;
-}
+-- A line goes on.
+
+module _ {core : CoreTree} {code : CodeTree} {s : Store} {sl : Slots} {fs : List Frame} {rs : List OpenRegion} {c : Ctx} {k : Kont} {m : ℕ → Bool} where
+  -- its own slots and those of the lines that wait are as good
+  pub line_moved : {sl' : Slots} → Moved code.laid s sl sl' c → AllMoved code.laid s sl sl' k → OnLine core code s sl fs rs c k m → OnLine core code s sl' fs rs c k m
+  line_moved {sl'} mo all l = record { kind = l.kind; matches = Matches-moved mo l.matches; stack = Stack-moved core code s k sl sl' fs c.front rs all l.stack; under = l.under; given = l.given; calm = l.calm }
+
+  -- the slot of a new variable is set
+  pub line_set : (x w : ℕ) → c.scope x ≡ Absent → OnLine core code s sl fs rs c k m → OnLine core code s (set sl x w) fs rs c k m
+  line_set x w new l = line_moved (moved_set x w (not_there c.scope x new)) (all_moved_set code.laid s sl c.scope c.env k x w l.under (not_there c.scope x new)) l
+
+  pub line_grows : {s' : Store} → Grows s s' → OnLine core code s sl fs rs c k m → OnLine core code s' sl fs rs c k m
+  line_grows g l = record { kind = l.kind; matches = Matches-grows g l.matches; stack = Stack-grows core code k sl fs c.front rs g l.stack; under = l.under; given = l.given; calm = l.calm }
+
+  pub line_less : {n : ℕ → Bool} → ((y : ℕ) → n y ≡ true → m y ≡ true) → OnLine core code s sl fs rs c k m → OnLine core code s sl fs rs c k n
+  line_less {n} less l = record { kind = l.kind; matches = l.matches; stack = l.stack; under = l.under; given = l.given; calm = all_calm_less m n k less l.calm }
+
+  -- it waits for the value of x, which a term with such cases makes
+  pub waiting : {at x : ℕ} {so : Sort} (t : Term) {f : ℕ → Bool} (g : ℕ → Bool) {u : Rest} {after : Dest} → OnLine core code s sl fs rs c k m → ((y : ℕ) → rest_cased u y ≡ true → m y ≡ true)
+      → Follows x u k → rest_nest u ≤ nesting code → c.scope x ≡ Absent → RestCode core code c.line.within c.scope at u (end_of c.line.overs k) → RestFits core (needs_of k) u (put (loosen (cased t) c.scope) x so) after (tell_line f c.line) → ((q : ℕ) → f q ≡ true → is_settled (c.scope q) ≡ true)
+      → Waits core code s sl at x so u (loosened (cased t) (pend f g c)) after (cursor rs) k
+  waiting {at} {x} {so} t {f} g {u} l less free nar new low fits asked = record {
+    free = free;
+    narrow = nar;
+    low = rest_code_loosen core code c.line.within c.scope at u (end_of c.line.overs k) (cased t) low;
+    fits = fits;
+    asked = λ q e. loosen-settled (cased t q) (c.scope q) ∙ asked q e;
+    new = loosen-absent (cased t x) (c.scope x) new;
+    matches = Matches-loosen (cased t) (Matches-pend f g l.matches);
+    under = all_under_loosen c.scope c.env k (cased t) l.under;
+    given = given_keeps c (loosened (cased t) (pend f g c)) 0 (given_of k) (record { there = λ y h. loosen-there (cased t y) (c.scope y) ∙ h; places = λ y h. refl; values = λ y h. refl; at_head = λ y o e. loosen-head (cased t y) (c.scope y) o e; heads = λ y o e. refl }) (λ y. goes_loosen (cased t y) (c.scope y)) l.given;
+    calm = all_calm_less m (rest_cased u) k less l.calm;
+    kind = l.kind;
+  }
+
+-- a term that opens no more
+pub room_less : {w d r : ℕ} {t t' : Term} {k : Kont} → nest t' ≤ nest t → MayFollow w d (Plain t) r k → MayFollow w d (Plain t') r k
+room_less le h = record { free = h.free; narrow = let n = h.narrow in omega (arith, n, le); nests = let n = h.nests in omega (arith, n, le); all_room = h.all_room }
 
 -- What is next behind a new variable.
 

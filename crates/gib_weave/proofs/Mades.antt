@@ -8,7 +8,8 @@ use Rattle.gib_core.specs.Low as low
 use Rattle.gib_core.specs.Tree.{CoreTree, FunctionTerm}
 use Rattle.gib_code.specs.declared.instruction.Entry.{Entry}
 use Rattle.gib_code.specs.Program.{CodeTree}
-use Rattle.gib_machine.specs.Machine.{State, Doing, Ready, Opening, start_at, slots_at, frame, whole_room, widest}
+use Rattle.gib_machine.specs.State.{State, Doing, Ready, Opening, frame, whole_room, widest}
+use Rattle.gib_machine.specs.Machine.{start_at, slots_at}
 use Rattle.gib_machine.specs.Starting.{main_entry, started, started_by, started_by_fork, entry_start, fork_to, is_packed}
 use Rattle.gib_machine.specs.Stepping.{with_tails}
 use Rattle.gib_weave.specs.Starting.{first_doing, root_start}

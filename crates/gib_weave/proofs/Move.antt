@@ -1,5 +1,5 @@
 -- What is said of a frame's slots is kept when slots change that are not relied on, and when a line knows more.
-use Rattle.std.proofs.Common.{◌≡◌, ℕ, ◌+◌, ◌<◌, Bool, true, false, cond, eqb, List, [], ◌∷◌, ◌++◌, length, suc, Option, None, Some, append_assoc, refl, sym, ap, subst, ◌∙◌, arith}
+use Rattle.std.proofs.Common.{◌≡◌, ℕ, ◌+◌, ◌<◌, Bool, true, false, cond, eqb, List, [], ◌∷◌, ◌++◌, length, suc, Option, None, Some, append_assoc, refl, sym, ap, subst, ◌∙◌, arith, ◌≤◌}
 use Rattle.std.proofs.lemmas.Bool.{true≢false}
 use Rattle.gib_types.specs.Layout.{LaidOut, head_size}
 use Rattle.gib_types.specs.Tree.{Datum}
@@ -11,12 +11,12 @@ use Rattle.gib_core.specs.Tree.{Term, CoreTree}
 use Rattle.gib_code.specs.Program.{CodeTree}
 use Rattle.gib_core.specs.Ending.{Within}
 use Rattle.gib_core.specs.Low.{Over, End, Field as StoredField, field_of}
-use Rattle.gib_machine.specs.Machine.{Slots, slot, end_at, set, Frame, Open as OpenRegion}
+use Rattle.gib_machine.specs.State.{Slots, slot, end_at, set, Frame, Open as OpenRegion}
 use Rattle.gib_weave.specs.EndWords.{both, EndWord, HasEnd, IsTold}
 use Rattle.gib_core.specs.Fits.{put, Sort, Outside, Absent, Scalar, Held, Placed, Loose, AtHead, Field, Scope, is_settled, Line, is_there, has_slot, tree_type, loosen_one, loosen, Dest, Nowhere, Empty, Open, IsDue, more}
 use Rattle.gib_weave.specs.Environment.{Given, AreGiven, AllClose, Ctx, IsScalar, StandsAt, Has, HasAll, Fields, none, field, IsDest, Matches}
 use Rattle.gib_weave.specs.Continuing.{Rest, Plain, Part, Meet, Leave, Last, KSide, KLast, RestCode, Kont, KEnd, KHere, KRegion, KScalar, KCall, KCallScalar, Goes, Under, AllUnder, Agrees, IsCode}
-use Rattle.gib_weave.specs.Places.{within, head_covers}
+use Rattle.gib_weave.specs.Places.{kont_covers, heads}
 use Rattle.gib_weave.specs.Stacks.{Waits, Stack}
 use Rattle.gib_weave.proofs.Basics.{by_test, put-same, put-other, set-same, set-other, set-length, end-same, end-other, ends-length, both-other}
 
@@ -425,16 +425,17 @@ IsDest-more laid s sl c a z x t v (Open u y k xs (q ∷ dues)) n o e h =
           (subst (λ (b : ℕ). Dec laid s a b (value_in ((x, v) ∷ c.env) x) z) (sym o) (subst (λ (b : Datum). Dec laid s a t b z) (sym (bound-same c.env x v)) e));
     }
 
-pub covers_more : (laid : LaidOut) (c c' : Ctx) (d : Dest) (x q : ℕ) → c'.head ≡ c.head → head_covers laid c' (more d x) q ≡ head_covers laid c d q
-covers_more laid c c' (Nowhere ty) x q e = refl
-covers_more laid c c' (Empty t) x q e = refl
-covers_more laid c c' (Open t h k xs []) x q e = ap (λ (a : ℕ). within a (head_size laid k) q) e
-covers_more laid c c' (Open t h k xs (u ∷ dues)) x q e = ap (λ (a : ℕ). within a (head_size laid k) q) e
+pub covers_more : (laid : LaidOut) (h : ℕ) (d : Dest) (x : ℕ) (k : Kont) (q : ℕ) → heads laid h (more d x) k q ≡ heads laid h d k q
+covers_more laid h (Nowhere ty) x k q = refl
+covers_more laid h (Empty t) x k q = refl
+covers_more laid h (Open t y c xs []) x k q = refl
+covers_more laid h (Open t y c xs (u ∷ dues)) x k q = refl
 
-pub covers_head : (laid : LaidOut) (c c' : Ctx) (d : Dest) (q : ℕ) → c'.head ≡ c.head → head_covers laid c' d q ≡ head_covers laid c d q
-covers_head laid c c' (Nowhere ty) q e = refl
-covers_head laid c c' (Empty t) q e = refl
-covers_head laid c c' (Open t h k xs dues) q e = ap (λ (a : ℕ). within a (head_size laid k) q) e
+-- the lines that wait are a part
+pub kont_less : (laid : LaidOut) (h : ℕ) (d : Dest) (k : Kont) (q : ℕ) → kont_covers laid k q ≤ heads laid h d k q
+kont_less laid h (Nowhere ty) k q = omega arith
+kont_less laid h (Empty t) k q = omega arith
+kont_less laid h (Open t x c xs dues) k q = omega arith
 
 -- Sorts within a line.
 

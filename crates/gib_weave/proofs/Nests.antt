@@ -22,7 +22,7 @@ use Rattle.gib_core.specs.declared.atom.Atom.{Atom}
 use Rattle.gib_core.specs.declared.atom.Atom.TheVariants as atom
 use Rattle.gib_code.specs.Instruction as i
 use Rattle.gib_core.specs.Low.{Low, LowArms, LowBind, LowSide, End, Returns, To, Field, ending, giving, reaching, scalar_reads, first_reach, arm_opening, laid_of, with_fields}
-use Rattle.gib_machine.specs.Machine.{open_behind, nesting_from, nesting}
+use Rattle.gib_machine.specs.State.{open_behind, nesting_from, nesting}
 use Rattle.gib_weave.specs.Continuing.{nest, bind_nest, side_nest, branches_nest}
 
 -- How many are open at a place of these instructions, before which n are.

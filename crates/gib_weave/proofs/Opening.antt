@@ -12,7 +12,7 @@ use Rattle.gib_mem.specs.Memory.{Memory}
 use Rattle.gib_mem.specs.Plain.{nothing}
 use Rattle.gib_core.specs.Tree.{CoreTree}
 use Rattle.gib_code.specs.Program.{CodeTree}
-use Rattle.gib_machine.specs.Machine.{State}
+use Rattle.gib_machine.specs.State.{State}
 use Rattle.gib_weave.specs.declared.event.Event.{Event as TaskEvent}
 use Rattle.gib_weave.specs.declared.event.Event.TheVariants as event
 use Rattle.gib_weave.specs.declared.task.WeaveFault.{WeaveFault}

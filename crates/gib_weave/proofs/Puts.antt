@@ -4,20 +4,21 @@ use Rattle.std.proofs.lemmas.Bool.Decides.{nat_tests}
 use Rattle.gib_types.specs.declared.table.Ty.{Ty}
 use Rattle.gib_syntax.specs.Meaning.{Outcome}
 use Rattle.gib_mem.specs.Memory as mem
-use Rattle.gib_mem.specs.Memory.{Memory, Store, Cell, absent, fresh, after_puts, open_chunk, Grows, Holds}
+use Rattle.gib_mem.specs.Memory.{Memory, Store, fresh, Grows, Holds}
 use Rattle.gib_core.specs.Tree.{CoreTree}
 use Rattle.gib_core.specs.Cost.{Cost}
 use Rattle.gib_code.specs.Program.{CodeTree}
-use Rattle.gib_machine.specs.Machine.{Ask, Silent, Get, Put, Draw, AtFork, AtJoin, Ended}
+use Rattle.gib_machine.specs.State.{Ask, Silent, Get, Put, Draw, AtFork, AtJoin, Ended}
 use Rattle.gib_weave.specs.Starting.{AreBodies}
 use Rattle.gib_weave.specs.Weave as ev
-use Rattle.gib_weave.specs.Weave.{Running, Weave, Event, Step, task, IsOn, Next, Sound, IsCareful, asks, Legal, none, more}
+use Rattle.gib_weave.specs.Weave.{Running, Weave, Event, task, Next, Sound, IsCareful, asks, Legal, none, more}
 use Rattle.gib_weave.specs.Bytes.{HasByte, GetsAt, PutsAt, Gets, Puts, ArePut, first, later}
 use Rattle.gib_weave.proofs.Basics.{put_all-holds, put_all-grows, put_all-outside}
 use Rattle.gib_weave.proofs.Places.{IsSided, zero_or_one, open-outside, open-inside, open-grows}
-use Rattle.gib_weave.proofs.Memories.{draws_new}
-use Rattle.gib_weave.proofs.Weaves.{grows_on}
-use Rattle.gib_weave.proofs.Events.{event_keeps, owes_next, after_puts_is}
+use Rattle.gib_weave.proofs.Memories.{after_puts_is, draws_new}
+use Rattle.gib_weave.proofs.Grow.{grows_on, grows_same}
+use Rattle.gib_weave.proofs.Acts.{owes_next}
+use Rattle.gib_weave.proofs.Events.{event_keeps}
 use Rattle.gib_weave.proofs.Progress.{careful, run_keeps}
 use Rattle.gib_weave.proofs.Cells.{fresh_byte}
 
@@ -83,20 +84,20 @@ put_stands code w _ _ q (ev.joins_it on e x y) p = absurd p
 module _ (core : CoreTree) (code : CodeTree) (ok : AreBodies core code) (ty : Ty) (o : Outcome) (whole : Cost) where
   -- What stands before an event stands after it.
   next_grows : (w v : Weave) (e : Event) → Sound core code ty o whole w → Next code w e v → Grows w.memory.cells v.memory.cells
-  next_grows w _ _ sd (ev.silent on e) = record { kept = λ q b h. h }
-  next_grows w _ _ sd (ev.get on e known) = record { kept = λ q b h. h }
+  next_grows w _ _ sd (ev.silent on e) = grows_same w.memory.cells
+  next_grows w _ _ sd (ev.get on e known) = grows_same w.memory.cells
   next_grows w _ _ sd (ev.puts {i = i} {a = a} {b = b} {bs = bs} {m = m} on e) =
       let h = owes_next core code ok ty o whole w sd i (Put a b bs m) on.here e in
       subst (λ (v : Memory). Grows w.memory.cells v.cells) (sym (after_puts_is w.memory a (b ∷ bs))) (put_all-grows w.memory.cells a (b ∷ bs) h.0)
   next_grows w _ _ sd (ev.draws {i = i} {c = c} {k = then} on e dr) = open-grows w.memory.cells c (draws_new w.memory c sd.bounded dr)
-  next_grows w _ _ sd (ev.forks on e) = record { kept = λ q b h. h }
-  next_grows w _ _ sd (ev.steals on few st) = record { kept = λ q b h. h }
-  next_grows w _ _ sd (ev.takes_it on e x) = record { kept = λ q b h. h }
-  next_grows w _ _ sd (ev.finishes on e) = record { kept = λ q b h. h }
-  next_grows w _ _ sd (ev.joins_it on e x y) = record { kept = λ q b h. h }
+  next_grows w _ _ sd (ev.forks on e) = grows_same w.memory.cells
+  next_grows w _ _ sd (ev.steals on few st) = grows_same w.memory.cells
+  next_grows w _ _ sd (ev.takes_it on e x) = grows_same w.memory.cells
+  next_grows w _ _ sd (ev.finishes on e) = grows_same w.memory.cells
+  next_grows w _ _ sd (ev.joins_it on e x y) = grows_same w.memory.cells
 
   legal_grows : (w v : Weave) (es : List Event) → Sound core code ty o whole w → Legal code w es v → Grows w.memory.cells v.memory.cells
-  legal_grows w _ _ sd none = record { kept = λ q b h. h }
+  legal_grows w _ _ sd none = grows_same w.memory.cells
   legal_grows w _ _ sd (more {w' = w1} {w'' = w2} {e = e} {es = es} h l) =
       grows_on (next_grows w w1 e sd h) (legal_grows w1 w2 es (event_keeps core code ok ty o whole w w1 e sd h) l)
 

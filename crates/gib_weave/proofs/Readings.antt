@@ -15,7 +15,8 @@ use Rattle.gib_packed.proofs.SpanLemmas.{Dec-span, Span-height}
 use Rattle.gib_core.specs.Tree.{CoreTree}
 use Rattle.gib_code.specs.declared.instruction.Arm.{Arm}
 use Rattle.gib_code.specs.Program.{CodeTree}
-use Rattle.gib_machine.specs.Machine.{State, Get, next, Ready, Looking, Following, SkipTurn, doing, looked, skip_on, skipped, label_of, arms_of, slide, passes, tell}
+use Rattle.gib_machine.specs.State.{State, Get, Ready, Looking, Following, SkipTurn, doing, slide, tell}
+use Rattle.gib_machine.specs.Machine.{next, looked, skip_on, skipped, label_of, arms_of, passes}
 use Rattle.gib_weave.specs.Owing.{Owed}
 use Rattle.gib_weave.proofs.Numbers.{follows_number, turns_number}
 use Rattle.std.proofs.lemmas.List.{length-set}

@@ -20,7 +20,8 @@ use Rattle.gib_code.specs.Program.{CodeTree, Runs}
 use Rattle.gib_weave.specs.declared.root_run.RunFault.{RunFault}
 use Rattle.gib_machine.specs.declared.turn.Turn.{Turn}
 use Rattle.gib_machine.specs.declared.turn.Turn.TheVariants as turn
-use Rattle.gib_machine.specs.Machine.{State, start_at, widest}
+use Rattle.gib_machine.specs.State.{State, widest}
+use Rattle.gib_machine.specs.Machine.{start_at}
 use Rattle.gib_machine.specs.Starting.{started}
 use Rattle.gib_machine.specs.Stepping.{with_tails}
 use Rattle.gib_weave.specs.Calling.{GoesOn, IsTask, Ran, RootRan, Walked}

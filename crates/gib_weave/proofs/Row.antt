@@ -11,7 +11,9 @@ use Rattle.gib_code.specs.declared.instruction.Operation.TheVariants.{Add, Lt, Q
 use Rattle.gib_code.specs.declared.answer.Answer.TheVariants as answer
 use Rattle.gib_code.specs.Instruction as i
 use Rattle.gib_code.specs.Program.{CodeTree}
-use Rattle.gib_machine.specs.Machine.{Ask, Silent, Get, Put, Draw, AtFork, AtJoin, Ended, left_starts, right_of, side_start, joins, takes, operated}
+use Rattle.gib_machine.specs.State.{Ask, Silent, Get, Put, Draw, AtFork, AtJoin, Ended}
+use Rattle.gib_machine.specs.Machine.{operated}
+use Rattle.gib_machine.specs.Sides.{left_starts, right_of, side_start, joins, takes}
 use Rattle.gib_weave.specs.Weave.{Waits, Runs, Running, Weave, task, moved, with_sides, asks, weave_start}
 use Rattle.gib_weave.specs.Example as example
 use Rattle.gib_weave.specs.Worked.{code, core, loaded, table}

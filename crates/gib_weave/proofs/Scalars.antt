@@ -26,7 +26,8 @@ use Rattle.gib_core.specs.declared.atom.Atom.TheVariants as a
 use Rattle.gib_core.specs.Tree.{var}
 use Rattle.gib_core.specs.Meaning.{value, merge}
 use Rattle.gib_core.specs.Low.{operand, operands, slots_of, operation, truth_word}
-use Rattle.gib_machine.specs.Machine.{Slots, slot, word, words, word_bytes, scalar_bytes, operated, traps}
+use Rattle.gib_machine.specs.State.{Slots, slot, word, words}
+use Rattle.gib_machine.specs.Machine.{word_bytes, scalar_bytes, operated, traps}
 use Rattle.gib_core.specs.Fits.{Sort, AtomFits, AtomsFit, packed_due, ArePlaced, FurtherPlaced}
 use Rattle.gib_weave.specs.Environment.{Ctx, IsScalar, Has, HasAll, Fields, field}
 

@@ -4,10 +4,11 @@ use Rattle.gib_mem.specs.Memory.{Reads, after_draw, after_puts}
 use Rattle.gib_code.specs.declared.answer.Answer.{Answer}
 use Rattle.gib_code.specs.declared.answer.Answer.TheVariants.{Deep}
 use Rattle.gib_code.specs.Program.{CodeTree}
-use Rattle.gib_machine.specs.Machine.{State, Waiting, Ask, Silent, Get, Put, Draw, AtFork, AtJoin, Ended, joins, side_start, takes}
-use Rattle.gib_weave.specs.Weave.{Weave, Task, Stage, Running, Finished, Joined, Status, Waits, Runs, Stolen, oldest, older, Event, Next, moved, no_task, ended_task, task, with_sides}
+use Rattle.gib_machine.specs.State.{State, Ask, Silent, Get, Put, Draw, AtFork, AtJoin, Ended}
+use Rattle.gib_machine.specs.Sides.{Waiting, joins, side_start, takes}
+use Rattle.gib_weave.specs.Weave.{Weave, Stage, Running, Finished, Joined, Status, Waits, Runs, Stolen, oldest, older, Event, Next, moved, no_task, ended_task, task, with_sides}
 use Rattle.gib_weave.specs.Weave as ev
-use Rattle.gib_weave.proofs.Events.{reads_one}
+use Rattle.gib_weave.proofs.Memories.{reads_one}
 use Rattle.gib_weave.proofs.Newest.{none_stolen, oldest_same}
 
 -- What an ask holds.

@@ -16,26 +16,27 @@ use Rattle.gib_core.specs.Meaning.{function_at, core_run}
 use Rattle.gib_code.specs.declared.instruction.Entry.{Entry}
 use Rattle.gib_code.specs.Program.{CodeTree}
 use Rattle.gib_core.specs.Low as low
-use Rattle.gib_core.specs.Low.{Low, LowFunctions, IsLowered, End, Returns, function_number, laid_of, Field as StoredField}
-use Rattle.gib_machine.specs.Machine.{times, nesting, widest, Slots, slot, Open as OpenRegion, State, Opening, begins, latest, cursor, frame, start_at, slots_at}
+use Rattle.gib_core.specs.Low.{Low, LowFunctions, IsLowered, Returns, function_number, Field as StoredField}
+use Rattle.gib_machine.specs.State.{times, nesting, widest, Slots, slot, Open as OpenRegion, State, Opening, latest, cursor, frame, Doing, Ready}
+use Rattle.gib_machine.specs.Machine.{begins, start_at, slots_at}
 use Rattle.gib_core.specs.Cost.{Cost, plus, one_region}
 use Rattle.gib_weave.proofs.Counts.{goes_on_counted, same_most, Paid, tail_counted, chunk_counted}
 use Rattle.gib_core.specs.Ending.{Within, within_function, within_main}
-use Rattle.gib_core.specs.Fits.{AtEnd, new_line, body_needs, none_of, Sort, Outside, Absent, Scalar, Placed, Field, Scope, Dest, dest_of, dest_type, param_sort, body_scope, AllFit}
+use Rattle.gib_core.specs.Fits.{AtEnd, new_line, body_needs, none_of, Dest, dest_of, param_sort, body_scope, AllFit}
 use Rattle.gib_weave.specs.Environment.{Ctx, Has, HasAll, IsDest}
 use Rattle.gib_weave.specs.Continuing.{Plain, KEnd, Agrees}
 use Rattle.gib_weave.specs.Paying.{Share, AtMost, Counted, left_costs, region_of}
-use Rattle.gib_weave.specs.Places.{within, Owned, with_chunk, rest_covers, tail_covers, TailsHaveRoom, IsSmall, IsNew, Apart, HasRoom, freed}
+use Rattle.gib_weave.specs.Places.{within, Owned, tail_covers, TailsHaveRoom, IsSmall, Apart}
 use Rattle.gib_weave.specs.Stacks.{IsRoot}
-use Rattle.gib_weave.specs.Sound.{counts, at_term, Safe, rests, moves, silent, draws}
+use Rattle.gib_weave.specs.Sound.{counts, at_term, Safe, rests, moves, silent, draws, InMemory}
 use Rattle.gib_weave.specs.Starting.{AreBodies, IsMain, IsArgument, first_doing, root_start}
 use Rattle.gib_weave.proofs.Basics.{by_test}
 use Rattle.gib_weave.proofs.Move.{is_field}
 use Rattle.gib_weave.proofs.Places.{Apart-less, Apart-open, open-grows, open-small, SplitsAt, splits}
 use Rattle.gib_weave.proofs.Grow.{StandsAt-grows}
 use Rattle.gib_weave.proofs.Binds.{frame-length, body_end, no_slot, nothing_bound, result_dest, result_type, no_result_cover}
-use Rattle.gib_weave.proofs.Ends.{at_rest}
 use Rattle.gib_weave.proofs.Nests.{nests_within}
+use Rattle.gib_weave.proofs.Ends.{heads_less}
 
 -- No field is in scope where a body begins.
 
@@ -132,39 +133,28 @@ root_of Whole a = tt
 root_of Truth a = tt
 root_of (Tree t) a = refl
 
-module _ (core : CoreTree) (code : CodeTree) (main : IsMain core code) (own : Owned) (w depth level rm : ℕ) (v : Datum) where
+-- The root between two instructions, or where it opens its region.
+abbrev root_at : CoreTree → CodeTree → (w depth level rm : ℕ) → List OpenRegion → List ℕ → Doing → State
+root_at core code w depth level rm rs tails d = record { ip = start_at code.functions (length core.functions); words = frame (slots_at code.functions (length core.functions)) (w ∷ []); frames = []; depth = depth; level = level; pars = []; side = None; regions = rs; tails = tails; room = rm; width = widest code.functions; gave = []; result = core.main.result; doing = d }
+
+module _ (core : CoreTree) (code : CodeTree) (main : IsMain core code) (w depth level : ℕ) (v : Datum) where
   -- main's body is next
-  begun : (s : Store) (rs : List OpenRegion) (tails : List ℕ) (a : ℕ) → IsArgument code.laid s core.main.parameter w v → IsRoot core.main.result a rs → IsDest code.laid s (frame (slots_at code.functions (length core.functions)) (w ∷ [])) (main_line (within_main core) (slots_at code.functions (length core.functions)) core.main.parameter w v (dest_of core.main.result) a) (dest_of core.main.result) (cursor rs)
-      → Rattle.gib_weave.specs.Places.HaveRoom rs → TailsHaveRoom tails → Apart own s (λ q. rest_covers rs q + tail_covers tails q) → IsSmall s → times (suc depth) (nesting code) ≤ rm → (sh : Share) → Counted rs (left_costs core depth level (Plain core.main.body) ((0, v) ∷ []) (KEnd core.main.result)) sh
-      → Safe core code (record { ty = core.main.result; all = core_run core depth v; sides = [] }) own sh s (at_rest (record { level = level; pars = []; side = None; width = widest code.functions; gave = [] }) core.main.result rm (start_at code.functions (length core.functions)) (frame (slots_at code.functions (length core.functions)) (w ∷ [])) [] depth rs tails)
-  begun s rs tails a arg ro de rooms tr ap9 sm le sh counted =
+  begun : {own : Owned} {s : Store} {sh : Share} (rm : ℕ) (rs : List OpenRegion) (tails : List ℕ) (a : ℕ) → IsArgument code.laid s core.main.parameter w v → IsRoot core.main.result a rs → IsDest code.laid s (frame (slots_at code.functions (length core.functions)) (w ∷ [])) (main_line (within_main core) (slots_at code.functions (length core.functions)) core.main.parameter w v (dest_of core.main.result) a) (dest_of core.main.result) (cursor rs)
+      → InMemory own s (λ q. 0) rs tails → times (suc depth) (nesting code) ≤ rm → Counted rs (left_costs core depth level (Plain core.main.body) ((0, v) ∷ []) (KEnd core.main.result)) sh
+      → Safe core code (record { ty = core.main.result; all = core_run core depth v; sides = [] }) own sh s (root_at core code w depth level rm rs tails Ready)
+  begun {s = s} rm rs tails a arg ro de memory le counted =
       let n = slots_at code.functions (length core.functions) in
       let c = main_line (within_main core) n core.main.parameter w v (dest_of core.main.result) a in
       rests (at_term {u = Plain core.main.body} {c = c} {k = KEnd core.main.result} record {
         ready = refl;
         low = main.low;
         fits = main.fits;
-        kind = result_type core.main.result;
-        matches = record { vars = main_vars (within_main core) code.laid s n core.main.parameter w v (dest_of core.main.result) a arg; dest = de };
-        stack = ro;
-        under = tt;
-        given = tt;
-        calm = tt;
-        places = Apart-less ap9 (λ q. let i = no_result_cover code.laid c core.main.result q in omega (arith, i));
-        rooms = rooms;
-        tail_rooms = tr;
-        small = sm;
+        line = record { kind = result_type core.main.result; matches = record { vars = main_vars (within_main core) code.laid s n core.main.parameter w v (dest_of core.main.result) a arg; dest = de }; stack = ro; under = tt; given = tt; calm = tt };
+        memory = heads_less (λ q. let i = no_result_cover code.laid c.head core.main.result (KEnd core.main.result) q in omega (arith, i)) memory;
+        ties = record { sides = refl; pars = refl; side = refl; result = refl; type = refl };
         owes = refl;
-        sides = refl;
-        pars = refl;
-        side = refl;
-        free = tt;
-        result = refl;
-        type = refl;
         counted = counted;
-        narrow = main.nests;
-        nests = let h = main.nests in omega (arith, h, le);
-        all_room = tt;
+        room = record { free = tt; narrow = main.nests; nests = let h = main.nests in omega (arith, h, le); all_room = tt };
       })
 
 -- before main's body: its region is due, where its result is packed
@@ -185,7 +175,7 @@ pub root_starts : (core : CoreTree) (code : CodeTree) → IsMain core code → (
 root_starts core code main own s w depth level v tails arg tr ap9 sm sh counted = go core.main.result refl
   where
     from_ty : Ty → State
-    from_ty u = record { ip = start_at code.functions (length core.functions); words = frame (slots_at code.functions (length core.functions)) (w ∷ []); frames = []; depth = depth; level = level; pars = []; side = None; regions = []; tails = tails; room = suc (times (suc depth) (nesting code)); width = widest code.functions; gave = []; result = core.main.result; doing = first_doing u }
+    from_ty u = root_at core code w depth level (suc (times (suc depth) (nesting code))) [] tails (first_doing u)
 
     scalar_root : (u : Ty) (a : ℕ) → is_scalar u ≡ true → IsRoot u a []
     scalar_root Whole a h = tt
@@ -197,8 +187,8 @@ root_starts core code main own s w depth level v tails arg tr ap9 sm sh counted 
     scalar_dest laid sl c Truth h = tt
     scalar_dest laid sl c (Tree t) h = absurd cc
 
-    scalar : (u : Ty) → core.main.result ≡ u → is_scalar u ≡ true → Safe core code (record { ty = core.main.result; all = core_run core depth v; sides = [] }) own sh s (at_rest (record { level = level; pars = []; side = None; width = widest code.functions; gave = [] }) core.main.result (suc (times (suc depth) (nesting code))) (start_at code.functions (length core.functions)) (frame (slots_at code.functions (length core.functions)) (w ∷ [])) [] depth [] tails)
-    scalar u e h = begun core code main own w depth level (suc (times (suc depth) (nesting code))) v s [] tails 0 arg (scalar_root core.main.result 0 (ap is_scalar e ∙ h)) (scalar_dest code.laid _ _ core.main.result (ap is_scalar e ∙ h)) tt tr (Apart-less ap9 (λ q. omega arith)) sm (omega arith) sh (goes_on_counted (record { regions = omega arith; items = omega arith }) counted)
+    scalar : (u : Ty) → core.main.result ≡ u → is_scalar u ≡ true → Safe core code (record { ty = core.main.result; all = core_run core depth v; sides = [] }) own sh s (root_at core code w depth level (suc (times (suc depth) (nesting code))) [] tails Ready)
+    scalar u e h = begun core code main w depth level v (suc (times (suc depth) (nesting code))) [] tails 0 arg (scalar_root core.main.result 0 (ap is_scalar e ∙ h)) (scalar_dest code.laid _ _ core.main.result (ap is_scalar e ∙ h)) (record { places = Apart-less ap9 (λ q. omega arith); rooms = tt; tail_rooms = tr; small = sm }) (omega arith) (goes_on_counted (record { regions = omega arith; items = omega arith }) counted)
 
     left : Cost
     left = left_costs core depth level (Plain core.main.body) ((0, v) ∷ []) (KEnd core.main.result)
@@ -209,19 +199,26 @@ root_starts core code main own s w depth level v tails arg tr ap9 sm sh counted 
     in_tail : (t : Ty) → core.main.result ≡ t → first_doing t ≡ Opening → (a : ℕ) → Paid (record { start = a; cur = a } ∷ []) (left_costs core depth level (Plain core.main.body) ((0, v) ∷ []) (KEnd core.main.result)) sh 0
     in_tail t e f a = tail_counted (record { start = a; cur = a }) [] (root_costs core depth level v core.main.result) left sh (dearer core depth level v t e f) counted
 
-    packed : (o : Option (List ℕ × ℕ)) → latest tails ≡ o → SplitsAt tails o → (t : Ty) → core.main.result ≡ t → first_doing t ≡ Opening → Safe core code (record { ty = core.main.result; all = core_run core depth v; sides = [] }) own sh s (record { ip = start_at code.functions (length core.functions); words = frame (slots_at code.functions (length core.functions)) (w ∷ []); frames = []; depth = depth; level = level; pars = []; side = None; regions = []; tails = tails; room = suc (times (suc depth) (nesting code)); width = widest code.functions; gave = []; result = core.main.result; doing = Opening })
+    packed : (o : Option (List ℕ × ℕ)) → latest tails ≡ o → SplitsAt tails o → (t : Ty) → core.main.result ≡ t → first_doing t ≡ Opening → Safe core code (record { ty = core.main.result; all = core_run core depth v; sides = [] }) own sh s (root_at core code w depth level (suc (times (suc depth) (nesting code))) [] tails Opening)
     packed None q h t e f =
-        moves (draws (λ d. (in_chunk t e f d).share) (ap (begins (record { ip = start_at code.functions (length core.functions); words = frame (slots_at code.functions (length core.functions)) (w ∷ []); frames = []; depth = depth; level = level; pars = []; side = None; regions = []; tails = tails; room = times (suc depth) (nesting code); width = widest code.functions; gave = []; result = core.main.result; doing = Opening }) (λ t a. t)) q)
+        moves (draws (λ d. (in_chunk t e f d).share) (ap (begins (root_at core code w depth level (times (suc depth) (nesting code)) [] tails Opening) (λ t a. t)) q)
         (λ d new. (in_chunk t e f d).spends)
-        (λ d new. begun core code main (with_chunk own d) w depth level (times (suc depth) (nesting code)) v (open_chunk s d) (record { start = 4096 * d; cur = 4096 * d } ∷ []) [] (4096 * d) (argument_grows code.laid s (open_chunk s d) core.main.parameter w v (open-grows s d new) arg)
-        (root_of core.main.result (4096 * d)) (result_dest code.laid (open_chunk s d) _ _ core.main.result (4096 * d) refl) (omega arith, tt) tt
-        (Apart-open d new ap9 (λ q. let i : rest (4096 * d) ≡ 4096 = omega arith in let j = ap (λ (z : ℕ). within (4096 * d) z q) i in omega (arith, j))) (open-small s d new sm) (omega arith) (in_chunk t e f d).share (in_chunk t e f d).counted))
+        (λ d new. begun core code main w depth level v (times (suc depth) (nesting code)) (record { start = 4096 * d; cur = 4096 * d } ∷ []) [] (4096 * d) (argument_grows code.laid s (open_chunk s d) core.main.parameter w v (open-grows s d new) arg)
+        (root_of core.main.result (4096 * d)) (result_dest code.laid (open_chunk s d) _ _ core.main.result (4096 * d) refl)
+        (record {
+          places = Apart-open d new ap9 (λ q. let i : rest (4096 * d) ≡ 4096 = omega arith in let j = ap (λ (z : ℕ). within (4096 * d) z q) i in omega (arith, j));
+          rooms = (omega arith, tt);
+          tail_rooms = tt;
+          small = open-small s d new sm;
+        })
+        (omega arith) (in_chunk t e f d).counted))
     packed (Some p) q h t e f =
         let ro = h.rooms tr in
-        moves (silent (ap (begins (record { ip = start_at code.functions (length core.functions); words = frame (slots_at code.functions (length core.functions)) (w ∷ []); frames = []; depth = depth; level = level; pars = []; side = None; regions = []; tails = tails; room = times (suc depth) (nesting code); width = widest code.functions; gave = []; result = core.main.result; doing = Opening }) (λ t a. t)) q)
-        (counts (in_tail t e f p.1).spends (begun core code main own w depth level (times (suc depth) (nesting code)) v s (record { start = p.1; cur = p.1 } ∷ []) p.0 p.1 arg
-        (root_of core.main.result p.1) (result_dest code.laid s _ _ core.main.result p.1 refl) (ro.1, tt) ro.0
-        (Apart-less ap9 (λ q. let i = h.covers q in omega (arith, i))) sm (omega arith) (in_tail t e f p.1).share (in_tail t e f p.1).counted)))
+        moves (silent (ap (begins (root_at core code w depth level (times (suc depth) (nesting code)) [] tails Opening) (λ t a. t)) q)
+        (counts (in_tail t e f p.1).spends (begun core code main w depth level v (times (suc depth) (nesting code)) (record { start = p.1; cur = p.1 } ∷ []) p.0 p.1 arg
+        (root_of core.main.result p.1) (result_dest code.laid s _ _ core.main.result p.1 refl)
+        (record { places = Apart-less ap9 (λ q. let i = h.covers q in omega (arith, i)); rooms = (ro.1, tt); tail_rooms = ro.0; small = sm })
+        (omega arith) (in_tail t e f p.1).counted)))
 
     go : (u : Ty) → core.main.result ≡ u → Safe core code (record { ty = core.main.result; all = core_run core depth v; sides = [] }) own sh s (root_start core code w depth level tails)
     go Whole e = subst (λ (z : Ty). Safe core code (record { ty = core.main.result; all = core_run core depth v; sides = [] }) own sh s (from_ty z)) (sym e) (scalar Whole e refl)

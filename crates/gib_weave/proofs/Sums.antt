@@ -15,7 +15,7 @@ use Rattle.gib_core.specs.Low.{Low, IsLowered, Returns}
 use Rattle.gib_core.specs.Fits.{AtEnd, AtHead, Fits, FunctionFits, AllFit, arm_line, arm_scope, body_scope, body_needs, dest_of, finally, has_branch, new_line, none_of, put}
 use Rattle.gib_code.specs.declared.answer.Answer.TheVariants as answer
 use Rattle.gib_code.specs.Program.{none, one_more}
-use Rattle.gib_machine.specs.Machine.{end_at}
+use Rattle.gib_machine.specs.State.{end_at}
 use Rattle.gib_weave.specs.Example.{v, k}
 use Rattle.gib_weave.specs.Weave as ev
 use Rattle.gib_weave.specs.Weave.{Weave, Finish, Legal, ended_task, task, none as over, more}

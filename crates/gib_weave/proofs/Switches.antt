@@ -21,8 +21,9 @@ use Rattle.gib_core.specs.Meaning.{bind, core_calls, mean_branches}
 use Rattle.gib_code.specs.declared.instruction.Arm.{Arm}
 use Rattle.gib_code.specs.Instruction as i
 use Rattle.gib_code.specs.Program.{CodeTree, IsAt, AreAt}
-use Rattle.gib_core.specs.Low.{LeafAt, no_leaf, leaf, LowArms, End, laid_of, slot_of, Field as StoredField, scalar_reads, first_reach, arm_opening, Over, arm_end, arm_overs, with_over, is_over}
-use Rattle.gib_machine.specs.Machine.{told, end_at, Slots, slot, Frame, Open as OpenRegion, label_of, arms_of}
+use Rattle.gib_core.specs.Low.{LeafAt, no_leaf, leaf, LowArms, slot_of, Field as StoredField, scalar_reads, first_reach, arm_opening, Over, arm_end, arm_overs, with_over, is_over}
+use Rattle.gib_machine.specs.State.{told, end_at, Slots, slot, Frame, Open as OpenRegion, State}
+use Rattle.gib_machine.specs.Machine.{label_of, arms_of}
 use Rattle.gib_weave.proofs.Basics.{set_both}
 use Rattle.gib_core.specs.Cost.{Cost, plus, cost_branches, call_costs}
 use Rattle.gib_core.specs.Fits.{Line as FitsLine, arm_line, is_leaf, is_settled, put, Sort, Outside, Absent, Scalar, Held, Placed, Loose, AtHead, Field, Scope, is_there, has_slot, tree_type, Dest, Fits, BranchesFit, cased, branches_cased, is_of, AreNew, arm_scope}
@@ -32,11 +33,10 @@ use Rattle.gib_weave.specs.Continuing.{Plain, KSide, KLast, Kont, KEnd, KHere, K
 use Rattle.gib_weave.specs.Owing.{costs, Owed, resume, means}
 use Rattle.gib_weave.specs.Paying.{Share, Counted, left_costs, later_costs}
 use Rattle.gib_weave.specs.Places.{Owned}
-use Rattle.gib_weave.specs.Sound.{AtTerm, at_term, Safe, rests, Moves}
+use Rattle.gib_weave.specs.Sound.{AtTerm, at_term, Safe, rests, Moves, OnLine}
 use Rattle.gib_weave.specs.Starting.{AreBodies}
 use Rattle.gib_weave.proofs.Basics.{by_test, put-same, set-same, both_is}
-use Rattle.gib_weave.proofs.Move.{settled_there, tree_settled, goes-refl, with_line, Matches-line, keeps_line, given_keeps, covers_head, end_kept, MovedOne, Moved, moved_same, AllMoved, Stack-moved, Matches-moved, goes-there, agrees_put}
-use Rattle.gib_weave.proofs.Places.{Apart-less}
+use Rattle.gib_weave.proofs.Move.{settled_there, tree_settled, goes-refl, with_line, Matches-line, keeps_line, given_keeps, end_kept, MovedOne, Moved, moved_same, AllMoved, goes-there, agrees_put}
 use Rattle.gib_weave.proofs.Readings.{get_one, looks, known_below}
 use Rattle.gib_types.specs.declared.table.ConId.{ConId}
 use Rattle.gib_types.specs.declared.table.Ty.TheVariants.{Whole, Truth, Tree}
@@ -45,11 +45,12 @@ use Rattle.gib_weave.proofs.Tolds.{Tells, told_known, told_now, moved_told, all_
 use Rattle.gib_weave.proofs.EndWords.{Walked}
 use Rattle.gib_weave.proofs.Opens.{size_small}
 use Rattle.gib_weave.proofs.Binds.{tree_of}
-use Rattle.gib_weave.proofs.Arms.{with_sort, StaysHead, Line, line_of, term_at, line_sort}
+use Rattle.gib_weave.proofs.Arms.{with_sort, StaysHead, Line, line_sort}
 use Rattle.gib_weave.proofs.Cases.{BeforeIs, number_of_var, no_tree_end, parts, scalar_slots, first_slots, scalar_kept, first_kept, scalar_long, first_long, scalar_ends, first_ends, scalar_even, first_even, slots_fit, run_scalars, run_first, extend, agrees_arm, find}
-use Rattle.gib_weave.proofs.Ends.{Levels, at_rest, step_is, silently}
+use Rattle.gib_weave.proofs.Ends.{at_rest, step_is, silently}
 use Rattle.gib_packed.proofs.StoredLemmas.{Holds-front, Holds-behind}
 use Rattle.gib_packed.proofs.HoldsLemmas.{Holds-rest, Holds-first}
+use Rattle.gib_weave.proofs.Lines.{line_less, line_moved}
 
 -- Slots that no line relies on.
 
@@ -164,63 +165,40 @@ told_arm true lf F sc q x st f g h = f refl
 told_arm false false F sc q x st f g h = absurd (true≢false (sym h))
 told_arm false true F sc q x st f g h = by_test q x (λ b. b ≡ true → IsTold F sc q) (λ e i. subst (λ (y : ℕ). IsTold F sc y) (sym e) (record { settled = st; some = g refl })) (λ e i. absurd (true≢false (sym i))) h
 
-module _ (core : CoreTree) (code : CodeTree) (owed : Owed) (own : Owned) (sh : Share) (lv : Levels) (ty : Ty) (rm : ℕ) where
-  line_line : (s : Store) (sl : Slots) (fs : List Frame) (rs : List OpenRegion) (ts : List ℕ) (c : Ctx) (k : Kont) (m : ℕ → Bool) (ln : FitsLine) → ((q : ℕ) → ln.told q ≡ true → IsTold sl c.scope q) → AllClose code.laid s c ln.overs → Line core code owed own sh lv ty rm s sl fs rs ts c k m → Line core code owed own sh lv ty rm s sl fs rs ts (with_line c ln) k m
-  line_line s sl fs rs ts c k m ln told closes l = record {
-    kind = l.kind;
-    matches = Matches-line ln told closes l.matches;
-    stack = l.stack;
-    under = l.under;
-    given = given_keeps c (with_line c ln) 0 (given_of k) (keeps_line c ln) (λ y. goes-refl (c.scope y)) l.given;
-    calm = l.calm;
-    places = Apart-less l.places (λ q. let h = covers_head code.laid c (with_line c ln) c.dest q refl in omega arith);
-    rooms = l.rooms;
-    tail_rooms = l.tail_rooms;
-    small = l.small;
-    result = l.result;
-    type = l.type;
-    pars = l.pars;
-    side = l.side;
-    free = l.free;
-  }
+-- what is told, and which ends are to be told
+line_line : {core : CoreTree} {code : CodeTree} {s : Store} {sl : Slots} {fs : List Frame} {rs : List OpenRegion} {c : Ctx} {k : Kont} {m : ℕ → Bool} (ln : FitsLine) → ((q : ℕ) → ln.told q ≡ true → IsTold sl c.scope q) → AllClose code.laid s c ln.overs → OnLine core code s sl fs rs c k m → OnLine core code s sl fs rs (with_line c ln) k m
+line_line {c = c} {k = k} ln told closes l = record {
+  kind = l.kind;
+  matches = Matches-line ln told closes l.matches;
+  stack = l.stack;
+  under = l.under;
+  given = given_keeps c (with_line c ln) 0 (given_of k) (keeps_line c ln) (λ y. goes-refl (c.scope y)) l.given;
+  calm = l.calm;
+}
 
-module _ (core : CoreTree) (code : CodeTree) (ok : AreBodies core code) (owed : Owed) (own : Owned) (sh : Share) (lv : Levels) (ty : Ty) (rm : ℕ) where
+module _ (core : CoreTree) (code : CodeTree) (owed : Owed) (own : Owned) (sh : Share) (s : Store) (m : State) (c : Ctx) (k : Kont) (cs : ℕ → Bool) where
   -- a leaf tells where it ends
-  run_leaf : (s : Store) (F : Slots) (fs : List Frame) (n : ℕ) (rs : List OpenRegion) (tls : List ℕ) (u : Term) (c fc : Ctx) (k : Kont) (cs : ℕ → Bool) (x t size many l m : ℕ) (must lf : Bool) → LeafAt code must x size many l m → tree_type (c.scope x) ≡ Some t → slot F x + size < 2 ^ 64
-      → (many ≡ 0 → Dec code.laid s (slot F x) t (value_in c.env x) (slot F x + size)) → 0 < size → (lf ≡ true → (must ≡ true) × (many ≡ 0)) → Line core code owed own sh lv ty rm s F fs rs tls c k cs
-      → ((F' : Slots) → Line core code owed own sh lv ty rm s F' fs rs tls c k cs → (lf ≡ true → 0 < end_at F' x) → AtTerm core code owed own sh s (at_rest lv ty rm m F' fs n rs tls) u fc k) → Safe core code owed own sh s (at_rest lv ty rm l F fs n rs tls)
-  run_leaf s F fs n rs tls u c fc k cs x t size many l _ must lf (no_leaf never) sort small dec p g ln go = rests (at_term (go F ln (λ h. absurd (never (g h).0 (g h).1))))
-  run_leaf s F fs n rs tls u c fc k cs x t size many l _ must lf (leaf mst h e) sort small dec p g ln go =
+  run_leaf : (F : Slots) (x t size many l z : ℕ) (must lf : Bool) → LeafAt code must x size many l z → tree_type (c.scope x) ≡ Some t → slot F x + size < 2 ^ 64
+      → (many ≡ 0 → Dec code.laid s (slot F x) t (value_in c.env x) (slot F x + size)) → 0 < size → (lf ≡ true → (must ≡ true) × (many ≡ 0)) → OnLine core code s F m.frames m.regions c k cs
+      → ((F' : Slots) → OnLine core code s F' m.frames m.regions c k cs → (lf ≡ true → 0 < end_at F' x) → Safe core code owed own sh s (at_rest m z F')) → Safe core code owed own sh s (at_rest m l F)
+  run_leaf F x t size many l _ must lf (no_leaf never) sort small dec p g ln go = go F ln (λ h. absurd (never (g h).0 (g h).1))
+  run_leaf F x t size many l _ must lf (leaf mst h e) sort small dec p g ln go =
       let z = (slot F x + size) % 2 ^ 64 in
       let q : (slot F x + size) % 2 ^ 64 ≡ slot F x + size = omega (arith, small) in
       let st = tree_settled (c.scope x) t sort in
       let lt : x < length F.ends = let w = ln.matches.vars.wide x (settled_slot (c.scope x) st) in let ev = ln.matches.vars.even in omega (arith, w, ev) in
       let tl : Tells code.laid s (c.scope x) (slot F x) (value_in c.env x) z = λ u2 so r. subst (λ (y : ℕ). Dec code.laid s (slot F x) y (value_in c.env x) z) (same_Some _ _ (sym sort ∙ so)) (subst (λ (y : ℕ). Dec code.laid s (slot F x) t (value_in c.env x) y) (sym q) (dec h)) in
-      silently core code owed own sh lv ty rm {m = at_rest lv ty rm l F fs n rs tls} refl e refl
-      (rests (at_term (go (told F x z) (record {
-        kind = ln.kind;
-        matches = Matches-moved (moved_told code.laid s F c x z lt (told_known code.laid s (c.scope x) (c.scope x) (slot F x) (end_at F x) z (value_in c.env x) (value_in c.env x) (c.pl x) (goes-refl (c.scope x)) (λ r. refl) tl)) ln.matches;
-        stack = Stack-moved core code s k F (told F x z) fs c.front rs (all_moved_told code.laid s F c.scope c.env k x z lt (settled_not_held (c.scope x) st) tl ln.under) ln.stack;
-        under = ln.under;
-        given = ln.given;
-        calm = ln.calm;
-        places = ln.places;
-        rooms = ln.rooms;
-        tail_rooms = ln.tail_rooms;
-        small = ln.small;
-        result = ln.result;
-        type = ln.type;
-        pars = ln.pars;
-        side = ln.side;
-        free = ln.free;
-      }) (λ r. told_now F x z lt (omega (arith, p, q))))))
+      silently {m = at_rest m l F} refl e refl
+      (go (told F x z) (line_moved (moved_told code.laid s F c x z lt (told_known code.laid s (c.scope x) (c.scope x) (slot F x) (end_at F x) z (value_in c.env x) (value_in c.env x) (c.pl x) (goes-refl (c.scope x)) (λ r. refl) tl))
+      (all_moved_told code.laid s F c.scope c.env k x z lt (settled_not_held (c.scope x) st) tl ln.under) ln) (λ r. told_now F x z lt (omega (arith, p, q))))
 
-  case_of : (s : Store) (ip until : ℕ) (sl : Slots) (fs : List Frame) (n : ℕ) (rs : List OpenRegion) (tls : List ℕ) (x : Variable) (bs : Branches) (arms : List Arm) (c : Ctx) (k : Kont) (stored : List StoredField) → Agrees stored c.scope
-      → IsAt code ip (i.Switch x.0 arms) → LowArms core code c.line.within stored x.0 (ip + 1) arms bs (end_of c.line.overs k) until
-      → AtTerm core code owed own sh s (at_rest lv ty rm ip sl fs n rs tls) (CaseTerm (atom.Variable x) bs) c k → Moves core code owed own sh s (at_rest lv ty rm ip sl fs n rs tls)
-  case_of s ip until sl fs n rs tls x bs arms c k stored ag e low at =
-      let lk = looks core code owed own sh s (at_rest lv ty rm ip sl fs n rs tls) x.0 arms (slot sl x.0) t stands.end (value_in c.env x.0) (let lt = at.matches.vars.wide x.0 (tree_slot (c.scope x.0) t sort) in let ev = at.matches.vars.even in omega (arith, lt, ev)) (ap arms_of e) stands.dec (record { at_head = at_head }) in
-      get_one core code owed own sh (step_is core code owed own sh lv ty rm (at_rest lv ty rm ip sl fs n rs tls) (i.Switch x.0 arms) refl e) lk.known lk.goes
+module _ (core : CoreTree) (code : CodeTree) (ok : AreBodies core code) (owed : Owed) (own : Owned) (sh : Share) where
+  case_of : {s : Store} {m : State} {c : Ctx} {k : Kont} (until : ℕ) (x : Variable) (bs : Branches) (arms : List Arm) (stored : List StoredField) → Agrees stored c.scope
+      → IsAt code m.ip (i.Switch x.0 arms) → LowArms core code c.line.within stored x.0 (m.ip + 1) arms bs (end_of c.line.overs k) until
+      → AtTerm core code owed own sh s m (CaseTerm (atom.Variable x) bs) c k → Moves core code owed own sh s m
+  case_of {s} {m} {c} {k} until x bs arms stored ag e low at =
+      let lk = looks core code owed own sh s m x.0 arms (slot m.words x.0) t stands.end (value_in c.env x.0) (let lt = at.line.matches.vars.wide x.0 (tree_slot (c.scope x.0) t sort) in let ev = at.line.matches.vars.even in omega (arith, lt, ev)) (ap arms_of e) stands.dec (record { at_head = at_head }) in
+      get_one core code owed own sh (step_is code m (i.Switch x.0 arms) at.ready e) lk.known lk.goes
     where
       t : ℕ
       t = at.fits.0
@@ -237,32 +215,39 @@ module _ (core : CoreTree) (code : CodeTree) (ok : AreBodies core code) (owed : 
       fits : BranchesFit core (needs_of k) bs x.0 (put c.scope x.0 (AtHead at.fits.0)) c.dest c.line
       fits = subst (λ (q : ℕ). BranchesFit core (needs_of k) bs q (put c.scope q (AtHead at.fits.0)) c.dest c.line) same_x at.fits.3
 
-      stands : StandsAt code.laid s at.fits.0 (slot sl x.0) (value_in c.env x.0)
-      stands = tree_of code.laid s sl c x.0 at.fits.0 at.matches.vars sort
+      stands : StandsAt code.laid s at.fits.0 (slot m.words x.0) (value_in c.env x.0)
+      stands = tree_of code.laid s m.words c x.0 at.fits.0 at.line.matches.vars sort
 
-      head_of : (u : ℕ) → c.scope x.0 ≡ AtHead u → IsAtHead code.laid s u (slot sl x.0) (c.hd x.0) (value_in c.env x.0)
-      head_of u h = subst (λ (so : Sort). Has code.laid s c so (slot sl x.0) (value_in c.env x.0) (c.pl x.0) (c.hd x.0)) h (at.matches.vars.has x.0)
+      head_of : (u : ℕ) → c.scope x.0 ≡ AtHead u → IsAtHead code.laid s u (slot m.words x.0) (c.hd x.0) (value_in c.env x.0)
+      head_of u h = subst (λ (so : Sort). Has code.laid s c so (slot m.words x.0) (value_in c.env x.0) (c.pl x.0) (c.hd x.0)) h (at.line.matches.vars.has x.0)
 
-      at_head : (es : List ℕ) (a kk z : ℕ) (vs : Data) (places : List ℕ) → Walked code.laid s at.fits.0 (slot sl x.0) a (value_in c.env x.0) sl.ends es x.0 → value_in c.env x.0 ≡ con kk vs → kk < 254 → con_at code.laid.table at.fits.0 kk ≡ Some kk → Holds s a (head_bytes code.laid kk places vs)
-          → Decs code.laid s (a + head_size code.laid kk) (fields_at code.laid.table kk) vs places z → ((tag : ℕ) → s (slot sl x.0) ≡ byte tag → tag < 254 → a ≡ slot sl x.0)
-          → Safe core code owed own sh s (at_rest lv ty rm (label_of arms kk) (record { vars = slice_set sl.vars x.0 a; ends = es }) fs n rs tls)
+      at_head : (es : List ℕ) (a kk z : ℕ) (vs : Data) (places : List ℕ) → Walked code.laid s at.fits.0 (slot m.words x.0) a (value_in c.env x.0) m.words.ends es x.0 → value_in c.env x.0 ≡ con kk vs → kk < 254 → con_at code.laid.table at.fits.0 kk ≡ Some kk → Holds s a (head_bytes code.laid kk places vs)
+          → Decs code.laid s (a + head_size code.laid kk) (fields_at code.laid.table kk) vs places z → ((tag : ℕ) → s (slot m.words x.0) ≡ byte tag → tag < 254 → a ≡ slot m.words x.0)
+          → Safe core code owed own sh s (at_rest m (label_of arms kk) (record { vars = slice_set m.words.vars x.0 a; ends = es }))
       at_head es a kk z vs places wk ev sm kc hb ds start =
-          subst (λ (q : List ℕ). Safe core code owed own sh s (at_rest lv ty rm (label_of arms kk) (record { vars = slice_set sl.vars x.0 a; ends = q }) fs n rs tls)) (sym wk.told) (
+          subst (λ (q : List ℕ). Safe core code owed own sh s (at_rest m (label_of arms kk) (record { vars = slice_set m.words.vars x.0 a; ends = q }))) (sym wk.told) (
           let here : StandsAt code.laid s t a (value_in c.env x.0) = subst (λ (v : Datum). StandsAt code.laid s t a v) (sym ev) (record { end = z; dec = d.head sm kc hb ds }) in
-          let same_slot : (u : ℕ) → c.scope x.0 ≡ AtHead u → a ≡ slot sl x.0 = λ u h. let hx = head_of u h in start hx.tag (subst (λ (q : ℕ). s q ≡ byte hx.tag) (sym hx.same) hx.known) hx.is_head in
+          let same_slot : (u : ℕ) → c.scope x.0 ≡ AtHead u → a ≡ slot m.words x.0 = λ u h. let hx = head_of u h in start hx.tag (subst (λ (q : ℕ). s q ≡ byte hx.tag) (sym hx.same) hx.known) hx.is_head in
           let stays : StaysHead c x.0 (AtHead t) a = record { there = refl; slot = tree_slot (c.scope x.0) t sort; same = λ o h. (ap AtHead (sym (same_Some _ _ (sym (ap tree_type h) ∙ sort))), same_slot o h ∙ (head_of o h).same) } in
           let c1 = with_sort c x.0 (AtHead t) a in
-          let sl1 = set_both sl x.0 a wk.last in
-          let l1 = line_sort core code owed own sh lv ty rm s sl fs rs tls c k (cased whole) x.0 a wk.last (AtHead t) a (line_of core code owed own sh lv ty rm s ip sl fs n rs tls whole c k at) stays (tree_not_held (c.scope x.0) t sort)
-          (record { same = refl; tag = kk; known = Holds-first hb; is_head = sm; stands = here }) (wk.keeps (c.pl x.0) (tree_end code.laid s (c.scope x.0) t (slot sl x.0) (end_at sl x.0) (value_in c.env x.0) (c.pl x.0) sort (at.matches.vars.ends x.0))) refl (λ g p. wk.stays p) (goes_head (c.scope x.0) t sort)
-          (λ o un ca. record {
+          let sl1 = set_both m.words x.0 a wk.last in
+          let l1 : Line core code own s sl1 m.frames m.regions m.tails c1 k (cased whole) = line_sort x.0 a wk.last (AtHead t) a (record { on = at.line; memory = at.memory }) (record {
+            stays = stays;
+            unheld = tree_not_held (c.scope x.0) t sort;
+            has = record { same = refl; tag = kk; known = Holds-first hb; is_head = sm; stands = here };
+            ends = wk.keeps (c.pl x.0) (tree_end code.laid s (c.scope x.0) t (slot m.words x.0) (end_at m.words x.0) (value_in c.env x.0) (c.pl x.0) sort (at.line.matches.vars.ends x.0));
+            settled = refl;
             kept = λ g p. wk.stays p;
-            end_of = moved_end code.laid s (o.scope x.0) (c.scope x.0) t (slot sl x.0) a (end_at sl x.0) wk.last (value_in c.env x.0) (value_in o.env x.0) (o.pl x.0) (un.sorts x.0) sort (λ h. sym (un.same x.0 h)) (wk.keeps (o.pl x.0));
-            one = moved_tree code.laid s (o.scope x.0) (c.scope x.0) t (slot sl x.0) a (value_in o.env x.0) (un.sorts x.0) sort (λ u h. ca.calm x.0 u (or_left (eqb x.0 x.0) (branches_cased bs x.0) (eq-eqb x.0 x.0 refl)) h) same_slot
-                (λ h. subst (λ (v : Datum). StandsAt code.laid s t a v) (un.same x.0 h) here);
+            goes = goes_head (c.scope x.0) t sort;
+            follow = λ o un ca. record {
+              kept = λ g p. wk.stays p;
+              end_of = moved_end code.laid s (o.scope x.0) (c.scope x.0) t (slot m.words x.0) a (end_at m.words x.0) wk.last (value_in c.env x.0) (value_in o.env x.0) (o.pl x.0) (un.sorts x.0) sort (λ h. sym (un.same x.0 h)) (wk.keeps (o.pl x.0));
+              one = moved_tree code.laid s (o.scope x.0) (c.scope x.0) t (slot m.words x.0) a (value_in o.env x.0) (un.sorts x.0) sort (λ u h. ca.calm x.0 u (or_left (eqb x.0 x.0) (branches_cased bs x.0) (eq-eqb x.0 x.0 refl)) h) same_slot
+                  (λ h. subst (λ (v : Datum). StandsAt code.laid s t a v) (un.same x.0 h) here);
+            };
           }) in
           let kc' : con_at core.table t kk ≡ Some kk = subst (λ (q : LaidOut). con_at q.table t kk ≡ Some kk) ok.laid kc in
-          let found = find core code c.line.within (needs_of k) c.line stored x.0 (end_of c.line.overs k) c1.scope c.dest n lv.level vs c.env (cased whole) (branches_nest bs) kk (ip + 1) until bs arms low fits (at.fits.2 kk kc') (λ y h. or_right (is_of (atom.Variable x) y) (branches_cased bs y) h) (omega arith) in
+          let found = find core code c.line.within (needs_of k) c.line stored x.0 (end_of c.line.overs k) c1.scope c.dest m.depth m.level vs c.env (cased whole) (branches_nest bs) kk (m.ip + 1) until bs arms low fits (at.fits.2 kk kc') (λ y h. or_right (is_of (atom.Variable x) y) (branches_cased bs y) h) (omega arith) in
           let ts = fields_at code.laid.table kk in
           let ys = found.variables in
           let nw : AreNew c1.scope ts ys = subst (λ (q : LaidOut). AreNew c1.scope (fields_at q.table kk) ys) (sym ok.laid) found.new in
@@ -272,33 +257,17 @@ module _ (core : CoreTree) (code : CodeTree) (ok : AreBodies core code) (owed : 
           let slS = scalar_slots ts ys vs sl1 in
           let F = first_slots w ts ys slS in
           let not_x : c1.scope x.0 ≡ Absent → ⊥ = λ h. there_bound (c1.scope x.0) (ap is_there (put-same c.scope x.0 (AtHead t))) h in
-          let at_x : slot sl1 x.0 ≡ a = set-same sl x.0 a (at.matches.vars.wide x.0 (tree_slot (c.scope x.0) t sort)) in
+          let at_x : slot sl1 x.0 ≡ a = set-same m.words x.0 a (at.line.matches.vars.wide x.0 (tree_slot (c.scope x.0) t sort)) in
           let only : OnlyNew sl1 F c1.scope = record {
             same = λ q h. first_kept c1.scope w ts ys slS q nw h ∙ scalar_kept c1.scope ts ys vs sl1 q nw h;
             long = first_long w ts ys slS ∙ scalar_long ts ys vs sl1;
             ends = λ q h. first_ends c1.scope w ts ys slS q nw h ∙ scalar_ends c1.scope ts ys vs sl1 q nw h;
             same_ends = first_even w ts ys slS ∙ scalar_even ts ys vs sl1;
           } in
-          let l2 : Line core code owed own sh lv ty rm s F fs rs tls c1 k (cased whole) = record {
-            kind = l1.kind;
-            matches = Matches-moved (moved_new code.laid s sl1 F c1 only) l1.matches;
-            stack = Stack-moved core code s k sl1 F fs c1.front rs (all_moved_new code.laid s sl1 F c1.scope c1.env k only l1.under) l1.stack;
-            under = l1.under;
-            given = l1.given;
-            calm = l1.calm;
-            places = l1.places;
-            rooms = l1.rooms;
-            tail_rooms = l1.tail_rooms;
-            small = l1.small;
-            result = l1.result;
-            type = l1.type;
-            pars = l1.pars;
-            side = l1.side;
-            free = l1.free;
-          } in
-          let wide : (q : ℕ) → c1.scope q ≡ Absent → q < length sl1.vars = λ q h. l1.matches.vars.wide q (ap has_slot h) in
+          let l2 : Line core code own s F m.frames m.regions m.tails c1 k (cased whole) = record { on = line_moved (moved_new code.laid s sl1 F c1 only) (all_moved_new code.laid s sl1 F c1.scope c1.env k only l1.on.under) l1.on; memory = l1.memory } in
+          let wide : (q : ℕ) → c1.scope q ≡ Absent → q < length sl1.vars = λ q h. l1.on.matches.vars.wide q (ap has_slot h) in
           let behind_tag : Holds s (a + 1) (offset_bytes (is_among code.laid.with_offsets kk) places ++ scalars vs) = Holds-rest hb in
-          let al = extend core code owed own sh lv ty rm s F fs rs tls k (cased whole) x.0 kk t w ts ys vs places w z 1 None c1 c1.scope nw (λ q h. h) ds (slots_fit c1.scope w ts ys vs sl1 nw wide l1.matches.vars.even) refl
+          let al = extend core code own s F m.frames m.regions m.tails k (cased whole) x.0 kk t w ts ys vs places w z 1 None c1 c1.scope nw (λ q h. h) ds (slots_fit c1.scope w ts ys vs sl1 nw wide l1.on.matches.vars.even) refl
           (λ h. subst (λ (q : ℕ). Holds s (q + 1) (offset_bytes true places)) (sym (put-same c.hd x.0 a)) (subst (λ (b : Bool). Holds s (a + 1) (offset_bytes b places)) h (Holds-front (a + 1) (offset_bytes (is_among code.laid.with_offsets kk) places) (scalars vs) behind_tag)))
           (put-same c.scope x.0 (AtHead t)) l2 in
           let final_scope : al.ctx.scope ≡ arm_scope x.0 kk 1 None (fields_at core.table kk) ys c1.scope = al.scope ∙ ap (λ (q : LaidOut). arm_scope x.0 kk 1 None (fields_at q.table kk) ys c1.scope) ok.laid in
@@ -317,39 +286,47 @@ module _ (core : CoreTree) (code : CodeTree) (ok : AreBodies core code) (owed : 
           closes_over code.laid s al.ctx x.0 c.line.overs (last_packed None (fields_at core.table kk) ys) (is_over c.line.within core cid ys found.term)
           (λ y e. let b : BeforeIs code.laid s al.ctx z w (Some y.0) = subst (λ (o : Option Variable). BeforeIs code.laid s al.ctx z w (number_of_var o)) e (subst (λ (q : LaidOut). BeforeIs code.laid s al.ctx z w (number_of_var (last_packed None (fields_at q.table kk) ys))) ok.laid al.last) in
           record { tx = t; head = al.head; there = b.0; ty = b.1.0; end = z; tree = whole_tree; field = b.1.1 })
-          (subst (λ (l : FitsLine). AllClose code.laid s al.ctx l.overs) al.ends al.line.matches.vars.closes) in
-          let owes : resume core n k (means core n found.term al.ctx.env) ≡ owed.all =
-          ap (λ (q : Environment). resume core n k (means core n found.term q)) al.values
-          ∙ ap (resume core n k) (sym found.meaning)
-          ∙ ap (λ (q : Datum). resume core n k (mean_branches core.table (core_calls core n) bs q c.env)) (sym ev) ∙ at.owes in
-          let counted : Counted rs (left_costs core n lv.level (Plain found.term) al.ctx.env k) sh =
-          subst (λ (q : Environment). Counted rs (plus (costs core n lv.level found.term q) (later_costs core n lv.level k (means core n found.term q))) sh) (sym al.values)
-          (subst (λ (q : Cost). Counted rs (plus q (later_costs core n lv.level k (means core n found.term (bind found.variables (list_of vs) c.env)))) sh) found.cost
-          (subst (λ (q : Outcome). Counted rs (plus (cost_branches core.table (core_calls core n) (call_costs core n) lv.level bs (con kk vs) c.env) (later_costs core n lv.level k q)) sh) found.meaning
-          (subst (λ (q : Datum). Counted rs (plus (cost_branches core.table (core_calls core n) (call_costs core n) lv.level bs q c.env) (later_costs core n lv.level k (mean_branches core.table (core_calls core n) bs q c.env))) sh) ev at.counted))) in
+          (subst (λ (l : FitsLine). AllClose code.laid s al.ctx l.overs) al.ends al.line.on.matches.vars.closes) in
+          let owes : resume core m.depth k (means core m.depth found.term al.ctx.env) ≡ owed.all =
+          ap (λ (q : Environment). resume core m.depth k (means core m.depth found.term q)) al.values
+          ∙ ap (resume core m.depth k) (sym found.meaning)
+          ∙ ap (λ (q : Datum). resume core m.depth k (mean_branches core.table (core_calls core m.depth) bs q c.env)) (sym ev) ∙ at.owes in
+          let counted : Counted m.regions (left_costs core m.depth m.level (Plain found.term) al.ctx.env k) sh =
+          subst (λ (q : Environment). Counted m.regions (plus (costs core m.depth m.level found.term q) (later_costs core m.depth m.level k (means core m.depth found.term q))) sh) (sym al.values)
+          (subst (λ (q : Cost). Counted m.regions (plus q (later_costs core m.depth m.level k (means core m.depth found.term (bind found.variables (list_of vs) c.env)))) sh) found.cost
+          (subst (λ (q : Outcome). Counted m.regions (plus (cost_branches core.table (core_calls core m.depth) (call_costs core m.depth) m.level bs (con kk vs) c.env) (later_costs core m.depth m.level k q)) sh) found.meaning
+          (subst (λ (q : Datum). Counted m.regions (plus (cost_branches core.table (core_calls core m.depth) (call_costs core m.depth) m.level bs q c.env) (later_costs core m.depth m.level k (mean_branches core.table (core_calls core m.depth) bs q c.env))) sh) ev at.counted))) in
           let x_slot : slot F x.0 ≡ a = first_kept c1.scope w ts ys slS x.0 nw not_x ∙ scalar_kept c1.scope ts ys vs sl1 x.0 nw not_x ∙ at_x in
           let size = head_size code.laid kk in
-          let done : Safe core code owed own sh s (at_rest lv ty rm found.start F fs n rs tls) =
-          run_leaf s F fs n rs tls found.term al.ctx fc k (cased whole) x.0 t size (packed_count ts) found.start found.after c.line.within.ends (c.line.within.ends && is_leaf (last_packed None (fields_at core.table kk) ys))
+          let done : Safe core code owed own sh s (at_rest m found.start F) =
+          run_leaf core code owed own sh s m al.ctx k (cased whole) F x.0 t size (packed_count ts) found.start found.after c.line.within.ends (c.line.within.ends && is_leaf (last_packed None (fields_at core.table kk) ys))
           (subst (λ (q : LaidOut). LeafAt code c.line.within.ends x.0 (head_size q kk) (packed_count (fields_at q.table kk)) found.start found.after) (sym ok.laid) found.leaf)
-          (ap tree_type al.head) (subst (λ (q : ℕ). q + size < 2 ^ 64) (sym x_slot) (let i = known_below at.small (Holds-first hb) in let j = size_small code.laid ok.table kk in omega (arith, i, j)))
+          (ap tree_type al.head) (subst (λ (q : ℕ). q + size < 2 ^ 64) (sym x_slot) (let i = known_below at.memory.small (Holds-first hb) in let j = size_small code.laid ok.table kk in omega (arith, i, j)))
           (λ h. subst (λ (q : ℕ). Dec code.laid s q t (value_in al.ctx.env x.0) (q + size)) (sym x_slot) (subst (λ (q : Datum). Dec code.laid s a t q (a + size)) (sym al.worth) (subst (λ (q : ℕ). Dec code.laid s a t (value_in c.env x.0) q) (no_tree_end h ds) (subst (λ (q : Datum). Dec code.laid s a t q z) (sym ev) (d.head sm kc hb ds)))))
           (size_some code.laid kk)
           (λ h. ((and_parts c.line.within.ends _ h).0, subst (λ (q : LaidOut). packed_count (fields_at q.table kk) ≡ 0) (sym ok.laid) (no_last c1.scope (fields_at core.table kk) ys found.new (and_parts c.line.within.ends _ h).1)))
-          al.line
-          (λ F' l lf. term_at core code owed own sh lv ty rm s found.after F' fs n rs tls found.term fc k (cased whole)
-          (line_line core code owed own sh lv ty rm s F' fs rs tls al.ctx k (cased whole) L
-          (λ q h. told_arm (c.line.told q) (c.line.within.ends && is_leaf (last_packed None (fields_at core.table kk) ys)) F' al.ctx.scope q x.0 (ap is_settled al.head) (λ g. l.matches.vars.told q (subst (λ (m : FitsLine). m.told q ≡ true) (sym al.ends) g)) lf h) closes l)
-          is_code fit found.calm owes at.sides (let h = at.nests in let g = found.nests in omega (arith, h, g)) (let h = at.narrow in let g = found.nests in omega (arith, h, g)) at.all_room counted) in
+          al.line.on
+          (λ F' l lf. rests (at_term {u = Plain found.term} {c = fc} {k = k} record {
+            ready = refl;
+            low = is_code;
+            fits = fit;
+            line = line_less found.calm (line_line L
+                (λ q h. told_arm (c.line.told q) (c.line.within.ends && is_leaf (last_packed None (fields_at core.table kk) ys)) F' al.ctx.scope q x.0 (ap is_settled al.head) (λ g. l.matches.vars.told q (subst (λ (m : FitsLine). m.told q ≡ true) (sym al.ends) g)) lf h) closes l);
+            memory = al.line.memory;
+            ties = at.ties;
+            owes = owes;
+            counted = counted;
+            room = record { free = at.room.free; narrow = let h = at.room.narrow in let g = found.nests in omega (arith, h, g); nests = let h = at.room.nests in let g = found.nests in omega (arith, h, g); all_room = at.room.all_room };
+          })) in
           let split = parts (label_of arms kk) (scalar_reads x.0 p0 ts ys) (first_reach x.0 (head_size code.laid kk) ts ys) found.start op in
           let q0 : a + 1 + length (offset_bytes (is_among code.laid.with_offsets kk) places) ≡ a + p0 = let g = offsets-length {laid = code.laid} {s = s} kk ds in omega (arith, g) in
           let sbytes : Holds s (a + p0) (scalars vs) = subst (λ (q : ℕ). Holds s q (scalars vs)) q0 (Holds-behind (a + 1) (offset_bytes (is_among code.laid.with_offsets kk) places) (scalars vs) behind_tag) in
-          run_scalars core code owed own sh lv ty rm s fs n rs tls c1.scope x.0 a ts ys vs places w z p0 (label_of arms kk) split.middle sl1 nw not_x ds sbytes at_x split.left
-          (run_first core code owed own sh lv ty rm s fs n rs tls x.0 a (head_size code.laid kk) ts ys split.middle found.start slS (let i = known_below at.small (Holds-first hb) in let j = size_small code.laid ok.table kk in omega (arith, i, j)) (scalar_kept c1.scope ts ys vs sl1 x.0 nw not_x ∙ at_x) split.right done))
+          run_scalars core code owed own sh s m x.0 a split.middle c1.scope ts ys vs places w z p0 (label_of arms kk) sl1 nw not_x ds sbytes at_x split.left
+          (run_first core code owed own sh s m x.0 a found.start (head_size code.laid kk) ts ys split.middle slS (let i = known_below at.memory.small (Holds-first hb) in let j = size_small code.laid ok.table kk in omega (arith, i, j)) (scalar_kept c1.scope ts ys vs sl1 x.0 nw not_x ∙ at_x) split.right done))
 
-  pub does_case : (s : Store) (ip until : ℕ) (sl : Slots) (fs : List Frame) (n : ℕ) (rs : List OpenRegion) (tls : List ℕ) (x : Atom) (bs : Branches) (arms : List Arm) (c : Ctx) (k : Kont) (stored : List StoredField) → Agrees stored c.scope
-      → IsAt code ip (i.Switch (slot_of x) arms) → LowArms core code c.line.within stored (slot_of x) (ip + 1) arms bs (end_of c.line.overs k) until
-      → AtTerm core code owed own sh s (at_rest lv ty rm ip sl fs n rs tls) (CaseTerm x bs) c k → Moves core code owed own sh s (at_rest lv ty rm ip sl fs n rs tls)
-  does_case s ip until sl fs n rs tls x bs arms c k stored ag e low at =
-      subst (λ (y : Atom). IsAt code ip (i.Switch (slot_of y) arms) → LowArms core code c.line.within stored (slot_of y) (ip + 1) arms bs (end_of c.line.overs k) until → AtTerm core code owed own sh s (at_rest lv ty rm ip sl fs n rs tls) (CaseTerm y bs) c k → Moves core code owed own sh s (at_rest lv ty rm ip sl fs n rs tls))
-      (sym at.fits.1.atom) (case_of s ip until sl fs n rs tls at.fits.1.variable bs arms c k stored ag) e low at
+  pub does_case : {s : Store} {m : State} {c : Ctx} {k : Kont} (until : ℕ) (x : Atom) (bs : Branches) (arms : List Arm) (stored : List StoredField) → Agrees stored c.scope
+      → IsAt code m.ip (i.Switch (slot_of x) arms) → LowArms core code c.line.within stored (slot_of x) (m.ip + 1) arms bs (end_of c.line.overs k) until
+      → AtTerm core code owed own sh s m (CaseTerm x bs) c k → Moves core code owed own sh s m
+  does_case {s} {m} {c} {k} until x bs arms stored ag e low at =
+      subst (λ (y : Atom). IsAt code m.ip (i.Switch (slot_of y) arms) → LowArms core code c.line.within stored (slot_of y) (m.ip + 1) arms bs (end_of c.line.overs k) until → AtTerm core code owed own sh s m (CaseTerm y bs) c k → Moves core code owed own sh s m)
+      (sym at.fits.1.atom) (case_of until at.fits.1.variable bs arms stored ag) e low at

@@ -19,7 +19,7 @@ use Rattle.gib_core.specs.declared.atom.Ended.{Ended}
 use Rattle.gib_core.specs.Ending.{Within, ended, has_ended, call_ends}
 use Rattle.gib_core.specs.Low.{Over}
 use Rattle.gib_core.specs.Fits.{put, Fits, Needs, Dest, Line, AtomFits, AtomsFit, call_tells, side_tells, Sort, Outside, Absent, Scalar, Held, Placed, Loose, AtHead, Field, Scope, has_slot, is_settled, is_there, tree_type}
-use Rattle.gib_machine.specs.Machine.{Slots, slot, end_at, told, tell}
+use Rattle.gib_machine.specs.State.{Slots, slot, end_at, told, tell}
 use Rattle.gib_weave.specs.EndWords.{both, HasEnd, EndWord, IsTold}
 use Rattle.gib_weave.specs.Environment.{Ctx, Has, HasAll, IsScalar, Closes, AllClose, Given, AreGiven, Gave}
 use Rattle.gib_weave.specs.Continuing.{Kont, KEnd, KSide, KLast, KHere, KRegion, KScalar, KCall, KCallScalar, Goes, AllUnder}

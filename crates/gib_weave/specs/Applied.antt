@@ -5,7 +5,8 @@ use Rattle.std.specs.BTreeSet.{BTreeSet, contains}
 use Rattle.gib_mem.specs.Memory.{Memory}
 use Rattle.gib_code.specs.Instruction.{Instruction}
 use Rattle.gib_code.specs.Program.{CodeTree, Runs}
-use Rattle.gib_machine.specs.Machine.{Waiting, Ask, Silent, Get, Put, Draw, AtFork, AtJoin, Ended, left_starts, right_of, widest}
+use Rattle.gib_machine.specs.State.{Ask, Silent, Get, Put, Draw, AtFork, AtJoin, Ended, widest}
+use Rattle.gib_machine.specs.Sides.{Waiting, left_starts, right_of}
 use Rattle.gib_machine.specs.Starting.{waiting_of}
 use Rattle.gib_machine.specs.Stepping.{Can}
 use Rattle.gib_machine.specs.Frames.{FitsFrame}

@@ -2,7 +2,7 @@
 use Rattle.std.specs.Prelude.{◌≡◌, ◌≤◌, ◌<◌, ◌+◌, ℕ, suc, List, ◌∷◌, length}
 use Rattle.gib_mem.specs.Memory.{Store, byte}
 use Rattle.gib_code.specs.Program.{CodeTree}
-use Rattle.gib_machine.specs.Machine.{Ask, Silent, Get, Put, Draw, AtFork, AtJoin, Ended}
+use Rattle.gib_machine.specs.State.{Ask, Silent, Get, Put, Draw, AtFork, AtJoin, Ended}
 use Rattle.gib_weave.specs.Weave.{Weave, Event, Step, Fork, Steal, Take, Finish, Join, Next, asks}
 
 -- A byte stands at the address.

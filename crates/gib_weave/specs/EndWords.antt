@@ -6,7 +6,7 @@ use Rattle.gib_mem.specs.Memory.{Store}
 use Rattle.gib_packed.specs.Decoding.{Dec}
 use Rattle.gib_packed.specs.Reaching.{Turns}
 use Rattle.gib_core.specs.Fits.{Absent, AtHead, Field, Held, Loose, Outside, Placed, Scalar, Scope, Sort, is_settled}
-use Rattle.gib_machine.specs.Machine.{Slots, slot, end_at}
+use Rattle.gib_machine.specs.State.{Slots, slot, end_at}
 
 -- A slot with its end.
 pub record WithEnd : Type 0 where

@@ -14,7 +14,7 @@ use Rattle.gib_packed.specs.Decoding.{Dec}
 use Rattle.gib_packed.specs.Reaching.{Turns}
 use Rattle.gib_core.specs.Fits.{Absent, AtHead, Dest, Empty, Field, Held, Loose, Nowhere, Open, Outside, Placed, Scalar, Scope, Sort, Line, has_slot, is_there, tree_type, packed_due}
 use Rattle.gib_core.specs.Low.{Over}
-use Rattle.gib_machine.specs.Machine.{Slots, slot, end_at}
+use Rattle.gib_machine.specs.State.{Slots, slot, end_at}
 use Rattle.gib_weave.specs.EndWords.{HasEnd, IsTold}
 
 -- Where a line of a frame stands: what is known of its variables, their values, the places that they were bound to, the

@@ -4,30 +4,33 @@ use Rattle.gib_types.specs.Layout.{LaidOut, head_size}
 use Rattle.gib_mem.specs.Memory.{Store, absent, fresh, byte, set_cell}
 use Rattle.gib_region.specs.Region.{rest}
 use Rattle.gib_core.specs.Fits.{Dest, Empty, Nowhere, Open}
-use Rattle.gib_machine.specs.Machine.{Open as OpenRegion, State, times}
-use Rattle.gib_weave.specs.Environment.{Ctx}
+use Rattle.gib_machine.specs.State.{Open as OpenRegion, times}
 use Rattle.gib_weave.specs.Continuing.{KCall, KCallScalar, KEnd, KHere, KLast, KRegion, KScalar, KSide, Kont, Last, Leave, Meet, Part, Plain, Rest, nest, side_nest}
 
 -- 1 where q is one of the n addresses from a on.
 abbrev pub within : ℕ → ℕ → ℕ → ℕ
 within a n q = if nat_le a q then (if nat_lt q (a + n) then 1 else 0) else 0
 
--- An open head.
-abbrev pub head_covers : LaidOut → Ctx → Dest → ℕ → ℕ
-head_covers laid c (Nowhere ty) q = 0
-head_covers laid c (Empty t) q = 0
-head_covers laid c (Open t h k xs dues) q = within c.head (head_size laid k) q
+-- Besides n others: an open head at h.
+abbrev pub with_head : LaidOut → (h : ℕ) → Dest → (n q : ℕ) → ℕ
+with_head laid h (Nowhere ty) n q = n
+with_head laid h (Empty t) n q = n
+with_head laid h (Open t x k xs dues) n q = n + within h (head_size laid k) q
 
 -- The open heads of the lines that wait.
 abbrev pub kont_covers : LaidOut → Kont → ℕ → ℕ
 kont_covers laid (KEnd ty) q = 0
 kont_covers laid (KSide y ty) q = 0
 kont_covers laid (KLast l y s) q = 0
-kont_covers laid (KHere l x s u c k) q = head_covers laid c c.dest q + kont_covers laid k q
-kont_covers laid (KRegion l x s u c k) q = head_covers laid c c.dest q + kont_covers laid k q
-kont_covers laid (KScalar l x ty u c k) q = head_covers laid c c.dest q + kont_covers laid k q
+kont_covers laid (KHere l x s u c k) q = with_head laid c.head c.dest (kont_covers laid k q) q
+kont_covers laid (KRegion l x s u c k) q = with_head laid c.head c.dest (kont_covers laid k q) q
+kont_covers laid (KScalar l x ty u c k) q = with_head laid c.head c.dest (kont_covers laid k q) q
 kont_covers laid (KCall gs c k) q = kont_covers laid k q
-kont_covers laid (KCallScalar x ty gs u c k) q = head_covers laid c c.dest q + kont_covers laid k q
+kont_covers laid (KCallScalar x ty gs u c k) q = with_head laid c.head c.dest (kont_covers laid k q) q
+
+-- All open heads: those, and one of the running term.
+abbrev pub heads : LaidOut → (h : ℕ) → Dest → Kont → ℕ → ℕ
+heads laid h d k q = with_head laid h d (kont_covers laid k q) q
 
 -- The rests of their chunks behind the cursors.
 abbrev pub rest_covers : List OpenRegion → ℕ → ℕ
@@ -38,10 +41,6 @@ rest_covers (r ∷ rs) q = within r.cur (rest r.cur) q + rest_covers rs q
 abbrev pub tail_covers : List ℕ → ℕ → ℕ
 tail_covers [] q = 0
 tail_covers (t ∷ ts) q = within t (rest t) q + tail_covers ts q
-
--- How many of the places are round an address.
-abbrev pub covers : LaidOut → Ctx → Kont → State → ℕ → ℕ
-covers laid c k m q = head_covers laid c c.dest q + (kont_covers laid k q + (rest_covers m.regions q + tail_covers m.tails q))
 
 -- Behind each cursor there is room for a redirect.
 abbrev pub HaveRoom : List OpenRegion → Type 0

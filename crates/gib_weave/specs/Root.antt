@@ -12,7 +12,7 @@ use Rattle.gib_mem.specs.Memory.{Memory, absent, after_puts, after_draw}
 use Rattle.gib_region.specs.Region.{Draws}
 use Rattle.gib_core.specs.Tree.{CoreTree}
 use Rattle.gib_code.specs.Program.{CodeTree}
-use Rattle.gib_machine.specs.Machine.{State, Ask, Silent, Get, Put, Draw, AtFork, AtJoin, Ended}
+use Rattle.gib_machine.specs.State.{State, Ask, Silent, Get, Put, Draw, AtFork, AtJoin, Ended}
 use Rattle.gib_weave.specs.Owing.{Owed}
 use Rattle.gib_weave.specs.Paying.{Share, Spends}
 use Rattle.gib_weave.specs.Places.{Owned, with_chunk}

@@ -1,11 +1,11 @@
 -- A task that keeps what it owes.
-use Rattle.std.specs.Prelude.{◌≡◌, ℕ, suc, ◌<◌, ◌≤◌, true, List, [], ◌∷◌, length, slice_get, FitsSigned}
+use Rattle.std.specs.Prelude.{◌≡◌, ℕ, suc, ◌+◌, ◌<◌, ◌≤◌, Bool, true, Option, List, [], ◌∷◌, length, slice_get, FitsSigned}
 use Rattle.std.specs.Int.{w64}
 use Rattle.gib_types.specs.declared.table.Ty.{Ty}
 use Rattle.gib_types.specs.declared.table.Ty.TheVariants.{Whole, Truth, Tree}
 use Rattle.gib_types.specs.Layout.{LaidOut}
 use Rattle.gib_types.specs.Tree.{Datum, whole, truth}
-use Rattle.gib_syntax.specs.Meaning.{Outcome, Gives, Stops, Deep, Trap, Reason as Why}
+use Rattle.gib_syntax.specs.Meaning.{Environment, Outcome, Gives, Stops, Deep, Trap, Reason as Why}
 use Rattle.gib_mem.specs.Memory.{Store, absent, open_chunk, Grows, Reads}
 use Rattle.gib_core.specs.Tree.{Term, CoreTree}
 use Rattle.gib_code.specs.declared.answer.Reason.{Reason}
@@ -16,41 +16,77 @@ use Rattle.gib_code.specs.Program.{CodeTree}
 use Rattle.gib_core.specs.Fits.{dest_type}
 use Rattle.gib_region.specs.Count.{Count, Balanced}
 use Rattle.gib_core.specs.Cost.{Cost, plus, own}
-use Rattle.gib_machine.specs.Machine.{State, Ready, Over, Unwinding, Par, Waiting, times, nesting, left_starts, right_of, side_start, takes, joins, Ask, Silent, Get, Put, Draw, AtFork, AtJoin, Ended, next, cursor}
+use Rattle.gib_machine.specs.State.{Slots, Frame, Open as OpenRegion, cursor, State, Ready, Over, Unwinding, Par, times, nesting, Ask, Silent, Get, Put, Draw, AtFork, AtJoin, Ended, cursor}
+use Rattle.gib_machine.specs.Machine.{next}
+use Rattle.gib_machine.specs.Sides.{Waiting, left_starts, right_of, side_start, takes, joins}
 use Rattle.gib_machine.specs.Levels.{lefts}
 use Rattle.gib_weave.specs.Environment.{Ctx, Matches, StandsAt, AreGiven}
 use Rattle.gib_weave.specs.Continuing.{AllCalm, AllUnder, Kont, Next, Plain, Rest, RestCode, RestFits, due, end_of, pars_of, rest_cased, rest_nest, rest_pars, root, side_of, given_of, needs_of}
 use Rattle.gib_weave.specs.Owing.{Debt, Owed, level_after, rest_means, rest_sides, resume, sides_of}
 use Rattle.gib_weave.specs.Paying.{AtMost, Counted, Share, Spends, left_costs, new_share, with_count, with_rest, with_side}
-use Rattle.gib_weave.specs.Places.{AllFresh, AllRoom, Apart, HasRoom, HaveRoom, IsNew, IsSmall, Owned, TailsHaveRoom, covers, freed, put_all, with_chunk}
+use Rattle.gib_weave.specs.Places.{AllFresh, AllRoom, Apart, HasRoom, HaveRoom, IsNew, IsSmall, Owned, TailsHaveRoom, freed, heads, put_all, rest_covers, tail_covers, with_chunk}
 use Rattle.gib_weave.specs.Stacks.{Stack}
 
--- A task at what is next in a line.
+-- A line, whichever term of it is next: its frame and what was given to it are as it says, so are the machine's stacks, and no line that
+-- waits relies on what may be looked at.
+pub record OnLine (core : CoreTree) (code : CodeTree) (s : Store) (sl : Slots) (fs : List Frame) (rs : List OpenRegion) (c : Ctx) (k : Kont) (cases : ℕ → Bool) : Type 0 where
+  pub kind : dest_type c.dest ≡ due k
+  pub matches : Matches code.laid s sl c (cursor rs)
+  pub stack : Stack core code s k sl fs c.front rs
+  pub under : AllUnder c.scope c.env k
+  pub given : AreGiven c 0 (given_of k)
+  pub calm : AllCalm cases k
+
+-- The task's places are its own, fresh and apart; behind each cursor and tail there is room for a redirect.
+pub record InMemory (own : Owned) (s : Store) (heads : ℕ → ℕ) (rs : List OpenRegion) (ts : List ℕ) : Type 0 where
+  pub places : Apart own s (λ q. heads q + (rest_covers rs q + tail_covers ts q))
+  pub rooms : HaveRoom rs
+  pub tail_rooms : TailsHaveRoom ts
+  pub small : IsSmall s
+
+-- What ties a task to others: what its right sides owe that are not joined, its `par`s, the variable that a stolen side binds, its type.
+pub record Ties : Type 0 where
+  pub debts : List Debt
+  pub marks : List Par
+  pub variable : Option ℕ
+  pub root : Ty
+
+-- By what is next in a line, and the lines that wait.
+abbrev pub ties_of : CoreTree → (d n : ℕ) → Rest → Environment → Kont → Ties
+ties_of core d n u env k = record {
+  debts = rest_sides core d n u env (sides_of core d (level_after n u) k);
+  marks = rest_pars u (pars_of k);
+  variable = side_of k;
+  root = root k;
+}
+
+-- The task has these ties, and so has its machine.
+pub record IsTied (owed : Owed) (ps : List Par) (y : Option ℕ) (ty : Ty) (ties : Ties) : Type 0 where
+  pub sides : ties.debts ≡ owed.sides
+  pub pars : ps ≡ ties.marks
+  pub side : y ≡ ties.variable
+  pub result : ty ≡ ties.root
+  pub type : owed.ty ≡ ties.root
+
+-- What is next may follow here, with so many calls and so much room left: it is free of what it may not use, and it and the lines that
+-- wait have room for what they open, in frames of which each opens no more than w at a time.
+pub record MayFollow (w d : ℕ) (u : Rest) (r : ℕ) (k : Kont) : Type 0 where
+  pub free : Next u k
+  pub narrow : rest_nest u ≤ w
+  pub nests : HasRoom (times d w) u r
+  pub all_room : AllRoom w d (freed u r) k
+
+-- A task at what is next in a line: its code, its line, its places, its ties to others, what it owes, what it may cost, its room.
 pub record AtRest (core : CoreTree) (code : CodeTree) (owed : Owed) (own : Owned) (sh : Share) (s : Store) (m : State) (u : Rest) (c : Ctx) (k : Kont) : Type 0 where
   pub ready : m.doing ≡ Ready
   pub low : RestCode core code c.line.within c.scope m.ip u (end_of c.line.overs k)
   pub fits : RestFits core (needs_of k) u c.scope c.dest c.line
-  pub kind : dest_type c.dest ≡ due k
-  pub matches : Matches code.laid s m.words c (cursor m.regions)
-  pub stack : Stack core code s k m.words m.frames c.front m.regions
-  pub under : AllUnder c.scope c.env k
-  pub given : AreGiven c 0 (given_of k)
-  pub calm : AllCalm (rest_cased u) k
-  pub places : Apart own s (covers code.laid c k m)
-  pub rooms : HaveRoom m.regions
-  pub tail_rooms : TailsHaveRoom m.tails
-  pub small : IsSmall s
+  pub line : OnLine core code s m.words m.frames m.regions c k (rest_cased u)
+  pub memory : InMemory own s (heads code.laid c.head c.dest k) m.regions m.tails
+  pub ties : IsTied owed m.pars m.side m.result (ties_of core m.depth m.level u c.env k)
   pub owes : resume core m.depth k (rest_means core m.depth u c.env) ≡ owed.all
-  pub sides : rest_sides core m.depth m.level u c.env (sides_of core m.depth (level_after m.level u) k) ≡ owed.sides
-  pub pars : m.pars ≡ rest_pars u (pars_of k)
-  pub side : m.side ≡ side_of k
-  pub free : Next u k
-  pub result : m.result ≡ root k
-  pub type : owed.ty ≡ root k
   pub counted : Counted m.regions (left_costs core m.depth m.level u c.env k) sh
-  pub narrow : rest_nest u ≤ nesting code
-  pub nests : HasRoom (times m.depth (nesting code)) u m.room
-  pub all_room : AllRoom (nesting code) m.depth (freed u m.room) k
+  pub room : MayFollow (nesting code) m.depth u m.room k
 
 -- A task at the start of a term.
 abbrev pub AtTerm : CoreTree → CodeTree → Owed → Owned → Share → Store → State → Term → Ctx → Kont → Type 0

@@ -13,7 +13,7 @@ use Rattle.gib_core.specs.Ending.{Within, ended, has_ended}
 use Rattle.gib_core.specs.Low.{ending, gots, operands}
 use Rattle.gib_core.specs.declared.atom.Atom.{Atom}
 use Rattle.gib_core.specs.Meaning.{value}
-use Rattle.gib_machine.specs.Machine.{Slots, slot, words, Frame, Open as OpenRegion, nesting, cursor}
+use Rattle.gib_machine.specs.State.{Slots, slot, words, Frame, Open as OpenRegion, nesting, cursor}
 use Rattle.gib_weave.specs.EndWords.{both}
 use Rattle.gib_weave.specs.Environment.{Ctx, Given, givens, AreGiven, HasAll, Matches}
 use Rattle.gib_weave.specs.Continuing.{AllCalm, AllUnder, Follows, KCall, KCallScalar, KEnd, KHere, KLast, KRegion, KScalar, KSide, Kont, Rest, RestCode, RestFits, due, end_of, needs_of, given_of, rest_cased, rest_nest}

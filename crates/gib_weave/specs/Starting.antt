@@ -12,7 +12,8 @@ use Rattle.gib_code.specs.Program.{CodeTree}
 use Rattle.gib_core.specs.Fits.{Fits, AtEnd, body_needs, new_line, none_of, body_scope, dest_of}
 use Rattle.gib_core.specs.Ending.{within_function, within_main}
 use Rattle.gib_core.specs.Low.{laid_of, Returns, function_number}
-use Rattle.gib_machine.specs.Machine.{State, Doing, Ready, nesting, widest, whole_room, start_at, slots_at, frame, Opening}
+use Rattle.gib_machine.specs.State.{State, Doing, Ready, nesting, widest, whole_room, frame, Opening}
+use Rattle.gib_machine.specs.Machine.{start_at, slots_at}
 use Rattle.gib_weave.specs.Environment.{IsScalar, StandsAt}
 use Rattle.gib_weave.specs.Continuing.{IsCode, nest}
 

@@ -7,7 +7,9 @@ use Rattle.gib_region.specs.Region.{Draws}
 use Rattle.gib_core.specs.Tree.{CoreTree}
 use Rattle.gib_code.specs.declared.answer.Answer.{Answer}
 use Rattle.gib_code.specs.Program.{CodeTree}
-use Rattle.gib_machine.specs.Machine.{State, Waiting, Ask, gone, Silent, Get, Put, Draw, AtFork, AtJoin, Ended, next, left_starts, right_of, side_start, takes, joins}
+use Rattle.gib_machine.specs.State.{State, Ask, gone, Silent, Get, Put, Draw, AtFork, AtJoin, Ended}
+use Rattle.gib_machine.specs.Machine.{next}
+use Rattle.gib_machine.specs.Sides.{Waiting, left_starts, right_of, side_start, takes, joins}
 use Rattle.gib_region.specs.Count.{Balanced}
 use Rattle.gib_core.specs.Cost.{Cost, nothing, plus}
 use Rattle.gib_weave.specs.Owing.{Owed, Debt}
@@ -111,14 +113,18 @@ pub data Legal (code : CodeTree) : Weave → List Event → Weave → Type 0 whe
 
 -- Soundness.
 
--- What is said of the tasks by their numbers: the addresses that are a task's own, what it owes, what it did and has left, whose
--- right side it is, and how many older ones that task has.
-pub record Family : Type 0 where
-  pub own : ℕ → Owned
-  pub owed : ℕ → Owed
-  pub share : ℕ → Share
-  pub parent : ℕ → ℕ
-  pub place : ℕ → ℕ
+-- What is said of a task: the addresses that are its own, what it owes, what it did and has left, whose right side it is, and how
+-- many older ones that task has.
+pub record Member : Type 0 where
+  pub own : Owned
+  pub owed : Owed
+  pub share : Share
+  pub parent : ℕ
+  pub place : ℕ
+
+-- A member for each task, by its number.
+abbrev pub Family : Type 0
+Family = ℕ → Member
 
 -- The task is not joined yet.
 abbrev pub IsThere : Stage → Type 0
@@ -130,7 +136,8 @@ IsThere Joined = ⊥
 -- side.
 abbrev pub OneSide : CoreTree → CodeTree → Store → List Task → Family → (i p : ℕ) → Debt → Status → Type 0
 OneSide core code s ts f i p d (Waits x) = SideSafe core code d s x
-OneSide core code s ts f i p d (Runs j) = (i < j) × (f.parent j ≡ i) × (f.place j ≡ p) × IsThere (task ts j).stage × ((f.owed j).ty ≡ d.ty) × ((f.owed j).all ≡ d.owed)
+OneSide core code s ts f i p d (Runs j) =
+    (i < j) × ((f j).parent ≡ i) × ((f j).place ≡ p) × IsThere (task ts j).stage × ((f j).owed.ty ≡ d.ty) × ((f j).owed.all ≡ d.owed)
 
 -- Each right side of task i is so.
 abbrev pub AllSides : CoreTree → CodeTree → Store → List Task → Family → ℕ → List Status → List Debt → Type 0
@@ -140,14 +147,14 @@ AllSides core code s ts f i (st ∷ sts) [] = ⊥
 AllSides core code s ts f i (st ∷ sts) (d ∷ ds) = OneSide core code s ts f i (length sts) d st × AllSides core code s ts f i sts ds
 
 -- A task is sound by its stage.
-abbrev pub SoundAs : CoreTree → CodeTree → Store → List Task → Family → ℕ → Owned → Share → Owed → Task → Stage → Type 0
-SoundAs core code s ts f i own sh owed t Running = Safe core code owed own sh s t.state × AllSides core code s ts f i t.sides owed.sides
-SoundAs core code s ts f i own sh owed t (Finished a) = IsAnswer code.laid s owed.ty owed.all a
-SoundAs core code s ts f i own sh owed t Joined = Unit {0}
+abbrev pub SoundAs : CoreTree → CodeTree → Store → List Task → Family → ℕ → Member → Task → Stage → Type 0
+SoundAs core code s ts f i b t Running = Safe core code b.owed b.own b.share s t.state × AllSides core code s ts f i t.sides b.owed.sides
+SoundAs core code s ts f i b t (Finished a) = IsAnswer code.laid s b.owed.ty b.owed.all a
+SoundAs core code s ts f i b t Joined = Unit {0}
 
 -- Task i is sound.
 abbrev pub IsSound : CoreTree → CodeTree → Store → List Task → Family → ℕ → Type 0
-IsSound core code s ts f i = SoundAs core code s ts f i (f.own i) (f.share i) (f.owed i) (task ts i) (task ts i).stage
+IsSound core code s ts f i = SoundAs core code s ts f i (f i) (task ts i) (task ts i).stage
 
 -- The count, over all tasks.
 
@@ -159,12 +166,12 @@ waiting_costs (Waits x ∷ sts) (d ∷ ds) = plus d.most (waiting_costs sts ds)
 waiting_costs (Runs j ∷ sts) (d ∷ ds) = waiting_costs sts ds
 
 -- What a task did and has left, and what those of its right sides may cost that wait.
-abbrev pub bill_of : Share → List Status → List Debt → Cost
-bill_of sh sts ds = plus (plus (done_by sh.count) sh.rest) (waiting_costs sts ds)
+abbrev pub bill_of : Member → List Status → Cost
+bill_of b sts = plus (plus (done_by b.share.count) b.share.rest) (waiting_costs sts b.owed.sides)
 
 -- The bill of task i.
 abbrev pub bill_at : List Task → Family → ℕ → Cost
-bill_at ts f i = bill_of (f.share i) (task ts i).sides (f.owed i).sides
+bill_at ts f i = bill_of (f i) (task ts i).sides
 
 -- The sum of the first n.
 abbrev pub total : (ℕ → ℕ) → ℕ → ℕ
@@ -173,10 +180,10 @@ total g (suc n) = g n + total g n
 
 -- Each task is balanced, all bills together are no more than the whole, and the tasks drew what was drawn; nobody else draws.
 pub record Shared (whole : Cost) (w : Weave) (f : Family) : Type 0 where
-  pub balanced : (i : ℕ) → Balanced (f.share i).count
+  pub balanced : (i : ℕ) → Balanced (f i).share.count
   pub regions : total (λ i. (bill_at w.tasks f i).regions) (length w.tasks) ≤ whole.regions
   pub items : total (λ i. (bill_at w.tasks f i).items) (length w.tasks) ≤ whole.items
-  pub drawn : total (λ i. (f.share i).count.drawn) (length w.tasks) ≡ w.memory.drawn
+  pub drawn : total (λ i. (f i).share.count.drawn) (length w.tasks) ≡ w.memory.drawn
   pub alone : w.memory.alone ≡ true
 
 -- Each task is sound over one store; no address is two tasks' own; what is owned is drawn; the root owes this outcome; what was
@@ -184,12 +191,12 @@ pub record Shared (whole : Cost) (w : Weave) (f : Family) : Type 0 where
 pub record Sound (core : CoreTree) (code : CodeTree) (ty : Ty) (o : Outcome) (whole : Cost) (w : Weave) : Type 0 where
   pub family : Family
   pub tasks : (i : ℕ) → IsSound core code w.memory.cells w.tasks family i
-  pub apart : (i j q : ℕ) → 0 < family.own i q → 0 < family.own j q → i ≡ j
-  pub drawn : (i q : ℕ) → 0 < family.own i q → w.memory.cells q ≡ absent → ⊥
+  pub apart : (i j q : ℕ) → 0 < (family i).own q → 0 < (family j).own q → i ≡ j
+  pub drawn : (i q : ℕ) → 0 < (family i).own q → w.memory.cells q ≡ absent → ⊥
   pub bounded : IsBounded w.memory
   pub root : IsThere (task w.tasks 0).stage
-  pub type : (family.owed 0).ty ≡ ty
-  pub owes : (family.owed 0).all ≡ o
+  pub type : (family 0).owed.ty ≡ ty
+  pub owes : (family 0).owed.all ≡ o
   pub shared : Shared whole w family
 
 -- The weave of the root alone.

@@ -1,7 +1,7 @@
 //! The right sides of a task that it neither joined nor took.
 
 ghost use Rattle.std.specs.Prelude.{◌≡◌, ◌<◌, [], ◌∷◌, length, drop, OnOk, OnErr, IfSome, IfNone, IsTrue, ◌↔◌};
-ghost use Rattle.gib_machine.specs.Machine.{Waiting};
+ghost use Rattle.gib_machine.specs.Sides.{Waiting};
 ghost use Rattle.gib_machine.specs.Starting.{waiting_of};
 ghost use Rattle.gib_weave.specs.Applied.{IsBegun, IsOldest, status_of, newest_of};
 ghost use Rattle.gib_weave.specs.Weave.{HasWaiting, NewestWaits, Runs, Status, Stolen, Waits};

@@ -1,5 +1,5 @@
 use Rattle.std.proofs.Common.{◌≡◌, ℕ, ◌+◌}
-use Rattle.gib_machine.specs.Machine.{widest}
+use Rattle.gib_machine.specs.State.{widest}
 use Rattle.gib_machine.specs.Stepping.{with_tails}
 use Rattle.gib_weave.specs.Calling.{IsTask, GoesOn, Walks}
 use Rattle.gib_weave.proofs.steps.run_for.Given as goal

@@ -1,7 +1,7 @@
 use Rattle.std.proofs.Common.{◌≡◌, ◌<◌, ◌++◌, ◌∷◌, [], ◌^◌, ℕ, List, false, refl, sym, ap, subst, ◌∙◌, length, arith}
 use Rattle.std.proofs.lemmas.Bool.{false≢true}
 use Rattle.gib_mem.specs.Plain.{nothing}
-use Rattle.gib_machine.specs.Machine.{State}
+use Rattle.gib_machine.specs.State.{State}
 use Rattle.gib_machine.specs.Stepping.{with_tails}
 use Rattle.gib_weave.specs.Applied.{IsOldest, over}
 use Rattle.gib_weave.specs.Weave.{Running, Stolen, Task, task}
