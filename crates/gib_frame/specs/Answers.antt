@@ -8,7 +8,7 @@ use Rattle.gib_core.specs.Cost.{Cost}
 use Rattle.gib_core.specs.Tree.{CoreTree}
 use Rattle.gib_core.specs.Parts.{core_of}
 use Rattle.gib_core.specs.LoweredParts.{LoweredParts}
-use Rattle.gib_machine.specs.Machine.{Waiting}
+use Rattle.gib_machine.specs.Sides.{Waiting}
 use Rattle.gib_machine.specs.Starting.{waiting_of}
 use Rattle.gib_weave.specs.Owing.{Debt, Owed}
 use Rattle.gib_weave.specs.Paying.{Bill, Share}

@@ -2,7 +2,7 @@
 use Rattle.std.specs.Prelude.{◌≡◌, []}
 use Rattle.gib_code.specs.declared.answer.Side.{Side}
 use Rattle.gib_core.specs.LoweredParts.{LoweredParts}
-use Rattle.gib_machine.specs.Machine.{widest}
+use Rattle.gib_machine.specs.State.{widest}
 use Rattle.gib_machine.specs.Frames.{FitsFrame}
 use Rattle.gib_machine.specs.Starting.{waiting_of}
 use Rattle.gib_arena.specs.declared.memory.Arena.{Arena}

@@ -13,7 +13,8 @@ use Rattle.gib_core.specs.Meaning.{core_run}
 use Rattle.gib_core.specs.Parts.{core_of}
 use Rattle.gib_core.specs.Tight.{Tight}
 use Rattle.gib_core.specs.Tree.{CoreTree}
-use Rattle.gib_machine.specs.Machine.{State, side_start, widest}
+use Rattle.gib_machine.specs.State.{State, widest}
+use Rattle.gib_machine.specs.Sides.{side_start}
 use Rattle.gib_machine.specs.Starting.{waiting_of}
 use Rattle.gib_machine.specs.Stepping.{with_tails}
 use Rattle.gib_weave.specs.Owing.{Debt}

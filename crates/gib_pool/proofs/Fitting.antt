@@ -5,7 +5,8 @@ use Rattle.std.specs.Vec.{vec_capacity}
 use Rattle.gib_mem.specs.Memory.{Store}
 use Rattle.gib_core.specs.LoweredParts.{LoweredParts}
 use Rattle.gib_machine.specs.Levels.{lefts, AreWithin, IsWithin}
-use Rattle.gib_machine.specs.Machine.{State, Waiting}
+use Rattle.gib_machine.specs.State.{State}
+use Rattle.gib_machine.specs.Sides.{Waiting}
 use Rattle.gib_machine.proofs.Levels.{fork_is_within}
 use Rattle.gib_weave.specs.Owing.{Debt}
 use Rattle.gib_frame.specs.declared.due.Due.{Due}

@@ -9,7 +9,6 @@ pub mod Offering
 pub mod Passing
 -- The words of all tasks together.
 pub mod Together
-pub mod TogetherOwned
 pub mod Fitting
 -- A worker's turns, forks and joins.
 pub mod Beginnings

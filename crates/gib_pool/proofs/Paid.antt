@@ -9,7 +9,9 @@ use Rattle.gib_core.specs.LoweredParts.{LoweredParts}
 use Rattle.gib_code.specs.declared.answer.Answer.{Answer}
 use Rattle.gib_code.specs.declared.answer.Reason.{Reason}
 use Rattle.gib_code.specs.Program.{CodeTree}
-use Rattle.gib_machine.specs.Machine.{State, Par, Doing, Ready, Opening, Over, Unwinding, Joining, Putting, Looking, Following, Reading, Skipping, SkipTurn, Turning, Ask, Silent, Get, Put, Draw, AtJoin, Ended, next, goes_on, unwinding, unwound, taken, takes}
+use Rattle.gib_machine.specs.State.{State, Par, Doing, Ready, Opening, Over, Unwinding, Joining, Putting, Looking, Following, Reading, Skipping, SkipTurn, Turning, Ask, Silent, Get, Put, Draw, AtJoin, Ended}
+use Rattle.gib_machine.specs.Machine.{next, goes_on, unwound}
+use Rattle.gib_machine.specs.Sides.{unwinding, taken, takes}
 use Rattle.gib_machine.specs.Starting.{waiting_of}
 use Rattle.gib_weave.specs.Owing.{Debt, Owed}
 use Rattle.gib_weave.specs.Paying.{Share, Bill, Spends, dues}

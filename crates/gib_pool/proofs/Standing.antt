@@ -8,15 +8,15 @@ use Rattle.gib_core.specs.Low.{IsLowered}
 use Rattle.gib_core.specs.LoweredParts.{LoweredParts, IsWhole}
 use Rattle.gib_core.specs.Parts.{core_of}
 use Rattle.gib_code.specs.Program.{CodeTree, Runs}
-use Rattle.gib_machine.specs.Machine.{State, Ask, Silent, Get, Put, Draw, AtFork, AtJoin, Ended, next, widest}
+use Rattle.gib_machine.specs.State.{State, Ask, Silent, Get, Put, Draw, AtFork, AtJoin, Ended, widest}
+use Rattle.gib_machine.specs.Machine.{next}
 use Rattle.gib_machine.specs.Stepping.{Can, CanStep, Made}
 use Rattle.gib_machine.specs.Levels.{lefts, IsWithin, StaysWithin}
 use Rattle.gib_machine.proofs.Levels.{step_stays_within}
 use Rattle.gib_machine.proofs.Widths.{step_keeps_width}
 use Rattle.gib_weave.proofs.Basics.{by_test}
 use Rattle.gib_weave.proofs.Calls.{width_kept}
-use Rattle.gib_weave.proofs.Events.{reads_one}
-use Rattle.gib_weave.proofs.Memories.{draws_new}
+use Rattle.gib_weave.proofs.Memories.{draws_new, reads_one}
 use Rattle.gib_weave.proofs.Places.{open-grows}
 use Rattle.gib_machine.specs.declared.turn.Turn.{Turn}
 use Rattle.gib_machine.specs.declared.turn.Turn.TheVariants as turn

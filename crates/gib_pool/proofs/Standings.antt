@@ -5,7 +5,8 @@ use Rattle.gib_mem.specs.Memory.{Store}
 use Rattle.gib_core.specs.LoweredParts.{LoweredParts}
 use Rattle.gib_code.specs.declared.answer.Answer.{Answer}
 use Rattle.gib_code.specs.declared.answer.Reason.{Reason}
-use Rattle.gib_machine.specs.Machine.{State, Waiting, unwinding, takes, joins}
+use Rattle.gib_machine.specs.State.{State}
+use Rattle.gib_machine.specs.Sides.{Waiting, unwinding, takes, joins}
 use Rattle.gib_weave.specs.Owing.{Debt}
 use Rattle.gib_frame.specs.declared.due.Due.{Due}
 use Rattle.gib_frame.specs.declared.ends.Frame.{Frame}

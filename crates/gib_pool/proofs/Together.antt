@@ -8,7 +8,7 @@ use Rattle.atomic_table.specs.Table.{State as TableState}
 use Rattle.gib_mem.specs.Memory.{Cell, Store, absent, fresh, byte, IsThere, look_of}
 use Rattle.gib_core.specs.Parts.{core_of}
 use Rattle.gib_core.specs.LoweredParts.{LoweredParts}
-use Rattle.gib_machine.specs.Machine.{State}
+use Rattle.gib_machine.specs.State.{State}
 use Rattle.gib_weave.specs.Owing.{Debt}
 use Rattle.gib_weave.proofs.Others.{safe-others}
 use Rattle.gib_arena.specs.declared.view.View.{View}
@@ -25,7 +25,7 @@ use Rattle.gib_frame.specs.declared.due.Due.{Due}
 use Rattle.gib_pool.specs.Turn.{AreThere, Works, Wider}
 use Rattle.gib_pool.specs.Together.{free, fresh_to, Together}
 use Rattle.gib_pool.proofs.Turns.{wider_others}
-use Rattle.gib_pool.proofs.TogetherOwned.{safe_owned}
+use Rattle.gib_weave.proofs.Owning.{safe_owned}
 
 -- What stands at an address is fresh or a byte.
 by_cell : (c : Cell) (P : Type 0) → IsThere c → (c ≡ fresh → P) → ((b : ℕ) → c ≡ byte b → P) → P

@@ -7,7 +7,9 @@ use Rattle.gib_core.specs.Parts.{core_of}
 use Rattle.gib_core.specs.LoweredParts.{LoweredParts, IsWhole}
 use Rattle.gib_code.specs.declared.answer.Answer.{Answer}
 use Rattle.gib_code.specs.Program.{CodeTree}
-use Rattle.gib_machine.specs.Machine.{State, Waiting, Ask, Silent, Get, Put, Draw, AtFork, AtJoin, Ended, next, left_starts, right_of, side_start, takes, joins}
+use Rattle.gib_machine.specs.State.{State, Ask, Silent, Get, Put, Draw, AtFork, AtJoin, Ended}
+use Rattle.gib_machine.specs.Machine.{next}
+use Rattle.gib_machine.specs.Sides.{Waiting, left_starts, right_of, side_start, takes, joins}
 use Rattle.gib_machine.specs.Starting.{waiting_of}
 use Rattle.gib_weave.specs.Owing.{Debt}
 use Rattle.gib_weave.specs.Paying.{Share, Bill, new_share, with_rest, with_count}
@@ -27,15 +29,7 @@ use Rattle.gib_frame.specs.Answers.{Answers, ArePaid, IsPaid}
 use Rattle.gib_pool.specs.Turn.{AreThere, IsLent, AreLent, owing, Works, Pays, Wider, WorksOn, Tells, WorksBack, WorksAfter}
 use Rattle.gib_pool.proofs.Paid.{bill_stays, paid_of, safe_free, taken_out}
 use Rattle.gib_weave.proofs.Cells.{fresh_absent, byte_absent}
-
-grows_same : (s : Store) → Grows s s
-grows_same s = record { kept = λ q b h. h }
-
-grows_on : (s r t : Store) → Grows s r → Grows r t → Grows s t
-grows_on s r t g h = record { kept = λ q b e. h.kept q b (g.kept q b e) }
-
-pub side_grows : (core : CoreTree) (code : CodeTree) (d : Debt) (s r : Store) (w : Waiting) → Grows s r → SideSafe core code d s w → SideSafe core code d r w
-side_grows core code d s r w g h = record { safe = λ t k sm. h.safe t (grows_on s r t g k) sm }
+use Rattle.gib_weave.proofs.Grow.{grows_same, side_grows}
 
 pub begins : (l : LoweredParts) (d : Debt) (s : Store) (w : Waiting) → IsSmall s → SideSafe (core_of l.core) l.code d s w → Works l d s 0 (side_start l.code w) []
 begins l d s w sm h = record { own = λ q. 0; bill = new_share d.most; sides = []; safe = h.safe s (grows_same s) sm; there = record { there = λ q z e. absurd (omega (arith, z)) }; debts = tt; paid = side_bill d }
@@ -115,7 +109,7 @@ module _ (l : LoweredParts) (d : Debt) where
       sides = f.debt ∷ h.sides;
       safe = f.left;
       there = h.there;
-      debts = ((i.lowered, side_grows (core_of l.core) l.code f.debt s (cells e.pass.value) (waiting_of e.side.value) i.knows (subst (SideSafe (core_of l.core) l.code f.debt s) (sym i.side) f.right)), h.debts);
+      debts = ((i.lowered, side_grows i.knows (subst (SideSafe (core_of l.core) l.code f.debt s) (sym i.side) f.right)), h.debts);
       paid = paid;
     };
   }

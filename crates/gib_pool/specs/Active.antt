@@ -4,7 +4,7 @@ use Rattle.std.specs.Vec.{vec_capacity}
 use Rattle.gib_mem.specs.Memory.{Memory, Grows}
 use Rattle.gib_core.specs.LoweredParts.{LoweredParts}
 use Rattle.gib_machine.specs.Levels.{IsWithin}
-use Rattle.gib_machine.specs.Machine.{State, widest}
+use Rattle.gib_machine.specs.State.{State, widest}
 use Rattle.gib_machine.specs.Stepping.{with_tails}
 use Rattle.gib_machine.specs.declared.turn.Turn.{Turn}
 use Rattle.gib_weave.specs.Owing.{Debt}

@@ -1,7 +1,7 @@
 -- Whether a code forks at all.
 use Rattle.std.specs.Prelude.{Bool, false, ◌||◌, List, [], ◌∷◌, Some, is_some}
 use Rattle.gib_code.specs.Instruction.{Instruction}
-use Rattle.gib_machine.specs.Machine.{fork_of}
+use Rattle.gib_machine.specs.Sides.{fork_of}
 
 -- A fork stands among these instructions.
 abbrev pub has_fork : List Instruction → Bool

@@ -2,7 +2,9 @@
 use Rattle.std.specs.Prelude.{◌≡◌, ℕ, List, [], Option, slice_get}
 use Rattle.gib_mem.specs.Memory.{Memory, Store, Grows}
 use Rattle.gib_core.specs.LoweredParts.{LoweredParts}
-use Rattle.gib_machine.specs.Machine.{State, Draw, AtFork, AtJoin, next, left_starts, right_of}
+use Rattle.gib_machine.specs.State.{State, Draw, AtFork, AtJoin}
+use Rattle.gib_machine.specs.Machine.{next}
+use Rattle.gib_machine.specs.Sides.{left_starts, right_of}
 use Rattle.gib_machine.specs.declared.turn.Turn.{Turn}
 use Rattle.gib_machine.specs.declared.turn.Turn.TheVariants as turn
 use Rattle.gib_weave.specs.Owing.{Debt}

@@ -9,7 +9,8 @@ use Rattle.gib_core.specs.Parts.{core_of}
 use Rattle.gib_core.specs.LoweredParts.{LoweredParts}
 use Rattle.gib_machine.specs.Levels.{lefts}
 use Rattle.gib_code.specs.declared.answer.Reason.{Reason}
-use Rattle.gib_machine.specs.Machine.{State, Waiting, Ask, Silent, Get, Put, Draw, AtFork, AtJoin, Ended, left_starts, right_of, unwinding, takes, joins}
+use Rattle.gib_machine.specs.State.{State, Ask, Silent, Get, Put, Draw, AtFork, AtJoin, Ended}
+use Rattle.gib_machine.specs.Sides.{Waiting, left_starts, right_of, unwinding, takes, joins}
 use Rattle.gib_machine.specs.Starting.{waiting_of}
 use Rattle.gib_weave.specs.Owing.{Debt, Owed}
 use Rattle.gib_weave.specs.Paying.{Bill, Share}

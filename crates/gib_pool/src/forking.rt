@@ -4,8 +4,10 @@ ghost use Rattle.std.specs.Prelude.{◌≡◌, ◌<◌, ◌+◌, ◌^◌, ◌∷
 ghost use Rattle.crossbeam_deque.specs.Handles.{worker_deque, worker_view};
 ghost use Rattle.gib_mem.specs.Memory.{fresh};
 ghost use Rattle.gib_core.specs.Parts.{core_of};
-ghost use Rattle.gib_machine.specs.Machine.{next, right_of, widest};
-ghost use Rattle.gib_machine.specs.Machine as asks;
+ghost use Rattle.gib_machine.specs.State.{widest};
+ghost use Rattle.gib_machine.specs.Machine.{next};
+ghost use Rattle.gib_machine.specs.Sides.{right_of};
+ghost use Rattle.gib_machine.specs.State as asks;
 ghost use Rattle.gib_machine.specs.Stepping.{with_tails};
 ghost use Rattle.gib_machine.specs.declared.turn.Turn.TheVariants.{AtFork};
 ghost use Rattle.gib_weave.specs.Owing.{Debt};

@@ -2,7 +2,7 @@
 
 ghost use Rattle.std.specs.Prelude.{◌≡◌, ℕ, List, Option};
 ghost use Rattle.gib_machine.specs.Levels.{IsWithin};
-ghost use Rattle.gib_machine.specs.Machine.{widest};
+ghost use Rattle.gib_machine.specs.State.{widest};
 ghost use Rattle.gib_machine.specs.Stepping.{with_tails};
 ghost use Rattle.gib_weave.specs.Owing.{Debt};
 ghost use Rattle.gib_frame.specs.declared.due.Due.{Due};

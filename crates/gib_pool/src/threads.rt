@@ -2,7 +2,7 @@
 
 ghost use Rattle.std.specs.Prelude.{◌≡◌, ◌<◌, [], length, map, is_some, Some, false, IfOk};
 ghost use Rattle.gib_code.specs.Instruction.{instruction_of};
-ghost use Rattle.gib_machine.specs.Machine.{fork_of};
+ghost use Rattle.gib_machine.specs.Sides.{fork_of};
 ghost use Rattle.gib_weave.specs.Owing.{Debt};
 ghost use Rattle.gib_pool.specs.Forking as spec;
 ghost use Rattle.gib_pool.specs.Active.{Holds, IsOver, OwesStill};

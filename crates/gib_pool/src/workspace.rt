@@ -3,7 +3,8 @@
 ghost use Rattle.std.specs.Prelude.{◌≡◌, ◌≤◌, IsTrue};
 ghost use Rattle.std.specs.Vec.{vec_capacity};
 ghost use Rattle.gib_machine.specs.Frames.{FitsFrame};
-ghost use Rattle.gib_machine.specs.Machine.{side_start, widest};
+ghost use Rattle.gib_machine.specs.State.{widest};
+ghost use Rattle.gib_machine.specs.Sides.{side_start};
 ghost use Rattle.gib_machine.specs.Starting.{waiting_of};
 
 use gib_base::Memory;

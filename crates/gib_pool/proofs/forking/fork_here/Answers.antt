@@ -3,7 +3,8 @@ use Rattle.std.specs.Prelude.{Option, slice_get}
 use Rattle.std.specs.Vec.{vec_capacity}
 use Rattle.crossbeam_deque.specs.Handles.{worker_view}
 use Rattle.gib_code.specs.Program.{CodeTree}
-use Rattle.gib_machine.specs.Machine.{State, left_starts, right_of}
+use Rattle.gib_machine.specs.State.{State}
+use Rattle.gib_machine.specs.Sides.{left_starts, right_of}
 use Rattle.gib_machine.specs.Stepping.{with_tails}
 use Rattle.gib_machine.proofs.Levels.{left_stays_within}
 use Rattle.gib_machine.proofs.Stands.{fork_has_level}

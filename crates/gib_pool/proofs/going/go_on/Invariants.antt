@@ -1,6 +1,6 @@
 use Rattle.std.proofs.Common.{◌≡◌, ℕ, List, Option}
 use Rattle.gib_machine.specs.Levels.{IsWithin}
-use Rattle.gib_machine.specs.Machine.{widest}
+use Rattle.gib_machine.specs.State.{widest}
 use Rattle.gib_machine.specs.Stepping.{with_tails}
 use Rattle.gib_weave.specs.Owing.{Debt}
 use Rattle.gib_frame.specs.declared.due.Due.{Due}

@@ -1,6 +1,6 @@
 use Rattle.std.proofs.Common.{◌≡◌, [], sym, ap, ◌∙◌, arith}
 use Rattle.gib_code.specs.Program.{CodeTree}
-use Rattle.gib_machine.specs.Machine.{State, widest}
+use Rattle.gib_machine.specs.State.{State, widest}
 use Rattle.gib_weave.specs.Owing.{Debt}
 use Rattle.gib_arena.specs.declared.memory.Arena.{Arena}
 use Rattle.gib_arena.specs.declared.memory.Pass.{Pass}

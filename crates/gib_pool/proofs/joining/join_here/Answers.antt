@@ -2,7 +2,8 @@ use Rattle.std.proofs.Common.{◌≡◌, ◌-◌, List, [], ◌∷◌, ◌++◌,
 use Rattle.std.specs.Prelude.{Option, Some, None}
 use Rattle.std.specs.Vec.{vec_capacity}
 use Rattle.crossbeam_deque.specs.Handles.{worker_view}
-use Rattle.gib_machine.specs.Machine.{State, takes, joins}
+use Rattle.gib_machine.specs.State.{State}
+use Rattle.gib_machine.specs.Sides.{takes, joins}
 use Rattle.gib_machine.specs.Stepping.{with_tails}
 use Rattle.gib_machine.specs.declared.turn.Turn.TheVariants.{AtJoin}
 use Rattle.gib_weave.specs.Owing.{Debt}

@@ -3,7 +3,7 @@ use Rattle.std.specs.Prelude.{Result}
 use Rattle.gib_types.specs.Tree.{Datum}
 use Rattle.gib_core.specs.Parts.{core_of}
 use Rattle.gib_code.specs.declared.answer.Answer.{Answer}
-use Rattle.gib_machine.specs.Machine.{State}
+use Rattle.gib_machine.specs.State.{State}
 use Rattle.gib_weave.specs.declared.root_run.RunFault.{RunFault}
 use Rattle.gib_weave.specs.Running.{IsStart, word_of}
 use Rattle.gib_weave.specs.Starting.{root_start}
