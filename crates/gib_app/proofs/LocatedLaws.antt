@@ -20,7 +20,8 @@ use Rattle.gib_parse.specs.Blaming.{place_of}
 use Rattle.gib_parse.specs.Reading as reading
 use Rattle.gib_check.specs.declared.fault.Fault.{Fault}
 use Rattle.gib_core.specs.Erasing.{erase_core}
-use Rattle.gib_core.specs.Marking.{mark_core, mark_function}
+use Rattle.gib_core.specs.Walk.{with_body}
+use Rattle.gib_core.specs.Marking.{mark, mark_core}
 use Rattle.gib_core.specs.Meaning.{core_run}
 use Rattle.gib_core.specs.Numbering.{AreNumbered}
 use Rattle.gib_core.specs.Parts.{AreDeclared}
@@ -153,7 +154,7 @@ unbroken : (t : LocalTree) (core : CoreTree) → broken_text t core ≡ None →
 unbroken t core e = none_first (unlike_in (program t) t.functions t.main.body 0) (first_broken core) e
 
 -- the types of a marked core are declared, and so are those of the core
-functions_declared : (n : ℕ) (fs : List FunctionTerm) → AllByRecursion (λ (f : FunctionTerm). AreDeclared n f.parameters f.result) (map mark_function fs) → AllByRecursion (λ (f : FunctionTerm). AreDeclared n f.parameters f.result) fs
+functions_declared : (n : ℕ) (fs : List FunctionTerm) → AllByRecursion (λ (f : FunctionTerm). AreDeclared n f.parameters f.result) (map (with_body (λ b. mark b.term)) fs) → AllByRecursion (λ (f : FunctionTerm). AreDeclared n f.parameters f.result) fs
 functions_declared n [] h = tt {0}
 functions_declared n (f ∷ fs) h = (h.0, functions_declared n fs h.1)
 

@@ -340,7 +340,7 @@ module _ (nm : Naming) (core : CoreTree) (ok : Premises core) where
         let parts = built_apart core first lines (met core.table (behind s (One (On kind x t u))) rest) built.1 in
         let q = runs_apart (n + 1) m (binders u) (binders rest) r.1 in
         let may = side_may core b s kind x t built.0 in
-        let inner = term_text u first (in_side core.table s kind t) xs (n + 1) q.0 q.1 l.0 sh.0 ty.0.1 (side_due core.table s kind t may) (side_scope core.table xs s kind t c) parts.0 in (
+        let inner = term_text u first (in_side core.table s kind t) xs (n + 1) q.0 q.1 l.0.1 sh.0 ty.0.1 (side_due core.table s kind t may) (side_scope core.table xs s kind t c) parts.0 in (
           q.0,
           (r.0, may, written core.table ok.is_table t ty.0.0, subst (λ d. HasText p u xs d (n + 1) q.0) (side_where core.table s kind t) inner),
           term_text rest (next_all core.table first lines) (behind s (One (On kind x t u))) (x.0 ∷ xs) q.0 m q.2 l.1 sh.1 ty.1 (due_kept core.table kind x s.destination s.due due) (covers_more x.0 xs (reached x) s.scope refl c) parts.1,
@@ -364,16 +364,16 @@ module _ (nm : Naming) (core : CoreTree) (ok : Premises core) where
         let e = q0.0 in
         let may_l = side_may core c0 ls i x t parts.0.0 in
         let may_r = side_may core z rs j y o parts.1.0 in
-        let inner_l = term_text u c1 (in_side tb ls i t) xs (n + 1) a q1.1.1 l.0.0 sh.0.1 ty.0.0.1 (side_due tb ls i t may_l) (side_scope tb xs ls i t c) parts.0.1 in
+        let inner_l = term_text u c1 (in_side tb ls i t) xs (n + 1) a q1.1.1 l.0.1.0.1 sh.0.1 ty.0.1.0.1 (side_due tb ls i t may_l) (side_scope tb xs ls i t c) parts.0.1 in
         let c2 = next tb z (SideLine j y o) in
-        let inner_r = term_text w c2 (in_side tb rs j o) xs (a + 1) e q1.2.1 l.0.1 sh.0.2 ty.0.1.1 (side_due tb rs j o may_r) (side_scope tb xs rs j o c) parts.1.1 in (
+        let inner_r = term_text w c2 (in_side tb rs j o) xs (a + 1) e q1.2.1 l.0.1.1.1 sh.0.2 ty.0.1.1.1 (side_due tb rs j o may_r) (side_scope tb xs rs j o c) parts.1.1 in (
           sh.0.0,
           (
             a,
-            (q1.1.0, may_l, written tb ok.is_table t ty.0.0.0, subst (λ d. HasText p u xs d (n + 1) a) (side_where tb ls i t) inner_l),
+            (q1.1.0, may_l, written tb ok.is_table t ty.0.1.0.0, subst (λ d. HasText p u xs d (n + 1) a) (side_where tb ls i t) inner_l),
             (
               e,
-              (q1.2.0, may_r, written tb ok.is_table o ty.0.1.0, subst (λ d. HasText p w xs d (a + 1) e) (side_where tb rs j o) inner_r),
+              (q1.2.0, may_r, written tb ok.is_table o ty.0.1.1.0, subst (λ d. HasText p w xs d (a + 1) e) (side_where tb rs j o) inner_r),
               term_text rest (next_all tb c0 (met_side tb ls left ++ lines_r)) (behind s (Both fork left right)) (y.0 ∷ x.0 ∷ xs) e m q0.2 l.1 sh.1 ty.1
                   (due_kept tb j y (stands_too i x s.destination) s.due (due_kept tb i x s.destination s.due due)) (covers_more y.0 (x.0 ∷ xs) (reached y) (reached x ∷ s.scope) refl (covers_more x.0 xs (reached x) s.scope refl c)) both.1,
             ),
@@ -417,7 +417,7 @@ module _ (nm : Naming) (core : CoreTree) (ok : Premises core) where
         let cov = covered core.table (type_of b x) arms (not_false v q.1) in (
           cased_text xs core.table s b x arms (not_false u k.0) (not_false v q.1) c,
           sh.0,
-          branches_text bs (next core.table b (CaseLine x arms)) s xs n m (first_at core.table cov.0) (count_at core.table cov.0) r l.1 sh.1 ty due c built.1 cov.1 (rows_inside cov.0 core.table.rows),
+          branches_text bs (next core.table b (CaseLine x arms)) s xs n m (first_at core.table cov.0) (count_at core.table cov.0) r l.1 sh.1 ty.1 due c built.1 cov.1 (rows_inside cov.0 core.table.rows),
         )
     term_text (IfTerm x t u) b s xs n m r l sh ty due c built =
         let q = least3 4 8 9 (is_other s x) (not (is_usable s x)) (not (has_type b x Truth)) built.0 in
@@ -425,7 +425,7 @@ module _ (nm : Naming) (core : CoreTree) (ok : Premises core) where
         let parts = built_apart core b lines (met core.table (in_branch s) u) built.1 in
         let k = runs_apart n m (binders t) (binders u) r in (
           atom_text xs s x (not_false (is_usable s x) q.1) l.0 c,
-          (k.0, term_text t b (in_branch s) xs n k.0 k.1 l.1 sh.0 ty.0 due c parts.0, term_text u (next_all core.table b lines) (in_branch s) xs k.0 m k.2 l.2 sh.1 ty.1 due c parts.1),
+          (k.0, term_text t b (in_branch s) xs n k.0 k.1 l.1.0 sh.0 ty.1.0 due c parts.0, term_text u (next_all core.table b lines) (in_branch s) xs k.0 m k.2 l.1.1 sh.1 ty.1.1 due c parts.1),
         )
 
     pub branches_text : (bs : Branches) (b : Before) (s : Setting) (xs : List ℕ) (n m first many : ℕ) → Runs n (branch_binders bs) m → AreNaturalBranches bs → HasShapes core.table bs → BranchesDeclared count bs → IsDue core.table s.destination s.due → Covers xs s.scope
@@ -441,12 +441,12 @@ module _ (nm : Naming) (core : CoreTree) (ok : Premises core) where
         let r2 = runs_apart r1.0 m (binders t) (branch_binders bs) r1.2 in
         let lines = met tb (in_arm tb s k ys) t in
         let parts = built_apart core b lines (met_branches tb s bs) built in
-        let first_line : HasText p t (scope_from n ys xs) s.destination r1.0 r2.0 = term_text t b (in_arm tb s k ys) (scope_from n ys xs) r1.0 r2.0 r2.1 l.0 sh.0 ty.0 due (covers_arm n r1.0 k ys (fields_at tb k.0) None xs s.scope r1.1 c) parts.0 in (
+        let first_line : HasText p t (scope_from n ys xs) s.destination r1.0 r2.0 = term_text t b (in_arm tb s k ys) (scope_from n ys xs) r1.0 r2.0 r2.1 l.1.0 sh.0 ty.1.0 due (covers_arm n r1.0 k ys (fields_at tb k.0) None xs s.scope r1.1 c) parts.0 in (
           fields_are n r1.0 ys r1.1,
           found_in tb ok.is_table k (omega (arith, is_k, rows)),
           (
             r2.0,
             subst (λ i. HasText p t (scope_from n ys xs) s.destination i r2.0) (sym (fields_end n r1.0 ys r1.1)) first_line,
-            branches_text bs (next_all tb b lines) s xs r2.0 m (suc first) many r2.2 l.1 sh.1 ty.1 due c parts.1 q.1 (omega (arith, rows)),
+            branches_text bs (next_all tb b lines) s xs r2.0 m (suc first) many r2.2 l.1.1 sh.1 ty.1.1 due c parts.1 q.1 (omega (arith, rows)),
           ),
         )

@@ -80,7 +80,7 @@ abbrev Lines : (Around → Passed → Placed Termed) → Type 0
 Lines line = (h : Around) (v : Passed) → Holds (line h v) Natural
 
 sided_natural : (h : Around) (kind : Kind) (x : Ident) (n : ℕ) (t : Ty) (line : Placed Termed) → Holds line Natural → Holds (and_then line (λ r. Ok (sided h kind x n t r))) NaturalSide
-sided_natural h kind x n t line g = then_holds Natural NaturalSide line (λ r. Ok (sided h kind x n t r)) g (λ r ok. ok)
+sided_natural h kind x n t line g = then_holds Natural NaturalSide line (λ r. Ok (sided h kind x n t r)) g (λ r ok. (tt, ok))
 
 put_natural : (line : Around → Passed → Placed Termed) (h : Around) (v : Passed) (x : Ident) (t : Ty) (at : Mark) (m : Option Building.Meant) (k : Option Kind) → Lines line → Holds (put_at line h v x t at m k) NaturalSide
 put_natural line h v x t at m None g = tt
@@ -104,7 +104,7 @@ mutual
   build_natural p (Cased s x arms) h v = then_holds NaturalArms Natural (build_arms p arms h v) _ (arms_natural p arms h v) (λ r ok. (tt, ok))
   build_natural p (Chosen s x t u) h v =
       then_holds Natural Natural (build p t h v) _ (build_natural p t h v)
-      (λ r ok. then_holds Natural Natural (build p u h r.passed) _ (build_natural p u h r.passed) (λ q more. (atom_natural h x, ok, more)))
+      (λ r ok. then_holds Natural Natural (build p u h r.passed) _ (build_natural p u h r.passed) (λ q more. (atom_natural h x, (ok, more))))
 
   binding_natural : (p : Program) (b : Binding) (h : Around) (v : Passed) → Holds (build_binding p b h v) NaturalStep
   binding_natural p (NewRegion r) h v = tt
@@ -114,7 +114,7 @@ mutual
       then_holds NaturalSide NaturalStep (build_bound p (Be x w at t) h v) _ (bound_natural p (Be x w at t) h v)
       (λ l ok. then_holds (λ g. Unit {0}) NaturalStep (between p.table h x v.fresh l.destination m) _ (any (between p.table h x v.fresh l.destination m))
       (λ g any. then_holds NaturalSide NaturalStep (build_bound p (Be y z on u) g l.passed) _ (bound_natural p (Be y z on u) g l.passed)
-      (λ r more. ((ok, more), tt))))
+      (λ r more. ((tt, (ok, more)), tt))))
     where
       any : {A : Type 0} (x : Placed A) → Holds x (λ a. Unit {0})
       any (Ok x) = tt
@@ -128,11 +128,11 @@ mutual
   arms_natural : (p : Program) (arms : Arms) (h : Around) (v : Passed) → Holds (build_arms p arms h v) NaturalArms
   arms_natural p (LastArm k xs t) h v =
       let g : Around = record h { variables = with_variables v.fresh xs h.variables } in
-      then_holds Natural NaturalArms (build p t g (numbered_on (length xs) v)) _ (build_natural p t g (numbered_on (length xs) v)) (λ r ok. (ok, tt))
+      then_holds Natural NaturalArms (build p t g (numbered_on (length xs) v)) _ (build_natural p t g (numbered_on (length xs) v)) (λ r ok. (tt, (ok, tt)))
   arms_natural p (NextArm k xs t arms) h v =
       let g : Around = record h { variables = with_variables v.fresh xs h.variables } in
       then_holds Natural NaturalArms (build p t g (numbered_on (length xs) v)) _ (build_natural p t g (numbered_on (length xs) v))
-      (λ r ok. then_holds NaturalArms NaturalArms (build_arms p arms h r.passed) _ (arms_natural p arms h r.passed) (λ q more. (ok, more)))
+      (λ r ok. then_holds NaturalArms NaturalArms (build_arms p arms h r.passed) _ (arms_natural p arms h r.passed) (λ q more. (tt, (ok, more))))
 
 body_natural : (f : Bool) (p : Program) (qs : List Parameter) (w : TypeName) (t : Ty) (at : Option Mark) (line : Line) → Holds (body f p qs w t at line) Natural
 body_natural true p qs w t at line = no_mark_holds Natural at _ (build_natural p line (opening qs [] t) (record { fresh = length qs; unused = [] }))

@@ -15,8 +15,9 @@ use Rattle.gib_core.specs.Met.{Body}
 use Rattle.gib_core.specs.Inferring.{infer_function, infer_body, infer_program, with_fields}
 use Rattle.gib_core.specs.declared.atom.Ended.{Ended}
 use Rattle.gib_core.specs.Reaching.{tells_ends, ended_by, reach, reach_function, reach_core}
-use Rattle.gib_place.specs.Placing.{place_function, place_body}
-use Rattle.gib_place.specs.Numbering.{place_core, number_function, number_anew, place_in, variables_in}
+use Rattle.gib_core.specs.Walk.{with_body}
+use Rattle.gib_place.specs.Placing.{place_body}
+use Rattle.gib_place.specs.Numbering.{place_core, place_anew, number_anew, place_in, variables_in}
 use Rattle.gib_local.specs.Covered.{Covered, IsCovered}
 use Rattle.gib_local.specs.HasShape.{HasShape, AreShaped}
 use Rattle.gib_local.proofs.Inferred.{infer_shape}
@@ -28,13 +29,13 @@ body_of f = record { parameters = f.parameters; result = f.result; term = f.body
 
 -- All passes on a function.
 abbrev passed : AccessMode → List Ended → Globals → FunctionTree → FunctionTerm
-passed mode es g f = reach_function mode g.table es (number_function (place_function (infer_function g f)))
+passed mode es g f = reach_function mode g.table es (with_body place_anew (infer_function g f))
 
 term_shape : (mode : AccessMode) (es : List Ended) (tb : Table) (n : ℕ) (t : Term) → tells_ends mode ≡ false → HasShape tb t → HasShape tb (reach mode tb es [] (number_anew n (place_body t)))
 term_shape mode es tb n t q s = reach_shape mode tb es (number_anew n (place_body t)) q (rename_shape tb (place_in (variables_in n (place_body t))) (place_body t) (place_shape tb t s))
 
 functions_shape : (mode : AccessMode) (es : List Ended) (q : tells_ends mode ≡ false) (g : Globals) (fs : List FunctionTree) (m : Body) → AllByRecursion (λ (f : FunctionTree). Covered g f.body) fs → HasShape g.table m.term
-    → AllByRecursion (λ (b : Body). HasShape g.table b.term) (map body_of (map (reach_function mode g.table es) (map number_function (map place_function (map (infer_function g) fs)))) ++ m ∷ [])
+    → AllByRecursion (λ (b : Body). HasShape g.table b.term) (map body_of (map (reach_function mode g.table es) (map (with_body place_anew) (map (infer_function g) fs))) ++ m ∷ [])
 functions_shape mode es q g [] m c h = (h, tt)
 functions_shape mode es q g (f ∷ fs) m c h =
     let types : List Ty = parameter_types g.table f in
@@ -46,7 +47,7 @@ length_map f [] = refl
 length_map f (x ∷ xs) = ap suc (length_map f xs)
 
 some_parameters : (mode : AccessMode) (es : List Ended) (g : Globals) (fs : List FunctionTree) → AllByRecursion (λ (f : FunctionTree). 0 < length f.parameters) fs
-    → AllByRecursion (λ (f : FunctionTerm). 0 < length f.parameters) (map (reach_function mode g.table es) (map number_function (map place_function (map (infer_function g) fs))))
+    → AllByRecursion (λ (f : FunctionTerm). 0 < length f.parameters) (map (reach_function mode g.table es) (map (with_body place_anew) (map (infer_function g) fs)))
 some_parameters mode es g [] h = tt
 some_parameters mode es g (f ∷ fs) h = (subst (λ (n : ℕ). 0 < n) (sym (length_map (λ (q : Parameter). type_of_name g.table.types q.ty) f.parameters)) h.0, some_parameters mode es g fs h.1)
 

@@ -9,7 +9,8 @@ use Rattle.gib_core.specs.declared.atom.AccessMode.TheVariants.{Skips, Offsets, 
 use Rattle.gib_core.specs.Tree.{Term, Then, Write, Point, CallTerm, Give, CaseTerm, IfTerm, Past, One, Both, Prim, Reach, On, Branches, NoBranch, BranchThen, prepend, FunctionTerm, CoreTree}
 use Rattle.gib_core.specs.declared.atom.Ended.{Ended}
 use Rattle.gib_core.specs.Reaching.{Later, uses, uses_any, skips_from, offsets_from, untold_from, reaches, laters, in_par, tells_ends, packed_variables, reach, reach_branches}
-use Rattle.gib_core.specs.Marking.{mark, mark_bind, mark_side, mark_branches, mark_core}
+use Rattle.gib_core.specs.Walk.{map_branches, as_it_is, with_body}
+use Rattle.gib_core.specs.Marking.{mark_one, mark, mark_core}
 use Rattle.gib_core.specs.Met.{Destination, stands_too, result_place}
 use Rattle.gib_local.specs.Tree.{In, Cased, Chosen, LetIn, Be}
 use Rattle.gib_local.specs.Building.{is_flat}
@@ -114,11 +115,11 @@ module _ (nm : Naming) (tb : Table) where
     text_marked (CaseTerm x bs) d at = λ i. Cased nowhere (atom_name nm x) (arms_or (branches_marked bs d at i))
     text_marked (IfTerm x t u) d at = λ i. Chosen nowhere (operand nm x) (text_marked t d at i) (text_marked u d at i)
 
-    branches_marked : (bs : Branches) (d : Destination) (at : ℕ) → branches_text nm tb (mark_branches bs) d at ≡ branches_text nm tb bs d at
+    branches_marked : (bs : Branches) (d : Destination) (at : ℕ) → branches_text nm tb (map_branches mark_one as_it_is bs) d at ≡ branches_text nm tb bs d at
     branches_marked NoBranch d at = refl
     branches_marked (BranchThen k xs t bs) d at = λ i. Some (arms_text (con_text tb k) (map (named nm) xs) (text_marked t d at i) (branches_marked bs d at i))
 
-functions_marked : (nm : Naming) (tb : Table) (fs : List FunctionTerm) → map (function_text nm tb) (map Rattle.gib_core.specs.Marking.mark_function fs) ≡ map (function_text nm tb) fs
+functions_marked : (nm : Naming) (tb : Table) (fs : List FunctionTerm) → map (function_text nm tb) (map (with_body (λ b. mark b.term)) fs) ≡ map (function_text nm tb) fs
 functions_marked nm tb [] = refl
 functions_marked nm tb (f ∷ fs) = λ i. record (function_text nm tb f) { body = text_marked nm tb f.body (result_place f.result) 0 i } ∷ functions_marked nm tb fs i
 
