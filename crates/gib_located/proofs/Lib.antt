@@ -1,1 +1,3 @@
 pub mod TwoWords
+pub mod Faults
+pub mod Saying

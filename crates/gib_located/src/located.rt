@@ -1,9 +1,11 @@
 //! From the words of a command line to the LoCal text of a source's core.
 
-ghost use Rattle.std.specs.Prelude.{◌≡◌, ◌∷◌, [], ℕ, List, Some, OnOk, IfOk, IfErr, IfSome};
+ghost use Rattle.std.specs.Prelude.{◌≡◌, ◌∷◌, [], ℕ, List, Some, OnOk, IfOk, IfErr, MatchOption};
 ghost use Rattle.gib_edge.specs.Causes.{IsFrontOf};
+ghost use Rattle.gib_app.specs.Lines.{IsPut};
+ghost use Rattle.gib_app.specs.Stopping.{answer_of};
 ghost use Rattle.gib_app.specs.Words.{bytes_of};
-ghost use Rattle.gib_located.specs.LocatedSource.{HasCoreText, IsFault, IsPrinted};
+ghost use Rattle.gib_located.specs.LocatedSource.{HasCoreText, IsFault, IsUnreadSource, IsPrinted, IsCallFault, IsEnd, answer_for_fault};
 
 use gib_app::Status;
 use gib_app::answer::{Answer, Detail, Said, answer_to};
@@ -50,7 +52,7 @@ fn text_of(alloc: Global, source: &[u8]) -> Result<Vec<u8>, Fault<'static>>
 
 /// The one name that stands behind the program's.
 fn source_name(words: &[String]) -> Option<&str>
-    ensures { IfSome result (λ name. (program : List ℕ) × (bytes_of words.now ≡ program ∷ name.now ∷ [])) }
+    ensures { MatchOption result ((program name : List ℕ) → bytes_of words.now ≡ program ∷ name ∷ [] → ⊥) (λ name. (program : List ℕ) × (bytes_of words.now ≡ program ∷ name.now ∷ [])) }
 {
     match words {
         [_, name] => Some(name.as_str()),
@@ -64,7 +66,8 @@ fn read_source<'a, S: Shelf>(
     shelf: &mut S,
     name: &'a str,
 ) -> Result<Vec<u8>, Fault<'a>>
-    ensures { IfOk result (λ bytes. IsFrontOf ((S.view shelf.old).kept name.now) 1048577 bytes.items) }
+    ensures bytes { IfOk result (λ bytes. IsFrontOf ((S.view shelf.old).kept name.now) 1048577 bytes.items) }
+    ensures fault { IfErr result (IsUnreadSource name.now (S.view shelf.old) (S.view shelf.new)) }
 {
     match shelf.read(alloc, name, MOST) {
         Ok(bytes) => Ok(bytes),
@@ -80,7 +83,8 @@ fn call<'a, S: Shelf, O: Sink>(
     shelf: &mut S,
     out: &mut O,
 ) -> Result<(), Fault<'a>>
-    ensures { OnOk result (IsPrinted (bytes_of words.now) (S.view shelf.old).kept (O.view out.old).taken (O.view out.new).taken) }
+    ensures printed { OnOk result (IsPrinted (bytes_of words.now) (S.view shelf.old).kept (O.view out.old).taken (O.view out.new).taken) }
+    ensures fault { IfErr result (IsCallFault (bytes_of words.now) (S.view shelf.old) (S.view shelf.new) (O.view out.old) (O.view out.new)) }
 {
     let Some(name) = source_name(words) else {
         return Err(Fault::Stopped(Stop::Usage));
@@ -101,7 +105,7 @@ fn call<'a, S: Shelf, O: Sink>(
 
 /// What is answered to a fault.
 fn answer(fault: Fault<'_>) -> Answer<'_>
-    ensures { result.status ≡ Status.Done → ⊥ }
+    ensures { answer_of result ≡ answer_for_fault fault.entry }
 {
     match fault {
         Fault::Stopped(stop) => answer_to(stop),
@@ -136,7 +140,9 @@ pub fn located<S: Shelf, O: Sink, E: Sink>(
     out: &mut O,
     err: &mut E,
 ) -> Status
-    ensures { result ≡ Status.Done → IsPrinted (bytes_of words.now) (S.view shelf.old).kept (O.view out.old).taken (O.view out.new).taken }
+    // Each status comes only by its cause, and its line is put on `err`, or a front of the line where the count of `err` rose. `Done` comes
+    // only where exactly the text of the core of the source was put.
+    ensures { (said : List ℕ) × IsEnd (bytes_of words.now) (S.view shelf.old) (S.view shelf.new) (O.view out.old) (O.view out.new) result said × IsPut (E.view err.old) (E.view err.new) said }
 {
     let answer = match call(alloc, words, shelf, out) {
         Ok(()) => return Status::Done,

@@ -1,0 +1,15 @@
+use Rattle.std.proofs.Common.{ℕ, List, subst}
+use Rattle.gib_app.specs.Words.{bytes_of}
+use Rattle.gib_located.specs.LocatedSource.{IsFault}
+use Rattle.gib_located.proofs.Faults.{fault_ends}
+use Rattle.gib_located.proofs.located.call.Goals as goal
+
+pub returns-in-Err-text_of-clause-fault : goal.returns-in-Err-text_of-clause-fault
+returns-in-Err-text_of-clause-fault g c =
+    fault_ends (bytes_of c.args.words.now) c.in-Ok.source.items
+    (g.S.Shelf.view c.args.shelf.now)
+    (g.S.Shelf.view c.read_source.new.shelf)
+    (g.O.Sink.view c.args.out.now)
+    (record { program = c.in-Some.ensures.0; name = c.in-Some.name.now; words_are = c.in-Some.ensures.1; held = c.in-Ok.ensures.bytes })
+    c.in-Err-text_of.fault
+    (subst (λ (source : List ℕ). IsFault source c.in-Err-text_of.fault) c.deref.ensures.value c.in-Err-text_of.ensures.fault)
