@@ -17,9 +17,9 @@ is_name_byte b = is_ascii_alphabetic b || is_ascii_digit b || b == 95
 abbrev pub is_comment_byte : ℕ → Bool
 is_comment_byte b = b == 9 || b == 13 || nat_le 32 b && nat_lt b 127
 
--- The signs of one byte with which no longer one begins: | ; ( ) : { } + * [ ] <
+-- The signs of one byte with which no longer one begins: | ; ( ) : { } + * [ ] < ,
 abbrev pub is_sign_byte : ℕ → Bool
-is_sign_byte b = b == 124 || b == 59 || b == 40 || b == 41 || b == 58 || b == 123 || b == 125 || b == 43 || b == 42 || b == 91 || b == 93 || b == 60
+is_sign_byte b = b == 124 || b == 59 || b == 40 || b == 41 || b == 58 || b == 123 || b == 125 || b == 43 || b == 42 || b == 91 || b == 93 || b == 60 || b == 44
 
 -- What a byte begins: 45 is `-` and 61 is `=`.
 pub data Class : Type 0 where
@@ -31,10 +31,10 @@ pub data Class : Type 0 where
   Single : Class
   Other : Class
 
--- The class of a byte that begins nothing in a program: 64 is `@`, and 44 a comma.
+-- The class of a byte that begins nothing in a program: 64 is `@`.
 abbrev pub other_class : Dialect → ℕ → Class
 other_class Source b = Other
-other_class Located b = if b == 64 || b == 44 then Single else Other
+other_class Located b = if b == 64 then Single else Other
 
 -- The class of a byte, by the first of these tests that it passes.
 abbrev pub class_by : Dialect → ℕ → Class

@@ -50,6 +50,7 @@ sign_text sign.Minus = codes "-"
 sign_text sign.Times = codes "*"
 sign_text sign.Same = codes "=="
 sign_text sign.Less = codes "<"
+sign_text sign.Comma = codes ","
 sign_text sign.At = codes "@"
 sign_text sign.Offsets = codes "offsets"
 sign_text sign.LetRegion = codes "letregion"
@@ -63,7 +64,6 @@ sign_text sign.Give = codes "give"
 sign_text sign.Point = codes "point"
 sign_text sign.Start = codes "start"
 sign_text sign.After = codes "after"
-sign_text sign.Comma = codes ","
 
 -- The signs of programs; the others belong to programs whose places are written out.
 abbrev pub is_plain : Sign → Bool
@@ -80,7 +80,6 @@ is_plain sign.Give = false
 is_plain sign.Point = false
 is_plain sign.Start = false
 is_plain sign.After = false
-is_plain sign.Comma = false
 is_plain s = true
 
 -- The sign is one of the dialect's.
@@ -170,6 +169,7 @@ piece_by dialect (b ∷ rest) = piece_of_class dialect (class_by dialect b) b re
 abbrev pub piece_in : Class → ℕ → List ℕ → Piece
 piece_in = piece_of_class Source
 
+-- The piece that a program's bytes begin with.
 abbrev pub piece_of : List ℕ → Piece
 piece_of = piece_by Source
 

@@ -16,6 +16,7 @@ plain_texts names = record { short = names; long = names }
 abbrev pub short_of : List (List ℕ) → Copied → List ℕ
 short_of names c = unwrap_or (slice_get names c.origin.0) []
 
+-- The long text of a name with types.
 abbrev pub long_of : Copied → List ℕ
 long_of c = c.long.items
 

@@ -33,5 +33,8 @@ pub const EXPRESSIONS: u32 = 2_000;
 /// How many type parameters a type or a function may have.
 pub const TYPE_PARAMETERS: u32 = 8;
 
+/// How many parts a result may have, and how many variables a binding of parts.
+pub const PARTS: u32 = 8;
+
 /// How many words a type may have, written out, where it is an argument for a type parameter.
 pub const TYPE_WORDS: u32 = 64;

@@ -13,7 +13,7 @@ pub enum Dialect {
     Located,
 }
 
-/// The words and signs of the language. Those behind `Less` are words and signs of `Dialect::Located` alone.
+/// The words and signs of the language. Those behind `Comma` are words and signs of `Dialect::Located` alone.
 #[derive(Clone, Copy, Debug, PartialEq, Eq)]
 pub enum Sign {
     Data,
@@ -68,6 +68,8 @@ pub enum Sign {
     Same,
     /// `<`
     Less,
+    /// `,`
+    Comma,
     /// `@`
     At,
     /// `offsets`
@@ -94,8 +96,6 @@ pub enum Sign {
     Start,
     /// `after`
     After,
-    /// `,`
-    Comma,
 }
 
 /// A token: a name that begins with a lower-case letter, one that begins with an upper-case letter,

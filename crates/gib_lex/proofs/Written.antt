@@ -73,6 +73,7 @@ sign_piece dialect sign.Minus h = refl
 sign_piece dialect sign.Times h = refl
 sign_piece dialect sign.Same h = refl
 sign_piece dialect sign.Less h = refl
+sign_piece dialect sign.Comma h = refl
 sign_piece Source sign.At h = absurd (true≢false (sym h))
 sign_piece Located sign.At h = refl
 sign_piece Source sign.Offsets h = absurd (true≢false (sym h))
@@ -99,8 +100,6 @@ sign_piece Source sign.Start h = absurd (true≢false (sym h))
 sign_piece Located sign.Start h = refl
 sign_piece Source sign.After h = absurd (true≢false (sym h))
 sign_piece Located sign.After h = refl
-sign_piece Source sign.Comma h = absurd (true≢false (sym h))
-sign_piece Located sign.Comma h = refl
 
 sign_longest : (dialect : Dialect) (s : Sign) → IsSignOf dialect s → (o : Option (List ℕ)) → longest dialect (sign_text s ++ tail o) ≡ length (sign_text s)
 sign_longest dialect sign.Data h None = refl
@@ -171,6 +170,8 @@ sign_longest dialect sign.Same h None = refl
 sign_longest dialect sign.Same h (Some r) = refl
 sign_longest dialect sign.Less h None = refl
 sign_longest dialect sign.Less h (Some r) = refl
+sign_longest dialect sign.Comma h None = refl
+sign_longest dialect sign.Comma h (Some r) = refl
 sign_longest Source sign.At h o = absurd (true≢false (sym h))
 sign_longest Located sign.At h None = refl
 sign_longest Located sign.At h (Some r) = refl
@@ -198,9 +199,6 @@ sign_longest dialect sign.Start h None = refl
 sign_longest dialect sign.Start h (Some r) = refl
 sign_longest dialect sign.After h None = refl
 sign_longest dialect sign.After h (Some r) = refl
-sign_longest Source sign.Comma h o = absurd (true≢false (sym h))
-sign_longest Located sign.Comma h None = refl
-sign_longest Located sign.Comma h (Some r) = refl
 
 sign_some : (s : Sign) → 0 < length (sign_text s)
 sign_some sign.Data = omega arith
@@ -237,6 +235,7 @@ sign_some sign.Minus = omega arith
 sign_some sign.Times = omega arith
 sign_some sign.Same = omega arith
 sign_some sign.Less = omega arith
+sign_some sign.Comma = omega arith
 sign_some sign.At = omega arith
 sign_some sign.Offsets = omega arith
 sign_some sign.LetRegion = omega arith
@@ -250,7 +249,6 @@ sign_some sign.Give = omega arith
 sign_some sign.Point = omega arith
 sign_some sign.Start = omega arith
 sign_some sign.After = omega arith
-sign_some sign.Comma = omega arith
 
 sign_read : (dialect : Dialect) (names : List (List ℕ)) (s : Sign) → IsSignOf dialect s → IsRead dialect names (token.Sign s)
 sign_read dialect names s h = record {
@@ -308,23 +306,17 @@ either_plain : (t : Bool) (x y : Sign) → is_plain x ≡ true → is_plain y �
 either_plain true x y e f = e
 either_plain false x y e f = f
 
--- no single sign of a program is `@` or a comma
+-- no single sign of a program is `@`
 no_at : (b : ℕ) → class_by Source b ≡ Single → eqb b 64 ≡ false
 no_at b e = by (eqb b 64) refl where
   by : (t : Bool) → eqb b 64 ≡ t → t ≡ false
   by true f = let there : class_by Source 64 ≡ Single = subst (λ (k : ℕ). class_by Source k ≡ Single) (eqb-true b 64 f) e in absurd cc
   by false f = refl
 
-no_comma : (b : ℕ) → class_by Source b ≡ Single → eqb b 44 ≡ false
-no_comma b e = by (eqb b 44) refl where
-  by : (t : Bool) → eqb b 44 ≡ t → t ≡ false
-  by true f = let there : class_by Source 44 ≡ Single = subst (λ (k : ℕ). class_by Source k ≡ Single) (eqb-true b 44 f) e in absurd cc
-  by false f = refl
-
 single_plain : (b : ℕ) → class_by Source b ≡ Single → is_plain (single_of b) ≡ true
 single_plain b e =
-    let less : is_plain (cond (eqb b 44) sign.Comma sign.Less) ≡ true = ap (λ (t : Bool). is_plain (cond t sign.Comma sign.Less)) (no_comma b e) in
-    let last : is_plain (cond (eqb b 64) sign.At (cond (eqb b 44) sign.Comma sign.Less)) ≡ true = ap (λ (t : Bool). is_plain (cond t sign.At (cond (eqb b 44) sign.Comma sign.Less))) (no_at b e) ∙ less in
+    let last : is_plain (cond (eqb b 64) sign.At (cond (eqb b 44) sign.Comma sign.Less)) ≡ true =
+    ap (λ (t : Bool). is_plain (cond t sign.At (cond (eqb b 44) sign.Comma sign.Less))) (no_at b e) ∙ either_plain (eqb b 44) _ _ refl refl in
     either_plain (eqb b 124) _ _ refl (either_plain (eqb b 59) _ _ refl (either_plain (eqb b 40) _ _ refl (either_plain (eqb b 41) _ _ refl (either_plain (eqb b 58) _ _ refl
     (either_plain (eqb b 123) _ _ refl (either_plain (eqb b 125) _ _ refl (either_plain (eqb b 43) _ _ refl (either_plain (eqb b 42) _ _ refl (either_plain (eqb b 91) _ _ refl (either_plain (eqb b 93) _ _ refl last))))))))))
 

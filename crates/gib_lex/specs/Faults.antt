@@ -38,8 +38,10 @@ pub record HasTooManyNamesIn (dialect : Dialect) (bytes : List ℕ) : Type 0 whe
 abbrev pub IsStuckAt : List ℕ → ℕ → Type 0
 IsStuckAt = IsStuckIn Source
 
+-- At this place of a program stands a number that is too big.
 abbrev pub IsBigAt : List ℕ → ℕ → Type 0
 IsBigAt = IsBigIn Source
 
+-- A program has more names than can be numbered.
 abbrev pub HasTooManyNames : List ℕ → Type 0
 HasTooManyNames = HasTooManyNamesIn Source

@@ -39,6 +39,7 @@ fn is_sign_byte(b: u8) -> bool
         || b == b'['
         || b == b']'
         || b == b'<'
+        || b == b','
 }
 
 // Whether a byte is a further sign of the dialect.
@@ -47,7 +48,7 @@ fn is_place_byte(dialect: Dialect, b: u8) -> bool
 {
     match dialect {
         Dialect::Source => false,
-        Dialect::Located => b == b'@' || b == b',',
+        Dialect::Located => b == b'@',
     }
 }
 

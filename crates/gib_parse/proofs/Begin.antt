@@ -7,15 +7,16 @@ use Rattle.gib_base.specs.declared.token.Token.TheVariants as t
 use Rattle.gib_syntax.specs.declared.tree.Ident.{Ident}
 use Rattle.gib_syntax.specs.declared.tree.Operator.{Operator}
 use Rattle.gib_syntax.specs.declared.tree.Operator.TheVariants as o
-use Rattle.gib_syntax.specs.GenericTree.{GenericExpression, GenericArguments, GenericArms, GenericVar, GenericNum, GenericBit, GenericParen, GenericOp, GenericCall, GenericMake, GenericLet, GenericPar, GenericIf, GenericCase, GenericNoArgument, GenericArgument, GenericLastArm, GenericNextArm, GenericConstructorTree, GenericDataTree, GenericFunctionTree, GenericParameterTree}
-use Rattle.gib_syntax.specs.Spelling.{Places, spell, spell_arguments, spell_arms, spell_variables, spell_operator, spell_bit, spell_type, spell_written, spell_types, spell_type_arguments, spell_type_parameters, spell_constructor, spell_more, spell_constructors, spell_data, spell_datas, spell_parameter, spell_parameters, spell_body, spell_function, spell_functions}
-use Rattle.gib_parse.specs.Reading.{Fault, At, Read, Reader, then_at, want, want_if, same, var_at, con_at, type_at, type_arguments_at, next_is, many_step, many, is_variable, starts_type}
+use Rattle.gib_syntax.specs.GenericTree.{GenericExpression, GenericArguments, GenericArms, GenericVar, GenericNum, GenericBit, GenericParen, GenericOp, GenericCall, GenericMake, GenericLet, GenericPar, GenericIf, GenericCase, GenericTuple, GenericLetSeveral, GenericParSeveral, GenericNoArgument, GenericArgument, GenericLastArm, GenericNextArm, GenericConstructorTree, GenericDataTree, GenericFunctionTree, GenericParameterTree}
+use Rattle.gib_syntax.specs.Results.{Results, One, Several}
+use Rattle.gib_syntax.specs.Spelling.{Places, spell, spell_arguments, spell_parts, spell_further_parts, spell_arms, spell_variables, spell_further_names, spell_names, spell_operator, spell_bit, spell_type, spell_written, spell_types, spell_type_arguments, spell_type_parameters, spell_constructor, spell_more, spell_constructors, spell_data, spell_datas, spell_parameter, spell_parameters, spell_further_types, spell_results, spell_body, spell_function, spell_functions}
+use Rattle.gib_parse.specs.Reading.{Fault, At, Read, Reader, then_at, want, want_if, same, var_at, con_at, type_at, type_arguments_at, next_is, many_step, many, is_variable, is_sign, starts_type, next_name_at, names_bound_at}
 use Rattle.gib_parse.proofs.Tools.{done, failed, want_holds, var_holds, con_holds, IsVar}
 use Rattle.gib_parse.proofs.Written.{IsType, type_holds, types_sound, type_arguments_hold}
 use Rattle.gib_syntax.specs.Forms.{WrittenType, WrittenTypes, WholeAt, TruthAt, VariableAt, DataAt, NoType, MoreTypes}
 use Rattle.gib_parse.proofs.Many.{Shrinks, many_is, many_sound}
 use Rattle.gib_parse.proofs.Longer.{var_shrinks}
-use Rattle.gib_parse.proofs.Sound.{variables_sound}
+use Rattle.gib_parse.proofs.Sound.{variables_sound, NextName, next_name_holds, further_names_sound, names_bound_sound}
 use Rattle.gib_parse.proofs.Local.{then_failed}
 
 -- The lists agree up to where j tokens of the first are left.
@@ -36,6 +37,15 @@ agrees_cons h j ws vs a = record { front = h ∷ a.front; rest = a.rest; more = 
 agrees_variables : (xs : List Ident) (j : ℕ) (ws vs : List Token) → Agrees j ws vs → Agrees j (spell_variables xs ws) (spell_variables xs vs)
 agrees_variables [] j ws vs a = a
 agrees_variables (x ∷ xs) j ws vs a = agrees_cons (t.Variable x.name) j _ _ (agrees_variables xs j ws vs a)
+
+pub agrees_further_names : (xs : List Ident) (j : ℕ) (ws vs : List Token) → Agrees j ws vs → Agrees j (spell_further_names xs ws) (spell_further_names xs vs)
+agrees_further_names [] j ws vs a = a
+agrees_further_names (x ∷ xs) j ws vs a = agrees_cons (t.Sign s.Comma) j _ _ (agrees_cons (t.Variable x.name) j _ _ (agrees_further_names xs j ws vs a))
+
+pub agrees_names : (xs : List Ident) (j : ℕ) (ws vs : List Token) → Agrees j ws vs → Agrees j (spell_names xs ws) (spell_names xs vs)
+agrees_names [] j ws vs a = a
+agrees_names (x ∷ []) j ws vs a = agrees_cons (t.Variable x.name) j ws vs a
+agrees_names (x ∷ y ∷ ys) j ws vs a = agrees_cons (t.Sign s.Open) j _ _ (agrees_cons (t.Variable x.name) j _ _ (agrees_further_names (y ∷ ys) j _ _ (agrees_cons (t.Sign s.Close) j ws vs a)))
 
 pub agrees_operator : (f : Operator) (j : ℕ) (ws vs : List Token) → Agrees j ws vs → Agrees j (spell_operator f ws) (spell_operator f vs)
 agrees_operator o.Add j ws vs a = agrees_cons (t.Sign s.Plus) j ws vs a
@@ -87,6 +97,19 @@ mutual
   agrees_expr (GenericIf p e b c) j ws vs a = agrees_cons (t.Sign s.If) j _ _ (agrees_expr e j _ _ (agrees_cons (t.Sign s.Then) j _ _ (agrees_expr b j _ _ (agrees_cons (t.Sign s.Else) j _ _ (agrees_expr c j ws vs a)))))
   agrees_expr (GenericCase p x arms) j ws vs a =
       agrees_cons (t.Sign s.Case) j _ _ (agrees_cons (t.Variable x.name) j _ _ (agrees_cons (t.Sign s.Of) j _ _ (agrees_cons (t.Sign s.OpenBrace) j _ _ (agrees_arms arms j _ _ (agrees_cons (t.Sign s.CloseBrace) j ws vs a)))))
+  agrees_expr (GenericTuple p xs) j ws vs a = agrees_cons (t.Sign s.Open) j _ _ (agrees_parts xs j _ _ (agrees_cons (t.Sign s.Close) j ws vs a))
+  agrees_expr (GenericLetSeveral p xs e b) j ws vs a = agrees_cons (t.Sign s.Let) j _ _ (agrees_names xs j _ _ (agrees_cons (t.Sign s.Equals) j _ _ (agrees_expr e j _ _ (agrees_cons (t.Sign s.In) j _ _ (agrees_expr b j ws vs a)))))
+  agrees_expr (GenericParSeveral p xs e ys b c) j ws vs a =
+      agrees_cons (t.Sign s.Let) j _ _ (agrees_cons (t.Sign s.Par) j _ _ (agrees_names xs j _ _ (agrees_cons (t.Sign s.Equals) j _ _ (agrees_expr e j _ _ (agrees_cons (t.Sign s.And) j _ _
+      (agrees_names ys j _ _ (agrees_cons (t.Sign s.Equals) j _ _ (agrees_expr b j _ _ (agrees_cons (t.Sign s.In) j _ _ (agrees_expr c j ws vs a))))))))))
+
+  agrees_parts : (xs : GenericArguments) (j : ℕ) (ws vs : List Token) → Agrees j ws vs → Agrees j (spell_parts xs ws) (spell_parts xs vs)
+  agrees_parts GenericNoArgument j ws vs a = a
+  agrees_parts (GenericArgument e xs) j ws vs a = agrees_expr e j _ _ (agrees_further_parts xs j ws vs a)
+
+  pub agrees_further_parts : (xs : GenericArguments) (j : ℕ) (ws vs : List Token) → Agrees j ws vs → Agrees j (spell_further_parts xs ws) (spell_further_parts xs vs)
+  agrees_further_parts GenericNoArgument j ws vs a = a
+  agrees_further_parts (GenericArgument e xs) j ws vs a = agrees_cons (t.Sign s.Comma) j _ _ (agrees_expr e j _ _ (agrees_further_parts xs j ws vs a))
 
   agrees_arguments : (xs : GenericArguments) (j : ℕ) (ws vs : List Token) → Agrees j ws vs → Agrees j (spell_arguments xs ws) (spell_arguments xs vs)
   agrees_arguments GenericNoArgument j ws vs a = a
@@ -130,8 +153,17 @@ pub agrees_parameters : (qs : List GenericParameterTree) (j : ℕ) (ws vs : List
 agrees_parameters [] j ws vs a = a
 agrees_parameters (q ∷ qs) j ws vs a = agrees_parameter q j _ _ (agrees_parameters qs j ws vs a)
 
-pub agrees_body : (x : WrittenType) (e : GenericExpression) (j : ℕ) (ws vs : List Token) → Agrees j ws vs → Agrees j (spell_body x e ws) (spell_body x e vs)
-agrees_body x e j ws vs a = agrees_cons (t.Sign s.Colon) j _ _ (agrees_type x j _ _ (agrees_cons (t.Sign s.Equals) j _ _ (agrees_expr e j _ _ (agrees_cons (t.Sign s.Semicolon) j ws vs a))))
+pub agrees_further_types : (xs : List WrittenType) (j : ℕ) (ws vs : List Token) → Agrees j ws vs → Agrees j (spell_further_types xs ws) (spell_further_types xs vs)
+agrees_further_types [] j ws vs a = a
+agrees_further_types (x ∷ xs) j ws vs a = agrees_cons (t.Sign s.Comma) j _ _ (agrees_type x j _ _ (agrees_further_types xs j ws vs a))
+
+pub agrees_results : (r : Results WrittenType) (j : ℕ) (ws vs : List Token) → Agrees j ws vs → Agrees j (spell_results r ws) (spell_results r vs)
+agrees_results (One x) j ws vs a = agrees_type x j ws vs a
+agrees_results (Several []) j ws vs a = a
+agrees_results (Several (x ∷ xs)) j ws vs a = agrees_cons (t.Sign s.Open) j _ _ (agrees_type x j _ _ (agrees_further_types xs j _ _ (agrees_cons (t.Sign s.Close) j ws vs a)))
+
+pub agrees_body : (r : Results WrittenType) (e : GenericExpression) (j : ℕ) (ws vs : List Token) → Agrees j ws vs → Agrees j (spell_body r e ws) (spell_body r e vs)
+agrees_body r e j ws vs a = agrees_cons (t.Sign s.Colon) j _ _ (agrees_results r j _ _ (agrees_cons (t.Sign s.Equals) j _ _ (agrees_expr e j _ _ (agrees_cons (t.Sign s.Semicolon) j ws vs a))))
 
 pub agrees_function : (f : GenericFunctionTree) (j : ℕ) (ws vs : List Token) → Agrees j ws vs → Agrees j (spell_function f ws) (spell_function f vs)
 agrees_function f j ws vs a =
@@ -246,6 +278,18 @@ goes_type_arguments at xs ws rest e n = record { before = spell_type_arguments x
 pub goes_vars : {B : Type 0} {L : List Token → Type 0} {p : Reader B} (at : Places) (xs : List Ident) (ws rest : List Token) → many is_variable (var_at at) ws ≡ done xs rest → Begins (λ vs. L (spell_variables xs vs)) p rest → Goes L p ws rest
 goes_vars at xs ws rest e n =
     record { before = spell_variables xs; was = (variables_sound at xs ws rest ((many_sound (IsVar at) is_variable (var_at at) (var_holds at) ws).by xs rest e)).0; agrees = agrees_variables xs; next = n }
+
+pub goes_next_name : {B : Type 0} {L : List Token → Type 0} {p : Reader B} (at : Places) (x : Ident) (ws rest : List Token) → next_name_at at ws ≡ done x rest → Begins (λ vs. L (t.Sign s.Comma ∷ t.Variable x.name ∷ vs)) p rest → Goes L p ws rest
+goes_next_name at x ws rest e n =
+    let o = (next_name_holds at ws).by x rest e in
+    record { before = λ l. t.Sign s.Comma ∷ t.Variable x.name ∷ l; was = o.comma ∙ ap (λ l. t.Sign s.Comma ∷ l) o.is_name.spelled; agrees = λ j y z a. agrees_cons (t.Sign s.Comma) j _ _ (agrees_cons (t.Variable x.name) j y z a); next = n }
+
+pub goes_further_names : {B : Type 0} {L : List Token → Type 0} {p : Reader B} (at : Places) (xs : List Ident) (ws rest : List Token) → many (is_sign s.Comma) (next_name_at at) ws ≡ done xs rest → Begins (λ vs. L (spell_further_names xs vs)) p rest → Goes L p ws rest
+goes_further_names at xs ws rest e n =
+    record { before = spell_further_names xs; was = (further_names_sound at xs ws rest ((many_sound (NextName at) (is_sign s.Comma) (next_name_at at) (next_name_holds at) ws).by xs rest e)).0; agrees = agrees_further_names xs; next = n }
+
+pub goes_names : {B : Type 0} {L : List Token → Type 0} {p : Reader B} (at : Places) (xs : List Ident) (ws rest : List Token) → names_bound_at at ws ≡ done xs rest → Begins (λ vs. L (spell_names xs vs)) p rest → Goes L p ws rest
+goes_names at xs ws rest e n = record { before = spell_names xs; was = ((names_bound_sound at ws).by xs rest e).spelled; agrees = agrees_names xs; next = n }
 
 pub goes_expr : {B : Type 0} {L : List Token → Type 0} {p : Reader B} (a : GenericExpression) (ws rest : List Token) → ws ≡ spell a rest → Begins (λ vs. L (spell a vs)) p rest → Goes L p ws rest
 goes_expr a ws rest e n = record { before = spell a; was = e; agrees = agrees_expr a; next = n }

@@ -1,5 +1,5 @@
 -- The tokens before a refused one begin a program.
-use Rattle.std.proofs.Common.{◌≡◌, ◌≢◌, ℕ, ◌-◌, List, [], ◌∷◌, ◌++◌, length, take, refl, sym, ap, ◌∙◌, arith, length-append}
+use Rattle.std.proofs.Common.{◌≡◌, ◌≢◌, ℕ, ◌-◌, List, [], ◌∷◌, ◌++◌, length, take, refl, sym, ap, ◌∙◌, subst, arith, length-append}
 use Rattle.std.specs.List.{AllByRecursion}
 use Rattle.std.proofs.lemmas.List.{take_at}
 use Rattle.gib_base.specs.declared.Span.{Span}
@@ -7,19 +7,21 @@ use Rattle.gib_base.specs.declared.token.Sign.TheVariants as s
 use Rattle.gib_base.specs.declared.token.Token.{Token}
 use Rattle.gib_base.specs.declared.token.Token.TheVariants as t
 use Rattle.gib_syntax.specs.declared.tree.Ident.{Ident}
-use Rattle.gib_syntax.specs.Forms.{WrittenType, WholeAt}
+use Rattle.gib_syntax.specs.Forms.{WrittenType, WholeAt, DataAt, NoType}
+use Rattle.gib_syntax.specs.Results.{Results, One, Several, AreResults}
 use Rattle.gib_syntax.specs.GenericTree.{GenericExpression, GenericNum, GenericConstructorTree, GenericDataTree, GenericFunctionTree, GenericMainTree, GenericProgramTree, GenericParameterTree}
 use Rattle.gib_syntax.specs.GenericFine.{IsGenericFine, IsGenericFineFunction, IsGenericFineProgram, HasGenericConstructor}
-use Rattle.gib_syntax.specs.Spelling.{Places, Derives, spell_variables, spell_type_parameters, spell_type, spell_constructor, spell_more, spell_constructors, spell_data, spell_datas, spell_parameter, spell_parameters, spell_body, spell_function, spell_functions, spell_main, spell_program}
-use Rattle.gib_parse.specs.Reading.{At, Any, var_at, is_variable, many, is_sign, constructor_at, alternative_at, constructors_at, data_at, parameter_at, parameters_at, BodyTree, body_at, function_at, main_at, program_at, ends_at, whole_in, parse}
+use Rattle.gib_syntax.specs.Spelling.{Places, Derives, spell, spell_variables, spell_type_parameters, spell_type, spell_further_types, spell_results, spell_constructor, spell_more, spell_constructors, spell_data, spell_datas, spell_parameter, spell_parameters, spell_body, spell_function, spell_functions, spell_main, spell_program}
+use Rattle.gib_parse.specs.Reading.{At, Any, Reader, then_at, before, named, type_at, inside, next_type_at, further_types_at, one_type_at, declared_at, open_results_at, results_at, var_at, is_variable, many, is_sign, constructor_at, alternative_at, constructors_at, data_at, parameter_at, parameters_at, body_at, function_at, main_at, program_at, ends_at, whole_in, parse}
 use Rattle.gib_parse.specs.Blaming.{Begun}
 use Rattle.gib_parse.proofs.Tools.{done, failed}
 use Rattle.gib_parse.proofs.Many.{many_sound}
 use Rattle.gib_parse.proofs.Sound.{parse_sound}
-use Rattle.gib_parse.proofs.ProgramSound.{constructor_sound, alternative_sound, constructors_sound, SoundData, data_sound, datas_sound, parameter_sound, parameters_sound, type_parameters_sound, SoundFunction, function_sound, functions_sound, program_sound, alternative_shrinks, data_shrinks, parameter_shrinks, function_shrinks}
-use Rattle.gib_parse.proofs.Begin.{Agrees, agrees_cons, agrees_constructor, agrees_constructors, agrees_data, agrees_datas, agrees_parameter, agrees_parameters, agrees_body, agrees_type_parameters, agrees_function, agrees_functions, Begins, b_map, b_never, b_done, b_now, b_then, b_last, b_want, b_var, b_con, goes_sign, goes_var, goes_con, goes_vars, goes_type, goes_expr, Keeps, many_begins, vars_never}
-use Rattle.gib_parse.proofs.BeginWritten.{type_begins, types_begin, type_parameters_begin}
+use Rattle.gib_parse.proofs.ProgramSound.{constructor_sound, alternative_sound, constructors_sound, SoundData, data_sound, datas_sound, parameter_sound, parameters_sound, type_parameters_sound, NextType, next_type_holds, further_types_sound, results_sound, SoundFunction, function_sound, functions_sound, program_sound, alternative_shrinks, data_shrinks, parameter_shrinks, function_shrinks}
+use Rattle.gib_parse.proofs.Begin.{Agrees, agrees_cons, agrees_constructor, agrees_constructors, agrees_data, agrees_datas, agrees_parameter, agrees_parameters, agrees_type, agrees_further_types, agrees_results, agrees_body, agrees_type_parameters, agrees_function, agrees_functions, Begins, b_map, b_never, b_done, b_now, b_by, b_then, b_last, behind_token, b_want, b_var, b_con, goes_sign, goes_var, goes_con, goes_vars, goes_type, goes_expr, Keeps, many_begins, vars_never}
+use Rattle.gib_parse.proofs.BeginWritten.{type_begins, inside_begins, types_begin, type_parameters_begin}
 use Rattle.gib_parse.proofs.BeginExpression.{parse_begins}
+use Rattle.gib_parse.proofs.Local.{next_types_shrink}
 
 -- The languages, with what comes behind.
 
@@ -45,7 +47,13 @@ abbrev ParameterThen : List Token → List Token → Type 0
 ParameterThen r vs = (q : GenericParameterTree) × (vs ≡ spell_parameter q r)
 
 abbrev BodyThen : List Token → List Token → Type 0
-BodyThen r vs = (b : BodyTree) × IsGenericFine b.body × (vs ≡ spell_body b.result b.body r)
+BodyThen r vs = (e : GenericExpression) × IsGenericFine e × (vs ≡ t.Sign s.Equals ∷ spell e (t.Sign s.Semicolon ∷ r))
+
+abbrev FurtherTypesThen : List Token → List Token → Type 0
+FurtherTypesThen r vs = (xs : List WrittenType) × (vs ≡ spell_further_types xs r)
+
+abbrev ResultsThen : List Token → List Token → Type 0
+ResultsThen r vs = (x : Results WrittenType) × AreResults x × (vs ≡ spell_results x r)
 
 abbrev FunctionThen : List Token → List Token → Type 0
 FunctionThen r vs = (f : GenericFunctionTree) × IsGenericFineFunction f × (vs ≡ spell_function f r)
@@ -82,17 +90,20 @@ a_constructor = record { name = a_name; fields = [] }
 abbrev a_parameter : GenericParameterTree
 a_parameter = record { name = a_name; ty = a_type }
 
-abbrev a_body : BodyTree
-a_body = record { result = a_type; body = zero_is }
+abbrev a_result : Results WrittenType
+a_result = One a_type
+
+abbrev a_body : List Token → List Token
+a_body r = t.Sign s.Equals ∷ t.Number 0 ∷ t.Sign s.Semicolon ∷ r
 
 abbrev a_main : GenericMainTree
 a_main = record { parameter = a_parameter; result = a_type; body = zero_is }
 
 abbrev body_tokens : List Token → List Token
-body_tokens r = spell_body a_type zero_is r
+body_tokens r = spell_body a_result zero_is r
 
 agrees_main : (m : GenericMainTree) (j : ℕ) (ws vs : List Token) → Agrees j ws vs → Agrees j (spell_main m ws) (spell_main m vs)
-agrees_main m j ws vs a = agrees_cons (t.Sign s.Main) j _ _ (agrees_parameter m.parameter j _ _ (agrees_body m.result m.body j ws vs a))
+agrees_main m j ws vs a = agrees_cons (t.Sign s.Main) j _ _ (agrees_parameter m.parameter j _ _ (agrees_body (One m.result) m.body j ws vs a))
 
 agrees_program : (p : GenericProgramTree) (j : ℕ) (ws vs : List Token) → Agrees j ws vs → Agrees j (spell_program p ws) (spell_program p vs)
 agrees_program p j ws vs a = agrees_datas p.datas j _ _ (agrees_functions p.functions j _ _ (agrees_main p.main j ws vs a))
@@ -195,16 +206,82 @@ module _ (at : Places) where
         next = b_last (b_map (λ vs o. (q ∷ o.0, some_parameters q o.0, ap (spell_parameter q) o.1)) (many_begins (ParametersThen r) (is_sign s.Open) (parameter_at at) (parameter_shrinks at) (λ ws. b_map (λ vs o. (o.0 ∷ [], o.1)) (parameter_begins ws r)) (λ q ws rest e. parameter_keeps r q ws rest e) r1)) (λ qs r2. (q ∷ qs, r2, refl));
       })
 
-  body_begins : (n : ℕ) (ws r : List Token) → Begins (BodyThen r) (body_at at (parse at n Any)) ws
+  -- ---- what a function gives
+
+  next_type_begins : {L : List Token → Type 0} (ws r : List Token) → ((a : WrittenType) → L (t.Sign s.Comma ∷ spell_type a r)) → Begins L (next_type_at at) ws
+  unfolding next_type_at
+  next_type_begins {L = L} ws r l =
+      b_then {L = L} (b_want s.Comma ws (t.Sign s.Comma ∷ t.Sign s.Int ∷ r) (l a_type)) (λ u r1 e1. goes_sign s.Comma ws r1 u e1 (b_map (λ vs o. subst (λ (k : List Token). L (t.Sign s.Comma ∷ k)) (sym o.1) (l o.0)) (type_begins at r1 r)))
+
+  next_type_keeps : (r : List Token) (a : WrittenType) (ws rest : List Token) → next_type_at at ws ≡ done a rest → Keeps (FurtherTypesThen r) ws rest
+  next_type_keeps r a ws rest e =
+      let p = (next_type_holds at ws).by a rest e in
+      record {
+        before = λ l. t.Sign s.Comma ∷ spell_type a l;
+        was = p.comma ∙ ap (λ l. t.Sign s.Comma ∷ l) p.is_type.spelled;
+        agrees = λ j x y o. agrees_cons (t.Sign s.Comma) j _ _ (agrees_type a j x y o);
+        closed = λ vs o. (a ∷ o.0, ap (λ (l : List Token). t.Sign s.Comma ∷ spell_type a l) o.1);
+      }
+
+  further_types_begin : (ws r : List Token) → Begins (FurtherTypesThen r) (many (is_sign s.Comma) (next_type_at at)) ws
+  further_types_begin ws r = many_begins (FurtherTypesThen r) (is_sign s.Comma) (next_type_at at) (next_types_shrink at) (λ ws. next_type_begins ws r (λ a. (a ∷ [], refl))) (λ a ws rest e. next_type_keeps r a ws rest e) ws
+
+  part_types_begin : (a : WrittenType) (ws r : List Token) → Begins (λ vs. ResultsThen r (t.Sign s.Open ∷ spell_type a vs)) (further_types_at at a) ws
+  unfolding further_types_at
+  part_types_begin a ws r =
+      let tail : List Token = t.Sign s.Close ∷ r in
+      b_then (next_type_begins ws tail (λ b. (Several (a ∷ b ∷ []), tt, refl))) (λ b r1 e1. let p1 = (next_type_holds at ws).by b r1 e1 in record {
+        before = λ l. t.Sign s.Comma ∷ spell_type b l;
+        was = p1.comma ∙ ap (λ l. t.Sign s.Comma ∷ l) p1.is_type.spelled;
+        agrees = λ j x y o. agrees_cons (t.Sign s.Comma) j _ _ (agrees_type b j x y o);
+        next =
+            b_then (b_map (λ vs o. (Several (a ∷ b ∷ o.0), tt, ap (λ (l : List Token). t.Sign s.Open ∷ spell_type a (t.Sign s.Comma ∷ spell_type b l)) o.1)) (further_types_begin r1 tail)) (λ xs r2 e2. let p2 = further_types_sound at xs r1 r2 ((many_sound (NextType at) (is_sign s.Comma) (next_type_at at) (next_type_holds at) r1).by xs r2 e2) in record {
+              before = spell_further_types xs;
+              was = p2.0;
+              agrees = agrees_further_types xs;
+              next =
+                  b_last (b_want s.Close r2 tail (Several (a ∷ b ∷ xs), tt, refl)) (λ u r3. (Several (a ∷ b ∷ xs), r3, refl));
+            });
+      })
+
+  one_type_begins : (ws r : List Token) → Begins (ResultsThen r) (one_type_at (type_at at)) ws
+  unfolding one_type_at
+  one_type_begins ws r = b_last (b_map (λ vs o. (One o.0, tt, o.1)) (type_begins at ws r)) (λ a r1. (One a, r1, refl))
+
+  applied_begins : (z : Span) (k : Ident) (ws r : List Token) → Begins (λ vs. ResultsThen r (t.Sign s.Open ∷ t.Constructor k.name ∷ vs)) (one_type_at (inside at z k [] [])) ws
+  unfolding one_type_at
+  applied_begins z k ws r = b_last (b_map (λ vs o. (One o.0, tt, o.1)) (inside_begins at z k [] [] ws r)) (λ a r1. (One a, r1, refl))
+
+  declared_begins : (z : Span) (k : Ident) (ws r : List Token) → Begins (λ vs. ResultsThen r (t.Sign s.Open ∷ t.Constructor k.name ∷ vs)) (declared_at at z k) ws
+  declared_begins z k (t.Sign s.Comma ∷ ws) r =
+      b_by (declared_at at z k) (further_types_at at (DataAt k.span k NoType)) (t.Sign s.Comma ∷ ws) refl (part_types_begin (DataAt k.span k NoType) (t.Sign s.Comma ∷ ws) r)
+  declared_begins z k ws r = b_by (declared_at at z k) (one_type_at (inside at z k [] [])) ws refl (applied_begins z k ws r)
+
+  abbrev first_then : Reader (Results WrittenType)
+  first_then ws = then_at (type_at at ws) (λ a ts. further_types_at at a ts)
+
+  first_begins : (ws r : List Token) → Begins (λ vs. ResultsThen r (t.Sign s.Open ∷ vs)) first_then ws
+  first_begins ws r =
+      let tail : List Token = t.Sign s.Comma ∷ t.Sign s.Int ∷ t.Sign s.Close ∷ r in
+      b_then (b_map (λ vs o. (Several (o.0 ∷ a_type ∷ []), tt, ap (λ (l : List Token). t.Sign s.Open ∷ l) o.1)) (type_begins at ws tail)) (λ a r1 e1. goes_type at a ws r1 e1 (part_types_begin a r1 r))
+
+  open_results_begin : (z : Span) (ws r : List Token) → Begins (λ vs. ResultsThen r (t.Sign s.Open ∷ vs)) (open_results_at at z) ws
+  open_results_begin z (t.Constructor k ∷ ws) r = behind_token (open_results_at at z) (declared_at at z (named at k ws)) (t.Constructor k) ws refl (declared_begins z (named at k ws) ws r)
+  open_results_begin z ws r = b_by (open_results_at at z) first_then ws refl (first_begins ws r)
+
+  results_begin : (ws r : List Token) → Begins (ResultsThen r) (results_at at) ws
+  results_begin (t.Sign s.Open ∷ ws) r = behind_token (results_at at) (open_results_at at (before at ws)) (t.Sign s.Open) ws refl (open_results_begin (before at ws) ws r)
+  results_begin ws r = b_by (results_at at) (one_type_at (type_at at)) ws refl (one_type_begins ws r)
+
+  -- ---- bodies
+
+  body_begins : (n : ℕ) (ws r : List Token) → Begins (BodyThen r) (body_at (parse at n Any)) ws
   unfolding body_at
   body_begins n ws r =
-      let tail2 : List Token = t.Sign s.Semicolon ∷ r in
-      let tail1 : List Token = t.Sign s.Equals ∷ t.Number 0 ∷ tail2 in
-      b_then (b_want s.Colon ws (t.Sign s.Colon ∷ t.Sign s.Int ∷ tail1) (a_body, zero_fine, refl)) (λ u r1 e1. goes_sign s.Colon ws r1 u e1 (
-      b_then (b_map (λ vs o. ((let made : BodyTree = record { result = o.0; body = zero_is } in made), zero_fine, ap (λ (l : List Token). t.Sign s.Colon ∷ l) o.1)) (type_begins at r1 tail1)) (λ a r2 e2. goes_type at a r1 r2 e2 (
-      b_then (b_want s.Equals r2 tail1 (record { result = a; body = zero_is }, zero_fine, refl)) (λ u r3 e3. goes_sign s.Equals r2 r3 u e3 (
-      b_then (b_map (λ vs o. (record { result = a; body = o.0 }, o.1, ap (λ (l : List Token). t.Sign s.Colon ∷ spell_type a (t.Sign s.Equals ∷ l)) o.3)) (parse_begins at n Any r3 tail2)) (λ e r4 e4. let p4 = (parse_sound at n Any r3).by e r4 e4 in goes_expr e r3 r4 p4.spelled (
-      b_last (b_want s.Semicolon r4 tail2 (record { result = a; body = e }, p4.fine, refl)) (λ u r5. ((let made : BodyTree = record { result = a; body = e } in made), r5, refl))))))))))
+      let tail : List Token = t.Sign s.Semicolon ∷ r in
+      b_then (b_want s.Equals ws (t.Sign s.Equals ∷ t.Number 0 ∷ tail) (zero_is, zero_fine, refl)) (λ u r1 e1. goes_sign s.Equals ws r1 u e1 (
+      b_then (b_map (λ vs o. (o.0, o.1, ap (λ (l : List Token). t.Sign s.Equals ∷ l) o.3)) (parse_begins at n Any r1 tail)) (λ e r2 e2. let p2 = (parse_sound at n Any r1).by e r2 e2 in goes_expr e r1 r2 p2.spelled (
+      b_last (b_want s.Semicolon r2 tail (e, p2.fine, refl)) (λ u r3. (e, r3, refl))))))
 
   function_begins : (n : ℕ) (ws r : List Token) → Begins (FunctionThen r) (function_at at (parse at n Any)) ws
   unfolding function_at
@@ -212,20 +289,28 @@ module _ (at : Places) where
       let behind : List Token = body_tokens r in
       let one : List GenericParameterTree = a_parameter ∷ [] in
       let some = some_parameters a_parameter [] in
-      b_then (b_want s.Fun ws (t.Sign s.Fun ∷ t.Variable a_name.name ∷ spell_parameter a_parameter behind) (record { name = a_name; variables = []; parameters = one; result = a_type; body = zero_is }, (some, zero_fine), refl)) (λ u r1 e1. goes_sign s.Fun ws r1 u e1 (
-      b_then (b_var at r1 (t.Variable a_name.name ∷ spell_parameter a_parameter behind) (record { name = a_name; variables = []; parameters = one; result = a_type; body = zero_is }, (some, zero_fine), refl)) (λ f r2 e2. goes_var at f r1 r2 e2 (
-      b_then (b_map (λ vs o. (record { name = f; variables = o.0; parameters = one; result = a_type; body = zero_is }, (some, zero_fine), ap (λ (l : List Token). t.Sign s.Fun ∷ t.Variable f.name ∷ l) o.1)) (type_parameters_begin at r2 (spell_parameter a_parameter behind))) (λ xs r3 e3. let p3 = (type_parameters_sound at r2).by xs r3 e3 in record {
+      let fine : (one ≢ []) × IsGenericFine zero_is × AreResults a_result = (some, zero_fine, tt) in
+      b_then (b_want s.Fun ws (t.Sign s.Fun ∷ t.Variable a_name.name ∷ spell_parameter a_parameter behind) (record { name = a_name; variables = []; parameters = one; result = a_result; body = zero_is }, fine, refl)) (λ u r1 e1. goes_sign s.Fun ws r1 u e1 (
+      b_then (b_var at r1 (t.Variable a_name.name ∷ spell_parameter a_parameter behind) (record { name = a_name; variables = []; parameters = one; result = a_result; body = zero_is }, fine, refl)) (λ f r2 e2. goes_var at f r1 r2 e2 (
+      b_then (b_map (λ vs o. (record { name = f; variables = o.0; parameters = one; result = a_result; body = zero_is }, fine, ap (λ (l : List Token). t.Sign s.Fun ∷ t.Variable f.name ∷ l) o.1)) (type_parameters_begin at r2 (spell_parameter a_parameter behind))) (λ xs r3 e3. let p3 = (type_parameters_sound at r2).by xs r3 e3 in record {
         before = spell_type_parameters xs;
         was = p3.spelled;
         agrees = agrees_type_parameters xs;
         next =
-            b_then (b_map (λ vs o. (record { name = f; variables = xs; parameters = o.0; result = a_type; body = zero_is }, (o.1, zero_fine), ap (λ (l : List Token). t.Sign s.Fun ∷ t.Variable f.name ∷ spell_type_parameters xs l) o.2)) (parameters_begin r3 behind)) (λ qs r4 e4. let p4 = (parameters_sound at r3).by qs r4 e4 in record {
+            b_then (b_map (λ vs o. (record { name = f; variables = xs; parameters = o.0; result = a_result; body = zero_is }, (o.1, zero_fine, tt), ap (λ (l : List Token). t.Sign s.Fun ∷ t.Variable f.name ∷ spell_type_parameters xs l) o.2)) (parameters_begin r3 behind)) (λ qs r4 e4. let p4 = (parameters_sound at r3).by qs r4 e4 in record {
               before = spell_parameters qs;
               was = p4.spelled;
               agrees = agrees_parameters qs;
               next =
-                  b_last (b_map (λ vs o. (record { name = f; variables = xs; parameters = qs; result = o.0.result; body = o.0.body }, (p4.some, o.1), ap (λ (l : List Token). t.Sign s.Fun ∷ t.Variable f.name ∷ spell_type_parameters xs (spell_parameters qs l)) o.2)) (body_begins n r4 r))
-                  (λ b r5. ((let made : GenericFunctionTree = record { name = f; variables = xs; parameters = qs; result = b.result; body = b.body } in made), r5, refl));
+                  b_then (b_want s.Colon r4 behind (record { name = f; variables = xs; parameters = qs; result = a_result; body = zero_is }, (p4.some, zero_fine, tt), refl)) (λ u r5 e5. goes_sign s.Colon r4 r5 u e5 (
+                  b_then (b_map (λ vs o. (record { name = f; variables = xs; parameters = qs; result = o.0; body = zero_is }, (p4.some, zero_fine, o.1), ap (λ (l : List Token). t.Sign s.Fun ∷ t.Variable f.name ∷ spell_type_parameters xs (spell_parameters qs (t.Sign s.Colon ∷ l))) o.2)) (results_begin r5 (a_body r))) (λ g r6 e6. let p6 = (results_sound at r5).by g r6 e6 in record {
+                    before = spell_results g;
+                    was = p6.spelled;
+                    agrees = agrees_results g;
+                    next =
+                        b_last (b_map (λ vs o. (record { name = f; variables = xs; parameters = qs; result = g; body = o.0 }, (p4.some, o.1, p6.fine), ap (λ (l : List Token). t.Sign s.Fun ∷ t.Variable f.name ∷ spell_type_parameters xs (spell_parameters qs (t.Sign s.Colon ∷ spell_results g l))) o.2)) (body_begins n r6 r))
+                        (λ e r7. ((let made : GenericFunctionTree = record { name = f; variables = xs; parameters = qs; result = g; body = e } in made), r7, refl));
+                  })));
             });
       })))))
 
@@ -250,8 +335,10 @@ module _ (at : Places) where
         was = p2.spelled;
         agrees = agrees_parameter q;
         next =
-            b_last (b_map (λ vs o. (record { parameter = q; result = o.0.result; body = o.0.body }, o.1, ap (λ (l : List Token). t.Sign s.Main ∷ spell_parameter q l) o.2)) (body_begins n r2 r))
-            (λ b r3. ((let made : GenericMainTree = record { parameter = q; result = b.result; body = b.body } in made), r3, refl));
+            b_then (b_want s.Colon r2 behind (record { parameter = q; result = a_type; body = zero_is }, zero_fine, refl)) (λ u r3 e3. goes_sign s.Colon r2 r3 u e3 (
+            b_then (b_map (λ vs o. (record { parameter = q; result = o.0; body = zero_is }, zero_fine, ap (λ (l : List Token). t.Sign s.Main ∷ spell_parameter q (t.Sign s.Colon ∷ l)) o.1)) (type_begins at r3 (a_body r))) (λ a r4 e4. goes_type at a r3 r4 e4 (
+            b_last (b_map (λ vs o. (record { parameter = q; result = a; body = o.0 }, o.1, ap (λ (l : List Token). t.Sign s.Main ∷ spell_parameter q (t.Sign s.Colon ∷ spell_type a l)) o.2)) (body_begins n r4 r))
+            (λ e r5. ((let made : GenericMainTree = record { parameter = q; result = a; body = e } in made), r5, refl))))));
       })))
 
   pub last : List Token

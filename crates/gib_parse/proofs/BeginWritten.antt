@@ -66,7 +66,7 @@ module _ (at : Places) where
     opened_begins p os (t.Constructor k ∷ ws) r = behind_token (opened_at at p os) (inside at p (named at k ws) [] os) (t.Constructor k) ws refl (inside_begins p (named at k ws) [] os ws r)
     opened_begins p os ws r = b_now (t.Constructor a_name.name ∷ end_of os r) (ended os a_name [] r) refl
 
-    inside_begins : (p : Span) (k : Ident) (xs : List WrittenType) (os : List Opened) (ws r : List Token) → Begins (λ vs. TypeThen r (outer os (begun k xs vs))) (inside at p k xs os) ws
+    pub inside_begins : (p : Span) (k : Ident) (xs : List WrittenType) (os : List Opened) (ws r : List Token) → Begins (λ vs. TypeThen r (outer os (begun k xs vs))) (inside at p k xs os) ws
     inside_begins p k xs os (t.Sign s.Int ∷ ws) r =
         let a = WholeAt (before at ws) in
         behind_token (inside at p k xs os) (inside at p k (xs ++ a ∷ []) os) (t.Sign s.Int) ws refl (b_map (λ vs o. argument_more k xs os a r vs o) (inside_begins p k (xs ++ a ∷ []) os ws r))

@@ -1,5 +1,5 @@
 -- What is spelled so is read, where the levels serve.
-use Rattle.std.proofs.Common.{◌≡◌, ℕ, zero, suc, ◌<◌, ◌^◌, Bool, true, false, List, [], ◌∷◌, ◌++◌, length, Ok, Err, refl, ap, ◌∙◌}
+use Rattle.std.proofs.Common.{◌≡◌, ℕ, zero, suc, ◌<◌, ◌^◌, Bool, true, false, List, [], ◌∷◌, ◌++◌, length, Ok, Err, refl, ap, ◌∙◌, subst}
 use Rattle.std.proofs.lemmas.Bool.{lt-ltb}
 use Rattle.gib_base.specs.declared.Span.{Span}
 use Rattle.gib_base.specs.declared.token.Sign.{Sign}
@@ -9,19 +9,20 @@ use Rattle.gib_base.specs.declared.token.Token.TheVariants as t
 use Rattle.gib_syntax.specs.declared.tree.Ident.{Ident}
 use Rattle.gib_syntax.specs.declared.tree.Operator.{Operator}
 use Rattle.gib_syntax.specs.declared.tree.Operator.TheVariants as o
-use Rattle.gib_syntax.specs.GenericTree.{GenericExpression, GenericArguments, GenericArms, GenericVar, GenericNum, GenericBit, GenericParen, GenericOp, GenericCall, GenericMake, GenericLet, GenericPar, GenericIf, GenericCase, GenericNoArgument, GenericArgument, GenericLastArm, GenericNextArm}
-use Rattle.gib_syntax.specs.GenericFine.{is_generic_application, is_generic_atom, IsGenericFine, AreGenericFine, HasGenericFine}
-use Rattle.gib_syntax.specs.Spelling.{Places, spell, spell_arguments, spell_arms, spell_variables, spell_operator, spell_bit, spell_written, spell_type_arguments}
-use Rattle.gib_parse.specs.Reading.{Nested, Mode, Any, App, Atom, Read, Reader, Parts, then_at, want, before, named, var_at, next_is, many_step, many, is_variable, is_sign, is_literal, literal_at, starts_atom, starts_expression, starts, ArmTree, arms_of, arm_at, next_arm_at, arms_at, arguments_of, arguments_at, bind_at, par_at, if_at, case_at, side_at, close_at, open_at, type_arguments_at, call, called_at, variable_at, make_at, constant_at, atom_at, app_at, any_at, no_level, parse}
+use Rattle.gib_syntax.specs.GenericTree.{GenericExpression, GenericArguments, GenericArms, GenericVar, GenericNum, GenericBit, GenericParen, GenericOp, GenericCall, GenericMake, GenericLet, GenericPar, GenericIf, GenericCase, GenericTuple, GenericLetSeveral, GenericParSeveral, GenericNoArgument, GenericArgument, GenericLastArm, GenericNextArm}
+use Rattle.gib_syntax.specs.GenericFine.{is_generic_application, is_generic_atom, IsGenericFine, AreGenericFine, AreGenericParts, HasGenericFine}
+use Rattle.gib_syntax.specs.Results.{AreSeveral, AreSides}
+use Rattle.gib_syntax.specs.Spelling.{Places, spell, spell_arguments, spell_further_parts, spell_arms, spell_variables, spell_further_names, spell_names, spell_operator, spell_bit, spell_written, spell_type_arguments}
+use Rattle.gib_parse.specs.Reading.{Nested, Mode, Any, App, Atom, Read, Reader, Parts, then_at, want, before, named, var_at, next_is, many_step, many, is_variable, is_sign, is_literal, literal_at, starts_atom, starts_expression, starts, ArmTree, arms_of, arm_at, next_arm_at, arms_at, arguments_of, arguments_at, next_name_at, several_names_at, one_name_at, names_bound_at, let_of, par_of, bind_at, par_at, let_at, if_at, case_at, side_at, close_at, open_at, next_part_at, tuple_at, close_any_at, open_any_at, type_arguments_at, call, called_at, variable_at, make_at, constant_at, atom_at, app_at, any_at, no_level, parse}
 use Rattle.gib_parse.proofs.Tools.{done, failed}
 use Rattle.gib_parse.proofs.Many.{Shrinks, many_none, many_is}
 use Rattle.gib_parse.proofs.Sound.{IsMode, atom_is_application}
-use Rattle.gib_parse.proofs.Longer.{parse_shrinks, var_shrinks, next_shrinks}
-use Rattle.gib_parse.proofs.Settle.{settle, settle_arguments, settle_arms, settle_name, settle_names, settle_type, settle_written, settled_application}
+use Rattle.gib_parse.proofs.Longer.{parse_shrinks, var_shrinks, next_shrinks, next_name_shrinks, next_part_shrinks}
+use Rattle.gib_parse.proofs.Settle.{settle, settle_arguments, settle_arms, settle_name, settle_names, settle_further_names, settle_bound, settle_parts, settle_type, settle_written, settled_application}
 use Rattle.gib_parse.proofs.WrittenComes.{goes_on, ends_parts, atom_no_bracket, type_arguments_none, type_arguments_come}
 use Rattle.gib_syntax.specs.Forms.{WrittenType, WrittenTypes, NoType, MoreTypes}
-use Rattle.gib_parse.specs.Nesting.{below, below_arguments, below_arms}
-use Rattle.gib_parse.proofs.Come.{Comes, Came, Sank, then_comes, then_last, comes_at}
+use Rattle.gib_parse.specs.Nesting.{below, below_arguments, below_parts, below_arms}
+use Rattle.gib_parse.proofs.Come.{Comes, Came, Sank, then_comes, then_last, comes_at, Steps, many_comes}
 
 -- ---- variables
 
@@ -31,6 +32,27 @@ variables_come at (x ∷ xs) a rest =
     let after = spell_variables xs (t.Sign a ∷ rest) in
     many_is is_variable (var_at at) (var_shrinks at) (t.Variable x.name ∷ after)
     ∙ ap (λ (r : Read (List Ident)). then_at r (λ more ts. Ok (named at x.name after ∷ more, ts))) (variables_come at xs a rest)
+
+-- ---- the variables of a binding
+
+further_names_step : (at : Places) (xs : List Ident) (rest : List Token) → Steps [] (is_sign s.Comma) (next_name_at at) (spell_further_names xs (t.Sign s.Close ∷ rest)) (settle_further_names at xs (t.Sign s.Close ∷ rest)) (t.Sign s.Close ∷ rest)
+unfolding next_name_at
+further_names_step at [] rest = (refl, refl, refl)
+further_names_step at (x ∷ xs) rest = (spell_further_names xs (t.Sign s.Close ∷ rest), [], [], refl, Came refl refl, further_names_step at xs rest, refl)
+
+several_names_come : (at : Places) (x y : Ident) (ys : List Ident) (rest : List Token) → Comes [] (names_bound_at at (spell_names (x ∷ y ∷ ys) rest)) (settle_bound at (x ∷ y ∷ ys) rest) rest
+unfolding several_names_at next_name_at
+several_names_come at x y ys rest =
+    let x' = settle_name at x (spell_further_names (y ∷ ys) (t.Sign s.Close ∷ rest)) in
+    let y' = settle_name at y (spell_further_names ys (t.Sign s.Close ∷ rest)) in
+    then_last (λ ys ts. then_at (want s.Close ts) (λ _ ts. Ok (x' ∷ y' ∷ ys, ts))) (settle_bound at (x ∷ y ∷ ys) rest) rest
+    (many_comes [] (is_sign s.Comma) (next_name_at at) (next_name_shrinks at) (settle_further_names at ys (t.Sign s.Close ∷ rest)) (spell_further_names ys (t.Sign s.Close ∷ rest)) (t.Sign s.Close ∷ rest) (further_names_step at ys rest)) refl
+
+pub names_bound_come : (at : Places) (xs : List Ident) (rest : List Token) → (xs ≡ [] → ⊥) → Comes [] (names_bound_at at (spell_names xs rest)) (settle_bound at xs rest) rest
+unfolding one_name_at
+names_bound_come at [] rest some = absurd (some refl)
+names_bound_come at (x ∷ []) rest some = Came refl refl
+names_bound_come at (x ∷ y ∷ ys) rest some = several_names_come at x y ys rest
 
 -- ---- what a rest may begin with
 
@@ -59,6 +81,9 @@ application_starts (GenericLet p x a b) rest f i = absurd cc
 application_starts (GenericPar p x a y b c) rest f i = absurd cc
 application_starts (GenericIf p a b c) rest f i = absurd cc
 application_starts (GenericCase p x arms) rest f i = absurd cc
+application_starts (GenericTuple p xs) rest f i = absurd cc
+application_starts (GenericLetSeveral p xs a b) rest f i = absurd cc
+application_starts (GenericParSeveral p xs a ys b c) rest f i = absurd cc
 
 atom_starts : (e : GenericExpression) (rest : List Token) → IsGenericFine e → is_generic_atom e ≡ true → next_is starts_atom (spell e rest) ≡ true
 atom_starts e rest f i = application_starts e rest f (atom_is_application e i)
@@ -75,6 +100,9 @@ expression_starts (GenericLet p x a b) rest f = refl
 expression_starts (GenericPar p x a y b c) rest f = refl
 expression_starts (GenericIf p a b c) rest f = refl
 expression_starts (GenericCase p x arms) rest f = refl
+expression_starts (GenericTuple p xs) rest f = refl
+expression_starts (GenericLetSeveral p xs a b) rest f = refl
+expression_starts (GenericParSeveral p xs a ys b c) rest f = refl
 
 mode_starts : (m : Mode) (e : GenericExpression) (rest : List Token) → IsGenericFine e → IsMode m e → next_is (starts m) (spell e rest) ≡ true
 mode_starts Any e rest f i = expression_starts e rest f
@@ -237,24 +265,97 @@ op_comes at n p f a b ts after rest D E e c d =
     then_comes (close_at (parse at n) p) (GenericOp p f a b) rest c
     (comes_at (close_operator (parse at n) p a f after ∙ ap (λ v. side_at v (parse at n) p f a after) e) (then_last (λ b ts. then_at (want s.Close ts) (λ _ ts. Ok (GenericOp p f a b, ts))) (GenericOp p f a b) rest d refl))
 
-let_comes : (at : Places) (n : ℕ) (p : Span) (x : Ident) (a b : GenericExpression) (ts after rest : List Token) (D E : List ℕ) → Comes D (parse at n Any ts) a (t.Sign s.In ∷ after) → Comes E (parse at n Any after) b rest
-    → Comes (D ++ E) (bind_at at (parse at n) p (t.Variable x.name ∷ t.Sign s.Equals ∷ ts)) (GenericLet p (settle_name at x (t.Sign s.Equals ∷ ts)) a b) rest
+let_comes : (at : Places) (n : ℕ) (p : Span) (xs : List Ident) (a b : GenericExpression) (ts after rest : List Token) (D E : List ℕ) → (xs ≡ [] → ⊥) → Comes D (parse at n Any ts) a (t.Sign s.In ∷ after) → Comes E (parse at n Any after) b rest
+    → Comes (D ++ E) (bind_at at (parse at n) p (spell_names xs (t.Sign s.Equals ∷ ts))) (let_of p (settle_bound at xs (t.Sign s.Equals ∷ ts)) a b) rest
 unfolding bind_at
-let_comes at n p x a b ts after rest D E c d =
-    let y = settle_name at x (t.Sign s.Equals ∷ ts) in
-    then_comes (λ a ts. then_at (want s.In ts) (λ _ ts. then_at (parse at n Any ts) (λ b ts. Ok (GenericLet p y a b, ts)))) (GenericLet p y a b) rest c
-    (then_last (λ b ts. Ok (GenericLet p y a b, ts)) (GenericLet p y a b) rest d refl)
+let_comes at n p xs a b ts after rest D E some c d =
+    let ys = settle_bound at xs (t.Sign s.Equals ∷ ts) in
+    then_comes (λ xs ts. then_at (want s.Equals ts) (λ _ ts. then_at (parse at n Any ts) (λ a ts. then_at (want s.In ts) (λ _ ts. then_at (parse at n Any ts) (λ b ts. Ok (let_of p xs a b, ts)))))) (let_of p ys a b) rest (names_bound_come at xs (t.Sign s.Equals ∷ ts) some)
+    (then_comes (λ a ts. then_at (want s.In ts) (λ _ ts. then_at (parse at n Any ts) (λ b ts. Ok (let_of p ys a b, ts)))) (let_of p ys a b) rest c
+    (then_last (λ b ts. Ok (let_of p ys a b, ts)) (let_of p ys a b) rest d refl))
 
-par_comes : (at : Places) (n : ℕ) (p : Span) (x y : Ident) (a b c : GenericExpression) (ts behind after rest : List Token) (D E F : List ℕ)
-    → Comes D (parse at n Any ts) a (t.Sign s.And ∷ t.Variable y.name ∷ t.Sign s.Equals ∷ behind) → Comes E (parse at n Any behind) b (t.Sign s.In ∷ after) → Comes F (parse at n Any after) c rest
-    → Comes (D ++ (E ++ F)) (par_at at (parse at n) p (t.Variable x.name ∷ t.Sign s.Equals ∷ ts)) (GenericPar p (settle_name at x (t.Sign s.Equals ∷ ts)) a (settle_name at y (t.Sign s.Equals ∷ behind)) b c) rest
+par_comes : (at : Places) (n : ℕ) (p : Span) (xs ys : List Ident) (a b c : GenericExpression) (ts behind after rest : List Token) (D E F : List ℕ) → (xs ≡ [] → ⊥) → (ys ≡ [] → ⊥)
+    → Comes D (parse at n Any ts) a (t.Sign s.And ∷ spell_names ys (t.Sign s.Equals ∷ behind)) → Comes E (parse at n Any behind) b (t.Sign s.In ∷ after) → Comes F (parse at n Any after) c rest
+    → Comes (D ++ (E ++ F)) (par_at at (parse at n) p (spell_names xs (t.Sign s.Equals ∷ ts))) (par_of p (settle_bound at xs (t.Sign s.Equals ∷ ts)) a (settle_bound at ys (t.Sign s.Equals ∷ behind)) b c) rest
 unfolding par_at
-par_comes at n p x y a b c ts behind after rest D E F ca cb cc' =
-    let x' = settle_name at x (t.Sign s.Equals ∷ ts) in
-    let y' = settle_name at y (t.Sign s.Equals ∷ behind) in
-    then_comes (λ a ts. then_at (want s.And ts) (λ _ ts. then_at (var_at at ts) (λ y ts. then_at (want s.Equals ts) (λ _ ts. then_at (parse at n Any ts) (λ b ts. then_at (want s.In ts) (λ _ ts. then_at (parse at n Any ts) (λ c ts. Ok (GenericPar p x' a y b c, ts)))))))) (GenericPar p x' a y' b c) rest ca
-    (then_comes (λ b ts. then_at (want s.In ts) (λ _ ts. then_at (parse at n Any ts) (λ c ts. Ok (GenericPar p x' a y' b c, ts)))) (GenericPar p x' a y' b c) rest cb
-    (then_last (λ c ts. Ok (GenericPar p x' a y' b c, ts)) (GenericPar p x' a y' b c) rest cc' refl))
+par_comes at n p xs ys a b c ts behind after rest D E F some further ca cb cc' =
+    let xs' = settle_bound at xs (t.Sign s.Equals ∷ ts) in
+    let ys' = settle_bound at ys (t.Sign s.Equals ∷ behind) in
+    let whole = par_of p xs' a ys' b c in
+    then_comes (λ xs ts. then_at (want s.Equals ts) (λ _ ts. then_at (parse at n Any ts) (λ a ts. then_at (want s.And ts) (λ _ ts. then_at (names_bound_at at ts) (λ ys ts. then_at (want s.Equals ts) (λ _ ts. then_at (parse at n Any ts) (λ b ts. then_at (want s.In ts) (λ _ ts. then_at (parse at n Any ts) (λ c ts. Ok (par_of p xs a ys b c, ts)))))))))) whole rest
+    (names_bound_come at xs (t.Sign s.Equals ∷ ts) some)
+    (then_comes (λ a ts. then_at (want s.And ts) (λ _ ts. then_at (names_bound_at at ts) (λ ys ts. then_at (want s.Equals ts) (λ _ ts. then_at (parse at n Any ts) (λ b ts. then_at (want s.In ts) (λ _ ts. then_at (parse at n Any ts) (λ c ts. Ok (par_of p xs' a ys b c, ts)))))))) whole rest ca
+    (then_comes (λ ys ts. then_at (want s.Equals ts) (λ _ ts. then_at (parse at n Any ts) (λ b ts. then_at (want s.In ts) (λ _ ts. then_at (parse at n Any ts) (λ c ts. Ok (par_of p xs' a ys b c, ts)))))) whole rest (names_bound_come at ys (t.Sign s.Equals ∷ behind) further)
+    (then_comes (λ b ts. then_at (want s.In ts) (λ _ ts. then_at (parse at n Any ts) (λ c ts. Ok (par_of p xs' a ys' b c, ts)))) whole rest cb
+    (then_last (λ c ts. Ok (par_of p xs' a ys' b c, ts)) whole rest cc' refl))))
+
+-- The settled form of several variables is one of several variables.
+let_settled : (at : Places) (p : Span) (xs : List Ident) (a b : GenericExpression) (rest : List Token) → AreSeveral xs → let_of p (settle_bound at xs rest) a b ≡ GenericLetSeveral p (settle_bound at xs rest) a b
+let_settled at p [] a b rest h = absurd h
+let_settled at p (x ∷ []) a b rest h = absurd h
+let_settled at p (x ∷ y ∷ ys) a b rest h = refl
+
+par_settled : (at : Places) (p : Span) (xs ys : List Ident) (a b c : GenericExpression) (rest more : List Token) → AreSides xs ys → par_of p (settle_bound at xs rest) a (settle_bound at ys more) b c ≡ GenericParSeveral p (settle_bound at xs rest) a (settle_bound at ys more) b c
+par_settled at p [] ys a b c rest more h = absurd h
+par_settled at p (x ∷ xs) [] a b c rest more h = absurd h
+par_settled at p (x ∷ []) (y ∷ []) a b c rest more h = absurd h
+par_settled at p (x ∷ []) (y ∷ z ∷ zs) a b c rest more h = refl
+par_settled at p (x ∷ w ∷ ws) (y ∷ ys) a b c rest more h = refl
+
+several_some : (xs : List Ident) → AreSeveral xs → xs ≡ [] → ⊥
+several_some [] h e = h
+several_some (x ∷ xs) h e = cc
+
+left_some : (xs ys : List Ident) → AreSides xs ys → xs ≡ [] → ⊥
+left_some [] ys h e = h
+left_some (x ∷ xs) ys h e = cc
+
+right_some : (xs ys : List Ident) → AreSides xs ys → ys ≡ [] → ⊥
+right_some [] ys h e = h
+right_some (x ∷ xs) [] h e = h
+right_some (x ∷ xs) (y ∷ ys) h e = cc
+
+one_some : (x : Ident) (xs : List Ident) → x ∷ xs ≡ [] → ⊥
+one_some x xs e = cc
+
+-- ---- where any expression may stand
+
+paren_any_comes : (at : Places) (n : ℕ) (p : Span) (e : GenericExpression) (ts rest : List Token) (D : List ℕ) → Comes D (parse at n Any ts) e (t.Sign s.Close ∷ rest) → Comes D (open_any_at (parse at n) p ts) (GenericParen p e) rest
+unfolding open_any_at
+paren_any_comes at n p e ts rest D c = then_last (close_any_at (parse at n) p) (GenericParen p e) rest c refl
+
+close_any_operator : (sub : Parts) (p : Span) (e : GenericExpression) (f : Operator) (ts : List Token) → close_any_at sub p e (spell_operator f ts) ≡ side_at (is_generic_application e) sub p f e ts
+close_any_operator sub p e o.Add ts = refl
+close_any_operator sub p e o.Subtract ts = refl
+close_any_operator sub p e o.Multiply ts = refl
+close_any_operator sub p e o.Equal ts = refl
+close_any_operator sub p e o.Less ts = refl
+close_any_operator sub p e o.Quotient ts = refl
+close_any_operator sub p e o.Remainder ts = refl
+
+op_any_comes : (at : Places) (n : ℕ) (p : Span) (f : Operator) (a b : GenericExpression) (ts after rest : List Token) (D E : List ℕ) → is_generic_application a ≡ true → Comes D (parse at n Any ts) a (spell_operator f after) → Comes E (parse at n App after) b (t.Sign s.Close ∷ rest) → Comes (D ++ E) (open_any_at (parse at n) p ts) (GenericOp p f a b) rest
+unfolding open_any_at
+op_any_comes at n p f a b ts after rest D E e c d =
+    then_comes (close_any_at (parse at n) p) (GenericOp p f a b) rest c
+    (comes_at (close_any_operator (parse at n) p a f after ∙ ap (λ v. side_at v (parse at n) p f a after) e) (then_last (λ b ts. then_at (want s.Close ts) (λ _ ts. Ok (GenericOp p f a b, ts))) (GenericOp p f a b) rest d refl))
+
+-- The parts of a tuple, as a list.
+abbrev pub parts_list : Places → GenericArguments → List Token → List GenericExpression
+parts_list at GenericNoArgument rest = []
+parts_list at (GenericArgument a xs) rest = settle at a (spell_further_parts xs rest) ∷ parts_list at xs rest
+
+parts_are : (at : Places) (xs : GenericArguments) (rest : List Token) → arguments_of (parts_list at xs rest) ≡ settle_parts at xs rest
+parts_are at GenericNoArgument rest = refl
+parts_are at (GenericArgument a xs) rest = ap (GenericArgument (settle at a (spell_further_parts xs rest))) (parts_are at xs rest)
+
+tuple_comes : (at : Places) (n : ℕ) (p : Span) (a b : GenericExpression) (xs : List GenericExpression) (ts behind more rest : List Token) (D E F : List ℕ) → Comes D (parse at n Any ts) a (t.Sign s.Comma ∷ behind) → Comes E (parse at n Any behind) b more
+    → Comes F (many (is_sign s.Comma) (next_part_at (parse at n Any)) more) xs (t.Sign s.Close ∷ rest) → Comes (D ++ (E ++ F)) (open_any_at (parse at n) p ts) (GenericTuple p (arguments_of (a ∷ b ∷ xs))) rest
+unfolding open_any_at tuple_at next_part_at
+tuple_comes at n p a b xs ts behind more rest D E F c d e =
+    let whole = GenericTuple p (arguments_of (a ∷ b ∷ xs)) in
+    then_comes (close_any_at (parse at n) p) whole rest c
+    (then_comes (λ b ts. then_at (many (is_sign s.Comma) (next_part_at (parse at n Any)) ts) (λ xs ts. then_at (want s.Close ts) (λ _ ts. Ok (GenericTuple p (arguments_of (a ∷ b ∷ xs)), ts)))) whole rest d
+    (then_last (λ xs ts. then_at (want s.Close ts) (λ _ ts. Ok (GenericTuple p (arguments_of (a ∷ b ∷ xs)), ts))) whole rest e refl))
 
 if_comes : (at : Places) (n : ℕ) (p : Span) (a b c : GenericExpression) (ts behind after rest : List Token) (D E F : List ℕ) → Comes D (parse at n Any ts) a (t.Sign s.Then ∷ behind) → Comes E (parse at n Any behind) b (t.Sign s.Else ∷ after) → Comes F (parse at n Any after) c rest
     → Comes (D ++ (E ++ F)) (if_at (parse at n) p ts) (GenericIf p a b c) rest
@@ -270,6 +371,24 @@ unfolding case_at
 case_comes at n p x arms ts rest D c =
     let y = settle_name at x (t.Sign s.Of ∷ t.Sign s.OpenBrace ∷ ts) in
     then_last (λ arms ts. then_at (want s.CloseBrace ts) (λ _ ts. Ok (GenericCase p y arms, ts))) (GenericCase p y arms) rest c refl
+
+part_comes : (at : Places) (n : ℕ) (a : GenericExpression) (ts rest : List Token) (D : List ℕ) → Comes D (parse at n Any ts) a rest → Comes D (next_part_at (parse at n Any) (t.Sign s.Comma ∷ ts)) a rest
+unfolding next_part_at
+part_comes at n a ts rest D c = c
+
+-- Behind a part stands a comma or the end.
+parts_end : (xs : GenericArguments) (rest : List Token) → next_is goes_on (spell_further_parts xs (t.Sign s.Close ∷ rest)) ≡ false
+parts_end GenericNoArgument rest = refl
+parts_end (GenericArgument a xs) rest = refl
+
+as_tree : {met : List ℕ} {r : Read GenericExpression} {a b : GenericExpression} {rest : List Token} → a ≡ b → Comes met r a rest → Comes met r b rest
+as_tree {met = met} {r = r} {rest = rest} e c = subst (λ (x : GenericExpression). Comes met r x rest) e c
+
+-- Behind `let` no variable is `par`.
+several_let : (at : Places) (sub : Parts) (p : Span) (xs : List Ident) (ts : List Token) → AreSeveral xs → let_at at sub p (spell_names xs ts) ≡ bind_at at sub p (spell_names xs ts)
+several_let at sub p [] ts h = absurd h
+several_let at sub p (x ∷ []) ts h = absurd h
+several_let at sub p (x ∷ y ∷ ys) ts h = refl
 
 literal_comes : (at : Places) (n : ℕ) (rest : List Token) → n < 2 ^ 63 → Comes [] (literal_at (is_literal n) (before at rest) n rest) (GenericNum (before at rest) n) rest
 literal_comes at n rest lt = Came (ap (λ v. literal_at v (before at rest) n rest) (lt-ltb n (2 ^ 63) lt)) refl
@@ -306,10 +425,10 @@ mutual
   complete at (GenericBit p b) (suc n) Any rest f i en = Came (bit_any at n b rest) refl
   complete at (GenericBit p b) (suc n) App rest f i en = Came (bit_app at n b rest) refl
   complete at (GenericBit p b) (suc n) Atom rest f i en = Came (bit_atom at n b rest) refl
-  complete at (GenericParen p e) (suc n) Any rest f i en = paren_comes at n (at (length (spell (GenericParen p e) rest))) (settle at e (t.Sign s.Close ∷ rest)) (spell e (t.Sign s.Close ∷ rest)) rest _ ((complete at e n Any (t.Sign s.Close ∷ rest) f tt refl))
+  complete at (GenericParen p e) (suc n) Any rest f i en = paren_any_comes at n (at (length (spell (GenericParen p e) rest))) (settle at e (t.Sign s.Close ∷ rest)) (spell e (t.Sign s.Close ∷ rest)) rest _ ((complete at e n Any (t.Sign s.Close ∷ rest) f tt refl))
   complete at (GenericParen p e) (suc n) App rest f i en = paren_comes at n (at (length (spell (GenericParen p e) rest))) (settle at e (t.Sign s.Close ∷ rest)) (spell e (t.Sign s.Close ∷ rest)) rest _ ((complete at e n Any (t.Sign s.Close ∷ rest) f tt refl))
   complete at (GenericParen p e) (suc n) Atom rest f i en = paren_comes at n (at (length (spell (GenericParen p e) rest))) (settle at e (t.Sign s.Close ∷ rest)) (spell e (t.Sign s.Close ∷ rest)) rest _ ((complete at e n Any (t.Sign s.Close ∷ rest) f tt refl))
-  complete at (GenericOp p g a b) (suc n) Any rest f i en = op_comes at n (at (length (spell (GenericOp p g a b) rest))) g (settle at a (spell_operator g (spell b (t.Sign s.Close ∷ rest)))) (settle at b (t.Sign s.Close ∷ rest)) (spell a (spell_operator g (spell b (t.Sign s.Close ∷ rest)))) (spell b (t.Sign s.Close ∷ rest)) rest _ _ (settled_application at a (spell_operator g (spell b (t.Sign s.Close ∷ rest))) ∙ f.2)
+  complete at (GenericOp p g a b) (suc n) Any rest f i en = op_any_comes at n (at (length (spell (GenericOp p g a b) rest))) g (settle at a (spell_operator g (spell b (t.Sign s.Close ∷ rest)))) (settle at b (t.Sign s.Close ∷ rest)) (spell a (spell_operator g (spell b (t.Sign s.Close ∷ rest)))) (spell b (t.Sign s.Close ∷ rest)) rest _ _ (settled_application at a (spell_operator g (spell b (t.Sign s.Close ∷ rest))) ∙ f.2)
       ((complete at a n Any (spell_operator g (spell b (t.Sign s.Close ∷ rest))) f.0 tt (operator_ends g (spell b (t.Sign s.Close ∷ rest))))) ((complete at b n App (t.Sign s.Close ∷ rest) f.1 f.3 refl))
   complete at (GenericOp p g a b) (suc n) App rest f i en = op_comes at n (at (length (spell (GenericOp p g a b) rest))) g (settle at a (spell_operator g (spell b (t.Sign s.Close ∷ rest)))) (settle at b (t.Sign s.Close ∷ rest)) (spell a (spell_operator g (spell b (t.Sign s.Close ∷ rest)))) (spell b (t.Sign s.Close ∷ rest)) rest _ _ (settled_application at a (spell_operator g (spell b (t.Sign s.Close ∷ rest))) ∙ f.2)
       ((complete at a n Any (spell_operator g (spell b (t.Sign s.Close ∷ rest))) f.0 tt (operator_ends g (spell b (t.Sign s.Close ∷ rest))))) ((complete at b n App (t.Sign s.Close ∷ rest) f.1 f.3 refl))
@@ -339,11 +458,11 @@ mutual
       (type_arguments_come at ws (spell_arguments xs rest) (plain_arguments xs rest f en)) (complete_arguments at xs n rest f en)
   complete at (GenericMake k ws GenericNoArgument) (suc n) Atom rest f i en = Came (constant_comes at n k (spell_type_arguments ws rest) rest (settle_written at ws (t.Sign s.CloseBracket ∷ rest)) (type_arguments_come at ws rest en)) refl
   complete at (GenericMake k ws (GenericArgument a xs)) (suc n) Atom rest f i en = absurd cc
-  complete at (GenericLet p x a b) (suc n) Any rest f i en = let_comes at n (at (length (spell (GenericLet p x a b) rest))) x (settle at a (t.Sign s.In ∷ spell b rest)) (settle at b rest) (spell a (t.Sign s.In ∷ spell b rest)) (spell b rest) rest _ _
+  complete at (GenericLet p x a b) (suc n) Any rest f i en = let_comes at n (at (length (spell (GenericLet p x a b) rest))) (x ∷ []) (settle at a (t.Sign s.In ∷ spell b rest)) (settle at b rest) (spell a (t.Sign s.In ∷ spell b rest)) (spell b rest) rest _ _ (one_some x [])
       ((complete at a n Any (t.Sign s.In ∷ spell b rest) f.0 tt refl)) ((complete at b n Any rest f.1 tt en))
   complete at (GenericLet p x a b) (suc n) App rest f i en = absurd cc
   complete at (GenericLet p x a b) (suc n) Atom rest f i en = absurd cc
-  complete at (GenericPar p x a y b c) (suc n) Any rest f i en = par_comes at n (at (length (spell (GenericPar p x a y b c) rest))) x y (settle at a (t.Sign s.And ∷ t.Variable y.name ∷ t.Sign s.Equals ∷ spell b (t.Sign s.In ∷ spell c rest))) (settle at b (t.Sign s.In ∷ spell c rest)) (settle at c rest) (spell a (t.Sign s.And ∷ t.Variable y.name ∷ t.Sign s.Equals ∷ spell b (t.Sign s.In ∷ spell c rest))) (spell b (t.Sign s.In ∷ spell c rest)) (spell c rest) rest _ _ _
+  complete at (GenericPar p x a y b c) (suc n) Any rest f i en = par_comes at n (at (length (spell (GenericPar p x a y b c) rest))) (x ∷ []) (y ∷ []) (settle at a (t.Sign s.And ∷ t.Variable y.name ∷ t.Sign s.Equals ∷ spell b (t.Sign s.In ∷ spell c rest))) (settle at b (t.Sign s.In ∷ spell c rest)) (settle at c rest) (spell a (t.Sign s.And ∷ t.Variable y.name ∷ t.Sign s.Equals ∷ spell b (t.Sign s.In ∷ spell c rest))) (spell b (t.Sign s.In ∷ spell c rest)) (spell c rest) rest _ _ _ (one_some x []) (one_some y [])
       ((complete at a n Any (t.Sign s.And ∷ t.Variable y.name ∷ t.Sign s.Equals ∷ spell b (t.Sign s.In ∷ spell c rest)) f.0 tt refl)) ((complete at b n Any (t.Sign s.In ∷ spell c rest) f.1 tt refl)) ((complete at c n Any rest f.2 tt en))
   complete at (GenericPar p x a y b c) (suc n) App rest f i en = absurd cc
   complete at (GenericPar p x a y b c) (suc n) Atom rest f i en = absurd cc
@@ -354,6 +473,54 @@ mutual
   complete at (GenericCase p x arms) (suc n) Any rest f i en = case_comes at n (at (length (spell (GenericCase p x arms) rest))) x (settle_arms at arms (t.Sign s.CloseBrace ∷ rest)) (spell_arms arms (t.Sign s.CloseBrace ∷ rest)) rest _ ((complete_arms at arms n rest f))
   complete at (GenericCase p x arms) (suc n) App rest f i en = absurd cc
   complete at (GenericCase p x arms) (suc n) Atom rest f i en = absurd cc
+  complete at (GenericTuple p GenericNoArgument) (suc n) m rest f i en = absurd f
+  complete at (GenericTuple p (GenericArgument a GenericNoArgument)) (suc n) m rest f i en = absurd f
+  complete at (GenericTuple p (GenericArgument a (GenericArgument b xs))) (suc n) Any rest f i en =
+      let last = t.Sign s.Close ∷ rest in
+      let more = spell_further_parts xs last in
+      let behind = spell b more in
+      let whole = at (length (spell (GenericTuple p (GenericArgument a (GenericArgument b xs))) rest)) in
+      let a' = settle at a (t.Sign s.Comma ∷ behind) in
+      let b' = settle at b more in
+      as_tree (ap (λ (as' : GenericArguments). GenericTuple whole (GenericArgument a' (GenericArgument b' as'))) (parts_are at xs last))
+      (tuple_comes at n whole a' b' (parts_list at xs last) (spell a (t.Sign s.Comma ∷ behind)) behind more rest _ _ _ (complete at a n Any (t.Sign s.Comma ∷ behind) f.0 tt refl) (complete at b n Any more f.1.0 tt (parts_end xs rest))
+      (many_comes (below_parts n xs last) (is_sign s.Comma) (next_part_at (parse at n Any)) (next_part_shrinks at n) (parts_list at xs last) more last (complete_parts at xs n rest f.1.1)))
+  complete at (GenericTuple p (GenericArgument a (GenericArgument b xs))) (suc n) App rest f i en = absurd cc
+  complete at (GenericTuple p (GenericArgument a (GenericArgument b xs))) (suc n) Atom rest f i en = absurd cc
+  complete at (GenericLetSeveral p xs a b) (suc n) Any rest f i en =
+      let whole = at (length (spell (GenericLetSeveral p xs a b) rest)) in
+      let a' = settle at a (t.Sign s.In ∷ spell b rest) in
+      let b' = settle at b rest in
+      as_tree (let_settled at whole xs a' b' (t.Sign s.Equals ∷ spell a (t.Sign s.In ∷ spell b rest)) f.0)
+      (comes_at (several_let at (parse at n) whole xs (t.Sign s.Equals ∷ spell a (t.Sign s.In ∷ spell b rest)) f.0)
+      (let_comes at n whole xs a' b' (spell a (t.Sign s.In ∷ spell b rest)) (spell b rest) rest _ _ (several_some xs f.0) (complete at a n Any (t.Sign s.In ∷ spell b rest) f.1 tt refl) (complete at b n Any rest f.2 tt en)))
+  complete at (GenericLetSeveral p xs a b) (suc n) App rest f i en = absurd cc
+  complete at (GenericLetSeveral p xs a b) (suc n) Atom rest f i en = absurd cc
+  complete at (GenericParSeveral p xs a ys b c) (suc n) Any rest f i en =
+      let whole = at (length (spell (GenericParSeveral p xs a ys b c) rest)) in
+      let right = t.Sign s.Equals ∷ spell b (t.Sign s.In ∷ spell c rest) in
+      let left = t.Sign s.Equals ∷ spell a (t.Sign s.And ∷ spell_names ys right) in
+      let a' = settle at a (t.Sign s.And ∷ spell_names ys right) in
+      let b' = settle at b (t.Sign s.In ∷ spell c rest) in
+      let c' = settle at c rest in
+      as_tree (par_settled at whole xs ys a' b' c' left right f.0)
+      (par_comes at n whole xs ys a' b' c' (spell a (t.Sign s.And ∷ spell_names ys right)) (spell b (t.Sign s.In ∷ spell c rest)) (spell c rest) rest _ _ _ (left_some xs ys f.0) (right_some xs ys f.0)
+      (complete at a n Any (t.Sign s.And ∷ spell_names ys right) f.1 tt refl) (complete at b n Any (t.Sign s.In ∷ spell c rest) f.2 tt refl) (complete at c n Any rest f.3 tt en))
+  complete at (GenericParSeveral p xs a ys b c) (suc n) App rest f i en = absurd cc
+  complete at (GenericParSeveral p xs a ys b c) (suc n) Atom rest f i en = absurd cc
+
+  complete_parts : (at : Places) (xs : GenericArguments) (n : ℕ) (rest : List Token) → AreGenericParts xs → Steps (below_parts n xs (t.Sign s.Close ∷ rest)) (is_sign s.Comma) (next_part_at (parse at n Any)) (spell_further_parts xs (t.Sign s.Close ∷ rest)) (parts_list at xs (t.Sign s.Close ∷ rest)) (t.Sign s.Close ∷ rest)
+  complete_parts at GenericNoArgument n rest f = (refl, refl, refl)
+  complete_parts at (GenericArgument a xs) n rest f =
+      let last = t.Sign s.Close ∷ rest in (
+        spell_further_parts xs last,
+        below n a (spell_further_parts xs last),
+        below_parts n xs last,
+        refl,
+        part_comes at n (settle at a (spell_further_parts xs last)) (spell a (spell_further_parts xs last)) (spell_further_parts xs last) _ (complete at a n Any (spell_further_parts xs last) f.0 tt (parts_end xs rest)),
+        complete_parts at xs n rest f.1,
+        refl,
+      )
 
   complete_arguments : (at : Places) (xs : GenericArguments) (n : ℕ) (rest : List Token) → AreGenericFine xs → next_is goes_on rest ≡ false → Comes (below_arguments n xs rest) (arguments_at (parse at n Atom) (spell_arguments xs rest)) (settle_arguments at xs rest) rest
   complete_arguments at GenericNoArgument n rest f en = Came (arguments_none (parse at n Atom) rest (ends_parts rest en).1) refl

@@ -8,17 +8,23 @@ use Rattle.gib_syntax.specs.declared.program.GenericData.{GenericData}
 use Rattle.gib_syntax.specs.declared.program.GenericFunction.{GenericFunction}
 use Rattle.gib_syntax.specs.declared.program.GenericParameter.{GenericParameter}
 use Rattle.gib_syntax.specs.declared.written.Word.{Word}
-use Rattle.gib_syntax.specs.Words.{stack_of, first_type}
+use Rattle.gib_syntax.specs.declared.written.Run.{Run}
+use Rattle.gib_syntax.specs.declared.written.ResultRuns.{ResultRuns}
+use Rattle.gib_syntax.specs.declared.written.ResultRuns.TheVariants as result
+use Rattle.gib_syntax.specs.Results.{Results, One, Several}
+use Rattle.gib_syntax.specs.Forms.{WrittenType}
+use Rattle.gib_syntax.specs.Words.{stack_of, first_type, type_in}
 use Rattle.gib_syntax.specs.GenericTree.{GenericConstructorTree, GenericDataTree, GenericParameterTree, GenericFunctionTree, GenericMainTree}
 use Rattle.gib_syntax.specs.Spelling.{Places}
 use Rattle.gib_syntax.specs.GenericArena.{Arena, Grows}
-use Rattle.gib_syntax.specs.GenericParts.{IsFunctionInside, constructor_in, data_in, parameter_in, function_in}
+use Rattle.gib_syntax.specs.GenericParts.{IsFunctionInside, constructor_in, data_in, parameter_in, results_in, function_in}
 use Rattle.gib_syntax.proofs.GenericLayers.{type_run_grows, types_run_grows}
 use Rattle.gib_parse.specs.declared.stop.Stop.{Stop}
-use Rattle.gib_parse.specs.Reading.{Read, Any, next_is, is_sign, many, parse, constructor_at, alternative_at, constructors_at, data_at, parameter_at, parameters_at, function_at, main_at, program_at}
-use Rattle.gib_parse.specs.Parsing.{Fails, IsConstructorIn, IsDataIn, IsParameterIn, AllStand}
+use Rattle.gib_parse.specs.Reading.{Read, Any, next_is, is_sign, many, parse, constructor_at, alternative_at, constructors_at, data_at, parameter_at, parameters_at, next_type_at, function_at, main_at, program_at}
+use Rattle.gib_parse.specs.Parsing.{Fails, IsTypeIn, AreResultsIn, IsConstructorIn, IsDataIn, IsParameterIn, AllStand}
 use Rattle.gib_parse.proofs.Tools.{done}
 use Rattle.gib_parse.proofs.ProgramSound.{alternative_shrinks, data_shrinks, parameter_shrinks, function_shrinks}
+use Rattle.gib_parse.proofs.Local.{next_types_shrink}
 use Rattle.gib_parse.proofs.SoFar.{one_and_more, none_yet, first_one, first_fails, all_read, one_fails, shorter}
 use Rattle.gib_parse.proofs.PartsSoFar.{grows_none, PartsSoFar, parts_more, parts_stand, seen, seen_same, within_more}
 
@@ -47,14 +53,30 @@ pub parameter_stays : (old new : Arena) (q : GenericParameter) → Grows old new
 parameter_stays old new q g h =
     (type_run_grows old new q.ty g h, ap (λ (ws : List Word). let made : GenericParameterTree = record { name = q.name; ty = first_type (stack_of ws) } in made) (g.runs q.ty h.0).1)
 
+abbrev type_here : Arena → Run → WrittenType
+type_here a run = type_in a.words run
+
+pub type_stays : (old new : Arena) (run : Run) → Grows old new → IsTypeIn old run → IsTypeIn new run × (type_here new run ≡ type_here old run)
+type_stays old new run g h = (type_run_grows old new run g h, ap (λ (ws : List Word). first_type (stack_of ws)) (g.runs run h.0).1)
+
+abbrev results_here : Arena → ResultRuns → Results WrittenType
+results_here a r = results_in a.words r
+
+pub results_stay : (old new : Arena) (r : ResultRuns) → Grows old new → AreResultsIn old r → AreResultsIn new r × (results_here new r ≡ results_here old r)
+results_stay old new (result.One run) g h = let o = type_stays old new run g h in (o.0, ap (λ (x : WrittenType). One x) o.1)
+results_stay old new (result.Several runs) g h = (
+  within_more IsTypeIn type_here type_stays old new runs.items g h,
+  ap (λ (xs : List WrittenType). Several xs) (seen_same IsTypeIn type_here type_stays old new runs.items g h),
+)
+
 pub function_stays : (old new : Arena) (f : GenericFunction) → Grows old new → IsFunctionInside old f → IsFunctionInside new f × (function_in new f ≡ function_in old f)
 function_stays old new f g h =
     let qs = f.parameters.items in
     let types = seen_same IsParameterIn parameter_here parameter_stays old new qs g h.0 in
-    let result = ap (λ (ws : List Word). first_type (stack_of ws)) (g.runs f.result h.1.0).1 in
+    let results = results_stay old new f.result g h.1 in
     let body = g.same f.body.0 h.2 in (
-      (within_more IsParameterIn parameter_here parameter_stays old new qs g h.0, type_run_grows old new f.result g h.1, let l = g.longer in let m = h.2 in omega arith),
-      (λ k. record { name = f.name; variables = f.variables.items; parameters = types k; result = result k; body = body k }),
+      (within_more IsParameterIn parameter_here parameter_stays old new qs g h.0, results.0, let l = g.longer in let m = h.2 in omega arith),
+      (λ k. record { name = f.name; variables = f.variables.items; parameters = types k; result = results.1 k; body = body k }),
     )
 
 -- ---- constructors
@@ -146,6 +168,38 @@ parameters_shorter at rest after x e = shorter (parameter_at at) (parameter_shri
 
 pub parameters_stand : (old new : Arena) (at : Places) (tokens rest : List Token) (xs : List GenericParameter) → ParametersSoFar old new at tokens rest xs → AllStand IsParameterIn old new xs
 parameters_stand old new at tokens rest xs so = parts_stand IsParameterIn parameter_here parameter_stays old new (all_parameters at tokens) (is_sign s.Open) (parameter_at at) rest xs so
+
+-- ---- the types of parts
+
+abbrev pub all_next_types : Places → List Token → Read (List WrittenType)
+all_next_types at tokens = many (is_sign s.Comma) (next_type_at at) tokens
+
+abbrev pub NextTypesSoFar : Arena → Arena → Places → List Token → List Token → List Run → Type 0
+NextTypesSoFar old new at tokens rest xs = PartsSoFar IsTypeIn type_here type_stays old new (all_next_types at tokens) (is_sign s.Comma) (next_type_at at) rest xs
+
+pub next_types_start : (a : Arena) (at : Places) (tokens : List Token) → NextTypesSoFar a a at tokens tokens []
+next_types_start a at tokens = record { grows = grows_none a; inside = tt; read = none_yet (is_sign s.Comma) (next_type_at at) tokens }
+
+pub next_types_more : (old new newer : Arena) (at : Places) (tokens rest after : List Token) (xs : List Run) (x : Run) → NextTypesSoFar old new at tokens rest xs → next_is (is_sign s.Comma) rest ≡ true → Grows new newer → IsTypeIn newer x → (next_type_at at) rest ≡ done (type_here newer x) after → NextTypesSoFar old newer at tokens after (xs ++ x ∷ [])
+next_types_more old new newer at tokens rest after xs x so e g i r = parts_more IsTypeIn type_here type_stays old new newer (all_next_types at tokens) (is_sign s.Comma) (next_type_at at) (next_types_shrink at) rest after xs x so e g i r
+
+pub next_types_done : (old new : Arena) (at : Places) (tokens rest : List Token) (xs : List Run) → NextTypesSoFar old new at tokens rest xs → next_is (is_sign s.Comma) rest ≡ false → all_next_types at tokens ≡ done (map (type_here new) xs) rest
+next_types_done old new at tokens rest xs so e = all_read (all_next_types at tokens) (is_sign s.Comma) (next_type_at at) rest (seen IsTypeIn type_here type_stays new xs) so.read e
+
+pub next_types_fail : (old new : Arena) (at : Places) (tokens rest : List Token) (xs : List Run) (e : Stop) → NextTypesSoFar old new at tokens rest xs → next_is (is_sign s.Comma) rest ≡ true → Fails e ((next_type_at at) rest) → Fails e (all_next_types at tokens)
+next_types_fail old new at tokens rest xs e so b f = one_fails (all_next_types at tokens) (is_sign s.Comma) (next_type_at at) (next_types_shrink at) rest (seen IsTypeIn type_here type_stays new xs) e so.read b f
+
+pub next_types_shorter : (at : Places) (rest after : List Token) (x : WrittenType) → (next_type_at at) rest ≡ done x after → length after < length rest
+next_types_shorter at rest after x e = shorter (next_type_at at) (next_types_shrink at) rest after x e
+
+pub next_types_stand : (old new : Arena) (at : Places) (tokens rest : List Token) (xs : List Run) → NextTypesSoFar old new at tokens rest xs → AllStand IsTypeIn old new xs
+next_types_stand old new at tokens rest xs so = parts_stand IsTypeIn type_here type_stays old new (all_next_types at tokens) (is_sign s.Comma) (next_type_at at) rest xs so
+
+pub types_stay : (old new : Arena) (runs : List Run) → AllByRecursion (IsTypeIn old) runs → Grows old new → map (type_here new) runs ≡ map (type_here old) runs
+types_stay old new runs h g = seen_same IsTypeIn type_here type_stays old new runs g h
+
+pub types_stay_inside : (old new : Arena) (runs : List Run) → AllByRecursion (IsTypeIn old) runs → Grows old new → AllByRecursion (IsTypeIn new) runs
+types_stay_inside old new runs h g = within_more IsTypeIn type_here type_stays old new runs g h
 
 -- ---- functions
 

@@ -1,5 +1,5 @@
 -- Arguments and arms, as far as they were read.
-use Rattle.std.proofs.Common.{◌≡◌, ℕ, zero, suc, ◌-◌, ◌<◌, ◌≤◌, true, false, List, [], ◌∷◌, ◌++◌, length, take, drop, slice_index_or, Ok, Err, refl, sym, ap, ◌∙◌, subst, arith, length-append}
+use Rattle.std.proofs.Common.{◌≡◌, ℕ, zero, suc, ◌-◌, ◌<◌, ◌≤◌, true, false, List, [], ◌∷◌, ◌++◌, length, map, take, drop, slice_index_or, Ok, Err, refl, sym, ap, ◌∙◌, subst, arith, length-append}
 use Rattle.std.specs.List.{AllByRecursion}
 use Rattle.std.proofs.lemmas.List.{take_all}
 use Rattle.gib_base.specs.declared.token.Sign.{Sign}
@@ -8,21 +8,21 @@ use Rattle.gib_base.specs.declared.token.Token.{Token}
 use Rattle.gib_syntax.specs.declared.exprs.ExprId.{ExprId}
 use Rattle.gib_syntax.specs.declared.exprs.Arm as code
 use Rattle.gib_syntax.specs.declared.tree.Ident.{Ident}
-use Rattle.gib_syntax.specs.GenericTree.{GenericExpression, GenericArguments, GenericArms, GenericCall, GenericCase, GenericNoArgument, GenericArgument, GenericLastArm, GenericNextArm}
+use Rattle.gib_syntax.specs.GenericTree.{GenericExpression, GenericArguments, GenericArms, GenericCall, GenericCase, GenericTuple, GenericNoArgument, GenericArgument, GenericLastArm, GenericNextArm}
 use Rattle.gib_syntax.specs.Spelling.{Places}
 use Rattle.gib_syntax.specs.GenericArena.{Arena, Grows, ArmsBelow, tree_of, arguments_from, arms_from, nothing}
 use Rattle.gib_parse.specs.declared.stop.Stop.{Stop}
 use Rattle.gib_parse.specs.declared.stop.Stop.TheVariants as stop
 use Rattle.gib_base.specs.declared.Span.{Span}
-use Rattle.gib_parse.specs.Reading.{Parts, var_at, want, case_at, Read, Reader, Any, Atom, then_at, next_is, is_sign, starts_atom, many, parse, ArmTree, arms_of, arguments_of, arm_at, next_arm_at, arms_at, arguments_at, call, called_at, At, before, literal_at, no_level, atom_at, close_at, open_at, operation_at, operator_of}
-use Rattle.gib_parse.specs.Parsing.{Fails, IsExpressionIn, ReadsArms, arm_tree, arms_tree, call_tree}
+use Rattle.gib_parse.specs.Reading.{Parts, var_at, want, case_at, Read, Reader, Any, Atom, then_at, next_is, is_sign, starts_atom, many, parse, ArmTree, arms_of, arguments_of, arm_at, next_arm_at, arms_at, arguments_at, call, called_at, At, before, literal_at, no_level, atom_at, close_at, next_part_at, tuple_at, operation_at, operator_of}
+use Rattle.gib_parse.specs.Parsing.{Fails, AllStand, IsExpressionIn, ReadsArms, arm_tree, arms_tree, call_tree}
 use Rattle.gib_syntax.specs.Forms.{WrittenType, WrittenTypes, NoType, MoreTypes}
 use Rattle.gib_base.specs.declared.token.Token.TheVariants as t
 use Rattle.gib_parse.proofs.Complete.{argument_and_more}
 use Rattle.gib_parse.proofs.Tools.{done, failed}
-use Rattle.gib_parse.proofs.Longer.{parse_shrinks, next_shrinks}
+use Rattle.gib_parse.proofs.Longer.{parse_shrinks, next_shrinks, next_part_shrinks}
 use Rattle.gib_parse.proofs.SoFar.{one_and_more, none_yet, first_one, first_fails, all_read, one_fails, shorter}
-use Rattle.gib_parse.proofs.PartsSoFar.{grows_none, PartsSoFar, parts_more, seen}
+use Rattle.gib_parse.proofs.PartsSoFar.{grows_none, grows_more, PartsSoFar, parts_more, parts_stand, seen}
 
 -- ---- arguments
 
@@ -72,6 +72,50 @@ arguments_fail old new at level tokens rest ids e so b f =
 
 pub arguments_shorter : (at : Places) (level : ℕ) (rest after : List Token) (a : GenericExpression) → parse at level Atom rest ≡ done a after → length after < length rest
 arguments_shorter at level rest after a e = shorter (parse at level Atom) (parse_shrinks at level Atom) rest after a e
+
+-- ---- further parts of a tuple
+
+abbrev pub all_further : Places → ℕ → List Token → Read (List GenericExpression)
+all_further at level tokens = many (is_sign s.Comma) (next_part_at (parse at level Any)) tokens
+
+abbrev pub FurtherSoFar : Arena → Arena → Places → ℕ → List Token → List Token → List ExprId → Type 0
+FurtherSoFar old new at level tokens rest ids = PartsSoFar IsExpressionIn id_tree id_stays old new (all_further at level tokens) (is_sign s.Comma) (next_part_at (parse at level Any)) rest ids
+
+pub further_start : (a : Arena) (at : Places) (level : ℕ) (tokens : List Token) → FurtherSoFar a a at level tokens tokens []
+further_start a at level tokens = record { grows = grows_none a; inside = tt; read = none_yet (is_sign s.Comma) (next_part_at (parse at level Any)) tokens }
+
+pub further_more : (old new newer : Arena) (at : Places) (level : ℕ) (tokens rest after : List Token) (ids : List ExprId) (id : ExprId) → FurtherSoFar old new at level tokens rest ids → next_is (is_sign s.Comma) rest ≡ true → Grows new newer → IsExpressionIn newer id → next_part_at (parse at level Any) rest ≡ done (tree_of newer id.0) after → FurtherSoFar old newer at level tokens after (ids ++ id ∷ [])
+further_more old new newer at level tokens rest after ids id so e g lt r =
+    parts_more IsExpressionIn id_tree id_stays old new newer (all_further at level tokens) (is_sign s.Comma) (next_part_at (parse at level Any)) (next_part_shrinks at level) rest after ids id so e g lt r
+
+pub further_done : (old new : Arena) (at : Places) (level : ℕ) (tokens rest : List Token) (ids : List ExprId) → FurtherSoFar old new at level tokens rest ids → next_is (is_sign s.Comma) rest ≡ false → all_further at level tokens ≡ done (map (id_tree new) ids) rest
+further_done old new at level tokens rest ids so e = all_read (all_further at level tokens) (is_sign s.Comma) (next_part_at (parse at level Any)) rest (trees new ids) so.read e
+
+pub further_fail : (old new : Arena) (at : Places) (level : ℕ) (tokens rest : List Token) (ids : List ExprId) (e : Stop) → FurtherSoFar old new at level tokens rest ids → next_is (is_sign s.Comma) rest ≡ true → Fails e (next_part_at (parse at level Any) rest) → Fails e (all_further at level tokens)
+further_fail old new at level tokens rest ids e so b f = one_fails (all_further at level tokens) (is_sign s.Comma) (next_part_at (parse at level Any)) (next_part_shrinks at level) rest (trees new ids) e so.read b f
+
+pub further_shorter : (at : Places) (level : ℕ) (rest after : List Token) (a : GenericExpression) → next_part_at (parse at level Any) rest ≡ done a after → length after < length rest
+further_shorter at level rest after a e = shorter (next_part_at (parse at level Any)) (next_part_shrinks at level) rest after a e
+
+pub further_stand : (old new : Arena) (at : Places) (level : ℕ) (tokens rest : List Token) (ids : List ExprId) → FurtherSoFar old new at level tokens rest ids → AllStand IsExpressionIn old new ids
+further_stand old new at level tokens rest ids so = parts_stand IsExpressionIn id_tree id_stays old new (all_further at level tokens) (is_sign s.Comma) (next_part_at (parse at level Any)) rest ids so
+
+-- A tuple is read: its first part stands since before.
+pub tuple_done : (old mid new newest : Arena) (at : Places) (level : ℕ) (p : Span) (t0 t1 t2 t3 : List Token) (first second : ExprId) (further all : List ExprId) (id : ExprId) → next_part_at (parse at level Any) t0 ≡ done (tree_of mid second.0) t1 → all_further at level t1 ≡ done (map (id_tree new) further) t2
+    → want s.Close t2 ≡ done (tt {0}) t3 → IsExpressionIn old first → IsExpressionIn mid second → Grows old mid → Grows mid new → all ≡ first ∷ second ∷ further → tree_of newest id.0 ≡ GenericTuple p (arguments_from (tree_of new) all)
+    → tuple_at (parse at level) p (tree_of old first.0) t0 ≡ done (tree_of newest id.0) t3
+unfolding tuple_at
+tuple_done old mid new newest at level p t0 t1 t2 t3 first second further all id e1 e2 e3 h1 h2 g k made tree =
+    let read1 : next_part_at (parse at level Any) t0 ≡ done (tree_of new second.0) t1 = e1 ∙ ap (λ (x : GenericExpression). done x t1) (sym (id_stays mid new second k h2).1) in
+    let same : tree_of old first.0 ≡ tree_of new first.0 = sym (id_stays old new first (grows_more old mid new g k) h1).1 in
+    let read : tuple_at (parse at level) p (tree_of old first.0) t0 ≡ done (GenericTuple p (arguments_of (tree_of old first.0 ∷ tree_of new second.0 ∷ trees new further))) t3 = rw (read1, e2, e3) refl in
+    let parts : arguments_of (tree_of old first.0 ∷ tree_of new second.0 ∷ trees new further) ≡ arguments_from (tree_of new) all =
+    ap (λ (e : GenericExpression). GenericArgument e (arguments_of (tree_of new second.0 ∷ trees new further))) same ∙ arguments_seen new (first ∷ second ∷ further) ∙ ap (arguments_from (tree_of new)) (sym made) in
+    read ∙ ap (λ (xs : GenericArguments). done (GenericTuple p xs) t3) parts ∙ ap (λ (e : GenericExpression). done e t3) (sym tree)
+
+pub tuple_below : (old mid new : Arena) (first second : ExprId) (further all : List ExprId) → IsExpressionIn old first → IsExpressionIn mid second → AllByRecursion (IsExpressionIn new) further → Grows old mid → Grows mid new → all ≡ first ∷ second ∷ further → AllByRecursion (IsExpressionIn new) all
+tuple_below old mid new first second further all h1 h2 h g k made =
+    subst (λ (l : List ExprId). AllByRecursion (IsExpressionIn new) l) (sym made) ((id_stays old new first (grows_more old mid new g k) h1).0, ((id_stays mid new second k h2).0, h))
 
 -- ---- arms
 
@@ -239,12 +283,8 @@ close_other : (sub : Parts) (p : Span) (e : GenericExpression) (a : Sign) (ts : 
 close_other sub p e s.Close ts ne = absurd (ne refl)
 close_other sub p e a ts ne = refl
 
-close_behind : (sub : Parts) (p : Span) (e : GenericExpression) (ts : List Token) (d : Token) (a : Sign) → 1 ≤ length ts → slice_index_or ts 0 d ≡ t.Sign a → (a ≡ s.Close → ⊥) → close_at sub p e ts ≡ operation_at (operator_of a) sub p e (take (length ts - 1) (drop 1 ts))
+pub close_behind : (sub : Parts) (p : Span) (e : GenericExpression) (ts : List Token) (d : Token) (a : Sign) → 1 ≤ length ts → slice_index_or ts 0 d ≡ t.Sign a → (a ≡ s.Close → ⊥) → close_at sub p e ts ≡ operation_at (operator_of a) sub p e (take (length ts - 1) (drop 1 ts))
 close_behind sub p e [] d a le h ne = absurd (omega (arith, le))
 close_behind sub p e (x ∷ ts) d a le h ne =
     ap (λ (y : Token). close_at sub p e (y ∷ ts)) h ∙ close_other sub p e a ts ne
     ∙ ap (operation_at (operator_of a) sub p e) (sym (take_all (length (x ∷ ts) - 1) ts (omega arith)))
-
-pub side_opens : (sub : Parts) (p : Span) (e : GenericExpression) (t0 ts : List Token) → sub Any t0 ≡ done e ts → (d : Token) (a : Sign) → 1 ≤ length ts → slice_index_or ts 0 d ≡ t.Sign a → (a ≡ s.Close → ⊥) → open_at sub p t0 ≡ operation_at (operator_of a) sub p e (take (length ts - 1) (drop 1 ts))
-unfolding open_at
-side_opens sub p e t0 ts read d a le h ne = ap (λ (r : Read GenericExpression). then_at r (close_at sub p)) read ∙ close_behind sub p e ts d a le h ne

@@ -27,6 +27,7 @@ pub mod Opening
 pub mod Calls
 pub mod Bodies
 pub mod Levels
+pub mod Several
 pub mod ExpressionLoops
 pub mod DeclarationLoops
 pub mod Answered

@@ -9,16 +9,17 @@ use Rattle.gib_base.specs.declared.token.Token.TheVariants as t
 use Rattle.gib_syntax.specs.declared.tree.Ident.{Ident}
 use Rattle.gib_syntax.specs.declared.tree.Operator.{Operator}
 use Rattle.gib_syntax.specs.declared.tree.Operator.TheVariants as o
-use Rattle.gib_syntax.specs.GenericTree.{GenericExpression, GenericVar, GenericNum, GenericBit, GenericParen, GenericOp, GenericMake, GenericLet, GenericPar, GenericIf, GenericCase, GenericNoArgument, GenericCall, GenericArgument}
+use Rattle.gib_syntax.specs.GenericTree.{GenericExpression, GenericVar, GenericNum, GenericBit, GenericParen, GenericOp, GenericMake, GenericIf, GenericCase, GenericTuple, GenericNoArgument, GenericCall, GenericArgument}
 use Rattle.gib_syntax.specs.GenericFine.{is_generic_application}
 use Rattle.gib_syntax.specs.Spelling.{Places}
-use Rattle.gib_parse.specs.Reading.{Fault, At, Nested, Mode, Any, App, Atom, Read, Reader, Parts, then_at, want, want_if, same, before, var_at, con_at, Opened, opened_at, inside, type_at, bracket_at, type_arguments_at, starts_type, next_is, many_step, many, is_variable, is_sign, is_literal, literal_at, starts_atom, starts, ArmTree, arms_of, arm_at, next_arm_at, arms_at, arguments_of, arguments_at, bind_at, par_at, let_at, if_at, case_at, side_at, close_at, open_at, call, called_at, variable_at, make_at, constant_at, atom_at, app_at, any_at, no_level, parse}
-use Rattle.gib_parse.proofs.Tools.{done, failed, same_is}
+use Rattle.gib_parse.specs.Reading.{Fault, At, Nested, Mode, Any, App, Atom, Read, Reader, Parts, then_at, want, want_if, same, before, var_at, con_at, Opened, opened_at, inside, type_at, bracket_at, type_arguments_at, starts_type, next_is, many_step, many, is_variable, is_sign, is_literal, literal_at, starts_atom, starts, ArmTree, arms_of, arm_at, next_arm_at, arms_at, arguments_of, arguments_at, next_name_at, several_names_at, one_name_at, names_bound_at, let_of, par_of, bind_at, par_at, let_at, if_at, case_at, side_at, close_at, open_at, next_part_at, tuple_at, close_any_at, open_any_at, next_type_at, further_types_at, one_type_at, declared_at, open_results_at, results_at, call, called_at, variable_at, make_at, constant_at, atom_at, app_at, any_at, no_level, parse}
+use Rattle.gib_parse.proofs.Tools.{done, failed, same_is, then_holds, want_holds}
 use Rattle.gib_parse.proofs.Many.{Shrinks, many_is}
-use Rattle.gib_parse.proofs.Longer.{parse_shrinks, var_shrinks, type_shrinks, next_shrinks}
+use Rattle.gib_parse.proofs.Longer.{parse_shrinks, var_shrinks, type_shrinks, next_shrinks, next_name_shrinks, next_part_shrinks}
 use Rattle.gib_parse.proofs.WrittenComes.{type_arguments_none}
 use Rattle.gib_syntax.specs.Forms.{WrittenType, WrittenTypes, WholeAt, TruthAt, VariableAt, DataAt, NoType, MoreTypes}
 use Rattle.gib_syntax.specs.Words.{all_types}
+use Rattle.gib_syntax.specs.Results.{Results, One, Several}
 
 -- The kinds of faults.
 pub data Kind : Type 0 where
@@ -68,6 +69,12 @@ then_done (Err d) f b left e = absurd (fail_ok d b left e)
 pub then_failed : {A B : Type 0} (r : Read A) (f : A → Reader B) (d : Fault) → then_at r f ≡ failed d → (r ≡ failed d) ⊎ ((a : A) × (rest : List Token) × (r ≡ done a rest) × (f a rest ≡ failed d))
 then_failed (Ok x) f d e = inr (x.0, x.1, refl, e)
 then_failed (Err c) f d e = inl (let same : c ≡ d = cc in ap (λ (g : Fault). failed g) same)
+
+-- A further type takes tokens.
+pub next_types_shrink : (at : Places) → Shrinks (next_type_at at)
+unfolding next_type_at
+next_types_shrink at ts =
+    then_holds (want_holds s.Comma ts) (λ _ r1 p1. record { by = λ a rest e. let o = (type_shrinks at r1).by a rest e in omega (arith, o, ap length p1) })
 
 -- The tokens differ behind the token tok: there xs follow, here ys. The places of the ones before it are the same.
 module _ (tok : Token) (xs ys : List Token) (at at' : Places) (shift : (k : ℕ) → at' (k + length ys) ≡ at (k + length xs)) where
@@ -340,6 +347,44 @@ module _ (tok : Token) (xs ys : List Token) (at at' : Places) (shift : (k : ℕ)
   type_local (t.Sign s.Open ∷ ws) = takes_marked (type_at at) (type_at at') (λ z. opened_at at z []) (λ z. opened_at at' z []) (t.Sign s.Open) ws (λ l. refl) (λ l. refl) (λ z. opened_local z [] ws)
   type_local (c ∷ ws) = head_fails (type_at at) (type_at at') c ws (λ l. refl) (λ l. refl)
 
+  next_type_local : (ws : List Token) → LocalAt (next_type_at at) (next_type_at at') ws
+  unfolding next_type_at
+  next_type_local ws = then_local (want_local s.Comma ws) (λ _ r1 e1. type_local r1)
+
+  part_types_local : (a : WrittenType) (ws : List Token) → LocalAt (further_types_at at a) (further_types_at at' a) ws
+  unfolding further_types_at
+  part_types_local a ws =
+      then_local (next_type_local ws) (λ b r1 e1. then_local (many_local (is_sign s.Comma) (next_type_at at) (next_type_at at') (next_types_shrink at) (next_types_shrink at') next_type_local r1) (λ more r2 e2.
+      then_local (want_local s.Close r2) (λ _ r3 e3. pure_local (Several (a ∷ b ∷ more)) r3)))
+
+  one_type_local : (p p' : Reader WrittenType) (ws : List Token) → LocalAt p p' ws → LocalAt (one_type_at p) (one_type_at p') ws
+  unfolding one_type_at
+  one_type_local p p' ws h = then_local h (λ a r e. pure_local (One a) r)
+
+  declared_local : (z : Span) (k : Ident) (ws : List Token) → LocalAt (declared_at at z k) (declared_at at' z k) ws
+  declared_local z k [] = local_nil (declared_at at z k) (declared_at at' z k) (one_type_at (inside at z k [] [])) (one_type_at (inside at' z k [] [])) refl (one_type_local (inside at z k [] []) (inside at' z k [] []) [] (inside_local z k [] [] []))
+  declared_local z k (t.Sign s.Comma ∷ ws) =
+      keeps (declared_at at z k) (declared_at at' z k) (further_types_at at (DataAt k.span k NoType)) (further_types_at at' (DataAt k.span k NoType)) (t.Sign s.Comma) ws (λ l. refl) (λ l. refl) (part_types_local (DataAt k.span k NoType) (t.Sign s.Comma ∷ ws))
+  declared_local z k (c ∷ ws) =
+      keeps (declared_at at z k) (declared_at at' z k) (one_type_at (inside at z k [] [])) (one_type_at (inside at' z k [] [])) c ws (λ l. refl) (λ l. refl) (one_type_local (inside at z k [] []) (inside at' z k [] []) (c ∷ ws) (inside_local z k [] [] (c ∷ ws)))
+
+  abbrev first_then : Places → Reader (Results WrittenType)
+  first_then at ws = then_at (type_at at ws) (λ a ts. further_types_at at a ts)
+
+  first_then_local : (ws : List Token) → LocalAt (first_then at) (first_then at') ws
+  first_then_local ws = then_local (type_local ws) (λ a r e. part_types_local a r)
+
+  open_results_local : (z : Span) (ws : List Token) → LocalAt (open_results_at at z) (open_results_at at' z) ws
+  open_results_local z [] = local_nil (open_results_at at z) (open_results_at at' z) (first_then at) (first_then at') refl (first_then_local [])
+  open_results_local z (t.Constructor k ∷ ws) =
+      takes_marked (open_results_at at z) (open_results_at at' z) (λ y. declared_at at z (record { name = k; span = y })) (λ y. declared_at at' z (record { name = k; span = y })) (t.Constructor k) ws (λ l. refl) (λ l. refl) (λ y. declared_local z (record { name = k; span = y }) ws)
+  open_results_local z (c ∷ ws) = keeps (open_results_at at z) (open_results_at at' z) (first_then at) (first_then at') c ws (λ l. refl) (λ l. refl) (first_then_local (c ∷ ws))
+
+  pub results_local : (ws : List Token) → LocalAt (results_at at) (results_at at') ws
+  results_local [] = local_nil (results_at at) (results_at at') (one_type_at (type_at at)) (one_type_at (type_at at')) refl (one_type_local (type_at at) (type_at at') [] (type_local []))
+  results_local (t.Sign s.Open ∷ ws) = takes_marked (results_at at) (results_at at') (λ z. open_results_at at z) (λ z. open_results_at at' z) (t.Sign s.Open) ws (λ l. refl) (λ l. refl) (λ z. open_results_local z ws)
+  results_local (c ∷ ws) = keeps (results_at at) (results_at at') (one_type_at (type_at at)) (one_type_at (type_at at')) c ws (λ l. refl) (λ l. refl) (one_type_local (type_at at) (type_at at') (c ∷ ws) (type_local (c ∷ ws)))
+
   bracket_local : (ws : List Token) → LocalAt (bracket_at at) (bracket_at at') ws
   unfolding bracket_at
   bracket_local ws =
@@ -381,16 +426,35 @@ module _ (tok : Token) (xs ys : List Token) (at at' : Places) (shift : (k : ℕ)
       then_local (arm_local n h ws) (λ arm r1 e1. then_local (many_local (is_sign s.Semicolon) (next_arm_at at (parse at n Any)) (next_arm_at at' (parse at' n Any)) (next_shrinks at n) (next_shrinks at' n) (next_local n h) r1) (λ arms r2 e2.
       pure_local (arms_of arm arms) r2))
 
+  next_name_local : (ws : List Token) → LocalAt (next_name_at at) (next_name_at at') ws
+  unfolding next_name_at
+  next_name_local ws = then_local (want_local s.Comma ws) (λ _ r1 e1. var_local r1)
+
+  several_names_local : (ws : List Token) → LocalAt (several_names_at at) (several_names_at at') ws
+  unfolding several_names_at
+  several_names_local ws =
+      then_local (var_local ws) (λ x r1 e1. then_local (next_name_local r1) (λ y r2 e2. then_local (many_local (is_sign s.Comma) (next_name_at at) (next_name_at at') (next_name_shrinks at) (next_name_shrinks at') next_name_local r2) (λ ys r3 e3.
+      then_local (want_local s.Close r3) (λ _ r4 e4. pure_local (x ∷ y ∷ ys) r4))))
+
+  one_name_local : (ws : List Token) → LocalAt (one_name_at at) (one_name_at at') ws
+  unfolding one_name_at
+  one_name_local ws = then_local (var_local ws) (λ x r e. pure_local (x ∷ []) r)
+
+  names_bound_local : (ws : List Token) → LocalAt (names_bound_at at) (names_bound_at at') ws
+  names_bound_local [] = local_nil (names_bound_at at) (names_bound_at at') (one_name_at at) (one_name_at at') refl (one_name_local [])
+  names_bound_local (t.Sign s.Open ∷ ws) = takes (names_bound_at at) (names_bound_at at') (several_names_at at) (several_names_at at') (t.Sign s.Open) ws (λ l. refl) (λ l. refl) (several_names_local ws)
+  names_bound_local (c ∷ ws) = keeps (names_bound_at at) (names_bound_at at') (one_name_at at) (one_name_at at') c ws (λ l. refl) (λ l. refl) (one_name_local (c ∷ ws))
+
   bind_local : (n : ℕ) → PartsLocal n → (z : Span) (ws : List Token) → LocalAt (bind_at at (parse at n) z) (bind_at at' (parse at' n) z) ws
   unfolding bind_at
   bind_local n h z ws =
-      then_local (var_local ws) (λ x r1 e1. then_local (want_local s.Equals r1) (λ _ r2 e2. then_local (h Any r2) (λ a r3 e3. then_local (want_local s.In r3) (λ _ r4 e4. then_local (h Any r4) (λ b r5 e5. pure_local (GenericLet z x a b) r5)))))
+      then_local (names_bound_local ws) (λ xs r1 e1. then_local (want_local s.Equals r1) (λ _ r2 e2. then_local (h Any r2) (λ a r3 e3. then_local (want_local s.In r3) (λ _ r4 e4. then_local (h Any r4) (λ b r5 e5. pure_local (let_of z xs a b) r5)))))
 
   par_local : (n : ℕ) → PartsLocal n → (z : Span) (ws : List Token) → LocalAt (par_at at (parse at n) z) (par_at at' (parse at' n) z) ws
   unfolding par_at
   par_local n h z ws =
-      then_local (var_local ws) (λ x r1 e1. then_local (want_local s.Equals r1) (λ _ r2 e2. then_local (h Any r2) (λ a r3 e3. then_local (want_local s.And r3) (λ _ r4 e4.
-      then_local (var_local r4) (λ y r5 e5. then_local (want_local s.Equals r5) (λ _ r6 e6. then_local (h Any r6) (λ b r7 e7. then_local (want_local s.In r7) (λ _ r8 e8. then_local (h Any r8) (λ c r9 e9. pure_local (GenericPar z x a y b c) r9)))))))))
+      then_local (names_bound_local ws) (λ xs r1 e1. then_local (want_local s.Equals r1) (λ _ r2 e2. then_local (h Any r2) (λ a r3 e3. then_local (want_local s.And r3) (λ _ r4 e4.
+      then_local (names_bound_local r4) (λ ys r5 e5. then_local (want_local s.Equals r5) (λ _ r6 e6. then_local (h Any r6) (λ b r7 e7. then_local (want_local s.In r7) (λ _ r8 e8. then_local (h Any r8) (λ c r9 e9. pure_local (par_of z xs a ys b c) r9)))))))))
 
   pub let_local : (n : ℕ) → PartsLocal n → (z : Span) (ws : List Token) → LocalAt (let_at at (parse at n) z) (let_at at' (parse at' n) z) ws
   let_local n h z [] = local_nil (let_at at (parse at n) z) (let_at at' (parse at' n) z) (bind_at at (parse at n) z) (bind_at at' (parse at' n) z) refl (bind_local n h z [])
@@ -431,6 +495,26 @@ module _ (tok : Token) (xs ys : List Token) (at at' : Places) (shift : (k : ℕ)
   pub open_local : (n : ℕ) → PartsLocal n → (z : Span) (ws : List Token) → LocalAt (open_at (parse at n) z) (open_at (parse at' n) z) ws
   unfolding open_at
   open_local n h z ws = then_local (h Any ws) (λ e r1 e1. close_local n h z e r1)
+
+  next_part_local : (n : ℕ) → PartsLocal n → (ws : List Token) → LocalAt (next_part_at (parse at n Any)) (next_part_at (parse at' n Any)) ws
+  unfolding next_part_at
+  next_part_local n h ws = then_local (want_local s.Comma ws) (λ _ r1 e1. h Any r1)
+
+  tuple_local : (n : ℕ) → PartsLocal n → (z : Span) (a : GenericExpression) (ws : List Token) → LocalAt (tuple_at (parse at n) z a) (tuple_at (parse at' n) z a) ws
+  unfolding tuple_at
+  tuple_local n h z a ws =
+      then_local (next_part_local n h ws) (λ b r1 e1. then_local (many_local (is_sign s.Comma) (next_part_at (parse at n Any)) (next_part_at (parse at' n Any)) (next_part_shrinks at n) (next_part_shrinks at' n) (next_part_local n h) r1) (λ xs r2 e2.
+      then_local (want_local s.Close r2) (λ _ r3 e3. pure_local (GenericTuple z (arguments_of (a ∷ b ∷ xs))) r3)))
+
+  close_any_local : (n : ℕ) → PartsLocal n → (z : Span) (e : GenericExpression) (ws : List Token) → LocalAt (close_any_at (parse at n) z e) (close_any_at (parse at' n) z e) ws
+  close_any_local n h z e [] = local_nil (close_any_at (parse at n) z e) (close_any_at (parse at' n) z e) (close_at (parse at n) z e) (close_at (parse at' n) z e) refl (close_local n h z e [])
+  close_any_local n h z e (t.Sign s.Comma ∷ ws) =
+      keeps (close_any_at (parse at n) z e) (close_any_at (parse at' n) z e) (tuple_at (parse at n) z e) (tuple_at (parse at' n) z e) (t.Sign s.Comma) ws (λ l. refl) (λ l. refl) (tuple_local n h z e (t.Sign s.Comma ∷ ws))
+  close_any_local n h z e (c ∷ ws) = keeps (close_any_at (parse at n) z e) (close_any_at (parse at' n) z e) (close_at (parse at n) z e) (close_at (parse at' n) z e) c ws (λ l. refl) (λ l. refl) (close_local n h z e (c ∷ ws))
+
+  pub open_any_local : (n : ℕ) → PartsLocal n → (z : Span) (ws : List Token) → LocalAt (open_any_at (parse at n) z) (open_any_at (parse at' n) z) ws
+  unfolding open_any_at
+  open_any_local n h z ws = then_local (h Any ws) (λ e r1 e1. close_any_local n h z e r1)
 
   literal_local : (n v : ℕ) (ws : List Token) (b : Bool) → is_literal v ≡ b → LocalAt (atom_at at (parse at n)) (atom_at at' (parse at' n)) (t.Number v ∷ ws)
   literal_local n v ws true e =
@@ -486,6 +570,7 @@ module _ (tok : Token) (xs ys : List Token) (at at' : Places) (shift : (k : ℕ)
   any_local n h (t.Sign s.Let ∷ ws) = takes_marked (any_at at (parse at n)) (any_at at' (parse at' n)) (let_at at (parse at n)) (let_at at' (parse at' n)) (t.Sign s.Let) ws (λ l. refl) (λ l. refl) (λ z. let_local n h z ws)
   any_local n h (t.Sign s.If ∷ ws) = takes_marked (any_at at (parse at n)) (any_at at' (parse at' n)) (if_at (parse at n)) (if_at (parse at' n)) (t.Sign s.If) ws (λ l. refl) (λ l. refl) (λ z. if_local n h z ws)
   any_local n h (t.Sign s.Case ∷ ws) = takes_marked (any_at at (parse at n)) (any_at at' (parse at' n)) (case_at at (parse at n)) (case_at at' (parse at' n)) (t.Sign s.Case) ws (λ l. refl) (λ l. refl) (λ z. case_local n h z ws)
+  any_local n h (t.Sign s.Open ∷ ws) = takes_marked (any_at at (parse at n)) (any_at at' (parse at' n)) (open_any_at (parse at n)) (open_any_at (parse at' n)) (t.Sign s.Open) ws (λ l. refl) (λ l. refl) (λ z. open_any_local n h z ws)
   any_local n h (c ∷ ws) = keeps (any_at at (parse at n)) (any_at at' (parse at' n)) (app_at at (parse at n)) (app_at at' (parse at' n)) c ws (λ l. refl) (λ l. refl) (app_local n h (c ∷ ws))
 
   abbrev none_left : Mode → Reader GenericExpression

@@ -6,18 +6,27 @@ use Rattle.gib_base.specs.declared.token.Token.TheVariants as t
 use Rattle.gib_syntax.specs.declared.tree.Ident.{Ident}
 use Rattle.gib_syntax.specs.declared.tree.Operator.{Operator}
 use Rattle.gib_syntax.specs.declared.tree.Operator.TheVariants as o
-use Rattle.gib_syntax.specs.GenericTree.{GenericExpression, GenericArguments, GenericArms, GenericVar, GenericNum, GenericBit, GenericParen, GenericOp, GenericCall, GenericMake, GenericLet, GenericPar, GenericIf, GenericCase, GenericNoArgument, GenericArgument, GenericLastArm, GenericNextArm}
-use Rattle.gib_syntax.specs.Spelling.{Places, spell, spell_arguments, spell_arms, spell_variables, spell_operator, spell_bit, spell_type, spell_written, spell_type_arguments}
-use Rattle.gib_parse.specs.Reading.{Mode, Any, var_at, type_at, parse, arm_at, next_arm_at}
+use Rattle.gib_syntax.specs.GenericTree.{GenericExpression, GenericArguments, GenericArms, GenericVar, GenericNum, GenericBit, GenericParen, GenericOp, GenericCall, GenericMake, GenericLet, GenericPar, GenericIf, GenericCase, GenericTuple, GenericLetSeveral, GenericParSeveral, GenericNoArgument, GenericArgument, GenericLastArm, GenericNextArm}
+use Rattle.gib_syntax.specs.Spelling.{Places, spell, spell_arguments, spell_parts, spell_further_parts, spell_arms, spell_variables, spell_further_names, spell_names, spell_operator, spell_bit, spell_type, spell_written, spell_type_arguments}
+use Rattle.gib_parse.specs.Reading.{Mode, Any, var_at, type_at, parse, arm_at, next_arm_at, next_name_at, next_part_at}
 use Rattle.gib_parse.proofs.Tools.{var_holds}
 use Rattle.gib_parse.proofs.Written.{type_holds}
 use Rattle.gib_syntax.specs.Forms.{WrittenType, WrittenTypes, WholeAt, TruthAt, VariableAt, DataAt, NoType, MoreTypes}
 use Rattle.gib_parse.proofs.Many.{Shrinks}
-use Rattle.gib_parse.proofs.Sound.{parse_sound, arm_sound, next_sound}
+use Rattle.gib_parse.proofs.Sound.{parse_sound, arm_sound, next_sound, next_name_holds, next_part_sound}
 
 pub variables_longer : (xs : List Ident) (rest : List Token) → length rest ≤ length (spell_variables xs rest)
 variables_longer [] rest = omega arith
 variables_longer (x ∷ xs) rest = omega (arith, variables_longer xs rest)
+
+further_names_longer : (xs : List Ident) (rest : List Token) → length rest ≤ length (spell_further_names xs rest)
+further_names_longer [] rest = omega arith
+further_names_longer (x ∷ xs) rest = omega (arith, further_names_longer xs rest)
+
+pub names_longer : (xs : List Ident) (rest : List Token) → length rest ≤ length (spell_names xs rest)
+names_longer [] rest = omega arith
+names_longer (x ∷ []) rest = omega arith
+names_longer (x ∷ y ∷ ys) rest = omega (arith, further_names_longer ys (t.Sign s.Close ∷ rest))
 
 pub operator_longer : (f : Operator) (rest : List Token) → length (spell_operator f rest) ≡ suc (length rest)
 operator_longer o.Add rest = refl
@@ -63,6 +72,26 @@ mutual
       omega (arith, spell_longer a (t.Sign s.And ∷ t.Variable y.name ∷ t.Sign s.Equals ∷ spell b (t.Sign s.In ∷ spell c rest)), spell_longer b (t.Sign s.In ∷ spell c rest), spell_longer c rest)
   spell_longer (GenericIf p a b c) rest = omega (arith, spell_longer a (t.Sign s.Then ∷ spell b (t.Sign s.Else ∷ spell c rest)), spell_longer b (t.Sign s.Else ∷ spell c rest), spell_longer c rest)
   spell_longer (GenericCase p x arms) rest = omega (arith, arms_longer arms (t.Sign s.CloseBrace ∷ rest))
+  spell_longer (GenericTuple p xs) rest = omega (arith, parts_longer xs (t.Sign s.Close ∷ rest))
+  spell_longer (GenericLetSeveral p xs a b) rest =
+      omega (arith, names_longer xs (t.Sign s.Equals ∷ spell a (t.Sign s.In ∷ spell b rest)), spell_longer a (t.Sign s.In ∷ spell b rest), spell_longer b rest)
+  spell_longer (GenericParSeveral p xs a ys b c) rest =
+      omega (
+        arith,
+        names_longer xs (t.Sign s.Equals ∷ spell a (t.Sign s.And ∷ spell_names ys (t.Sign s.Equals ∷ spell b (t.Sign s.In ∷ spell c rest)))),
+        spell_longer a (t.Sign s.And ∷ spell_names ys (t.Sign s.Equals ∷ spell b (t.Sign s.In ∷ spell c rest))),
+        names_longer ys (t.Sign s.Equals ∷ spell b (t.Sign s.In ∷ spell c rest)),
+        spell_longer b (t.Sign s.In ∷ spell c rest),
+        spell_longer c rest,
+      )
+
+  parts_longer : (xs : GenericArguments) (rest : List Token) → length rest ≤ length (spell_parts xs rest)
+  parts_longer GenericNoArgument rest = omega arith
+  parts_longer (GenericArgument a xs) rest = omega (arith, spell_longer a (spell_further_parts xs rest), further_parts_longer xs rest)
+
+  further_parts_longer : (xs : GenericArguments) (rest : List Token) → length rest ≤ length (spell_further_parts xs rest)
+  further_parts_longer GenericNoArgument rest = omega arith
+  further_parts_longer (GenericArgument a xs) rest = omega (arith, spell_longer a (spell_further_parts xs rest), further_parts_longer xs rest)
 
   pub arguments_longer : (xs : GenericArguments) (rest : List Token) → length rest ≤ length (spell_arguments xs rest)
   arguments_longer GenericNoArgument rest = omega arith
@@ -94,4 +123,14 @@ next_shrinks at n ts = record {
   by = λ arm rest eq.
       let o = (next_sound at n (parse at n Any) (parse_sound at n Any) ts).by arm rest eq in
       omega (arith, ap length o.semicolon, ap length o.is_arm.spelled, variables_longer arm.variables (t.Sign s.Arrow ∷ spell arm.body rest), spell_longer arm.body rest);
+}
+
+pub next_name_shrinks : (at : Places) → Shrinks (next_name_at at)
+next_name_shrinks at ts = record { by = λ x rest eq. let o = (next_name_holds at ts).by x rest eq in omega (arith, ap length o.comma, ap length o.is_name.spelled) }
+
+pub next_part_shrinks : (at : Places) (n : ℕ) → Shrinks (next_part_at (parse at n Any))
+next_part_shrinks at n ts = record {
+  by = λ e rest eq.
+      let o = (next_part_sound at n (parse at n Any) (parse_sound at n Any) ts).by e rest eq in
+      omega (arith, ap length o.comma, ap length o.is_part.spelled, spell_longer e rest);
 }

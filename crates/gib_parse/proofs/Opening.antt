@@ -12,7 +12,7 @@ use Rattle.gib_syntax.specs.declared.written.Word.{Word}
 use Rattle.gib_syntax.specs.declared.written.Word.TheVariants as w
 use Rattle.gib_syntax.specs.Forms.{WrittenType, WrittenTypes, WholeAt, TruthAt, VariableAt, DataAt, NoType, count_written}
 use Rattle.gib_syntax.specs.Spelling.{Places}
-use Rattle.gib_syntax.specs.Words.{words_of, words_in, all_types, first_type, stack_of, run_words, type_in, types_in, IsRunIn, IsTypesRun}
+use Rattle.gib_syntax.specs.Words.{words_of, words_in, all_types, first_type, stack_of, run_words, type_in, types_in, IsRunIn, IsTypeRun, IsTypesRun}
 use Rattle.gib_parse.specs.declared.stop.Stop.{Stop}
 use Rattle.gib_parse.specs.declared.stop.Stop.TheVariants as stop
 use Rattle.gib_parse.specs.declared.types.Next.TheVariants as next
@@ -223,9 +223,22 @@ follows_truth at ts rest p e ep =
 
 -- ---- runs of the arena
 
-pub one_read : (at : Places) (ts rest : List Token) (base words all : List Word) (run : Run) → base ≡ [] → ReadsWords (type_at at ts) base words rest → run_words all run ≡ words → type_at at ts ≡ done (type_in all run) rest
-one_read at ts rest base words all run none r e =
+pub type_read : (read : Read WrittenType) (rest : List Token) (base words all : List Word) (run : Run) → base ≡ [] → ReadsWords read base words rest → run_words all run ≡ words → read ≡ done (type_in all run) rest
+type_read read rest base words all run none r e =
     r.is_read ∙ ap (λ (a : WrittenType). done a rest) (sym (ap (λ ws. first_type (stack_of ws)) (e ∙ r.words ∙ ap (λ l. l ++ words_of r.ty) none) ∙ read_one r.ty))
+
+pub type_kept : (read : Read WrittenType) (rest : List Token) (base words all : List Word) (run : Run) → base ≡ [] → ReadsWords read base words rest → run_words all run ≡ words → IsRunIn all run → IsTypeRun all run
+type_kept read rest base words all run none r e i = (i, r.ty, e ∙ r.words ∙ ap (λ l. l ++ words_of r.ty) none)
+
+-- A declared type without arguments.
+pub declared_kept : (all : List Word) (run : Run) (x : Ident) → run_words all run ≡ w.Data x.span x 0 ∷ [] → IsRunIn all run → IsTypeRun all run
+declared_kept all run x e i = (i, DataAt x.span x NoType, e)
+
+pub declared_read : (all : List Word) (run : Run) (x : Ident) → run_words all run ≡ w.Data x.span x 0 ∷ [] → type_in all run ≡ DataAt x.span x NoType
+declared_read all run x e = ap (λ ws. first_type (stack_of ws)) e ∙ read_one (DataAt x.span x NoType)
+
+pub one_read : (at : Places) (ts rest : List Token) (base words all : List Word) (run : Run) → base ≡ [] → ReadsWords (type_at at ts) base words rest → run_words all run ≡ words → type_at at ts ≡ done (type_in all run) rest
+one_read at ts rest base words all run none r e = type_read (type_at at ts) rest base words all run none r e
 
 pub types_read : (at : Places) (ts rest : List Token) (base words all : List Word) (run : Run) → base ≡ [] → ReadsAllWords (many starts_type (type_at at) ts) base words rest → run_words all run ≡ words → many starts_type (type_at at) ts ≡ done (stack_of (run_words all run)) rest
 types_read at ts rest base words all run none r e =

@@ -8,17 +8,18 @@ use Rattle.gib_base.specs.declared.token.Token.TheVariants as t
 use Rattle.gib_syntax.specs.declared.tree.Ident.{Ident}
 use Rattle.gib_syntax.specs.declared.tree.Operator.{Operator}
 use Rattle.gib_syntax.specs.declared.tree.Operator.TheVariants as o
-use Rattle.gib_syntax.specs.GenericTree.{GenericExpression, GenericVar, GenericNum, GenericBit, GenericParen, GenericOp, GenericMake, GenericCall, GenericArgument, GenericLet, GenericPar, GenericIf, GenericCase, GenericNoArgument, GenericConstructorTree, GenericDataTree, GenericFunctionTree, GenericMainTree, GenericProgramTree, GenericParameterTree}
+use Rattle.gib_syntax.specs.GenericTree.{GenericExpression, GenericVar, GenericNum, GenericBit, GenericParen, GenericOp, GenericMake, GenericCall, GenericArgument, GenericIf, GenericCase, GenericTuple, GenericNoArgument, GenericConstructorTree, GenericDataTree, GenericFunctionTree, GenericMainTree, GenericProgramTree, GenericParameterTree}
 use Rattle.gib_syntax.specs.GenericFine.{is_generic_application}
 use Rattle.gib_syntax.specs.Spelling.{Places}
-use Rattle.gib_parse.specs.Reading.{Fault, At, Nested, left_of, Mode, Any, App, Atom, Read, Reader, Parts, then_at, want, want_if, same, before, named, var_at, con_at, Opened, opened_at, inside, type_at, bracket_at, type_arguments_at, names_at, type_parameters_at, next_is, many_step, many, is_variable, is_sign, is_literal, literal_at, starts_type, starts_atom, starts, ArmTree, arms_of, arm_at, next_arm_at, arms_at, arguments_of, arguments_at, bind_at, par_at, let_at, if_at, case_at, side_at, close_at, open_at, call, called_at, variable_at, make_at, constant_at, atom_at, app_at, any_at, step, no_level, parse, constructor_at, alternative_at, constructors_at, data_at, parameter_at, parameters_at, BodyTree, body_at, function_at, main_at, program_at, ends_at, whole_in}
+use Rattle.gib_parse.specs.Reading.{Fault, At, Nested, left_of, Mode, Any, App, Atom, Read, Reader, Parts, then_at, want, want_if, same, before, named, var_at, con_at, Opened, opened_at, inside, type_at, bracket_at, type_arguments_at, names_at, type_parameters_at, next_is, many_step, many, is_variable, is_sign, is_literal, literal_at, starts_type, starts_atom, starts, ArmTree, arms_of, arm_at, next_arm_at, arms_at, arguments_of, arguments_at, next_name_at, several_names_at, one_name_at, names_bound_at, let_of, par_of, bind_at, par_at, let_at, if_at, case_at, side_at, close_at, open_at, next_part_at, tuple_at, close_any_at, open_any_at, next_type_at, further_types_at, one_type_at, declared_at, open_results_at, results_at, call, called_at, variable_at, make_at, constant_at, atom_at, app_at, any_at, step, no_level, parse, constructor_at, alternative_at, constructors_at, data_at, parameter_at, parameters_at, body_at, function_at, main_at, program_at, ends_at, whole_in}
 use Rattle.gib_parse.proofs.Tools.{done, failed}
 use Rattle.gib_parse.proofs.Many.{Shrinks, many_is}
-use Rattle.gib_parse.proofs.Longer.{parse_shrinks, var_shrinks, type_shrinks, next_shrinks}
+use Rattle.gib_parse.proofs.Longer.{parse_shrinks, var_shrinks, type_shrinks, next_shrinks, next_name_shrinks, next_part_shrinks}
 use Rattle.gib_parse.proofs.ProgramSound.{alternative_shrinks, data_shrinks, parameter_shrinks, function_shrinks}
-use Rattle.gib_parse.proofs.Local.{Kind, Refused, Deep, fault, fail_ok, fault_within, at_is_nested, ok_parts, then_done, then_failed, let_local, if_local, case_local, open_local, constant_local, variable_local, make_local, parse_local}
+use Rattle.gib_parse.proofs.Local.{Kind, Refused, Deep, fault, fail_ok, fault_within, at_is_nested, ok_parts, then_done, then_failed, let_local, if_local, case_local, open_local, open_any_local, next_types_shrink, constant_local, variable_local, make_local, parse_local}
 use Rattle.gib_syntax.specs.Forms.{WrittenType, WrittenTypes, WholeAt, TruthAt, VariableAt, DataAt, NoType, MoreTypes}
 use Rattle.gib_syntax.specs.Words.{all_types}
+use Rattle.gib_syntax.specs.Results.{One, Several}
 
 -- What a reader with more levels does, beside one with fewer.
 pub record Past {A : Type 0} (p q : Reader A) (ws : List Token) : Type 0 where
@@ -232,16 +233,34 @@ module _ (at : Places) where
       then_past (arm_past n h ws) (λ arm r1 e1. then_past (many_past (is_sign s.Semicolon) (next_arm_at at (parse at n Any)) (next_arm_at at (parse at (suc n) Any)) (next_shrinks at n) (next_shrinks at (suc n)) (next_past n h) r1) (λ arms r2 e2.
       pure_past (arms_of arm arms) r2))
 
+  next_name_past : (ws : List Token) → Past (next_name_at at) (next_name_at at) ws
+  unfolding next_name_at
+  next_name_past ws = then_past (want_past s.Comma ws) (λ _ r1 e1. var_past r1)
+
+  several_names_past : (ws : List Token) → Past (several_names_at at) (several_names_at at) ws
+  unfolding several_names_at
+  several_names_past ws =
+      then_past (var_past ws) (λ x r1 e1. then_past (next_name_past r1) (λ y r2 e2. then_past (many_past (is_sign s.Comma) (next_name_at at) (next_name_at at) (next_name_shrinks at) (next_name_shrinks at) next_name_past r2) (λ ys r3 e3.
+      then_past (want_past s.Close r3) (λ _ r4 e4. pure_past (x ∷ y ∷ ys) r4))))
+
+  one_name_past : (ws : List Token) → Past (one_name_at at) (one_name_at at) ws
+  unfolding one_name_at
+  one_name_past ws = then_past (var_past ws) (λ x r e. pure_past (x ∷ []) r)
+
+  names_bound_past : (ws : List Token) → Past (names_bound_at at) (names_bound_at at) ws
+  names_bound_past (t.Sign s.Open ∷ ws) = past_takes (names_bound_at at) (names_bound_at at) (several_names_at at) (several_names_at at) (t.Sign s.Open) ws refl refl (several_names_past ws)
+  names_bound_past ws = past_by (names_bound_at at) (names_bound_at at) (one_name_at at) (one_name_at at) ws refl refl (one_name_past ws)
+
   bind_past : (n : ℕ) → PartsPast n → (z : Span) (ws : List Token) → Past (bind_at at (parse at n) z) (bind_at at (parse at (suc n)) z) ws
   unfolding bind_at
   bind_past n h z ws =
-      then_past (var_past ws) (λ x r1 e1. then_past (want_past s.Equals r1) (λ _ r2 e2. then_past (h Any r2) (λ a r3 e3. then_past (want_past s.In r3) (λ _ r4 e4. then_past (h Any r4) (λ b r5 e5. pure_past (GenericLet z x a b) r5)))))
+      then_past (names_bound_past ws) (λ xs r1 e1. then_past (want_past s.Equals r1) (λ _ r2 e2. then_past (h Any r2) (λ a r3 e3. then_past (want_past s.In r3) (λ _ r4 e4. then_past (h Any r4) (λ b r5 e5. pure_past (let_of z xs a b) r5)))))
 
   par_past : (n : ℕ) → PartsPast n → (z : Span) (ws : List Token) → Past (par_at at (parse at n) z) (par_at at (parse at (suc n)) z) ws
   unfolding par_at
   par_past n h z ws =
-      then_past (var_past ws) (λ x r1 e1. then_past (want_past s.Equals r1) (λ _ r2 e2. then_past (h Any r2) (λ a r3 e3. then_past (want_past s.And r3) (λ _ r4 e4.
-      then_past (var_past r4) (λ y r5 e5. then_past (want_past s.Equals r5) (λ _ r6 e6. then_past (h Any r6) (λ b r7 e7. then_past (want_past s.In r7) (λ _ r8 e8. then_past (h Any r8) (λ c r9 e9. pure_past (GenericPar z x a y b c) r9)))))))))
+      then_past (names_bound_past ws) (λ xs r1 e1. then_past (want_past s.Equals r1) (λ _ r2 e2. then_past (h Any r2) (λ a r3 e3. then_past (want_past s.And r3) (λ _ r4 e4.
+      then_past (names_bound_past r4) (λ ys r5 e5. then_past (want_past s.Equals r5) (λ _ r6 e6. then_past (h Any r6) (λ b r7 e7. then_past (want_past s.In r7) (λ _ r8 e8. then_past (h Any r8) (λ c r9 e9. pure_past (par_of z xs a ys b c) r9)))))))))
 
   let_past : (n : ℕ) → PartsPast n → (z : Span) (ws : List Token) → Past (let_at at (parse at n) z) (let_at at (parse at (suc n)) z) ws
   let_past n h z (t.Sign s.Par ∷ ws) = past_takes (let_at at (parse at n) z) (let_at at (parse at (suc n)) z) (par_at at (parse at n) z) (par_at at (parse at (suc n)) z) (t.Sign s.Par) ws refl refl (par_past n h z ws)
@@ -280,6 +299,25 @@ module _ (at : Places) where
   open_past : (n : ℕ) → PartsPast n → (z : Span) (ws : List Token) → Past (open_at (parse at n) z) (open_at (parse at (suc n)) z) ws
   unfolding open_at
   open_past n h z ws = then_past (h Any ws) (λ e r1 e1. close_past n h z e r1)
+
+  next_part_past : (n : ℕ) → PartsPast n → (ws : List Token) → Past (next_part_at (parse at n Any)) (next_part_at (parse at (suc n) Any)) ws
+  unfolding next_part_at
+  next_part_past n h ws = then_past (want_past s.Comma ws) (λ _ r1 e1. h Any r1)
+
+  tuple_past : (n : ℕ) → PartsPast n → (z : Span) (a : GenericExpression) (ws : List Token) → Past (tuple_at (parse at n) z a) (tuple_at (parse at (suc n)) z a) ws
+  unfolding tuple_at
+  tuple_past n h z a ws =
+      then_past (next_part_past n h ws) (λ b r1 e1. then_past (many_past (is_sign s.Comma) (next_part_at (parse at n Any)) (next_part_at (parse at (suc n) Any)) (next_part_shrinks at n) (next_part_shrinks at (suc n)) (next_part_past n h) r1) (λ xs r2 e2.
+      then_past (want_past s.Close r2) (λ _ r3 e3. pure_past (GenericTuple z (arguments_of (a ∷ b ∷ xs))) r3)))
+
+  close_any_past : (n : ℕ) → PartsPast n → (z : Span) (e : GenericExpression) (ws : List Token) → Past (close_any_at (parse at n) z e) (close_any_at (parse at (suc n)) z e) ws
+  close_any_past n h z e (t.Sign s.Comma ∷ ws) =
+      past_by (close_any_at (parse at n) z e) (close_any_at (parse at (suc n)) z e) (tuple_at (parse at n) z e) (tuple_at (parse at (suc n)) z e) (t.Sign s.Comma ∷ ws) refl refl (tuple_past n h z e (t.Sign s.Comma ∷ ws))
+  close_any_past n h z e ws = past_by (close_any_at (parse at n) z e) (close_any_at (parse at (suc n)) z e) (close_at (parse at n) z e) (close_at (parse at (suc n)) z e) ws refl refl (close_past n h z e ws)
+
+  open_any_past : (n : ℕ) → PartsPast n → (z : Span) (ws : List Token) → Past (open_any_at (parse at n) z) (open_any_at (parse at (suc n)) z) ws
+  unfolding open_any_at
+  open_any_past n h z ws = then_past (h Any ws) (λ e r1 e1. close_any_past n h z e r1)
 
   literal_past : (n v : ℕ) (ws : List Token) (b : Bool) → is_literal v ≡ b → Past (atom_at at (parse at n)) (atom_at at (parse at (suc n))) (t.Number v ∷ ws)
   literal_past n v ws true e =
@@ -327,6 +365,7 @@ module _ (at : Places) where
   any_past n h (t.Sign s.Let ∷ ws) = past_takes (any_at at (parse at n)) (any_at at (parse at (suc n))) (let_at at (parse at n) (before at ws)) (let_at at (parse at (suc n)) (before at ws)) (t.Sign s.Let) ws refl refl (let_past n h (before at ws) ws)
   any_past n h (t.Sign s.If ∷ ws) = past_takes (any_at at (parse at n)) (any_at at (parse at (suc n))) (if_at (parse at n) (before at ws)) (if_at (parse at (suc n)) (before at ws)) (t.Sign s.If) ws refl refl (if_past n h (before at ws) ws)
   any_past n h (t.Sign s.Case ∷ ws) = past_takes (any_at at (parse at n)) (any_at at (parse at (suc n))) (case_at at (parse at n) (before at ws)) (case_at at (parse at (suc n)) (before at ws)) (t.Sign s.Case) ws refl refl (case_past n h (before at ws) ws)
+  any_past n h (t.Sign s.Open ∷ ws) = past_takes (any_at at (parse at n)) (any_at at (parse at (suc n))) (open_any_at (parse at n) (before at ws)) (open_any_at (parse at (suc n)) (before at ws)) (t.Sign s.Open) ws refl refl (open_any_past n h (before at ws) ws)
   any_past n h ws = past_by (any_at at (parse at n)) (any_at at (parse at (suc n))) (app_at at (parse at n)) (app_at at (parse at (suc n))) ws refl refl (app_past n h ws)
 
   -- ---- the first level
@@ -353,6 +392,7 @@ module _ (at : Places) where
   any_refuses (t.Sign s.Let) ws e = absurd cc
   any_refuses (t.Sign s.If) ws e = absurd cc
   any_refuses (t.Sign s.Case) ws e = absurd cc
+  any_refuses (t.Sign s.Open) ws e = absurd cc
   any_refuses c ws e = app_refuses c ws e
 
   step_refuses : (m : Mode) (c : Token) (ws : List Token) → starts m c ≡ false → step at none m (c ∷ ws) ≡ failed (At (suc (length ws)))
@@ -394,6 +434,7 @@ module _ (at : Places) where
   any_takes (t.Sign s.Let) ws e = λ c k f. (let_local (t.Number 0) [] [] at at (same_places at) zero (parse_local (t.Number 0) [] [] at at (same_places at) zero) (before at ws) ws).bad_within c k f
   any_takes (t.Sign s.If) ws e = λ c k f. (if_local (t.Number 0) [] [] at at (same_places at) zero (parse_local (t.Number 0) [] [] at at (same_places at) zero) (before at ws) ws).bad_within c k f
   any_takes (t.Sign s.Case) ws e = λ c k f. (case_local (t.Number 0) [] [] at at (same_places at) zero (parse_local (t.Number 0) [] [] at at (same_places at) zero) (before at ws) ws).bad_within c k f
+  any_takes (t.Sign s.Open) ws e = λ c k f. (open_any_local (t.Number 0) [] [] at at (same_places at) zero (parse_local (t.Number 0) [] [] at at (same_places at) zero) (before at ws) ws).bad_within c k f
   any_takes c ws e = app_takes c ws e
 
   step_takes : (m : Mode) (c : Token) (ws : List Token) → starts m c ≡ true → Takes (step at none m (c ∷ ws)) ws
@@ -466,11 +507,39 @@ module _ (at : Places) where
       then_past (parameter_past ws) (λ q r1 e1. then_past (many_past (is_sign s.Open) (parameter_at at) (parameter_at at) (parameter_shrinks at) (parameter_shrinks at) parameter_past r1) (λ qs r2 e2.
       pure_past (q ∷ qs) r2))
 
-  body_past : (n : ℕ) (ws : List Token) → Past (body_at at (parse at n Any)) (body_at at (parse at (suc n) Any)) ws
+  next_type_past : (ws : List Token) → Past (next_type_at at) (next_type_at at) ws
+  unfolding next_type_at
+  next_type_past ws = then_past (want_past s.Comma ws) (λ _ r1 e1. type_past r1)
+
+  part_types_past : (a : WrittenType) (ws : List Token) → Past (further_types_at at a) (further_types_at at a) ws
+  unfolding further_types_at
+  part_types_past a ws =
+      then_past (next_type_past ws) (λ b r1 e1. then_past (many_past (is_sign s.Comma) (next_type_at at) (next_type_at at) (next_types_shrink at) (next_types_shrink at) next_type_past r1) (λ more r2 e2.
+      then_past (want_past s.Close r2) (λ _ r3 e3. pure_past (Several (a ∷ b ∷ more)) r3)))
+
+  one_type_past : (p : Reader WrittenType) (ws : List Token) → Past p p ws → Past (one_type_at p) (one_type_at p) ws
+  unfolding one_type_at
+  one_type_past p ws h = then_past h (λ a r e. pure_past (One a) r)
+
+  declared_past : (z : Span) (k : Ident) (ws : List Token) → Past (declared_at at z k) (declared_at at z k) ws
+  declared_past z k (t.Sign s.Comma ∷ ws) =
+      past_by (declared_at at z k) (declared_at at z k) (further_types_at at (DataAt k.span k NoType)) (further_types_at at (DataAt k.span k NoType)) (t.Sign s.Comma ∷ ws) refl refl (part_types_past (DataAt k.span k NoType) (t.Sign s.Comma ∷ ws))
+  declared_past z k ws = past_by (declared_at at z k) (declared_at at z k) (one_type_at (inside at z k [] [])) (one_type_at (inside at z k [] [])) ws refl refl (one_type_past (inside at z k [] []) ws (inside_past z k [] [] ws))
+
+  first_then_past : (ws : List Token) → Past (λ ws. then_at (type_at at ws) (λ a ts. further_types_at at a ts)) (λ ws. then_at (type_at at ws) (λ a ts. further_types_at at a ts)) ws
+  first_then_past ws = then_past (type_past ws) (λ a r e. part_types_past a r)
+
+  open_results_past : (z : Span) (ws : List Token) → Past (open_results_at at z) (open_results_at at z) ws
+  open_results_past z (t.Constructor k ∷ ws) = past_takes (open_results_at at z) (open_results_at at z) (declared_at at z (named at k ws)) (declared_at at z (named at k ws)) (t.Constructor k) ws refl refl (declared_past z (named at k ws) ws)
+  open_results_past z ws = past_by (open_results_at at z) (open_results_at at z) (λ ws. then_at (type_at at ws) (λ a ts. further_types_at at a ts)) (λ ws. then_at (type_at at ws) (λ a ts. further_types_at at a ts)) ws refl refl (first_then_past ws)
+
+  results_past : (ws : List Token) → Past (results_at at) (results_at at) ws
+  results_past (t.Sign s.Open ∷ ws) = past_takes (results_at at) (results_at at) (open_results_at at (before at ws)) (open_results_at at (before at ws)) (t.Sign s.Open) ws refl refl (open_results_past (before at ws) ws)
+  results_past ws = past_by (results_at at) (results_at at) (one_type_at (type_at at)) (one_type_at (type_at at)) ws refl refl (one_type_past (type_at at) ws (type_past ws))
+
+  body_past : (n : ℕ) (ws : List Token) → Past (body_at (parse at n Any)) (body_at (parse at (suc n) Any)) ws
   unfolding body_at
-  body_past n ws =
-      then_past (want_past s.Colon ws) (λ _ r1 e1. then_past (type_past r1) (λ a r2 e2. then_past (want_past s.Equals r2) (λ _ r3 e3. then_past (parse_past n Any r3) (λ e r4 e4. then_past (want_past s.Semicolon r4) (λ _ r5 e5.
-      pure_past (let made : BodyTree = record { result = a; body = e } in made) r5)))))
+  body_past n ws = then_past (want_past s.Equals ws) (λ _ r1 e1. then_past (parse_past n Any r1) (λ e r2 e2. then_past (want_past s.Semicolon r2) (λ _ r3 e3. pure_past e r3)))
 
   names_past : (ws : List Token) → Past (names_at at) (names_at at) ws
   unfolding names_at
@@ -484,14 +553,14 @@ module _ (at : Places) where
   function_past : (n : ℕ) (ws : List Token) → Past (function_at at (parse at n Any)) (function_at at (parse at (suc n) Any)) ws
   unfolding function_at
   function_past n ws =
-      then_past (want_past s.Fun ws) (λ _ r1 e1. then_past (var_past r1) (λ f r2 e2. then_past (type_parameters_past r2) (λ vs r3 e3. then_past (parameters_past r3) (λ qs r4 e4. then_past (body_past n r4) (λ b r5 e5.
-      pure_past (let made : GenericFunctionTree = record { name = f; variables = vs; parameters = qs; result = b.result; body = b.body } in made) r5)))))
+      then_past (want_past s.Fun ws) (λ _ r1 e1. then_past (var_past r1) (λ f r2 e2. then_past (type_parameters_past r2) (λ vs r3 e3. then_past (parameters_past r3) (λ qs r4 e4. then_past (want_past s.Colon r4) (λ _ r5 e5.
+      then_past (results_past r5) (λ g r6 e6. then_past (body_past n r6) (λ e r7 e7. pure_past (let made : GenericFunctionTree = record { name = f; variables = vs; parameters = qs; result = g; body = e } in made) r7)))))))
 
   main_past : (n : ℕ) (ws : List Token) → Past (main_at at (parse at n Any)) (main_at at (parse at (suc n) Any)) ws
   unfolding main_at
   main_past n ws =
-      then_past (want_past s.Main ws) (λ _ r1 e1. then_past (parameter_past r1) (λ q r2 e2. then_past (body_past n r2) (λ b r3 e3.
-      pure_past (let made : GenericMainTree = record { parameter = q; result = b.result; body = b.body } in made) r3)))
+      then_past (want_past s.Main ws) (λ _ r1 e1. then_past (parameter_past r1) (λ q r2 e2. then_past (want_past s.Colon r2) (λ _ r3 e3. then_past (type_past r3) (λ a r4 e4.
+      then_past (body_past n r4) (λ e r5 e5. pure_past (let made : GenericMainTree = record { parameter = q; result = a; body = e } in made) r5)))))
 
   program_past : (n : ℕ) (ws : List Token) → Past (program_at at (parse at n Any)) (program_at at (parse at (suc n) Any)) ws
   unfolding program_at

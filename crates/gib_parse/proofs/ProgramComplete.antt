@@ -1,25 +1,27 @@
 -- What is spelled as a program is read, where the levels serve.
-use Rattle.std.proofs.Common.{◌≡◌, ◌≢◌, ℕ, false, List, [], ◌∷◌, Ok, refl, ap}
+use Rattle.std.proofs.Common.{◌≡◌, ◌≢◌, ℕ, false, List, [], ◌∷◌, Ok, refl, ap, ◌∙◌}
 use Rattle.std.specs.List.{AllByRecursion}
 use Rattle.gib_base.specs.declared.token.Sign.TheVariants as s
 use Rattle.gib_base.specs.declared.token.Token.{Token}
 use Rattle.gib_base.specs.declared.token.Token.TheVariants as t
 use Rattle.gib_syntax.specs.declared.tree.Ident.{Ident}
-use Rattle.gib_syntax.specs.Forms.{WrittenType}
+use Rattle.gib_syntax.specs.Forms.{WrittenType, WholeAt, TruthAt, VariableAt, DataAt, NoType, MoreTypes}
+use Rattle.gib_syntax.specs.Results.{Results, One, Several, AreResults}
 use Rattle.gib_syntax.specs.GenericTree.{GenericExpression, GenericConstructorTree, GenericDataTree, GenericFunctionTree, GenericMainTree, GenericProgramTree, GenericParameterTree}
 use Rattle.gib_syntax.specs.GenericFine.{IsGenericFine, IsGenericFineFunction, IsGenericFineProgram, HasGenericConstructor}
-use Rattle.gib_syntax.specs.Spelling.{Places, spell_variables, spell_type_parameters, spell, spell_type, spell_types, spell_constructor, spell_more, spell_constructors, spell_data, spell_datas, spell_parameter, spell_parameters, spell_body, spell_function, spell_functions, spell_main, spell_program}
-use Rattle.gib_parse.specs.Reading.{Any, Read, then_at, want, names_at, type_parameters_at, type_at, next_is, many, starts_type, is_sign, constructor_at, alternative_at, constructors_at, data_at, parameter_at, parameters_at, BodyTree, body_at, function_at, main_at, program_at, ends_at, whole_in, parse}
+use Rattle.gib_syntax.specs.Spelling.{Places, spell_variables, spell_type_parameters, spell, spell_type, spell_types, spell_constructor, spell_more, spell_constructors, spell_data, spell_datas, spell_parameter, spell_parameters, spell_further_types, spell_results, spell_body, spell_function, spell_functions, spell_main, spell_program}
+use Rattle.gib_parse.specs.Reading.{Any, Read, then_at, want, names_at, type_parameters_at, type_at, next_is, many, starts_type, is_sign, constructor_at, alternative_at, constructors_at, data_at, parameter_at, parameters_at, next_type_at, further_types_at, one_type_at, results_at, body_at, function_at, main_at, program_at, ends_at, whole_in, parse}
 use Rattle.gib_parse.specs.Nesting.{below, below_functions, below_program}
 use Rattle.gib_parse.proofs.Tools.{done}
 use Rattle.gib_parse.proofs.Longer.{type_shrinks}
 use Rattle.gib_parse.proofs.Settle.{settle, settle_name, settle_names, settle_type}
 use Rattle.gib_parse.proofs.WrittenComes.{type_comes, type_begins}
+use Rattle.gib_parse.proofs.Local.{next_types_shrink}
 use Rattle.gib_parse.proofs.ProgramLocal.{type_parameters_none}
 use Rattle.gib_parse.proofs.Come.{Comes, Came, then_comes, then_last, comes_at, Steps, many_comes}
 use Rattle.gib_parse.proofs.Complete.{complete, variables_come}
 use Rattle.gib_parse.proofs.ProgramSound.{alternative_shrinks, data_shrinks, parameter_shrinks, function_shrinks}
-use Rattle.gib_parse.proofs.ProgramSettle.{settle_type_parameters, settle_types, settle_constructor, settle_constructors, settle_data, settle_datas, settle_parameter, settle_parameters, settle_function, settle_functions, settle_main, settle_program}
+use Rattle.gib_parse.proofs.ProgramSettle.{settle_type_parameters, settle_types, settle_constructor, settle_constructors, settle_data, settle_datas, settle_parameter, settle_parameters, settle_further_types, settle_results, settle_function, settle_functions, settle_main, settle_program}
 
 -- ---- data declarations
 
@@ -91,16 +93,57 @@ parameters_come at (q ∷ qs) rest some en =
     (then_last (λ qs ts. Ok (first ∷ qs, ts)) (settle_parameters at (q ∷ qs) rest) rest
     (many_comes [] (is_sign s.Open) (parameter_at at) (parameter_shrinks at) (settle_parameters at qs rest) (spell_parameters qs rest) rest (parameters_step at qs rest en)) refl)
 
-abbrev settle_body : Places → WrittenType → GenericExpression → List Token → BodyTree
-settle_body at a e rest = record { result = settle_type at a (t.Sign s.Equals ∷ spell e (t.Sign s.Semicolon ∷ rest)); body = settle at e (t.Sign s.Semicolon ∷ rest) }
+-- ---- what a function gives
 
-body_comes : (at : Places) (l : ℕ) (a : WrittenType) (e : GenericExpression) (rest : List Token) → IsGenericFine e → Comes (below l e (t.Sign s.Semicolon ∷ rest)) (body_at at (parse at l Any) (spell_body a e rest)) (settle_body at a e rest) rest
+further_types_step : (at : Places) (xs : List WrittenType) (rest : List Token) → Steps [] (is_sign s.Comma) (next_type_at at) (spell_further_types xs (t.Sign s.Close ∷ rest)) (settle_further_types at xs (t.Sign s.Close ∷ rest)) (t.Sign s.Close ∷ rest)
+unfolding next_type_at
+further_types_step at [] rest = (refl, refl, refl)
+further_types_step at (x ∷ xs) rest =
+    (spell_further_types xs (t.Sign s.Close ∷ rest), [], [], refl, Came (type_comes at x (spell_further_types xs (t.Sign s.Close ∷ rest))) refl, further_types_step at xs rest, refl)
+
+part_types_come : (at : Places) (a b : WrittenType) (more : List WrittenType) (rest : List Token) → Comes [] (further_types_at at a (spell_further_types (b ∷ more) (t.Sign s.Close ∷ rest))) (Several (a ∷ settle_further_types at (b ∷ more) (t.Sign s.Close ∷ rest))) rest
+unfolding further_types_at next_type_at
+part_types_come at a b more rest =
+    let last = t.Sign s.Close ∷ rest in
+    let b' = settle_type at b (spell_further_types more last) in
+    comes_at (ap (λ (r : Read WrittenType). then_at r (λ b ts. then_at (many (is_sign s.Comma) (next_type_at at) ts) (λ more ts. then_at (want s.Close ts) (λ _ ts. Ok (Several (a ∷ b ∷ more), ts))))) (type_comes at b (spell_further_types more last)))
+    (then_last (λ more ts. then_at (want s.Close ts) (λ _ ts. Ok (Several (a ∷ b' ∷ more), ts))) (Several (a ∷ settle_further_types at (b ∷ more) last)) rest
+    (many_comes [] (is_sign s.Comma) (next_type_at at) (next_types_shrink at) (settle_further_types at more last) (spell_further_types more last) last (further_types_step at more rest)) refl)
+
+-- A type that begins with a parenthesis has arguments, so no comma stands behind its name.
+results_of_one : (at : Places) (a : WrittenType) (rest : List Token) → results_at at (spell_type a rest) ≡ one_type_at (type_at at) (spell_type a rest)
+unfolding one_type_at
+results_of_one at (WholeAt p) rest = refl
+results_of_one at (TruthAt p) rest = refl
+results_of_one at (VariableAt x) rest = refl
+results_of_one at (DataAt p x NoType) rest = refl
+results_of_one at (DataAt p x (MoreTypes (WholeAt q) ws)) rest = refl
+results_of_one at (DataAt p x (MoreTypes (TruthAt q) ws)) rest = refl
+results_of_one at (DataAt p x (MoreTypes (VariableAt y) ws)) rest = refl
+results_of_one at (DataAt p x (MoreTypes (DataAt q y NoType) ws)) rest = refl
+results_of_one at (DataAt p x (MoreTypes (DataAt q y (MoreTypes v vs)) ws)) rest = refl
+
+one_type_comes : (at : Places) (a : WrittenType) (rest : List Token) → results_at at (spell_type a rest) ≡ done (One (settle_type at a rest)) rest
+unfolding one_type_at
+one_type_comes at a rest = results_of_one at a rest ∙ ap (λ (r : Read WrittenType). then_at r (λ a ts. Ok (One a, ts))) (type_comes at a rest)
+
+first_type_comes : (at : Places) (a b : WrittenType) (more : List WrittenType) (rest : List Token) → results_at at (t.Sign s.Open ∷ spell_type a (spell_further_types (b ∷ more) (t.Sign s.Close ∷ rest))) ≡ further_types_at at (settle_type at a (spell_further_types (b ∷ more) (t.Sign s.Close ∷ rest))) (spell_further_types (b ∷ more) (t.Sign s.Close ∷ rest))
+first_type_comes at (WholeAt p) b more rest = refl
+first_type_comes at (TruthAt p) b more rest = refl
+first_type_comes at (VariableAt x) b more rest = refl
+first_type_comes at (DataAt p x NoType) b more rest = refl
+first_type_comes at (DataAt p x (MoreTypes w ws)) b more rest =
+    ap (λ (r : Read WrittenType). then_at r (λ a ts. further_types_at at a ts)) (type_comes at (DataAt p x (MoreTypes w ws)) (spell_further_types (b ∷ more) (t.Sign s.Close ∷ rest)))
+
+results_come : (at : Places) (r : Results WrittenType) (rest : List Token) → AreResults r → Comes [] (results_at at (spell_results r rest)) (settle_results at r rest) rest
+results_come at (One a) rest h = Came (one_type_comes at a rest) refl
+results_come at (Several []) rest h = absurd h
+results_come at (Several (a ∷ [])) rest h = absurd h
+results_come at (Several (a ∷ b ∷ more)) rest h = comes_at (first_type_comes at a b more rest) (part_types_come at (settle_type at a (spell_further_types (b ∷ more) (t.Sign s.Close ∷ rest))) b more rest)
+
+body_comes : (at : Places) (l : ℕ) (e : GenericExpression) (rest : List Token) → IsGenericFine e → Comes (below l e (t.Sign s.Semicolon ∷ rest)) (body_at (parse at l Any) (t.Sign s.Equals ∷ spell e (t.Sign s.Semicolon ∷ rest))) (settle at e (t.Sign s.Semicolon ∷ rest)) rest
 unfolding body_at
-body_comes at l a e rest f =
-    let after = t.Sign s.Equals ∷ spell e (t.Sign s.Semicolon ∷ rest) in
-    let a' = settle_type at a after in
-    comes_at (ap (λ (r : Read WrittenType). then_at r (λ a ts. then_at (want s.Equals ts) (λ _ ts. then_at (parse at l Any ts) (λ e ts. then_at (want s.Semicolon ts) (λ _ ts. done (let made : BodyTree = record { result = a; body = e } in made) ts))))) (type_comes at a after))
-    (then_last (λ e ts. then_at (want s.Semicolon ts) (λ _ ts. done (let made : BodyTree = record { result = a'; body = e } in made) ts)) (settle_body at a e rest) rest (complete at e l Any (t.Sign s.Semicolon ∷ rest) f tt refl) refl)
+body_comes at l e rest f = then_last (λ e ts. then_at (want s.Semicolon ts) (λ _ ts. Ok (e, ts))) (settle at e (t.Sign s.Semicolon ∷ rest)) rest (complete at e l Any (t.Sign s.Semicolon ∷ rest) f tt refl) refl
 
 names_come : (at : Places) (v : Ident) (vs : List Ident) (rest : List Token) → names_at at (spell_variables (v ∷ vs) (t.Sign s.CloseBracket ∷ rest)) ≡ done (settle_names at (v ∷ vs) (t.Sign s.CloseBracket ∷ rest)) rest
 unfolding names_at
@@ -116,19 +159,26 @@ parameters_open : (qs : List GenericParameterTree) (rest : List Token) → qs �
 parameters_open [] rest some = absurd (some refl)
 parameters_open (q ∷ qs) rest some = refl
 
+abbrev function_of : Ident → List Ident → List GenericParameterTree → Results WrittenType → GenericExpression → GenericFunctionTree
+function_of f vs qs r e = record { name = f; variables = vs; parameters = qs; result = r; body = e }
+
 function_comes : (at : Places) (l : ℕ) (f : GenericFunctionTree) (rest : List Token) → IsGenericFineFunction f → Comes (below l f.body (t.Sign s.Semicolon ∷ rest)) (function_at at (parse at l Any) (spell_function f rest)) (settle_function at f rest) rest
 unfolding function_at
 function_comes at l f rest h =
     let behind = spell_body f.result f.body rest in
+    let last = t.Sign s.Equals ∷ spell f.body (t.Sign s.Semicolon ∷ rest) in
     let parameters = spell_parameters f.parameters behind in
     let name = settle_name at f.name (spell_type_parameters f.variables parameters) in
     let vs = settle_type_parameters at f.variables parameters in
-    comes_at (ap (λ (r : Read (List Ident)). then_at r (λ vs ts. then_at (parameters_at at ts) (λ qs ts. then_at (body_at at (parse at l Any) ts) (λ b ts.
-    done (let made : GenericFunctionTree = record { name = name; variables = vs; parameters = qs; result = b.result; body = b.body } in made) ts)))) (type_parameters_come at f.variables parameters (parameters_open f.parameters behind h.0)))
-    (then_comes (λ qs ts. then_at (body_at at (parse at l Any) ts) (λ b ts. done (let made : GenericFunctionTree = record { name = name; variables = vs; parameters = qs; result = b.result; body = b.body } in made) ts)) (settle_function at f rest) rest
+    let qs = settle_parameters at f.parameters behind in
+    let gives = settle_results at f.result last in
+    comes_at (ap (λ (r : Read (List Ident)). then_at r (λ vs ts. then_at (parameters_at at ts) (λ qs ts. then_at (want s.Colon ts) (λ _ ts. then_at (results_at at ts) (λ r ts. then_at (body_at (parse at l Any) ts) (λ e ts. done (function_of name vs qs r e) ts))))))
+    (type_parameters_come at f.variables parameters (parameters_open f.parameters behind h.0)))
+    (then_comes (λ qs ts. then_at (want s.Colon ts) (λ _ ts. then_at (results_at at ts) (λ r ts. then_at (body_at (parse at l Any) ts) (λ e ts. done (function_of name vs qs r e) ts)))) (settle_function at f rest) rest
     (parameters_come at f.parameters behind h.0 refl)
-    (then_last (λ b ts. done (let made : GenericFunctionTree = record { name = name; variables = vs; parameters = settle_parameters at f.parameters behind; result = b.result; body = b.body } in made) ts) (settle_function at f rest) rest
-    (body_comes at l f.result f.body rest h.1) refl))
+    (then_comes (λ r ts. then_at (body_at (parse at l Any) ts) (λ e ts. done (function_of name vs qs r e) ts)) (settle_function at f rest) rest
+    (results_come at f.result last h.2)
+    (then_last (λ e ts. done (function_of name vs qs gives e) ts) (settle_function at f rest) rest (body_comes at l f.body rest h.1) refl)))
 
 functions_step : (at : Places) (l : ℕ) (fs : List GenericFunctionTree) (rest : List Token) → AllByRecursion IsGenericFineFunction fs → next_is (is_sign s.Fun) rest ≡ false
     → Steps (below_functions l fs rest) (is_sign s.Fun) (function_at at (parse at l Any)) (spell_functions fs rest) (settle_functions at fs rest) rest
@@ -138,14 +188,20 @@ functions_step at l (f ∷ fs) rest h en =
 
 -- ---- main and the whole
 
+abbrev main_of : GenericParameterTree → WrittenType → GenericExpression → GenericMainTree
+main_of q a e = record { parameter = q; result = a; body = e }
+
 main_comes : (at : Places) (l : ℕ) (m : GenericMainTree) (rest : List Token) → IsGenericFine m.body → Comes (below l m.body (t.Sign s.Semicolon ∷ rest)) (main_at at (parse at l Any) (spell_main m rest)) (settle_main at m rest) rest
 unfolding main_at
 main_comes at l m rest f =
-    let behind = spell_body m.result m.body rest in
+    let behind = spell_body (One m.result) m.body rest in
+    let last = t.Sign s.Equals ∷ spell m.body (t.Sign s.Semicolon ∷ rest) in
     let q = settle_parameter at m.parameter behind in
-    then_comes (λ q ts. then_at (body_at at (parse at l Any) ts) (λ b ts. done (let made : GenericMainTree = record { parameter = q; result = b.result; body = b.body } in made) ts)) (settle_main at m rest) rest
+    let a = settle_type at m.result last in
+    then_comes (λ q ts. then_at (want s.Colon ts) (λ _ ts. then_at (type_at at ts) (λ a ts. then_at (body_at (parse at l Any) ts) (λ e ts. done (main_of q a e) ts)))) (settle_main at m rest) rest
     (parameter_comes at m.parameter behind)
-    (then_last (λ b ts. done (let made : GenericMainTree = record { parameter = q; result = b.result; body = b.body } in made) ts) (settle_main at m rest) rest (body_comes at l m.result m.body rest f) refl)
+    (comes_at (ap (λ (r : Read WrittenType). then_at r (λ a ts. then_at (body_at (parse at l Any) ts) (λ e ts. done (main_of q a e) ts))) (type_comes at m.result last))
+    (then_last (λ e ts. done (main_of q a e) ts) (settle_main at m rest) rest (body_comes at l m.body rest f) refl))
 
 no_data : (fs : List GenericFunctionTree) (m : GenericMainTree) → next_is (is_sign s.Data) (spell_functions fs (spell_main m [])) ≡ false
 no_data [] m = refl

@@ -7,11 +7,11 @@ use Rattle.gib_base.specs.declared.token.Sign.TheVariants as s
 use Rattle.gib_base.specs.declared.token.Token.{Token}
 use Rattle.gib_syntax.specs.GenericTree.{GenericConstructorTree, GenericDataTree, GenericFunctionTree, GenericMainTree, GenericProgramTree, GenericParameterTree}
 use Rattle.gib_syntax.specs.Spelling.{Places}
-use Rattle.gib_parse.specs.Reading.{Any, Reader, same, next_is, var_at, is_variable, type_at, starts_type, is_sign, names_at, type_parameters_at, constructor_at, alternative_at, constructors_at, data_at, parameter_at, parameters_at, BodyTree, body_at, function_at, main_at, program_at, ends_at, whole_in, parse}
+use Rattle.gib_parse.specs.Reading.{Any, Reader, same, next_is, var_at, is_variable, type_at, starts_type, is_sign, names_at, type_parameters_at, constructor_at, alternative_at, constructors_at, data_at, parameter_at, parameters_at, body_at, function_at, main_at, program_at, ends_at, whole_in, parse}
 use Rattle.gib_parse.proofs.Tools.{done, same_is}
 use Rattle.gib_parse.proofs.Longer.{var_shrinks, type_shrinks}
 use Rattle.gib_parse.proofs.ProgramSound.{alternative_shrinks, data_shrinks, parameter_shrinks, function_shrinks}
-use Rattle.gib_parse.proofs.Local.{LocalAt, pure_local, local_nil, takes, keeps, then_local, head_fails, var_local, con_local, type_local, want_local, many_local, parse_local}
+use Rattle.gib_parse.proofs.Local.{LocalAt, pure_local, local_nil, takes, keeps, then_local, head_fails, var_local, con_local, type_local, results_local, want_local, many_local, parse_local}
 
 pub type_parameters_none : (at : Places) (rest : List Token) → next_is (is_sign s.OpenBracket) rest ≡ false → type_parameters_at at rest ≡ (let none : List Ident = [] in done none rest)
 type_parameters_none at (t.Sign s.OpenBracket ∷ rest) e = absurd cc
@@ -57,11 +57,11 @@ module _ (tok : Token) (xs ys : List Token) (at at' : Places) (shift : (k : ℕ)
       then_local tok xs ys at at' shift (parameter_local ws) (λ q r1 e1. then_local tok xs ys at at' shift (many_local tok xs ys at at' shift (is_sign s.Open) (parameter_at at) (parameter_at at') (parameter_shrinks at) (parameter_shrinks at') parameter_local r1) (λ qs r2 e2.
       pure_local tok xs ys at at' shift (q ∷ qs) r2))
 
-  body_local : (l : ℕ) (ws : List Token) → Here (body_at at (parse at l Any)) (body_at at' (parse at' l Any)) ws
+  body_local : (l : ℕ) (ws : List Token) → Here (body_at (parse at l Any)) (body_at (parse at' l Any)) ws
   unfolding body_at
   body_local l ws =
-      then_local tok xs ys at at' shift (want_local tok xs ys at at' shift s.Colon ws) (λ _ r1 e1. then_local tok xs ys at at' shift (type_local tok xs ys at at' shift r1) (λ a r2 e2. then_local tok xs ys at at' shift (want_local tok xs ys at at' shift s.Equals r2) (λ _ r3 e3. then_local tok xs ys at at' shift (parse_local tok xs ys at at' shift l Any r3) (λ e r4 e4. then_local tok xs ys at at' shift (want_local tok xs ys at at' shift s.Semicolon r4) (λ _ r5 e5.
-      pure_local tok xs ys at at' shift (let made : BodyTree = record { result = a; body = e } in made) r5)))))
+      then_local tok xs ys at at' shift (want_local tok xs ys at at' shift s.Equals ws) (λ _ r1 e1. then_local tok xs ys at at' shift (parse_local tok xs ys at at' shift l Any r1) (λ e r2 e2. then_local tok xs ys at at' shift (want_local tok xs ys at at' shift s.Semicolon r2) (λ _ r3 e3.
+      pure_local tok xs ys at at' shift e r3)))
 
   names_local : (ws : List Token) → Here (names_at at) (names_at at') ws
   unfolding names_at
@@ -89,13 +89,14 @@ module _ (tok : Token) (xs ys : List Token) (at at' : Places) (shift : (k : ℕ)
   unfolding function_at
   function_local l ws =
       then_local tok xs ys at at' shift (want_local tok xs ys at at' shift s.Fun ws) (λ _ r1 e1. then_local tok xs ys at at' shift (var_local tok xs ys at at' shift r1) (λ f r2 e2. then_local tok xs ys at at' shift (type_parameters_local r2) (λ vs r3 e3. then_local tok xs ys at at' shift (parameters_local r3) (λ qs r4 e4.
-      then_local tok xs ys at at' shift (body_local l r4) (λ b r5 e5. pure_local tok xs ys at at' shift (let made : GenericFunctionTree = record { name = f; variables = vs; parameters = qs; result = b.result; body = b.body } in made) r5)))))
+      then_local tok xs ys at at' shift (want_local tok xs ys at at' shift s.Colon r4) (λ _ r5 e5. then_local tok xs ys at at' shift (results_local tok xs ys at at' shift r5) (λ g r6 e6.
+      then_local tok xs ys at at' shift (body_local l r6) (λ e r7 e7. pure_local tok xs ys at at' shift (let made : GenericFunctionTree = record { name = f; variables = vs; parameters = qs; result = g; body = e } in made) r7)))))))
 
   main_local : (l : ℕ) (ws : List Token) → Here (main_at at (parse at l Any)) (main_at at' (parse at' l Any)) ws
   unfolding main_at
   main_local l ws =
-      then_local tok xs ys at at' shift (want_local tok xs ys at at' shift s.Main ws) (λ _ r1 e1. then_local tok xs ys at at' shift (parameter_local r1) (λ q r2 e2. then_local tok xs ys at at' shift (body_local l r2) (λ b r3 e3.
-      pure_local tok xs ys at at' shift (let made : GenericMainTree = record { parameter = q; result = b.result; body = b.body } in made) r3)))
+      then_local tok xs ys at at' shift (want_local tok xs ys at at' shift s.Main ws) (λ _ r1 e1. then_local tok xs ys at at' shift (parameter_local r1) (λ q r2 e2. then_local tok xs ys at at' shift (want_local tok xs ys at at' shift s.Colon r2) (λ _ r3 e3. then_local tok xs ys at at' shift (type_local tok xs ys at at' shift r3) (λ a r4 e4.
+      then_local tok xs ys at at' shift (body_local l r4) (λ e r5 e5. pure_local tok xs ys at at' shift (let made : GenericMainTree = record { parameter = q; result = a; body = e } in made) r5)))))
 
   program_local : (l : ℕ) (ws : List Token) → Here (program_at at (parse at l Any)) (program_at at' (parse at' l Any)) ws
   unfolding program_at

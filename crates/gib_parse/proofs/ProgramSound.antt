@@ -5,11 +5,13 @@ use Rattle.gib_base.specs.declared.token.Sign.TheVariants as s
 use Rattle.gib_base.specs.declared.token.Token.{Token}
 use Rattle.gib_base.specs.declared.token.Token.TheVariants as t
 use Rattle.gib_syntax.specs.declared.tree.Ident.{Ident}
-use Rattle.gib_syntax.specs.Forms.{WrittenType}
+use Rattle.gib_base.specs.declared.name.Name.{Name}
+use Rattle.gib_syntax.specs.Forms.{WrittenType, DataAt, NoType}
+use Rattle.gib_syntax.specs.Results.{Results, One, Several, AreResults}
 use Rattle.gib_syntax.specs.GenericTree.{GenericExpression, GenericConstructorTree, GenericDataTree, GenericFunctionTree, GenericMainTree, GenericProgramTree, GenericParameterTree}
 use Rattle.gib_syntax.specs.GenericFine.{IsGenericFine, IsGenericFineFunction, IsGenericFineProgram, HasGenericConstructor}
-use Rattle.gib_syntax.specs.Spelling.{Places, AreTypeParametersAt, spell_type_parameters, IsConstructorAt, AreConstructorsAt, IsDataAt, AreDatasAt, IsParameterAt, AreParametersAt, IsBodyAt, IsFunctionAt, AreFunctionsAt, IsMainAt, IsPlacedProgram, levels, levels_functions, levels_program, Derives, spell, spell_type, spell_types, spell_constructor, spell_more, spell_constructors, spell_data, spell_datas, spell_parameter, spell_parameters, spell_body, spell_function, spell_functions, spell_main, spell_program}
-use Rattle.gib_parse.specs.Reading.{At, Any, var_at, is_variable, names_at, type_parameters_at, type_at, starts_type, is_sign, many, constructor_at, alternative_at, constructors_at, data_at, parameter_at, parameters_at, BodyTree, body_at, function_at, main_at, program_at, ends_at, whole_in, parse}
+use Rattle.gib_syntax.specs.Spelling.{Places, AreTypeParametersAt, spell_type_parameters, IsConstructorAt, AreConstructorsAt, IsDataAt, AreDatasAt, IsParameterAt, AreParametersAt, IsTypeAt, AreFurtherTypesAt, AreResultsAt, IsPlaced, IsFunctionAt, AreFunctionsAt, IsMainAt, IsPlacedProgram, levels, levels_functions, levels_program, Derives, spell, spell_type, spell_types, spell_constructor, spell_more, spell_constructors, spell_data, spell_datas, spell_parameter, spell_parameters, spell_further_types, spell_results, spell_body, spell_function, spell_functions, spell_main, spell_program}
+use Rattle.gib_parse.specs.Reading.{At, Any, var_at, is_variable, names_at, type_parameters_at, type_at, starts_type, is_sign, many, constructor_at, alternative_at, constructors_at, data_at, parameter_at, parameters_at, before, named, inside, next_type_at, further_types_at, one_type_at, declared_at, open_results_at, results_at, body_at, function_at, main_at, program_at, ends_at, whole_in, parse}
 use Rattle.gib_parse.proofs.Tools.{done, Holds, holds_ok, holds_err, then_holds, want_holds, var_holds, con_holds, IsVar}
 use Rattle.gib_parse.proofs.Written.{IsType, type_holds, types_sound}
 use Rattle.gib_parse.proofs.Many.{Chain, many_sound, Shrinks}
@@ -139,24 +141,76 @@ parameters_sound at ts =
     let first = parameter_onward at ts q r1 (spell_parameters qs r2) p2.0 p1 in
     holds_ok (q ∷ qs) r2 (record { spelled = first.spelled; some = λ e. cc; placed = (first.placed, p2.1) })))
 
-pub record SoundBody (at : Places) (l : ℕ) (ts : List Token) (b : BodyTree) (rest : List Token) : Type 0 where
-  pub spelled : ts ≡ spell_body b.result b.body rest
-  pub fine : IsGenericFine b.body
-  pub level : levels b.body ≤ l
-  pub placed : IsBodyAt at b.result b.body rest
+-- ---- what a function gives
 
-pub body_sound : (at : Places) (l : ℕ) (ts : List Token) → Holds (body_at at (parse at l Any) ts) (SoundBody at l ts)
+-- A further type, behind its comma.
+pub record NextType (at : Places) (ts : List Token) (a : WrittenType) (rest : List Token) : Type 0 where
+  pub behind : List Token
+  pub comma : ts ≡ t.Sign s.Comma ∷ behind
+  pub is_type : IsType at behind a rest
+
+pub next_type_holds : (at : Places) (ts : List Token) → Holds (next_type_at at ts) (NextType at ts)
+unfolding next_type_at
+next_type_holds at ts = then_holds (want_holds s.Comma ts) (λ _ r1 p1. record { by = λ a rest e. record { behind = r1; comma = p1; is_type = (type_holds at r1).by a rest e } })
+
+pub further_types_sound : (at : Places) (xs : List WrittenType) (ts rest : List Token) → Chain (NextType at) ts xs rest → (ts ≡ spell_further_types xs rest) × AreFurtherTypesAt at xs rest
+further_types_sound at [] ts rest c = (c, tt)
+further_types_sound at (x ∷ xs) ts rest c =
+    let more = further_types_sound at xs c.0 rest c.2 in
+    let first = subst (λ (r : List Token). IsType at c.1.behind x r) more.0 c.1.is_type in
+    (c.1.comma ∙ ap (λ l. t.Sign s.Comma ∷ l) first.spelled, (first.placed, more.1))
+
+pub record SoundResults (at : Places) (ts : List Token) (r : Results WrittenType) (rest : List Token) : Type 0 where
+  pub spelled : ts ≡ spell_results r rest
+  pub fine : AreResults r
+  pub placed : AreResultsAt at r rest
+
+part_types_sound : (at : Places) (a : WrittenType) (ts : List Token) → IsTypeAt at a ts → Holds (further_types_at at a ts) (SoundResults at (t.Sign s.Open ∷ spell_type a ts))
+unfolding further_types_at
+part_types_sound at a ts placed =
+    then_holds (next_type_holds at ts) (λ b r1 p1. then_holds (many_sound (NextType at) (is_sign s.Comma) (next_type_at at) (next_type_holds at) r1) (λ more r2 c2. then_holds (want_holds s.Close r2) (λ _ r3 p3.
+    let all = further_types_sound at (b ∷ more) ts (t.Sign s.Close ∷ r3) (r1, p1, subst (λ (r : List Token). Chain (NextType at) r1 more r) p3 c2) in
+    holds_ok (Several (a ∷ b ∷ more)) r3 (record { spelled = ap (λ l. t.Sign s.Open ∷ spell_type a l) all.0; fine = tt; placed = (subst (IsTypeAt at a) all.0 placed, all.1) }))))
+
+one_type_sound : (at : Places) (ts : List Token) → Holds (one_type_at (type_at at) ts) (SoundResults at ts)
+unfolding one_type_at
+one_type_sound at ts = then_holds (type_holds at ts) (λ a r p. holds_ok (One a) r (record { spelled = p.spelled; fine = tt; placed = p.placed }))
+
+applied_sound : (at : Places) (k : Name) (ts : List Token) → Holds (one_type_at (inside at (before at (t.Constructor k ∷ ts)) (named at k ts) [] []) ts) (SoundResults at (t.Sign s.Open ∷ t.Constructor k ∷ ts))
+unfolding one_type_at
+applied_sound at k ts = then_holds (type_holds at (t.Sign s.Open ∷ t.Constructor k ∷ ts)) (λ a r p. holds_ok (One a) r (record { spelled = p.spelled; fine = tt; placed = p.placed }))
+
+declared_sound : (at : Places) (k : Name) (ts : List Token) → Holds (declared_at at (before at (t.Constructor k ∷ ts)) (named at k ts) ts) (SoundResults at (t.Sign s.Open ∷ t.Constructor k ∷ ts))
+declared_sound at k (t.Sign s.Comma ∷ ts) = part_types_sound at (DataAt (before at (t.Sign s.Comma ∷ ts)) (named at k (t.Sign s.Comma ∷ ts)) NoType) (t.Sign s.Comma ∷ ts) (refl, refl)
+declared_sound at k ts = applied_sound at k ts
+
+open_results_sound : (at : Places) (ts : List Token) → Holds (open_results_at at (before at ts) ts) (SoundResults at (t.Sign s.Open ∷ ts))
+open_results_sound at (t.Constructor k ∷ ts) = declared_sound at k ts
+open_results_sound at ts =
+    then_holds (type_holds at ts) (λ a r1 p1. record {
+      by = λ r rest e.
+          let o = (part_types_sound at a r1 p1.placed).by r rest e in
+          record { spelled = ap (λ l. t.Sign s.Open ∷ l) p1.spelled ∙ o.spelled; fine = o.fine; placed = o.placed };
+    })
+
+pub results_sound : (at : Places) (ts : List Token) → Holds (results_at at ts) (SoundResults at ts)
+results_sound at (t.Sign s.Open ∷ ts) = open_results_sound at ts
+results_sound at ts = one_type_sound at ts
+
+-- ---- bodies
+
+pub record SoundBody (at : Places) (l : ℕ) (ts : List Token) (e : GenericExpression) (rest : List Token) : Type 0 where
+  pub spelled : ts ≡ t.Sign s.Equals ∷ spell e (t.Sign s.Semicolon ∷ rest)
+  pub fine : IsGenericFine e
+  pub level : levels e ≤ l
+  pub placed : IsPlaced at e (t.Sign s.Semicolon ∷ rest)
+
+pub body_sound : (at : Places) (l : ℕ) (ts : List Token) → Holds (body_at (parse at l Any) ts) (SoundBody at l ts)
 unfolding body_at
 body_sound at l ts =
-    then_holds (want_holds s.Colon ts) (λ _ r1 p1. then_holds (type_holds at r1) (λ a r2 p2. then_holds (want_holds s.Equals r2) (λ _ r3 p3. then_holds (parse_sound at l Any r3) (λ e r4 p4. then_holds (want_holds s.Semicolon r4) (λ _ r5 p5.
-    let p4' = onward at l Any r3 e r4 (t.Sign s.Semicolon ∷ r5) p5 p4 in
-    let p2' = subst (λ (r : List Token). IsType at r1 a r) (p3 ∙ ap (λ l. t.Sign s.Equals ∷ l) p4'.spelled) p2 in
-    holds_ok (record { result = a; body = e }) r5 (record {
-      spelled = p1 ∙ ap (λ l. t.Sign s.Colon ∷ l) p2'.spelled;
-      fine = p4'.fine;
-      level = p4'.level;
-      placed = (p2'.placed, p4'.placed);
-    }))))))
+    then_holds (want_holds s.Equals ts) (λ _ r1 p1. then_holds (parse_sound at l Any r1) (λ e r2 p2. then_holds (want_holds s.Semicolon r2) (λ _ r3 p3.
+    let p2' = onward at l Any r1 e r2 (t.Sign s.Semicolon ∷ r3) p3 p2 in
+    holds_ok e r3 (record { spelled = p1 ∙ ap (λ l. t.Sign s.Equals ∷ l) p2'.spelled; fine = p2'.fine; level = p2'.level; placed = p2'.placed }))))
 
 -- The type parameters of a function are spelled so, and stand there.
 pub record SoundNames (at : Places) (ts : List Token) (vs : List Ident) (rest : List Token) : Type 0 where
@@ -189,15 +243,17 @@ pub record SoundFunction (at : Places) (l : ℕ) (ts : List Token) (f : GenericF
 pub function_sound : (at : Places) (l : ℕ) (ts : List Token) → Holds (function_at at (parse at l Any) ts) (SoundFunction at l ts)
 unfolding function_at
 function_sound at l ts =
-    then_holds (want_holds s.Fun ts) (λ _ r1 p1. then_holds (var_holds at r1) (λ f r2 p2. then_holds (type_parameters_sound at r2) (λ vs r3 p3. then_holds (parameters_sound at r3) (λ qs r4 p4. then_holds (body_sound at l r4) (λ b r5 p5.
-    let p4' = subst (λ (r : List Token). SoundParameters at r3 qs r) p5.spelled p4 in
+    then_holds (want_holds s.Fun ts) (λ _ r1 p1. then_holds (var_holds at r1) (λ f r2 p2. then_holds (type_parameters_sound at r2) (λ vs r3 p3. then_holds (parameters_sound at r3) (λ qs r4 p4.
+    then_holds (want_holds s.Colon r4) (λ _ r5 p5. then_holds (results_sound at r5) (λ g r6 p6. then_holds (body_sound at l r6) (λ e r7 p7.
+    let p6' = subst (λ (r : List Token). SoundResults at r5 g r) p7.spelled p6 in
+    let p4' = subst (λ (r : List Token). SoundParameters at r3 qs r) (p5 ∙ ap (λ l. t.Sign s.Colon ∷ l) p6'.spelled) p4 in
     let p3' = subst (λ (r : List Token). SoundNames at r2 vs r) p4'.spelled p3 in
-    holds_ok (record { name = f; variables = vs; parameters = qs; result = b.result; body = b.body }) r5 (record {
+    holds_ok (record { name = f; variables = vs; parameters = qs; result = g; body = e }) r7 (record {
       spelled = p1 ∙ ap (λ l. t.Sign s.Fun ∷ l) (p2.spelled ∙ ap (λ l. t.Variable f.name ∷ l) p3'.spelled);
-      fine = (p4'.some, p5.fine);
-      level = p5.level;
-      placed = (p2.placed ∙ ap (λ l. at (suc (length l))) p3'.spelled, p3'.placed, p4'.placed, p5.placed);
-    }))))))
+      fine = (p4'.some, p7.fine, p6'.fine);
+      level = p7.level;
+      placed = (p2.placed ∙ ap (λ l. at (suc (length l))) p3'.spelled, p3'.placed, p4'.placed, (p6'.placed, p7.placed));
+    }))))))))
 
 pub record SoundFunctions (at : Places) (l : ℕ) (ts : List Token) (fs : List GenericFunctionTree) (rest : List Token) : Type 0 where
   pub spelled : ts ≡ spell_functions fs rest
@@ -223,14 +279,15 @@ pub record SoundMain (at : Places) (l : ℕ) (ts : List Token) (m : GenericMainT
 main_sound : (at : Places) (l : ℕ) (ts : List Token) → Holds (main_at at (parse at l Any) ts) (SoundMain at l ts)
 unfolding main_at
 main_sound at l ts =
-    then_holds (want_holds s.Main ts) (λ _ r1 p1. then_holds (parameter_sound at r1) (λ q r2 p2. then_holds (body_sound at l r2) (λ b r3 p3.
-    let p2' = parameter_onward at r1 q r2 (spell_body b.result b.body r3) p3.spelled p2 in
-    holds_ok (record { parameter = q; result = b.result; body = b.body }) r3 (record {
+    then_holds (want_holds s.Main ts) (λ _ r1 p1. then_holds (parameter_sound at r1) (λ q r2 p2. then_holds (want_holds s.Colon r2) (λ _ r3 p3. then_holds (type_holds at r3) (λ a r4 p4. then_holds (body_sound at l r4) (λ e r5 p5.
+    let p4' = subst (λ (r : List Token). IsType at r3 a r) p5.spelled p4 in
+    let p2' = parameter_onward at r1 q r2 (spell_body (One a) e r5) (p3 ∙ ap (λ l. t.Sign s.Colon ∷ l) p4'.spelled) p2 in
+    holds_ok (record { parameter = q; result = a; body = e }) r5 (record {
       spelled = p1 ∙ ap (λ l. t.Sign s.Main ∷ l) p2'.spelled;
-      fine = p3.fine;
-      level = p3.level;
-      placed = (p2'.placed, p3.placed);
-    }))))
+      fine = p5.fine;
+      level = p5.level;
+      placed = (p2'.placed, (p4'.placed, p5.placed));
+    }))))))
 
 -- What reading the whole tells.
 pub record IsWhole (l : ℕ) (at : Places) (ts : List Token) (g : GenericProgramTree) (rest : List Token) : Type 0 where
@@ -293,8 +350,17 @@ parameters_longer : (qs : List GenericParameterTree) (rest : List Token) → len
 parameters_longer [] rest = omega arith
 parameters_longer (q ∷ qs) rest = omega (arith, parameter_longer q (spell_parameters qs rest), parameters_longer qs rest)
 
-body_longer : (a : WrittenType) (e : GenericExpression) (rest : List Token) → length rest < length (spell_body a e rest)
-body_longer a e rest = omega (arith, type_longer a (t.Sign s.Equals ∷ spell e (t.Sign s.Semicolon ∷ rest)), spell_longer e (t.Sign s.Semicolon ∷ rest))
+further_types_longer : (xs : List WrittenType) (rest : List Token) → length rest ≤ length (spell_further_types xs rest)
+further_types_longer [] rest = omega arith
+further_types_longer (x ∷ xs) rest = omega (arith, type_longer x (spell_further_types xs rest), further_types_longer xs rest)
+
+results_longer : (r : Results WrittenType) (rest : List Token) → length rest ≤ length (spell_results r rest)
+results_longer (One a) rest = omega (arith, type_longer a rest)
+results_longer (Several []) rest = omega arith
+results_longer (Several (a ∷ more)) rest = omega (arith, type_longer a (spell_further_types more (t.Sign s.Close ∷ rest)), further_types_longer more (t.Sign s.Close ∷ rest))
+
+body_longer : (r : Results WrittenType) (e : GenericExpression) (rest : List Token) → length rest < length (spell_body r e rest)
+body_longer r e rest = omega (arith, results_longer r (t.Sign s.Equals ∷ spell e (t.Sign s.Semicolon ∷ rest)), spell_longer e (t.Sign s.Semicolon ∷ rest))
 
 type_parameters_longer : (vs : List Ident) (rest : List Token) → length rest ≤ length (spell_type_parameters vs rest)
 type_parameters_longer [] rest = omega arith

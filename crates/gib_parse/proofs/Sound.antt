@@ -1,5 +1,5 @@
 -- What is read is spelled so, and stands there.
-use Rattle.std.proofs.Common.{◌≡◌, ℕ, zero, suc, ◌≤◌, ◌^◌, Bool, true, false, List, [], ◌∷◌, length, refl, ap, ◌∙◌, subst, arith}
+use Rattle.std.proofs.Common.{◌≡◌, ◌≢◌, ℕ, zero, suc, ◌≤◌, ◌^◌, Bool, true, false, List, [], ◌∷◌, length, refl, ap, ◌∙◌, subst, arith}
 use Rattle.std.proofs.lemmas.Bool.{ltb-true}
 use Rattle.gib_base.specs.declared.name.Name.{Name}
 use Rattle.gib_base.specs.declared.Span.{Span}
@@ -9,10 +9,10 @@ use Rattle.gib_base.specs.declared.token.Token.TheVariants as t
 use Rattle.gib_syntax.specs.declared.tree.Ident.{Ident}
 use Rattle.gib_syntax.specs.declared.tree.Operator.{Operator}
 use Rattle.gib_syntax.specs.declared.tree.Operator.TheVariants as o
-use Rattle.gib_syntax.specs.GenericTree.{GenericExpression, GenericArguments, GenericArms, GenericVar, GenericNum, GenericBit, GenericParen, GenericOp, GenericCall, GenericMake, GenericLet, GenericPar, GenericIf, GenericCase, GenericNoArgument, GenericArgument}
-use Rattle.gib_syntax.specs.GenericFine.{is_generic_application, is_generic_atom, IsGenericFine, AreGenericFine, HasGenericFine}
-use Rattle.gib_syntax.specs.Spelling.{Places, IsAt, AreAt, IsPlaced, ArePlaced, HavePlaces, spell, spell_arguments, spell_arms, spell_variables, spell_operator, levels, levels_arguments, levels_arms}
-use Rattle.gib_parse.specs.Reading.{At, Nested, Mode, Any, App, Atom, Read, Reader, Parts, before, named, var_at, next_is, is_variable, is_sign, is_literal, literal_at, starts_atom, ArmTree, arms_of, arm_at, next_arm_at, arms_at, arguments_of, arguments_at, bind_at, par_at, let_at, if_at, case_at, side_at, close_at, open_at, call, called_at, variable_at, make_at, constant_at, atom_at, app_at, any_at, starts, no_level, parse}
+use Rattle.gib_syntax.specs.GenericTree.{GenericExpression, GenericArguments, GenericArms, GenericVar, GenericNum, GenericBit, GenericParen, GenericOp, GenericCall, GenericMake, GenericLet, GenericPar, GenericIf, GenericCase, GenericTuple, GenericLetSeveral, GenericParSeveral, GenericNoArgument, GenericArgument}
+use Rattle.gib_syntax.specs.GenericFine.{is_generic_application, is_generic_atom, IsGenericFine, AreGenericFine, AreGenericParts, HasGenericFine}
+use Rattle.gib_syntax.specs.Spelling.{Places, IsAt, AreAt, AreFurtherAt, AreNamesAt, IsPlaced, ArePlaced, ArePartsPlaced, HavePlaces, spell, spell_arguments, spell_further_parts, spell_arms, spell_variables, spell_further_names, spell_names, spell_operator, levels, levels_arguments, levels_arms}
+use Rattle.gib_parse.specs.Reading.{At, Nested, Mode, Any, App, Atom, Read, Reader, Parts, before, named, var_at, next_is, is_variable, is_sign, is_literal, literal_at, starts_atom, ArmTree, arms_of, arm_at, next_arm_at, arms_at, arguments_of, arguments_at, next_name_at, several_names_at, one_name_at, names_bound_at, let_of, par_of, bind_at, par_at, let_at, if_at, case_at, side_at, close_at, open_at, next_part_at, tuple_at, close_any_at, open_any_at, call, called_at, variable_at, make_at, constant_at, atom_at, app_at, any_at, starts, no_level, parse}
 use Rattle.gib_parse.proofs.Tools.{Holds, holds_ok, holds_err, then_holds, want_holds, var_holds, con_holds, IsVar, IsCon}
 use Rattle.gib_parse.proofs.Many.{Chain, many_sound}
 use Rattle.gib_parse.proofs.Written.{AreTypeArguments, type_arguments_hold}
@@ -41,6 +41,50 @@ variables_sound at [] ts rest c = (c, tt)
 variables_sound at (x ∷ xs) ts rest c =
     let more = variables_sound at xs c.0 rest c.2 in
     (c.1.spelled ∙ ap (λ l. t.Variable x.name ∷ l) more.0, (c.1.placed ∙ ap (λ l. at (suc (length l))) more.0, more.1))
+
+-- ---- the variables of a binding
+
+-- A further one, behind its comma.
+pub record NextName (at : Places) (ts : List Token) (x : Ident) (rest : List Token) : Type 0 where
+  pub behind : List Token
+  pub comma : ts ≡ t.Sign s.Comma ∷ behind
+  pub is_name : IsVar at behind x rest
+
+pub next_name_holds : (at : Places) (ts : List Token) → Holds (next_name_at at ts) (NextName at ts)
+unfolding next_name_at
+next_name_holds at ts = then_holds (want_holds s.Comma ts) (λ _ r1 p1. record { by = λ x rest e. record { behind = r1; comma = p1; is_name = (var_holds at r1).by x rest e } })
+
+pub further_names_sound : (at : Places) (xs : List Ident) (ts rest : List Token) → Chain (NextName at) ts xs rest → (ts ≡ spell_further_names xs rest) × AreFurtherAt at xs rest
+further_names_sound at [] ts rest c = (c, tt)
+further_names_sound at (x ∷ xs) ts rest c =
+    let more = further_names_sound at xs c.0 rest c.2 in (
+      c.1.comma ∙ ap (λ l. t.Sign s.Comma ∷ l) (c.1.is_name.spelled ∙ ap (λ l. t.Variable x.name ∷ l) more.0),
+      (c.1.is_name.placed ∙ ap (λ l. at (suc (length l))) more.0, more.1),
+    )
+
+pub record SoundBinding (at : Places) (ts : List Token) (xs : List Ident) (rest : List Token) : Type 0 where
+  pub spelled : ts ≡ spell_names xs rest
+  pub some : xs ≢ []
+  pub placed : AreNamesAt at xs rest
+
+several_names_sound : (at : Places) (ts : List Token) → Holds (several_names_at at ts) (SoundBinding at (t.Sign s.Open ∷ ts))
+unfolding several_names_at
+several_names_sound at ts =
+    then_holds (var_holds at ts) (λ x r1 p1. then_holds (next_name_holds at r1) (λ y r2 p2. then_holds (many_sound (NextName at) (is_sign s.Comma) (next_name_at at) (next_name_holds at) r2) (λ ys r3 c3. then_holds (want_holds s.Close r3) (λ _ r4 p4.
+    let all = further_names_sound at (y ∷ ys) r1 (t.Sign s.Close ∷ r4) (r2, p2, subst (λ (r : List Token). Chain (NextName at) r2 ys r) p4 c3) in
+    holds_ok (x ∷ y ∷ ys) r4 (record {
+      spelled = ap (λ l. t.Sign s.Open ∷ l) (p1.spelled ∙ ap (λ l. t.Variable x.name ∷ l) all.0);
+      some = λ e. cc;
+      placed = (p1.placed ∙ ap (λ l. at (suc (length l))) all.0, all.1);
+    })))))
+
+one_name_sound : (at : Places) (ts : List Token) → Holds (one_name_at at ts) (SoundBinding at ts)
+unfolding one_name_at
+one_name_sound at ts = then_holds (var_holds at ts) (λ x r p. holds_ok (x ∷ []) r (record { spelled = p.spelled; some = λ e. cc; placed = p.placed }))
+
+pub names_bound_sound : (at : Places) (ts : List Token) → Holds (names_bound_at at ts) (SoundBinding at ts)
+names_bound_sound at (t.Sign s.Open ∷ ts) = several_names_sound at ts
+names_bound_sound at ts = one_name_sound at ts
 
 -- ---- arguments
 
@@ -130,40 +174,58 @@ arms_sound at l p h ts =
 abbrev pub SoundParts : Places → ℕ → Parts → Type 0
 SoundParts at l sub = (m : Mode) (ts : List Token) → Holds (sub m ts) (Sound at l m ts)
 
+-- A `let` of these variables, by what was read of it.
+let_made : (at : Places) (l : ℕ) (p : Span) (xs : List Ident) (a b : GenericExpression) (ts rest : List Token) → xs ≢ [] → ts ≡ spell_names xs (t.Sign s.Equals ∷ spell a (t.Sign s.In ∷ spell b rest)) → p ≡ at (suc (length ts))
+    → AreNamesAt at xs (t.Sign s.Equals ∷ spell a (t.Sign s.In ∷ spell b rest)) → IsGenericFine a → IsGenericFine b → levels a ≤ l → levels b ≤ l → IsPlaced at a (t.Sign s.In ∷ spell b rest) → IsPlaced at b rest
+    → Sound at (suc l) Any (t.Sign s.Let ∷ ts) (let_of p xs a b) rest
+let_made at l p [] a b ts rest some e pe names fa fb la lb pa pb = absurd (some refl)
+let_made at l p (x ∷ []) a b ts rest some e pe names fa fb la lb pa pb =
+    record { spelled = ap (λ l. t.Sign s.Let ∷ l) e; fine = (fa, fb); mode = tt; level = omega (arith, la, lb); placed = (pe ∙ ap (λ l. at (suc (length l))) e, names, pa, pb) }
+let_made at l p (x ∷ y ∷ ys) a b ts rest some e pe names fa fb la lb pa pb =
+    record { spelled = ap (λ l. t.Sign s.Let ∷ l) e; fine = (tt, fa, fb); mode = tt; level = omega (arith, la, lb); placed = (pe ∙ ap (λ l. at (suc (length l))) e, names, pa, pb) }
+
 bind_sound : (at : Places) (l : ℕ) (sub : Parts) → SoundParts at l sub → (ts : List Token) → Holds (bind_at at sub (before at ts) ts) (Sound at (suc l) Any (t.Sign s.Let ∷ ts))
 unfolding bind_at
 bind_sound at l sub h ts =
-    then_holds (var_holds at ts) (λ x r1 p1. then_holds (want_holds s.Equals r1) (λ _ r2 p2. then_holds (h Any r2) (λ a r3 p3. then_holds (want_holds s.In r3) (λ _ r4 p4. then_holds (h Any r4) (λ b r5 p5.
+    then_holds (names_bound_sound at ts) (λ xs r1 p1. then_holds (want_holds s.Equals r1) (λ _ r2 p2. then_holds (h Any r2) (λ a r3 p3. then_holds (want_holds s.In r3) (λ _ r4 p4. then_holds (h Any r4) (λ b r5 p5.
     let a' = onward at l Any r2 a r3 (t.Sign s.In ∷ spell b r5) (p4 ∙ ap (λ l. t.Sign s.In ∷ l) p5.spelled) p3 in
     let e1 : r1 ≡ t.Sign s.Equals ∷ spell a (t.Sign s.In ∷ spell b r5) = p2 ∙ ap (λ l. t.Sign s.Equals ∷ l) a'.spelled in
-    let e0 : ts ≡ t.Variable x.name ∷ t.Sign s.Equals ∷ spell a (t.Sign s.In ∷ spell b r5) = p1.spelled ∙ ap (λ l. t.Variable x.name ∷ l) e1 in
-    holds_ok (GenericLet (before at ts) x a b) r5 (record {
-      spelled = ap (λ l. t.Sign s.Let ∷ l) e0;
-      fine = (a'.fine, p5.fine);
-      mode = tt;
-      level = (let la = a'.level in let lb = p5.level in omega arith);
-      placed = (ap (λ l. at (suc (length l))) e0, p1.placed ∙ ap (λ l. at (suc (length l))) e1, a'.placed, p5.placed);
-    }))))))
+    holds_ok (let_of (before at ts) xs a b) r5
+    (let_made at l (before at ts) xs a b ts r5 p1.some (p1.spelled ∙ ap (spell_names xs) e1) refl (subst (AreNamesAt at xs) e1 p1.placed) a'.fine p5.fine a'.level p5.level a'.placed p5.placed))))))
+
+-- A `let par` of these variables, by what was read of it.
+module _ (at : Places) (l : ℕ) (p : Span) (a b c : GenericExpression) (ts rest : List Token) (fa : IsGenericFine a) (fb : IsGenericFine b) (fc : IsGenericFine c) (la : levels a ≤ l) (lb : levels b ≤ l) (lc : levels c ≤ l) (pe : p ≡ at (suc (suc (length ts)))) (pc : IsPlaced at c rest) where
+  abbrev right_side : List Ident → List Token
+  right_side ys = spell_names ys (t.Sign s.Equals ∷ spell b (t.Sign s.In ∷ spell c rest))
+
+  abbrev both_sides : List Ident → List Ident → List Token
+  both_sides xs ys = spell_names xs (t.Sign s.Equals ∷ spell a (t.Sign s.And ∷ right_side ys))
+
+  par_made : (xs ys : List Ident) → xs ≢ [] → ys ≢ [] → ts ≡ both_sides xs ys → AreNamesAt at xs (t.Sign s.Equals ∷ spell a (t.Sign s.And ∷ right_side ys)) → IsPlaced at a (t.Sign s.And ∷ right_side ys)
+      → AreNamesAt at ys (t.Sign s.Equals ∷ spell b (t.Sign s.In ∷ spell c rest)) → IsPlaced at b (t.Sign s.In ∷ spell c rest) → Sound at (suc l) Any (t.Sign s.Let ∷ t.Sign s.Par ∷ ts) (par_of p xs a ys b c) rest
+  par_made [] ys some further e left pa right pb = absurd (some refl)
+  par_made (x ∷ xs) [] some further e left pa right pb = absurd (further refl)
+  par_made (x ∷ []) (y ∷ []) some further e left pa right pb =
+      record { spelled = ap (λ l. t.Sign s.Let ∷ t.Sign s.Par ∷ l) e; fine = (fa, fb, fc); mode = tt; level = omega (arith, la, lb, lc); placed = (pe ∙ ap (λ l. at (suc (suc (length l)))) e, left, pa, right, pb, pc) }
+  par_made (x ∷ []) (y ∷ z ∷ zs) some further e left pa right pb =
+      record { spelled = ap (λ l. t.Sign s.Let ∷ t.Sign s.Par ∷ l) e; fine = (tt, fa, fb, fc); mode = tt; level = omega (arith, la, lb, lc); placed = (pe ∙ ap (λ l. at (suc (suc (length l)))) e, left, pa, right, pb, pc) }
+  par_made (x ∷ w ∷ ws) (y ∷ ys) some further e left pa right pb =
+      record { spelled = ap (λ l. t.Sign s.Let ∷ t.Sign s.Par ∷ l) e; fine = (tt, fa, fb, fc); mode = tt; level = omega (arith, la, lb, lc); placed = (pe ∙ ap (λ l. at (suc (suc (length l)))) e, left, pa, right, pb, pc) }
 
 par_sound : (at : Places) (l : ℕ) (sub : Parts) → SoundParts at l sub → (ts : List Token) → Holds (par_at at sub (before at (t.Sign s.Par ∷ ts)) ts) (Sound at (suc l) Any (t.Sign s.Let ∷ t.Sign s.Par ∷ ts))
 unfolding par_at
 par_sound at l sub h ts =
-    then_holds (var_holds at ts) (λ x r1 p1. then_holds (want_holds s.Equals r1) (λ _ r2 p2. then_holds (h Any r2) (λ a r3 p3. then_holds (want_holds s.And r3) (λ _ r4 p4.
-    then_holds (var_holds at r4) (λ y r5 p5. then_holds (want_holds s.Equals r5) (λ _ r6 p6. then_holds (h Any r6) (λ b r7 p7. then_holds (want_holds s.In r7) (λ _ r8 p8. then_holds (h Any r8) (λ c r9 p9.
+    then_holds (names_bound_sound at ts) (λ xs r1 p1. then_holds (want_holds s.Equals r1) (λ _ r2 p2. then_holds (h Any r2) (λ a r3 p3. then_holds (want_holds s.And r3) (λ _ r4 p4.
+    then_holds (names_bound_sound at r4) (λ ys r5 p5. then_holds (want_holds s.Equals r5) (λ _ r6 p6. then_holds (h Any r6) (λ b r7 p7. then_holds (want_holds s.In r7) (λ _ r8 p8. then_holds (h Any r8) (λ c r9 p9.
     let b' = onward at l Any r6 b r7 (t.Sign s.In ∷ spell c r9) (p8 ∙ ap (λ l. t.Sign s.In ∷ l) p9.spelled) p7 in
     let e5 : r5 ≡ t.Sign s.Equals ∷ spell b (t.Sign s.In ∷ spell c r9) = p6 ∙ ap (λ l. t.Sign s.Equals ∷ l) b'.spelled in
-    let e4 : r4 ≡ t.Variable y.name ∷ t.Sign s.Equals ∷ spell b (t.Sign s.In ∷ spell c r9) = p5.spelled ∙ ap (λ l. t.Variable y.name ∷ l) e5 in
-    let after = t.Sign s.And ∷ t.Variable y.name ∷ t.Sign s.Equals ∷ spell b (t.Sign s.In ∷ spell c r9) in
+    let e4 : r4 ≡ spell_names ys (t.Sign s.Equals ∷ spell b (t.Sign s.In ∷ spell c r9)) = p5.spelled ∙ ap (spell_names ys) e5 in
+    let after = t.Sign s.And ∷ spell_names ys (t.Sign s.Equals ∷ spell b (t.Sign s.In ∷ spell c r9)) in
     let a' = onward at l Any r2 a r3 after (p4 ∙ ap (λ l. t.Sign s.And ∷ l) e4) p3 in
     let e1 : r1 ≡ t.Sign s.Equals ∷ spell a after = p2 ∙ ap (λ l. t.Sign s.Equals ∷ l) a'.spelled in
-    let e0 : ts ≡ t.Variable x.name ∷ t.Sign s.Equals ∷ spell a after = p1.spelled ∙ ap (λ l. t.Variable x.name ∷ l) e1 in
-    holds_ok (GenericPar (before at (t.Sign s.Par ∷ ts)) x a y b c) r9 (record {
-      spelled = ap (λ l. t.Sign s.Let ∷ t.Sign s.Par ∷ l) e0;
-      fine = (a'.fine, b'.fine, p9.fine);
-      mode = tt;
-      level = (let la = a'.level in let lb = b'.level in let lc = p9.level in omega arith);
-      placed = (ap (λ l. at (suc (suc (length l)))) e0, p1.placed ∙ ap (λ l. at (suc (length l))) e1, a'.placed, p5.placed ∙ ap (λ l. at (suc (length l))) e5, b'.placed, p9.placed);
-    }))))))))))
+    holds_ok (par_of (before at (t.Sign s.Par ∷ ts)) xs a ys b c) r9
+    (par_made at l (before at (t.Sign s.Par ∷ ts)) a b c ts r9 a'.fine b'.fine p9.fine a'.level b'.level p9.level refl p9.placed xs ys p1.some p5.some (p1.spelled ∙ ap (spell_names xs) e1)
+    (subst (AreNamesAt at xs) e1 p1.placed) a'.placed (subst (AreNamesAt at ys) e5 p5.placed) b'.placed))))))))))
 
 let_sound : (at : Places) (l : ℕ) (sub : Parts) → SoundParts at l sub → (ts : List Token) → Holds (let_at at sub (before at ts) ts) (Sound at (suc l) Any (t.Sign s.Let ∷ ts))
 let_sound at l sub h (t.Sign s.Par ∷ ts) = par_sound at l sub h ts
@@ -248,6 +310,57 @@ open_sound at l sub h m ts =
           record { spelled = ap (λ (l : List Token). t.Sign s.Open ∷ l) p1.spelled ∙ c.spelled; fine = c.fine; mode = c.mode; level = c.level; placed = c.placed };
     })
 
+-- ---- tuples
+
+-- A further part, behind its comma.
+pub record NextPart (at : Places) (l : ℕ) (ts : List Token) (e : GenericExpression) (rest : List Token) : Type 0 where
+  pub behind : List Token
+  pub comma : ts ≡ t.Sign s.Comma ∷ behind
+  pub is_part : Sound at l Any behind e rest
+
+pub next_part_sound : (at : Places) (l : ℕ) (p : Reader GenericExpression) → ((ts : List Token) → Holds (p ts) (Sound at l Any ts)) → (ts : List Token) → Holds (next_part_at p ts) (NextPart at l ts)
+unfolding next_part_at
+next_part_sound at l p h ts = then_holds (want_holds s.Comma ts) (λ _ r1 p1. record { by = λ e rest eq. record { behind = r1; comma = p1; is_part = (h r1).by e rest eq } })
+
+pub record SoundFurther (at : Places) (l : ℕ) (ts : List Token) (xs : GenericArguments) (rest : List Token) : Type 0 where
+  pub spelled : ts ≡ spell_further_parts xs rest
+  pub fine : AreGenericParts xs
+  pub level : levels_arguments xs ≤ l
+  pub placed : ArePartsPlaced at xs rest
+
+pub parts_from_chain : (at : Places) (l : ℕ) (xs : List GenericExpression) (ts rest : List Token) → Chain (NextPart at l) ts xs rest → SoundFurther at l ts (arguments_of xs) rest
+parts_from_chain at l [] ts rest c = record { spelled = c; fine = tt; level = omega arith; placed = tt }
+parts_from_chain at l (x ∷ xs) ts rest c =
+    let more = parts_from_chain at l xs c.0 rest c.2 in
+    let first = onward at l Any c.1.behind x c.0 (spell_further_parts (arguments_of xs) rest) more.spelled c.1.is_part in
+    record { spelled = c.1.comma ∙ ap (λ l. t.Sign s.Comma ∷ l) first.spelled; fine = (first.fine, more.fine); level = omega (arith, first.level, more.level); placed = (first.placed, more.placed) }
+
+tuple_sound : (at : Places) (l : ℕ) (sub : Parts) → SoundParts at l sub → (p : Span) (a : GenericExpression) → IsGenericFine a → levels a ≤ l → (ts : List Token) → p ≡ at (suc (length (spell a ts))) → IsPlaced at a ts → Holds (tuple_at sub p a ts) (Closes at l Any a ts)
+unfolding tuple_at
+tuple_sound at l sub h p a fine level ts pe pa =
+    then_holds (next_part_sound at l (sub Any) (h Any) ts) (λ b r1 p1. then_holds (many_sound (NextPart at l) (is_sign s.Comma) (next_part_at (sub Any)) (next_part_sound at l (sub Any) (h Any)) r1) (λ xs r2 c2. then_holds (want_holds s.Close r2) (λ _ r3 p3.
+    let all = parts_from_chain at l (b ∷ xs) ts (t.Sign s.Close ∷ r3) (r1, p1, subst (λ (r : List Token). Chain (NextPart at l) r1 xs r) p3 c2) in
+    holds_ok (GenericTuple p (arguments_of (a ∷ b ∷ xs))) r3 (record {
+      spelled = ap (λ (l : List Token). t.Sign s.Open ∷ spell a l) all.spelled;
+      fine = (fine, all.fine);
+      mode = tt;
+      level = omega (arith, level, all.level);
+      placed = (pe ∙ ap (λ (l : List Token). at (suc (length (spell a l)))) all.spelled, (subst (IsPlaced at a) all.spelled pa, all.placed));
+    }))))
+
+close_any_sound : (at : Places) (l : ℕ) (sub : Parts) → SoundParts at l sub → (p : Span) (a : GenericExpression) → IsGenericFine a → levels a ≤ l → (ts : List Token) → p ≡ at (suc (length (spell a ts))) → IsPlaced at a ts → Holds (close_any_at sub p a ts) (Closes at l Any a ts)
+close_any_sound at l sub h p a fine level (t.Sign s.Comma ∷ ts) pe pa = tuple_sound at l sub h p a fine level (t.Sign s.Comma ∷ ts) pe pa
+close_any_sound at l sub h p a fine level ts pe pa = close_sound at l sub h Any p a fine level ts pe pa
+
+open_any_sound : (at : Places) (l : ℕ) (sub : Parts) → SoundParts at l sub → (ts : List Token) → Holds (open_any_at sub (before at ts) ts) (Sound at (suc l) Any (t.Sign s.Open ∷ ts))
+unfolding open_any_at
+open_any_sound at l sub h ts =
+    then_holds (h Any ts) (λ a r1 p1. record {
+      by = λ e rest eq.
+          let c = (close_any_sound at l sub h (before at ts) a p1.fine p1.level r1 (ap (λ l. at (suc (length l))) p1.spelled) p1.placed).by e rest eq in
+          record { spelled = ap (λ (l : List Token). t.Sign s.Open ∷ l) p1.spelled ∙ c.spelled; fine = c.fine; mode = c.mode; level = c.level; placed = c.placed };
+    })
+
 -- ---- atoms, applications, any expressions
 
 literal_sound : (at : Places) (l n : ℕ) (v : Bool) (ts : List Token) → is_literal n ≡ v → Holds (literal_at v (before at ts) n ts) (Sound at (suc l) Atom (t.Number n ∷ ts))
@@ -286,6 +399,9 @@ atom_is_application (GenericLet p x a b) h = absurd cc
 atom_is_application (GenericPar p x a y b c) h = absurd cc
 atom_is_application (GenericIf p a b c) h = absurd cc
 atom_is_application (GenericCase p x arms) h = absurd cc
+atom_is_application (GenericTuple p xs) h = absurd cc
+atom_is_application (GenericLetSeveral p xs a b) h = absurd cc
+atom_is_application (GenericParSeveral p xs a ys b c) h = absurd cc
 
 -- Type arguments before what the rest is.
 before_rest : (at : Places) (ts : List Token) (ws : WrittenTypes) (r r' : List Token) → r ≡ r' → AreTypeArguments at ts ws r → AreTypeArguments at ts ws r'
@@ -342,6 +458,7 @@ any_sound : (at : Places) (l : ℕ) (sub : Parts) → SoundParts at l sub → (t
 any_sound at l sub h (t.Sign s.Let ∷ ts) = let_sound at l sub h ts
 any_sound at l sub h (t.Sign s.If ∷ ts) = if_sound at l sub h ts
 any_sound at l sub h (t.Sign s.Case ∷ ts) = case_sound at l sub h ts
+any_sound at l sub h (t.Sign s.Open ∷ ts) = open_any_sound at l sub h ts
 any_sound at l sub h ts = as_any at (suc l) (app_at at sub ts) ts (app_sound at l sub h ts)
 
 no_level_sound : (v : Bool) (at : Places) (m : Mode) (ts : List Token) → Holds (no_level v ts) (Sound at zero m ts)

@@ -18,15 +18,16 @@ use Rattle.gib_syntax.specs.declared.program.GenericConstructor.{GenericConstruc
 use Rattle.gib_syntax.specs.declared.program.GenericData.{GenericData}
 use Rattle.gib_syntax.specs.declared.program.GenericMain.{GenericMain}
 use Rattle.gib_syntax.specs.declared.written.Run.{Run}
-use Rattle.gib_syntax.specs.Words.{IsTypeRun, IsTypesRun, type_in, words_of, words_in, all_types}
+use Rattle.gib_syntax.specs.declared.written.ResultRuns.{ResultRuns}
+use Rattle.gib_syntax.specs.Words.{IsTypeRun, IsTypesRun, words_of, words_in, all_types}
 use Rattle.gib_syntax.specs.GenericTree.{GenericExpression, GenericArguments, GenericArms, GenericVar, GenericCall, GenericNoArgument, GenericArgument, GenericLastArm}
 use Rattle.gib_syntax.specs.GenericArena.{Arena, Grows, ArmsBelow, arms_from, nothing, tree_of}
-use Rattle.gib_syntax.specs.GenericParts.{IsConstructorInside, IsDataInside, IsParameterInside}
+use Rattle.gib_syntax.specs.GenericParts.{IsConstructorInside, IsDataInside, IsParameterInside, AreResultsInside}
 use Rattle.gib_parse.specs.declared.stop.Stop.{Stop}
 use Rattle.gib_parse.specs.declared.stop.Stop.TheVariants as stop
 use Rattle.gib_parse.specs.declared.expressions.Kind.{Kind}
 use Rattle.gib_parse.specs.declared.expressions.Kind.TheVariants as kind
-use Rattle.gib_parse.specs.Reading.{At, Nested, Read, then_at, next_is, starts_atom, Opened, inside, type_at, Mode, Any, App, Atom, ArmTree, BodyTree}
+use Rattle.gib_parse.specs.Reading.{At, Nested, Read, then_at, next_is, starts_atom, Opened, inside, type_at, Mode, Any, App, Atom, ArmTree}
 
 -- A refusal is the one that reading gives, unless memory ran out.
 abbrev pub Fails : {Y : Type 0} → Stop → Read Y → Type 0
@@ -73,6 +74,10 @@ pub record AllStand {B : Type 0} (Inside : Arena → B → Type 0) (old new : Ar
 abbrev pub IsExpressionIn : Arena → ExprId → Type 0
 IsExpressionIn a id = id.0 < length a.nodes
 
+-- Its tree.
+abbrev pub expression_tree : Arena → ExprId → GenericExpression
+expression_tree a id = tree_of a id.0
+
 -- A run is a type of the arena.
 abbrev pub IsTypeIn : Arena → Run → Type 0
 IsTypeIn a run = IsTypeRun a.words run
@@ -93,10 +98,13 @@ IsDataIn a d = IsDataInside a.words d
 abbrev pub IsParameterIn : Arena → GenericParameter → Type 0
 IsParameterIn a q = IsParameterInside a.words q
 
--- The result type and the body of a function stand here.
-pub record IsBodyIn (a : Arena) (b : Run × ExprId) : Type 0 where
-  pub result : IsTypeRun a.words b.0
-  pub body : b.1.0 < length a.nodes
+-- What a function gives stands here.
+abbrev pub AreResultsIn : Arena → ResultRuns → Type 0
+AreResultsIn a results = AreResultsInside a.words results
+
+-- Types of several parts stand here.
+abbrev pub ArePartTypesIn : Arena → List Run → Type 0
+ArePartTypesIn a runs = AllByRecursion (IsTypeRun a.words) runs
 
 -- Main stands here.
 pub record IsMainIn (a : Arena) (m : GenericMain) : Type 0 where
@@ -112,10 +120,6 @@ arm_tree f arm = record { constructor = arm.constructor; variables = arm.variabl
 abbrev pub arms_tree : (ℕ → GenericExpression) → List code.Arm → GenericArms
 arms_tree f [] = GenericLastArm (record { name = record { 0 = 0 }; span = record { start = 0; end = 0 } }) [] nothing
 arms_tree f (arm ∷ arms) = arms_from f arm arms
-
--- The result type and the body of a function, as a tree.
-abbrev pub body_tree : Arena → Run × ExprId → BodyTree
-body_tree a b = record { result = type_in a.words b.0; body = tree_of a b.1.0 }
 
 -- A variable alone, or a call with these type arguments.
 abbrev pub call_tree : Ident → WrittenTypes → GenericArguments → GenericExpression

@@ -8,8 +8,9 @@ use Rattle.gib_base.specs.declared.token.Token.TheVariants as t
 use Rattle.gib_syntax.specs.declared.tree.Ident.{Ident}
 use Rattle.gib_syntax.specs.declared.tree.Operator.{Operator}
 use Rattle.gib_syntax.specs.declared.tree.Operator.TheVariants as o
-use Rattle.gib_syntax.specs.GenericTree.{GenericExpression, GenericArguments, GenericArms, GenericVar, GenericNum, GenericBit, GenericParen, GenericOp, GenericCall, GenericMake, GenericLet, GenericPar, GenericIf, GenericCase, GenericNoArgument, GenericArgument, GenericLastArm, GenericNextArm, GenericConstructorTree, GenericDataTree, GenericParameterTree, GenericFunctionTree, GenericMainTree, GenericProgramTree}
+use Rattle.gib_syntax.specs.GenericTree.{GenericExpression, GenericArguments, GenericArms, GenericVar, GenericNum, GenericBit, GenericParen, GenericOp, GenericCall, GenericMake, GenericLet, GenericPar, GenericIf, GenericCase, GenericTuple, GenericLetSeveral, GenericParSeveral, GenericNoArgument, GenericArgument, GenericLastArm, GenericNextArm, GenericConstructorTree, GenericDataTree, GenericParameterTree, GenericFunctionTree, GenericMainTree, GenericProgramTree}
 use Rattle.gib_syntax.specs.GenericFine.{is_generic_application}
+use Rattle.gib_syntax.specs.Results.{Results, One, Several}
 use Rattle.gib_syntax.specs.Forms.{WrittenType, WrittenTypes, WholeAt, TruthAt, VariableAt, DataAt, NoType, MoreTypes}
 use Rattle.gib_syntax.specs.Words.{all_types}
 use Rattle.gib_syntax.specs.Spelling.{Places}
@@ -143,18 +144,51 @@ arguments_at p ts = then_at (many starts_atom p ts) (λ xs ts. Ok (arguments_of 
 abbrev pub Parts : Type 0
 Parts = Mode → Reader GenericExpression
 
+-- A further name, behind a comma.
+unfoldable pub next_name_at : Places → Reader Ident
+next_name_at at ts = then_at (want s.Comma ts) (λ _ ts. var_at at ts)
+
+-- Behind an opening parenthesis: two names at least, a comma between two, and the closing parenthesis.
+unfoldable pub several_names_at : Places → Reader (List Ident)
+several_names_at at ts =
+    then_at (var_at at ts) (λ x ts. then_at (next_name_at at ts) (λ y ts. then_at (many (is_sign s.Comma) (next_name_at at) ts) (λ ys ts.
+    then_at (want s.Close ts) (λ _ ts. Ok (x ∷ y ∷ ys, ts)))))
+
+-- One name.
+unfoldable pub one_name_at : Places → Reader (List Ident)
+one_name_at at ts = then_at (var_at at ts) (λ x ts. Ok (x ∷ [], ts))
+
+-- The variables of a binding.
+abbrev pub names_bound_at : Places → Reader (List Ident)
+names_bound_at at (t.Sign s.Open ∷ ts) = several_names_at at ts
+names_bound_at at ts = one_name_at at ts
+
+-- A `let` of one variable, or of several.
+abbrev pub let_of : Span → List Ident → GenericExpression → GenericExpression → GenericExpression
+let_of p [] a b = GenericLetSeveral p [] a b
+let_of p (x ∷ []) a b = GenericLet p x a b
+let_of p (x ∷ y ∷ ys) a b = GenericLetSeveral p (x ∷ y ∷ ys) a b
+
+-- A `let par` of one variable on each side, or with several on one side at least.
+abbrev pub par_of : Span → List Ident → GenericExpression → List Ident → GenericExpression → GenericExpression → GenericExpression
+par_of p [] a ys b c = GenericParSeveral p [] a ys b c
+par_of p (x ∷ []) a [] b c = GenericParSeveral p (x ∷ []) a [] b c
+par_of p (x ∷ []) a (y ∷ []) b c = GenericPar p x a y b c
+par_of p (x ∷ []) a (y ∷ z ∷ zs) b c = GenericParSeveral p (x ∷ []) a (y ∷ z ∷ zs) b c
+par_of p (x ∷ w ∷ ws) a ys b c = GenericParSeveral p (x ∷ w ∷ ws) a ys b c
+
 -- Behind `let`, whose span this is: a binding.
 unfoldable pub bind_at : Places → Parts → Span → Reader GenericExpression
 bind_at at sub p ts =
-    then_at (var_at at ts) (λ x ts. then_at (want s.Equals ts) (λ _ ts. then_at (sub Any ts) (λ a ts.
-    then_at (want s.In ts) (λ _ ts. then_at (sub Any ts) (λ b ts. Ok (GenericLet p x a b, ts))))))
+    then_at (names_bound_at at ts) (λ xs ts. then_at (want s.Equals ts) (λ _ ts. then_at (sub Any ts) (λ a ts.
+    then_at (want s.In ts) (λ _ ts. then_at (sub Any ts) (λ b ts. Ok (let_of p xs a b, ts))))))
 
 -- Behind `let par`: two sides.
 unfoldable pub par_at : Places → Parts → Span → Reader GenericExpression
 par_at at sub p ts =
-    then_at (var_at at ts) (λ x ts. then_at (want s.Equals ts) (λ _ ts. then_at (sub Any ts) (λ a ts.
-    then_at (want s.And ts) (λ _ ts. then_at (var_at at ts) (λ y ts. then_at (want s.Equals ts) (λ _ ts. then_at (sub Any ts) (λ b ts.
-    then_at (want s.In ts) (λ _ ts. then_at (sub Any ts) (λ c ts. Ok (GenericPar p x a y b c, ts))))))))))
+    then_at (names_bound_at at ts) (λ xs ts. then_at (want s.Equals ts) (λ _ ts. then_at (sub Any ts) (λ a ts.
+    then_at (want s.And ts) (λ _ ts. then_at (names_bound_at at ts) (λ ys ts. then_at (want s.Equals ts) (λ _ ts. then_at (sub Any ts) (λ b ts.
+    then_at (want s.In ts) (λ _ ts. then_at (sub Any ts) (λ c ts. Ok (par_of p xs a ys b c, ts))))))))))
 
 -- Behind `let`.
 abbrev pub let_at : Places → Parts → Span → Reader GenericExpression
@@ -192,6 +226,25 @@ close_at sub p e ts = Err (At (length ts))
 -- Behind an opening parenthesis.
 unfoldable pub open_at : Parts → Span → Reader GenericExpression
 open_at sub p ts = then_at (sub Any ts) (close_at sub p)
+
+-- A further part, behind a comma.
+unfoldable pub next_part_at : Reader GenericExpression → Reader GenericExpression
+next_part_at p ts = then_at (want s.Comma ts) (λ _ ts. p ts)
+
+-- Behind an opening parenthesis and the first part: the further ones, one at least, and the closing parenthesis.
+unfoldable pub tuple_at : Parts → Span → GenericExpression → Reader GenericExpression
+tuple_at sub p a ts =
+    then_at (next_part_at (sub Any) ts) (λ b ts. then_at (many (is_sign s.Comma) (next_part_at (sub Any)) ts) (λ xs ts.
+    then_at (want s.Close ts) (λ _ ts. Ok (GenericTuple p (arguments_of (a ∷ b ∷ xs)), ts))))
+
+-- The same where a comma may be next.
+abbrev pub close_any_at : Parts → Span → GenericExpression → Reader GenericExpression
+close_any_at sub p e (t.Sign s.Comma ∷ ts) = tuple_at sub p e (t.Sign s.Comma ∷ ts)
+close_any_at sub p e ts = close_at sub p e ts
+
+-- Behind an opening parenthesis where any expression may stand.
+unfoldable pub open_any_at : Parts → Span → Reader GenericExpression
+open_any_at sub p ts = then_at (sub Any ts) (close_any_at sub p)
 
 -- A variable alone, or a call.
 abbrev pub call : Ident → GenericArguments → GenericExpression
@@ -242,6 +295,7 @@ abbrev pub any_at : Places → Parts → Reader GenericExpression
 any_at at sub (t.Sign s.Let ∷ ts) = let_at at sub (before at ts) ts
 any_at at sub (t.Sign s.If ∷ ts) = if_at sub (before at ts) ts
 any_at at sub (t.Sign s.Case ∷ ts) = case_at at sub (before at ts) ts
+any_at at sub (t.Sign s.Open ∷ ts) = open_any_at sub (before at ts) ts
 any_at at sub ts = app_at at sub ts
 
 -- An expression that may stand there.
@@ -290,16 +344,39 @@ parameter_at at ts =
 unfoldable pub parameters_at : Places → Reader (List GenericParameterTree)
 parameters_at at ts = then_at (parameter_at at ts) (λ q ts. then_at (many (is_sign s.Open) (parameter_at at) ts) (λ qs ts. Ok (q ∷ qs, ts)))
 
--- The result type and the body of a function.
-pub record BodyTree : Type 0 where
-  pub result : WrittenType
-  pub body : GenericExpression
+-- A further type, behind a comma.
+unfoldable pub next_type_at : Places → Reader WrittenType
+next_type_at at ts = then_at (want s.Comma ts) (λ _ ts. type_at at ts)
 
--- From the colon before the result type to the semicolon behind the body.
-unfoldable pub body_at : Places → Reader GenericExpression → Reader BodyTree
-body_at at p ts =
-    then_at (want s.Colon ts) (λ _ ts. then_at (type_at at ts) (λ a ts. then_at (want s.Equals ts) (λ _ ts.
-    then_at (p ts) (λ e ts. then_at (want s.Semicolon ts) (λ _ ts. Ok (record { result = a; body = e }, ts))))))
+-- Behind an opening parenthesis and the first type of a result of several parts: the further ones, one at least, and the
+-- closing parenthesis.
+unfoldable pub further_types_at : Places → WrittenType → Reader (Results WrittenType)
+further_types_at at a ts =
+    then_at (next_type_at at ts) (λ b ts. then_at (many (is_sign s.Comma) (next_type_at at) ts) (λ more ts.
+    then_at (want s.Close ts) (λ _ ts. Ok (Several (a ∷ b ∷ more), ts))))
+
+-- One type.
+unfoldable pub one_type_at : Reader WrittenType → Reader (Results WrittenType)
+one_type_at p ts = then_at (p ts) (λ a ts. Ok (One a, ts))
+
+-- Behind an opening parenthesis and the name of a declared type: further types, or its arguments.
+abbrev pub declared_at : Places → Span → Ident → Reader (Results WrittenType)
+declared_at at p k (t.Sign s.Comma ∷ ts) = further_types_at at (DataAt k.span k NoType) (t.Sign s.Comma ∷ ts)
+declared_at at p k ts = one_type_at (inside at p k [] []) ts
+
+-- Behind an opening parenthesis, whose span this is.
+abbrev pub open_results_at : Places → Span → Reader (Results WrittenType)
+open_results_at at p (t.Constructor k ∷ ts) = declared_at at p (named at k ts) ts
+open_results_at at p ts = then_at (type_at at ts) (λ a ts. further_types_at at a ts)
+
+-- What a function gives: a type, or those of several parts in parentheses.
+abbrev pub results_at : Places → Reader (Results WrittenType)
+results_at at (t.Sign s.Open ∷ ts) = open_results_at at (before at ts) ts
+results_at at ts = one_type_at (type_at at) ts
+
+-- From the equals sign before a body to the semicolon behind it.
+unfoldable pub body_at : Reader GenericExpression → Reader GenericExpression
+body_at p ts = then_at (want s.Equals ts) (λ _ ts. then_at (p ts) (λ e ts. then_at (want s.Semicolon ts) (λ _ ts. Ok (e, ts))))
 
 -- Behind an opening bracket: type variables, one at least, and the closing bracket.
 unfoldable pub names_at : Places → Reader (List Ident)
@@ -315,13 +392,14 @@ type_parameters_at at ts = Ok ([], ts)
 unfoldable pub function_at : Places → Reader GenericExpression → Reader GenericFunctionTree
 function_at at p ts =
     then_at (want s.Fun ts) (λ _ ts. then_at (var_at at ts) (λ f ts. then_at (type_parameters_at at ts) (λ vs ts. then_at (parameters_at at ts) (λ qs ts.
-    then_at (body_at at p ts) (λ b ts. Ok (record { name = f; variables = vs; parameters = qs; result = b.result; body = b.body }, ts))))))
+    then_at (want s.Colon ts) (λ _ ts. then_at (results_at at ts) (λ r ts. then_at (body_at p ts) (λ e ts.
+    Ok (record { name = f; variables = vs; parameters = qs; result = r; body = e }, ts))))))))
 
 -- Main.
 unfoldable pub main_at : Places → Reader GenericExpression → Reader GenericMainTree
 main_at at p ts =
-    then_at (want s.Main ts) (λ _ ts. then_at (parameter_at at ts) (λ q ts. then_at (body_at at p ts) (λ b ts.
-    Ok (record { parameter = q; result = b.result; body = b.body }, ts))))
+    then_at (want s.Main ts) (λ _ ts. then_at (parameter_at at ts) (λ q ts. then_at (want s.Colon ts) (λ _ ts. then_at (type_at at ts) (λ a ts.
+    then_at (body_at p ts) (λ e ts. Ok (record { parameter = q; result = a; body = e }, ts))))))
 
 -- Data declarations, functions, and main.
 unfoldable pub program_at : Places → Reader GenericExpression → Reader GenericProgramTree

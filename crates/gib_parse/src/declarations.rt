@@ -2,20 +2,21 @@
 
 ghost use Rattle.std.specs.Prelude.{◌≡◌, [], map, IfOk};
 ghost use Rattle.gib_syntax.specs.Spelling.{places_of};
+ghost use Rattle.gib_syntax.specs.GenericArena.{tree_of};
 ghost use Rattle.gib_syntax.specs.GenericParts.{IsFunctionInside, constructor_in, data_in, parameter_in, function_in, main_in, generic_program_of};
 ghost use Rattle.gib_parse.specs.Reading.{Any, Fault, At, Nested, many, is_sign, constructor_at, alternative_at, constructors_at, data_at, parameter_at, parameters_at, names_at, type_parameters_at, body_at, function_at, main_at, parse, program_at, whole};
-ghost use Rattle.gib_parse.specs.Parsing.{Fails, Gives, Stands, AllStand, IsConstructorIn, IsDataIn, IsParameterIn, IsBodyIn, IsMainIn, body_tree};
+ghost use Rattle.gib_parse.specs.Parsing.{Fails, Gives, Reads, Stands, AllStand, IsConstructorIn, IsDataIn, IsParameterIn, IsMainIn};
 
 use crate::expressions::{Kind, expression};
 use crate::phrases::{begins, constructor, further_variables, variable, variables, want};
 use crate::stop::Stop;
-use crate::types::{one_type, types};
+use crate::types::{one_type, results, types};
 use gib_base::Span;
 use gib_base::limits::LEVELS;
 use gib_base::token::{Sign, Token};
 use gib_syntax::{
     ExprId, GenericConstructor, GenericData, GenericExprs, GenericFunction, GenericMain,
-    GenericParameter, GenericProgram, Ident, Run,
+    GenericParameter, GenericProgram, Ident,
 };
 use std::alloc::Global;
 
@@ -158,23 +159,21 @@ fn parameters<'a>(
     Ok((found, rest))
 }
 
-/// The result type and the body of a function.
+/// From the equals sign before a body to the semicolon behind it.
 #[tactic(auto, unfolding(crate::specs::Reading::body_at))]
-fn result_and_body<'a>(
+fn body<'a>(
     alloc: Global,
     spans: &[Span],
     exprs: &mut GenericExprs,
     tokens: &'a [Token],
-) -> Result<((Run, ExprId), &'a [Token]), Stop>
-    ensures kept { IfOk result (λ x. Stands IsBodyIn exprs.old exprs.new x.0) }
-    ensures read { Gives (λ x. (body_tree exprs.new x.0, x.1.now)) result (body_at (places_of spans.now) (parse (places_of spans.now) LEVELS Any) tokens.now) }
+) -> Result<(ExprId, &'a [Token]), Stop>
+    ensures kept { IfOk result (λ x. Reads exprs.old exprs.new x.0.0) }
+    ensures read { Gives (λ x. (tree_of exprs.new x.0.0, x.1.now)) result (body_at (parse (places_of spans.now) LEVELS Any) tokens.now) }
 {
-    let tokens = want(Sign::Colon, tokens)?;
-    let (ty, tokens) = one_type(alloc, spans, exprs, tokens)?;
     let tokens = want(Sign::Equals, tokens)?;
     let (body, tokens) = expression(alloc, spans, exprs, LEVELS, Kind::Any, tokens)?;
     let tokens = want(Sign::Semicolon, tokens)?;
-    Ok(((ty, body), tokens))
+    Ok((body, tokens))
 }
 
 /// Behind an opening bracket: type variables, one at least, and the closing bracket.
@@ -226,7 +225,9 @@ fn function<'a>(
     let (name, tokens) = variable(spans, tokens)?;
     let (variables, tokens) = type_parameters(alloc, spans, tokens)?;
     let (parameters, tokens) = parameters(alloc, spans, exprs, tokens)?;
-    let ((result, body), tokens) = result_and_body(alloc, spans, exprs, tokens)?;
+    let tokens = want(Sign::Colon, tokens)?;
+    let (result, tokens) = results(alloc, spans, exprs, tokens)?;
+    let (body, tokens) = body(alloc, spans, exprs, tokens)?;
     Ok((
         GenericFunction {
             name,
@@ -272,7 +273,9 @@ fn main_declaration<'a>(
 {
     let tokens = want(Sign::Main, tokens)?;
     let (parameter, tokens) = parameter(alloc, spans, exprs, tokens)?;
-    let ((result, body), tokens) = result_and_body(alloc, spans, exprs, tokens)?;
+    let tokens = want(Sign::Colon, tokens)?;
+    let (result, tokens) = one_type(alloc, spans, exprs, tokens)?;
+    let (body, tokens) = body(alloc, spans, exprs, tokens)?;
     Ok((
         GenericMain {
             parameter,

@@ -1,6 +1,6 @@
 //! Expressions, by recursive descent. `level` says how many levels are left for the parts of an expression.
 
-ghost use Rattle.std.specs.Prelude.{◌≡◌, ◌<◌, ℕ, List, length, Some, Ok, IfOk};
+ghost use Rattle.std.specs.Prelude.{◌≡◌, ◌<◌, ◌∷◌, ℕ, List, map, length, Some, Ok, IfOk};
 ghost use Rattle.std.specs.List.{AllByRecursion};
 ghost use Rattle.gib_syntax.specs.declared.written.Word.{Word};
 ghost use Rattle.gib_syntax.specs.GenericTree.{GenericExpression, GenericBit};
@@ -8,14 +8,15 @@ ghost use Rattle.gib_syntax.specs.GenericFine.{is_generic_application};
 ghost use Rattle.gib_syntax.specs.Spelling.{places_of};
 ghost use Rattle.gib_syntax.specs.Words.{types_in, IsTypesRun};
 ghost use Rattle.gib_syntax.specs.GenericArena.{PartsBelow, IsRunWithin, layer, tree_of, arguments_from};
-ghost use Rattle.gib_parse.specs.Reading.{Any, Atom, next_is, starts, starts_atom, is_literal, literal_at, no_level, parse, any_at, let_at, bind_at, par_at, if_at, case_at, arms_at, arm_at, next_arm_at, app_at, variable_at, make_at, constant_at, arguments_at, atom_at, open_at, close_at, operation_at, side_at, operator_of, Fault, At, Nested};
-ghost use Rattle.gib_parse.specs.Parsing.{Fails, Gives, mode_of, Reads, AllStand, IsExpressionIn, ReadsArms, arm_tree, arms_tree, call_tree, may_call};
+ghost use Rattle.gib_base.specs.declared.token.Sign.TheVariants as s;
+ghost use Rattle.gib_parse.specs.Reading.{Any, Atom, next_is, is_sign, many, starts, starts_atom, is_literal, literal_at, no_level, parse, any_at, let_at, let_of, par_of, bind_at, par_at, if_at, case_at, arms_at, arm_at, next_arm_at, app_at, variable_at, make_at, constant_at, arguments_at, atom_at, open_at, close_at, next_part_at, tuple_at, close_any_at, open_any_at, operation_at, side_at, operator_of, Fault, At, Nested};
+ghost use Rattle.gib_parse.specs.Parsing.{Fails, Gives, mode_of, Reads, AllStand, IsExpressionIn, ReadsArms, expression_tree, arm_tree, arms_tree, call_tree, may_call};
 
-use crate::phrases::{begins, constructor, named, span_at, variable, variables, want};
+use crate::phrases::{begins, constructor, named, names_bound, span_at, variable, variables, want};
 use crate::stop::Stop;
 use crate::types::type_arguments;
 use gib_base::token::{Sign, Token, is_literal};
-use gib_base::{Name, Span};
+use gib_base::{Memory, Name, Span};
 use gib_syntax::{Arm, ExprId, GenericExprs, GenericNode, Ident, Operator, Run};
 use std::alloc::Global;
 
@@ -112,9 +113,71 @@ fn any<'a>(
             Sign::Let => let_in(alloc, spans, exprs, level, span, rest),
             Sign::If => if_then(alloc, spans, exprs, level, span, rest),
             Sign::Case => case_of(alloc, spans, exprs, level, span, rest),
+            Sign::Open => any_parentheses(alloc, spans, exprs, level, span, rest),
             _ => application(alloc, spans, exprs, level, tokens),
         },
         _ => application(alloc, spans, exprs, level, tokens),
+    }
+}
+
+/// A `let` of one variable, or of several.
+#[tactic(auto, using(crate::proofs::Several::let_one_is, crate::proofs::Several::let_several_is))]
+fn let_node(span: Span, names: Vec<Ident>, bound: ExprId, body: ExprId) -> GenericNode
+    ensures tree { (words : List Word) (t : ℕ → GenericExpression) → layer words t (Some result) ≡ let_of span names.items (t bound.0) (t body.0) }
+    ensures below { (n : ℕ) → bound.0 < n → body.0 < n → PartsBelow result n }
+    ensures within { (words : List Word) → IsRunWithin result words }
+{
+    if names.len() == 1 {
+        let name = names[0];
+        GenericNode::Let {
+            span,
+            name,
+            bound,
+            body,
+        }
+    } else {
+        GenericNode::LetSeveral {
+            span,
+            names,
+            bound,
+            body,
+        }
+    }
+}
+
+/// A `let par` of one variable on each side, or with several on one side at least.
+#[tactic(auto, using(crate::proofs::Several::par_one_is, crate::proofs::Several::par_left_is, crate::proofs::Several::par_right_is))]
+fn par_node(
+    span: Span,
+    left_names: Vec<Ident>,
+    left: ExprId,
+    right_names: Vec<Ident>,
+    right: ExprId,
+    body: ExprId,
+) -> GenericNode
+    ensures tree { (words : List Word) (t : ℕ → GenericExpression) → layer words t (Some result) ≡ par_of span left_names.items (t left.0) right_names.items (t right.0) (t body.0) }
+    ensures below { (n : ℕ) → left.0 < n → right.0 < n → body.0 < n → PartsBelow result n }
+    ensures within { (words : List Word) → IsRunWithin result words }
+{
+    if left_names.len() == 1 {
+        if right_names.len() == 1 {
+            return GenericNode::LetPar {
+                span,
+                left_name: left_names[0],
+                left,
+                right_name: right_names[0],
+                right,
+                body,
+            };
+        }
+    }
+    GenericNode::ParSeveral {
+        span,
+        left_names,
+        left,
+        right_names,
+        right,
+        body,
     }
 }
 
@@ -153,17 +216,12 @@ fn let_one<'a>(
     ensures kept { IfOk result (λ x. Reads exprs.old exprs.new x.0.0) }
     ensures read { Gives (λ x. (tree_of exprs.new x.0.0, x.1.now)) result (bind_at (places_of spans.now) (parse (places_of spans.now) level) span tokens.now) }
 {
-    let (name, tokens) = variable(spans, tokens)?;
+    let (names, tokens) = names_bound(alloc, spans, tokens)?;
     let tokens = want(Sign::Equals, tokens)?;
     let (bound, tokens) = expression(alloc, spans, exprs, level, Kind::Any, tokens)?;
     let tokens = want(Sign::In, tokens)?;
     let (body, tokens) = expression(alloc, spans, exprs, level, Kind::Any, tokens)?;
-    let id = exprs.put(GenericNode::Let {
-        span,
-        name,
-        bound,
-        body,
-    })?;
+    let id = exprs.put(let_node(span, names, bound, body))?;
     Ok((id, tokens))
 }
 
@@ -181,23 +239,16 @@ fn let_par<'a>(
     ensures kept { IfOk result (λ x. Reads exprs.old exprs.new x.0.0) }
     ensures read { Gives (λ x. (tree_of exprs.new x.0.0, x.1.now)) result (par_at (places_of spans.now) (parse (places_of spans.now) level) span tokens.now) }
 {
-    let (left_name, tokens) = variable(spans, tokens)?;
+    let (left_names, tokens) = names_bound(alloc, spans, tokens)?;
     let tokens = want(Sign::Equals, tokens)?;
     let (left, tokens) = expression(alloc, spans, exprs, level, Kind::Any, tokens)?;
     let tokens = want(Sign::And, tokens)?;
-    let (right_name, tokens) = variable(spans, tokens)?;
+    let (right_names, tokens) = names_bound(alloc, spans, tokens)?;
     let tokens = want(Sign::Equals, tokens)?;
     let (right, tokens) = expression(alloc, spans, exprs, level, Kind::Any, tokens)?;
     let tokens = want(Sign::In, tokens)?;
     let (body, tokens) = expression(alloc, spans, exprs, level, Kind::Any, tokens)?;
-    let id = exprs.put(GenericNode::LetPar {
-        span,
-        left_name,
-        left,
-        right_name,
-        right,
-        body,
-    })?;
+    let id = exprs.put(par_node(span, left_names, left, right_names, right, body))?;
     Ok((id, tokens))
 }
 
@@ -536,7 +587,14 @@ fn operator_of(sign: Sign) -> Option<Operator>
     }
 }
 
-/// Behind an opening parenthesis.
+/// An opening parenthesis and the first expression behind it.
+#[derive(Clone, Copy)]
+struct First {
+    span: Span,
+    id: ExprId,
+}
+
+/// Behind an opening parenthesis where no tuple may stand.
 #[cycle(expressions)]
 #[tactic(auto, unfolding(crate::specs::Reading::open_at))]
 fn parentheses<'a>(
@@ -550,18 +608,76 @@ fn parentheses<'a>(
     ensures kept { IfOk result (λ x. Reads exprs.old exprs.new x.0.0) }
     ensures read { Gives (λ x. (tree_of exprs.new x.0.0, x.1.now)) result (open_at (parse (places_of spans.now) level) span tokens.now) }
 {
-    let (left, tokens) = expression(alloc, spans, exprs, level, Kind::Any, tokens)?;
+    let (id, tokens) = expression(alloc, spans, exprs, level, Kind::Any, tokens)?;
+    close(alloc, spans, exprs, level, First { span, id }, tokens)
+}
+
+/// Behind an opening parenthesis where any expression may stand.
+#[cycle(expressions)]
+#[tactic(auto, unfolding(crate::specs::Reading::open_any_at))]
+fn any_parentheses<'a>(
+    alloc: Global,
+    spans: &[Span],
+    exprs: &mut GenericExprs,
+    level: u32,
+    span: Span,
+    tokens: &'a [Token],
+) -> Result<(ExprId, &'a [Token]), Stop>
+    ensures kept { IfOk result (λ x. Reads exprs.old exprs.new x.0.0) }
+    ensures read { Gives (λ x. (tree_of exprs.new x.0.0, x.1.now)) result (open_any_at (parse (places_of spans.now) level) span tokens.now) }
+{
+    let (id, tokens) = expression(alloc, spans, exprs, level, Kind::Any, tokens)?;
+    close_any(alloc, spans, exprs, level, First { span, id }, tokens)
+}
+
+/// Behind an opening parenthesis and an expression, where a comma may be next.
+#[cycle(expressions)]
+fn close_any<'a>(
+    alloc: Global,
+    spans: &[Span],
+    exprs: &mut GenericExprs,
+    level: u32,
+    first: First,
+    tokens: &'a [Token],
+) -> Result<(ExprId, &'a [Token]), Stop>
+    requires { first.id.0 < length exprs.old.nodes }
+    ensures kept { IfOk result (λ x. Reads exprs.old exprs.new x.0.0) }
+    ensures read { Gives (λ x. (tree_of exprs.new x.0.0, x.1.now)) result (close_any_at (parse (places_of spans.now) level) first.span (tree_of exprs.old first.id.0) tokens.now) }
+{
+    match tokens {
+        [Token::Sign(sign), ..] => match sign {
+            Sign::Comma => tuple(alloc, spans, exprs, level, first, tokens),
+            _ => close(alloc, spans, exprs, level, first, tokens),
+        },
+        _ => close(alloc, spans, exprs, level, first, tokens),
+    }
+}
+
+/// Behind an opening parenthesis and an expression: its end, or an operator.
+#[cycle(expressions)]
+fn close<'a>(
+    alloc: Global,
+    spans: &[Span],
+    exprs: &mut GenericExprs,
+    level: u32,
+    first: First,
+    tokens: &'a [Token],
+) -> Result<(ExprId, &'a [Token]), Stop>
+    requires { first.id.0 < length exprs.old.nodes }
+    ensures kept { IfOk result (λ x. Reads exprs.old exprs.new x.0.0) }
+    ensures read { Gives (λ x. (tree_of exprs.new x.0.0, x.1.now)) result (close_at (parse (places_of spans.now) level) first.span (tree_of exprs.old first.id.0) tokens.now) }
+{
     match tokens {
         [Token::Sign(sign), rest @ ..] => match sign {
             Sign::Close => {
-                let id = exprs.put(GenericNode::Paren(span, left))?;
+                let id = exprs.put(GenericNode::Paren(first.span, first.id))?;
                 Ok((id, rest))
             }
             _ => {
                 let operator = operator_of(*sign);
                 let begun = Begun {
-                    span,
-                    left,
+                    span: first.span,
+                    left: first.id,
                     operator,
                 };
                 operation(alloc, spans, exprs, level, begun, rest)
@@ -569,6 +685,84 @@ fn parentheses<'a>(
         },
         _ => Err(Stop::At(tokens.len())),
     }
+}
+
+/// A comma, and a part behind it.
+#[cycle(expressions)]
+#[tactic(auto, unfolding(crate::specs::Reading::next_part_at))]
+fn next_part<'a>(
+    alloc: Global,
+    spans: &[Span],
+    exprs: &mut GenericExprs,
+    level: u32,
+    tokens: &'a [Token],
+) -> Result<(ExprId, &'a [Token]), Stop>
+    ensures kept { IfOk result (λ x. Reads exprs.old exprs.new x.0.0) }
+    ensures read { Gives (λ x. (tree_of exprs.new x.0.0, x.1.now)) result (next_part_at (parse (places_of spans.now) level Any) tokens.now) }
+{
+    let tokens = want(Sign::Comma, tokens)?;
+    expression(alloc, spans, exprs, level, Kind::Any, tokens)
+}
+
+/// Parts behind a comma each, as many as there are.
+#[cycle(expressions)]
+fn further_parts<'a>(
+    alloc: Global,
+    spans: &[Span],
+    exprs: &mut GenericExprs,
+    level: u32,
+    tokens: &'a [Token],
+) -> Result<(Vec<ExprId>, &'a [Token]), Stop>
+    ensures kept { IfOk result (λ x. AllStand IsExpressionIn exprs.old exprs.new x.0.items) }
+    ensures read { Gives (λ x. (map (expression_tree exprs.new) x.0.items, x.1.now)) result (many (is_sign s.Comma) (next_part_at (parse (places_of spans.now) level Any)) tokens.now) }
+{
+    let mut ids = Vec::new(alloc);
+    let mut rest = tokens;
+    'parts: while begins(Sign::Comma, rest) {
+        let (id, after) = next_part(alloc, spans, exprs, level, rest)?;
+        ids.push(id)?;
+        rest = after;
+    }
+    Ok((ids, rest))
+}
+
+/// Behind an opening parenthesis and the first part: the further parts of a tuple, one at least, and its end.
+#[cycle(expressions)]
+#[tactic(auto, unfolding(crate::specs::Reading::tuple_at))]
+fn tuple<'a>(
+    alloc: Global,
+    spans: &[Span],
+    exprs: &mut GenericExprs,
+    level: u32,
+    first: First,
+    tokens: &'a [Token],
+) -> Result<(ExprId, &'a [Token]), Stop>
+    requires { first.id.0 < length exprs.old.nodes }
+    ensures kept { IfOk result (λ x. Reads exprs.old exprs.new x.0.0) }
+    ensures read { Gives (λ x. (tree_of exprs.new x.0.0, x.1.now)) result (tuple_at (parse (places_of spans.now) level) first.span (tree_of exprs.old first.id.0) tokens.now) }
+{
+    let (second, tokens) = next_part(alloc, spans, exprs, level, tokens)?;
+    let (further, tokens) = further_parts(alloc, spans, exprs, level, tokens)?;
+    let tokens = want(Sign::Close, tokens)?;
+    let parts = all_parts(alloc, first.id, second, &further)?;
+    let id = exprs.put(GenericNode::Tuple(first.span, parts))?;
+    Ok((id, tokens))
+}
+
+/// Two parts and further ones.
+fn all_parts(
+    alloc: Global,
+    first: ExprId,
+    second: ExprId,
+    further: &[ExprId],
+) -> Result<Vec<ExprId>, Memory>
+    ensures { IfOk result (λ parts. parts.items ≡ first ∷ second ∷ further.now) }
+{
+    let mut parts = Vec::new(alloc);
+    parts.push(first)?;
+    parts.push(second)?;
+    parts.extend_from_slice(further)?;
+    Ok(parts)
 }
 
 /// An expression in parentheses as far as it is read: where it begins, its first part, and the operator of the
@@ -622,6 +816,9 @@ fn may_be_side(exprs: &GenericExprs, id: ExprId) -> bool
         GenericNode::LetPar { .. } => false,
         GenericNode::If { .. } => false,
         GenericNode::Case { .. } => false,
+        GenericNode::Tuple(..) => false,
+        GenericNode::LetSeveral { .. } => false,
+        GenericNode::ParSeveral { .. } => false,
         _ => true,
     }
 }

@@ -2,7 +2,8 @@
 
 ghost use Rattle.std.specs.Prelude.{◌≡◌};
 ghost use Rattle.gib_syntax.specs.Spelling.{places_of};
-ghost use Rattle.gib_parse.specs.Reading.{Fault, At, Nested, same, want, var_at, con_at, next_is, is_sign, is_variable, many};
+ghost use Rattle.gib_base.specs.declared.token.Sign.TheVariants as s;
+ghost use Rattle.gib_parse.specs.Reading.{Fault, At, Nested, same, want, var_at, con_at, next_is, is_sign, is_variable, many, next_name_at, several_names_at, one_name_at, names_bound_at};
 ghost use Rattle.gib_parse.specs.Parsing.{Fails, Gives, with_front};
 
 use crate::stop::Stop;
@@ -110,6 +111,84 @@ pub fn variables<'a>(
     ensures { Gives (λ x. (x.0.items, x.1.now)) result (many is_variable (var_at (places_of spans.now)) tokens.now) }
 {
     further_variables(spans, Vec::new(alloc), tokens)
+}
+
+/// A comma, and a name behind it.
+#[tactic(auto, unfolding(crate::specs::Reading::next_name_at))]
+fn next_name<'a>(spans: &[Span], tokens: &'a [Token]) -> Result<(Ident, &'a [Token]), Stop>
+    ensures { Gives (λ x. (x.0, x.1.now)) result (next_name_at (places_of spans.now) tokens.now) }
+{
+    let tokens = want(Sign::Comma, tokens)?;
+    variable(spans, tokens)
+}
+
+/// Names behind a comma each, as many as there are, behind others.
+fn further_names<'a>(
+    spans: &[Span],
+    first: Vec<Ident>,
+    tokens: &'a [Token],
+) -> Result<(Vec<Ident>, &'a [Token]), Stop>
+    ensures { Gives (λ x. (x.0.items, x.1.now)) result (with_front first.items (many (is_sign s.Comma) (next_name_at (places_of spans.now)) tokens.now)) }
+{
+    let mut found = first;
+    let mut rest = tokens;
+    'names: while begins(Sign::Comma, rest) {
+        let (name, after) = next_name(spans, rest)?;
+        found.push(name)?;
+        rest = after;
+    }
+    Ok((found, rest))
+}
+
+/// Behind an opening parenthesis: two names at least, with a comma between two, and the closing parenthesis.
+#[tactic(auto, unfolding(crate::specs::Reading::several_names_at))]
+fn several_names<'a>(
+    alloc: Global,
+    spans: &[Span],
+    tokens: &'a [Token],
+) -> Result<(Vec<Ident>, &'a [Token]), Stop>
+    ensures { Gives (λ x. (x.0.items, x.1.now)) result (several_names_at (places_of spans.now) tokens.now) }
+{
+    let mut names = Vec::new(alloc);
+    let (first, rest) = variable(spans, tokens)?;
+    names.push(first)?;
+    let (second, rest) = next_name(spans, rest)?;
+    names.push(second)?;
+    let (names, rest) = further_names(spans, names, rest)?;
+    let rest = want(Sign::Close, rest)?;
+    Ok((names, rest))
+}
+
+/// One name.
+#[tactic(auto, unfolding(crate::specs::Reading::one_name_at))]
+fn one_name<'a>(
+    alloc: Global,
+    spans: &[Span],
+    tokens: &'a [Token],
+) -> Result<(Vec<Ident>, &'a [Token]), Stop>
+    ensures { Gives (λ x. (x.0.items, x.1.now)) result (one_name_at (places_of spans.now) tokens.now) }
+{
+    let mut names = Vec::new(alloc);
+    let (name, rest) = variable(spans, tokens)?;
+    names.push(name)?;
+    Ok((names, rest))
+}
+
+/// The variables of a binding: one, or several in parentheses.
+pub fn names_bound<'a>(
+    alloc: Global,
+    spans: &[Span],
+    tokens: &'a [Token],
+) -> Result<(Vec<Ident>, &'a [Token]), Stop>
+    ensures { Gives (λ x. (x.0.items, x.1.now)) result (names_bound_at (places_of spans.now) tokens.now) }
+{
+    match tokens {
+        [Token::Sign(sign), rest @ ..] => match sign {
+            Sign::Open => several_names(alloc, spans, rest),
+            _ => one_name(alloc, spans, tokens),
+        },
+        _ => one_name(alloc, spans, tokens),
+    }
 }
 
 /// Whether this sign comes next.

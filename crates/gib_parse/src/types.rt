@@ -1,17 +1,20 @@
 //! Types: words, read from left to right with a stack of what stands open, since types nest without a bound.
 
-ghost use Rattle.std.specs.Prelude.{◌≡◌, ◌<◌, [], ◌∷◌, length, IfOk, IfErr};
+ghost use Rattle.std.specs.Prelude.{◌≡◌, ◌<◌, [], ◌∷◌, map, length, IfOk, IfErr};
+ghost use Rattle.gib_base.specs.declared.token.Sign.TheVariants as s;
+ghost use Rattle.gib_syntax.specs.Forms.{DataAt, NoType};
+ghost use Rattle.gib_syntax.specs.GenericParts.{results_in};
 ghost use Rattle.gib_syntax.specs.Spelling.{places_of};
 ghost use Rattle.gib_syntax.specs.Words.{stack_of, run_words, types_in, type_in};
-ghost use Rattle.gib_parse.specs.Reading.{Fault, At, inside, type_at, bracket_at, type_arguments_at, starts_type, next_is, many};
+ghost use Rattle.gib_parse.specs.Reading.{Fault, At, then_at, inside, type_at, bracket_at, type_arguments_at, next_type_at, further_types_at, one_type_at, declared_at, open_results_at, results_at, starts_type, is_sign, next_is, many};
 ghost use Rattle.gib_parse.specs.OpenTypes.{counted};
-ghost use Rattle.gib_parse.specs.Parsing.{Fails, Gives, Follows, FailsHere, ReadsWords, ReadsAllWords, Stands, IsTypeIn, AreTypesIn};
+ghost use Rattle.gib_parse.specs.Parsing.{Fails, Gives, Follows, FailsHere, ReadsWords, ReadsAllWords, Stands, AllStand, IsTypeIn, AreTypesIn, AreResultsIn};
 
-use crate::phrases::{named, span_at, want};
+use crate::phrases::{begins, named, span_at, want};
 use crate::stop::Stop;
 use gib_base::token::{Sign, Token};
 use gib_base::{Memory, Span};
-use gib_syntax::{GenericExprs, Ident, Run, Word};
+use gib_syntax::{GenericExprs, Ident, ResultRuns, Run, Word};
 use std::alloc::Global;
 use std::marker::Model;
 
@@ -382,6 +385,204 @@ pub(crate) fn types<'a>(
     let (words, rest) = more_words(alloc, spans, Vec::new(alloc), tokens)?;
     let run = exprs.put_words(&words)?;
     Ok((run, rest))
+}
+
+/// A comma, and a type behind it.
+#[tactic(auto, unfolding(crate::specs::Reading::next_type_at))]
+fn next_type<'a>(
+    alloc: Global,
+    spans: &[Span],
+    exprs: &mut GenericExprs,
+    tokens: &'a [Token],
+) -> Result<(Run, &'a [Token]), Stop>
+    ensures kept { IfOk result (λ x. Stands IsTypeIn exprs.old exprs.new x.0) }
+    ensures read { Gives (λ x. (type_in exprs.new.words x.0, x.1.now)) result (next_type_at (places_of spans.now) tokens.now) }
+{
+    let tokens = want(Sign::Comma, tokens)?;
+    one_type(alloc, spans, exprs, tokens)
+}
+
+/// Types behind a comma each, as many as there are.
+fn next_types<'a>(
+    alloc: Global,
+    spans: &[Span],
+    exprs: &mut GenericExprs,
+    tokens: &'a [Token],
+) -> Result<(Vec<Run>, &'a [Token]), Stop>
+    ensures kept { IfOk result (λ x. AllStand IsTypeIn exprs.old exprs.new x.0.items) }
+    ensures read { Gives (λ x. (map (type_in exprs.new.words) x.0.items, x.1.now)) result (many (is_sign s.Comma) (next_type_at (places_of spans.now)) tokens.now) }
+{
+    let mut found = Vec::new(alloc);
+    let mut rest = tokens;
+    'types: while begins(Sign::Comma, rest) {
+        let (ty, after) = next_type(alloc, spans, exprs, rest)?;
+        found.push(ty)?;
+        rest = after;
+    }
+    Ok((found, rest))
+}
+
+/// Behind an opening parenthesis and the first type of a result of several parts: the further ones, and the end.
+#[tactic(auto, unfolding(crate::specs::Reading::further_types_at))]
+fn part_types<'a>(
+    alloc: Global,
+    spans: &[Span],
+    exprs: &mut GenericExprs,
+    first: Run,
+    tokens: &'a [Token],
+) -> Result<(ResultRuns, &'a [Token]), Stop>
+    requires { IsTypeIn exprs.old first }
+    ensures kept { IfOk result (λ x. Stands AreResultsIn exprs.old exprs.new x.0) }
+    ensures read { Gives (λ x. (results_in exprs.new.words x.0, x.1.now)) result (further_types_at (places_of spans.now) (type_in exprs.old.words first) tokens.now) }
+{
+    let (second, tokens) = next_type(alloc, spans, exprs, tokens)?;
+    let (further, tokens) = next_types(alloc, spans, exprs, tokens)?;
+    let tokens = want(Sign::Close, tokens)?;
+    let types = all_types(alloc, first, second, &further)?;
+    Ok((ResultRuns::Several(types), tokens))
+}
+
+/// Two types and further ones.
+fn all_types(alloc: Global, first: Run, second: Run, further: &[Run]) -> Result<Vec<Run>, Memory>
+    ensures { IfOk result (λ types. types.items ≡ first ∷ second ∷ further.now) }
+{
+    let mut types = Vec::new(alloc);
+    types.push(first)?;
+    types.push(second)?;
+    types.extend_from_slice(further)?;
+    Ok(types)
+}
+
+/// One type, as what a function gives.
+#[tactic(auto, unfolding(crate::specs::Reading::one_type_at))]
+fn one_result<'a>(
+    alloc: Global,
+    spans: &[Span],
+    exprs: &mut GenericExprs,
+    tokens: &'a [Token],
+) -> Result<(ResultRuns, &'a [Token]), Stop>
+    ensures kept { IfOk result (λ x. Stands AreResultsIn exprs.old exprs.new x.0) }
+    ensures read { Gives (λ x. (results_in exprs.new.words x.0, x.1.now)) result (one_type_at (type_at (places_of spans.now)) tokens.now) }
+{
+    let (ty, tokens) = one_type(alloc, spans, exprs, tokens)?;
+    Ok((ResultRuns::One(ty), tokens))
+}
+
+/// Behind an opening parenthesis and the name of a declared type: its arguments, as the one type that a function gives.
+#[tactic(auto, unfolding(crate::specs::Reading::one_type_at))]
+fn applied_result<'a>(
+    alloc: Global,
+    spans: &[Span],
+    exprs: &mut GenericExprs,
+    span: Span,
+    name: Ident,
+    tokens: &'a [Token],
+) -> Result<(ResultRuns, &'a [Token]), Stop>
+    ensures kept { IfOk result (λ x. Stands AreResultsIn exprs.old exprs.new x.0) }
+    ensures read { Gives (λ x. (results_in exprs.new.words x.0, x.1.now)) result (one_type_at (inside (places_of spans.now) span name [] []) tokens.now) }
+{
+    let (words, rest) = parenthesized(alloc, spans, Vec::new(alloc), span, name, tokens)?;
+    let run = exprs.put_words(&words)?;
+    Ok((ResultRuns::One(run), rest))
+}
+
+/// A declared type without arguments, as the first of several.
+fn first_declared(exprs: &mut GenericExprs, name: Ident) -> Result<Run, Memory>
+    ensures kept { IfOk result (λ run. Stands IsTypeIn exprs.old exprs.new run) }
+    ensures ty { IfOk result (λ run. type_in exprs.new.words run ≡ DataAt name.span name NoType) }
+{
+    let run = exprs.put_words(&[Word::Data(name.span, name, 0)])?;
+    Ok(run)
+}
+
+/// Behind an opening parenthesis and the name of a declared type without arguments: further types.
+fn several_declared<'a>(
+    alloc: Global,
+    spans: &[Span],
+    exprs: &mut GenericExprs,
+    name: Ident,
+    tokens: &'a [Token],
+) -> Result<(ResultRuns, &'a [Token]), Stop>
+    ensures kept { IfOk result (λ x. Stands AreResultsIn exprs.old exprs.new x.0) }
+    ensures read { Gives (λ x. (results_in exprs.new.words x.0, x.1.now)) result (further_types_at (places_of spans.now) (DataAt name.span name NoType) tokens.now) }
+{
+    let first = first_declared(exprs, name)?;
+    part_types(alloc, spans, exprs, first, tokens)
+}
+
+/// Behind an opening parenthesis: types of several parts.
+fn several_types<'a>(
+    alloc: Global,
+    spans: &[Span],
+    exprs: &mut GenericExprs,
+    tokens: &'a [Token],
+) -> Result<(ResultRuns, &'a [Token]), Stop>
+    ensures kept { IfOk result (λ x. Stands AreResultsIn exprs.old exprs.new x.0) }
+    ensures read { Gives (λ x. (results_in exprs.new.words x.0, x.1.now)) result (then_at (type_at (places_of spans.now) tokens.now) (λ a ts. further_types_at (places_of spans.now) a ts)) }
+{
+    let (first, tokens) = one_type(alloc, spans, exprs, tokens)?;
+    part_types(alloc, spans, exprs, first, tokens)
+}
+
+/// Behind an opening parenthesis and the name of a declared type: further types, or its arguments.
+fn declared_results<'a>(
+    alloc: Global,
+    spans: &[Span],
+    exprs: &mut GenericExprs,
+    span: Span,
+    name: Ident,
+    tokens: &'a [Token],
+) -> Result<(ResultRuns, &'a [Token]), Stop>
+    ensures kept { IfOk result (λ x. Stands AreResultsIn exprs.old exprs.new x.0) }
+    ensures read { Gives (λ x. (results_in exprs.new.words x.0, x.1.now)) result (declared_at (places_of spans.now) span name tokens.now) }
+{
+    match tokens {
+        [Token::Sign(sign), ..] => match sign {
+            Sign::Comma => several_declared(alloc, spans, exprs, name, tokens),
+            _ => applied_result(alloc, spans, exprs, span, name, tokens),
+        },
+        _ => applied_result(alloc, spans, exprs, span, name, tokens),
+    }
+}
+
+/// Behind an opening parenthesis, whose span this is.
+fn open_results<'a>(
+    alloc: Global,
+    spans: &[Span],
+    exprs: &mut GenericExprs,
+    span: Span,
+    tokens: &'a [Token],
+) -> Result<(ResultRuns, &'a [Token]), Stop>
+    ensures kept { IfOk result (λ x. Stands AreResultsIn exprs.old exprs.new x.0) }
+    ensures read { Gives (λ x. (results_in exprs.new.words x.0, x.1.now)) result (open_results_at (places_of spans.now) span tokens.now) }
+{
+    match tokens {
+        [Token::Constructor(name), rest @ ..] => {
+            let name = named(spans, *name, tokens.len());
+            declared_results(alloc, spans, exprs, span, name, rest)
+        }
+        _ => several_types(alloc, spans, exprs, tokens),
+    }
+}
+
+/// What a function gives: a type, or those of several parts in parentheses.
+pub(crate) fn results<'a>(
+    alloc: Global,
+    spans: &[Span],
+    exprs: &mut GenericExprs,
+    tokens: &'a [Token],
+) -> Result<(ResultRuns, &'a [Token]), Stop>
+    ensures kept { IfOk result (λ x. Stands AreResultsIn exprs.old exprs.new x.0) }
+    ensures read { Gives (λ x. (results_in exprs.new.words x.0, x.1.now)) result (results_at (places_of spans.now) tokens.now) }
+{
+    let span = span_at(spans, tokens.len());
+    match tokens {
+        [Token::Sign(sign), rest @ ..] => match sign {
+            Sign::Open => open_results(alloc, spans, exprs, span, rest),
+            _ => one_result(alloc, spans, exprs, tokens),
+        },
+        _ => one_result(alloc, spans, exprs, tokens),
+    }
 }
 
 /// Behind an opening bracket: types, one at least, and the closing bracket.

@@ -1,11 +1,11 @@
 -- More depth keeps a value.
-use Rattle.std.proofs.Common.{◌≡◌, ℕ, zero, suc, ◌≤◌, pos, Bool, true, false, List, [], ◌∷◌, ◌++◌, Option, Some, None, refl, subst, arith, if◌then◌else◌}
+use Rattle.std.proofs.Common.{◌≡◌, ℕ, zero, suc, ◌≤◌, pos, Bool, true, false, List, [], ◌∷◌, ◌++◌, map, Option, Some, None, refl, subst, arith, if◌then◌else◌}
 use Rattle.gib_types.specs.declared.table.Ty.{Ty}
 use Rattle.gib_types.specs.Table.{Table, fields_at}
 use Rattle.gib_types.specs.Tree.{Datum, whole, con, data_of}
-use Rattle.gib_syntax.specs.Tree.{Expression, Arguments, Arms, Var, Num, Bit, Paren, Op, Call, Make, Let, Par, If, Case, NoArgument, Argument, LastArm, NextArm, FunctionTree, ProgramTree}
-use Rattle.gib_syntax.specs.Declarations.{number_of, constructor_named, function_named, table_of_program}
-use Rattle.gib_syntax.specs.Meaning.{Outcome, Gives, Stops, Environment, value_in, bind, with_value, with_values, is_scalar, at_fields, number_in, is_true, is_made_by, parts, outcome, made, choose, eval, eval_all, eval_arms, names_of, of_function, calls, run}
+use Rattle.gib_syntax.specs.Tree.{Expression, Arguments, Arms, Var, Num, Bit, Paren, Op, Call, Make, Let, Par, If, Case, Tuple, LetSeveral, ParSeveral, NoArgument, Argument, LastArm, NextArm, FunctionTree, ProgramTree}
+use Rattle.gib_syntax.specs.Declarations.{number_of, constructor_named, function_named, table_of_program, type_of_name}
+use Rattle.gib_syntax.specs.Meaning.{Outcome, Gives, Stops, Environment, value_in, bind, bind_results, tuple, with_value, with_values, with_fields, is_scalar, at_fields, number_in, is_true, is_made_by, parts, outcome, made, choose, eval, eval_all, eval_arms, names_of, of_function, calls, run}
 
 -- where the first outcome is a value, the second is the same
 abbrev pub Keeps : Outcome → Outcome → Type 0
@@ -55,16 +55,19 @@ fields_keep b (t ∷ ts) (r ∷ rs) [] h = absurd h
 fields_keep true (t ∷ ts) (r ∷ rs) (s ∷ ss) h = take_keep (is_scalar t) r s (at_fields true ts rs) (at_fields true ts ss) h.0 (fields_keep true ts rs ss h.1)
 fields_keep false (t ∷ ts) (r ∷ rs) (s ∷ ss) h = leave_keep (is_scalar t) r s (at_fields false ts rs) (at_fields false ts ss) h.0 (fields_keep false ts rs ss h.1)
 
+with_fields_keeps : (ts : List Ty) (rs ss : List Outcome) (go : List Datum → Outcome) → AllKeep rs ss → Keeps (with_fields ts rs go) (with_fields ts ss go)
+with_fields_keeps ts rs ss go h =
+    with_values_keeps
+    (at_fields true ts rs ++ at_fields false ts rs)
+    (at_fields true ts ss ++ at_fields false ts ss)
+    (λ _. with_values rs go) (λ _. with_values ss go)
+    (append_keep (at_fields true ts rs) (at_fields true ts ss) (at_fields false ts rs) (at_fields false ts ss)
+    (fields_keep true ts rs ss h) (fields_keep false ts rs ss h))
+    (λ _. with_values_keeps rs ss go go h (λ vs. same_keeps (go vs)))
+
 made_keeps : (table : Table) (found : Option ℕ) (rs ss : List Outcome) → AllKeep rs ss → Keeps (made table found rs) (made table found ss)
 made_keeps table None rs ss h = refl
-made_keeps table (Some c) rs ss h =
-    with_values_keeps
-    (at_fields true (fields_at table c) rs ++ at_fields false (fields_at table c) rs)
-    (at_fields true (fields_at table c) ss ++ at_fields false (fields_at table c) ss)
-    (λ _. with_values rs (λ vs. Gives (con c (data_of vs)))) (λ _. with_values ss (λ vs. Gives (con c (data_of vs))))
-    (append_keep (at_fields true (fields_at table c) rs) (at_fields true (fields_at table c) ss) (at_fields false (fields_at table c) rs) (at_fields false (fields_at table c) ss)
-    (fields_keep true (fields_at table c) rs ss h) (fields_keep false (fields_at table c) rs ss h))
-    (λ _. with_values_keeps rs ss (λ vs. Gives (con c (data_of vs))) (λ vs. Gives (con c (data_of vs))) h (λ vs. refl))
+made_keeps table (Some c) rs ss h = with_fields_keeps (fields_at table c) rs ss (λ vs. Gives (con c (data_of vs))) h
 
 choose_keeps : (b : Bool) (r s u w : Outcome) → Keeps r u → Keeps s w → Keeps (choose b r s) (choose b u w)
 choose_keeps true r s u w h k = h
@@ -100,6 +103,15 @@ mutual
       (λ v. choose_keeps (is_true v) (eval table call b env) (eval table call c env) (eval table more_call b env) (eval table more_call c env)
       (eval_keeps table call more_call h b env) (eval_keeps table call more_call h c env))
   eval_keeps table call more_call h (Case p x arms) env = arms_keep table call more_call h arms (value_in env (number_of x)) env
+  eval_keeps table call more_call h (Tuple p as' xs) env =
+      with_fields_keeps (map (type_of_name table.types) as') (eval_all table call xs env) (eval_all table more_call xs env) (λ vs. Gives (tuple vs)) (all_keep table call more_call h xs env)
+  eval_keeps table call more_call h (LetSeveral p qs a b) env =
+      with_value_keeps (eval table call a env) (eval table more_call a env) _ _ (eval_keeps table call more_call h a env)
+      (λ v. eval_keeps table call more_call h b (bind_results (names_of qs) v env))
+  eval_keeps table call more_call h (ParSeveral p qs a rs b c) env =
+      with_value_keeps (eval table call a env) (eval table more_call a env) _ _ (eval_keeps table call more_call h a env)
+      (λ v. with_value_keeps (eval table call b env) (eval table more_call b env) _ _ (eval_keeps table call more_call h b env)
+      (λ w. eval_keeps table call more_call h c (bind_results (names_of rs) w (bind_results (names_of qs) v env))))
 
   arms_keep : (table : Table) (call more_call : ℕ → List Datum → Outcome) → CallsKeep call more_call → (arms : Arms) (v : Datum) (env : Environment) → Keeps (eval_arms table call arms v env) (eval_arms table more_call arms v env)
   arms_keep table call more_call h (LastArm k xs e) v env =

@@ -13,7 +13,7 @@ use Rattle.gib_syntax.specs.declared.generic.GenericNode.{GenericNode as Node}
 use Rattle.gib_syntax.specs.declared.generic.GenericNode.TheVariants as n
 use Rattle.gib_syntax.specs.declared.written.Word.{Word}
 use Rattle.gib_syntax.specs.declared.written.Run.{Run}
-use Rattle.gib_syntax.specs.GenericTree.{GenericExpression as Expression, GenericArms as Arms, GenericParen, GenericOp, GenericCall, GenericMake, GenericLet, GenericPar, GenericIf, GenericCase, GenericArgument, GenericLastArm, GenericNextArm}
+use Rattle.gib_syntax.specs.GenericTree.{GenericExpression as Expression, GenericArms as Arms, GenericParen, GenericOp, GenericCall, GenericMake, GenericLet, GenericPar, GenericIf, GenericCase, GenericTuple, GenericLetSeveral, GenericParSeveral, GenericArgument, GenericLastArm, GenericNextArm}
 use Rattle.gib_syntax.specs.Words.{run_words, stack_of, all_types, types_in, IsRunIn, IsTypesRun, IsTypeRun}
 use Rattle.gib_syntax.specs.GenericArena.{Arena, empty, IsArmBelow, ArmsBelow, PartsBelow, IsRunWithin, IsArena, arguments_from, arms_from, case_from, layer, tree_at, tree_of, Opens, Grows, Makes}
 
@@ -44,6 +44,11 @@ layer_same_if words f g id (Some (n.LetPar p x a y b c)) below e =
 layer_same_if words f g id (Some (n.If p a b c)) below e =
     let h = below (n.If p a b c) refl in (λ k. GenericIf p (e a.0 h.0 k) (e b.0 h.1 k) (e c.0 h.2 k))
 layer_same_if words f g id (Some (n.Case p x arms)) below e = case_same f g id arms.items (GenericCase p x) (below (n.Case p x arms) refl) e
+layer_same_if words f g id (Some (n.Tuple p xs)) below e = ap (GenericTuple p) (arguments_same f g id xs.items (below (n.Tuple p xs) refl) e)
+layer_same_if words f g id (Some (n.LetSeveral p xs a b)) below e =
+    let h = below (n.LetSeveral p xs a b) refl in (λ k. GenericLetSeveral p xs.items (e a.0 h.0 k) (e b.0 h.1 k))
+layer_same_if words f g id (Some (n.ParSeveral p xs a ys b c)) below e =
+    let h = below (n.ParSeveral p xs a ys b c) refl in (λ k. GenericParSeveral p xs.items (e a.0 h.0 k) ys.items (e b.0 h.1 k) (e c.0 h.2 k))
 
 -- A node is the same layer over more words.
 layer_words : (old new : List Word) (f : ℕ → Expression) (node : Node) → ((run : Run) → IsRunIn old run → run_words new run ≡ run_words old run) → IsRunWithin node old → layer new f (Some node) ≡ layer old f (Some node)
@@ -58,6 +63,9 @@ layer_words old new f (n.Let p x a b) runs h = refl
 layer_words old new f (n.LetPar p x a y b c) runs h = refl
 layer_words old new f (n.If p a b c) runs h = refl
 layer_words old new f (n.Case p x arms) runs h = refl
+layer_words old new f (n.Tuple p xs) runs h = refl
+layer_words old new f (n.LetSeveral p xs a b) runs h = refl
+layer_words old new f (n.ParSeveral p xs a ys b c) runs h = refl
 
 same_at : (a : Arena) → IsArena a → (k l id : ℕ) → id < k → id < l → tree_at k a id ≡ tree_at l a id
 unfolding tree_at
@@ -175,6 +183,9 @@ within_longer words more (n.Let p x a b) h = h
 within_longer words more (n.LetPar p x a y b c) h = h
 within_longer words more (n.If p a b c) h = h
 within_longer words more (n.Case p x arms) h = h
+within_longer words more (n.Tuple p xs) h = h
+within_longer words more (n.LetSeveral p xs a b) h = h
+within_longer words more (n.ParSeveral p xs a ys b c) h = h
 
 pub words_arena : (a : Arena) (more : List Word) → IsArena a → IsArena (with_words a more)
 words_arena a more arena = record { below = arena.below; within = λ id node e. within_longer a.words more node (arena.within id node e) }

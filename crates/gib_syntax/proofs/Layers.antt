@@ -8,7 +8,7 @@ use Rattle.gib_syntax.specs.declared.exprs.ExprId.{ExprId}
 use Rattle.gib_syntax.specs.declared.exprs.Arm.{Arm}
 use Rattle.gib_syntax.specs.declared.exprs.Node.{Node}
 use Rattle.gib_syntax.specs.declared.exprs.Node.TheVariants as n
-use Rattle.gib_syntax.specs.Tree.{Expression, Arms, Paren, Op, Call, Make, Let, Par, If, Case, Argument, LastArm, NextArm}
+use Rattle.gib_syntax.specs.Tree.{Expression, Arms, Paren, Op, Call, Make, Let, Par, If, Case, Tuple, LetSeveral, ParSeveral, Argument, LastArm, NextArm}
 use Rattle.gib_syntax.specs.Arena.{IsArmBelow, ArmsBelow, PartsBelow, IsArena, arguments_from, arms_from, case_from, layer, tree_at, tree_of, Opens, Makes}
 
 arguments_same : (f g : ℕ → Expression) (id : ℕ) (is : List ExprId) → AllByRecursion (λ (a : ExprId). a.0 < id) is → ((a : ℕ) → a < id → f a ≡ g a) → arguments_from f is ≡ arguments_from g is
@@ -38,6 +38,11 @@ layer_same_if f g id (Some (n.LetPar p x a y b c)) below e =
 layer_same_if f g id (Some (n.If p a b c)) below e =
     let h = below (n.If p a b c) refl in (λ k. If p (e a.0 h.0 k) (e b.0 h.1 k) (e c.0 h.2 k))
 layer_same_if f g id (Some (n.Case p x arms)) below e = case_same f g id arms.items (Case p x) (below (n.Case p x arms) refl) e
+layer_same_if f g id (Some (n.Tuple p ts xs)) below e = ap (Tuple p ts.items) (arguments_same f g id xs.items (below (n.Tuple p ts xs) refl) e)
+layer_same_if f g id (Some (n.LetSeveral p qs a b)) below e =
+    let h = below (n.LetSeveral p qs a b) refl in (λ k. LetSeveral p qs.items (e a.0 h.0 k) (e b.0 h.1 k))
+layer_same_if f g id (Some (n.ParSeveral p qs a rs b c)) below e =
+    let h = below (n.ParSeveral p qs a rs b c) refl in (λ k. ParSeveral p qs.items (e a.0 h.0 k) rs.items (e b.0 h.1 k) (e c.0 h.2 k))
 
 same_at : (ns : List Node) → IsArena ns → (k l id : ℕ) → id < k → id < l → tree_at k ns id ≡ tree_at l ns id
 unfolding tree_at

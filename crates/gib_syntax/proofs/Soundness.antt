@@ -11,6 +11,7 @@ use Rattle.std.specs.Prelude.{◌+ℤ◌, ◌-ℤ◌, ◌*ℤ◌}
 use lib.Signed.{mag_rem}
 use mir.ValLaws.{sfits_le}
 use borrow.Author.Gap.{read_sfits}
+use Rattle.gib_base.specs.declared.Span.{Span}
 use Rattle.gib_types.specs.declared.table.Ty.{Ty}
 use Rattle.gib_types.specs.declared.table.Ty.TheVariants.{Whole, Truth, Tree}
 use Rattle.gib_types.specs.declared.table.TyId.{TyId}
@@ -21,11 +22,12 @@ use Rattle.gib_syntax.specs.declared.tree.Parameter.{Parameter}
 use Rattle.gib_syntax.specs.declared.tree.TypeName.{TypeName}
 use Rattle.gib_syntax.specs.declared.tree.Operator.{Operator}
 use Rattle.gib_syntax.specs.declared.tree.Operator.TheVariants as o
-use Rattle.gib_syntax.specs.Tree.{Expression, Arguments, Arms, Var, Num, Bit, Paren, Op, Call, Make, Let, Par, If, Case, NoArgument, Argument, LastArm, NextArm, FunctionTree, ProgramTree}
-use Rattle.gib_syntax.specs.Fine.{IsFine, AreFine, HasFine, IsFineFunction, IsFineProgram}
+use Rattle.gib_syntax.specs.Tree.{Expression, Arguments, Arms, Var, Num, Bit, Paren, Op, Call, Make, Let, Par, If, Case, Tuple, LetSeveral, ParSeveral, NoArgument, Argument, LastArm, NextArm, FunctionTree, ProgramTree}
+use Rattle.gib_syntax.specs.Results.{Results, One, Several, map_results, as_results}
+use Rattle.gib_syntax.specs.Fine.{IsFine, AreFine, AreParts, HasFine, IsFineFunction, IsFineProgram}
 use Rattle.gib_syntax.specs.Declarations.{number_of, place_of, next_place, AreDifferent, type_of_name, constructor_names, constructor_named, function_named, table_of_program, input_type, output_type}
-use Rattle.gib_syntax.specs.Typing.{Globals, globals_of, Scope, type_in, bound, BindsAll, parameter_types, result_type, operator_type, arm_names, Has, HaveAll, HaveArms, IsTypedFunction, IsTypedHere, IsTypedProgram}
-use Rattle.gib_syntax.specs.Meaning.{Outcome, Gives, Stops, Environment, value_in, bind, with_value, with_values, at_fields, number_in, is_true, is_made_by, operate, is_by_zero, outcome_unless, made, choose, eval, eval_all, eval_arms, names_of, calls, run, OutcomeHas}
+use Rattle.gib_syntax.specs.Typing.{Globals, globals_of, Scope, type_in, bound, BindsAll, names_of, types_of, parameter_types, result_types, operator_type, arm_names, Has, HaveAll, HaveArms, IsTypedFunction, IsTypedHere, IsTypedProgram}
+use Rattle.gib_syntax.specs.Meaning.{Outcome, Gives, Stops, Environment, value_in, bind, bind_results, tuple, with_value, with_values, with_fields, at_fields, number_in, is_true, is_made_by, parts, operate, is_by_zero, outcome_unless, made, choose, eval, eval_all, eval_arms, calls, run, HasResults, OutcomeGives, OutcomeHas}
 
 -- Places of names
 
@@ -104,32 +106,35 @@ AllHave table [] (r ∷ rs) = ⊥
 AllHave table (t ∷ ts) [] = ⊥
 AllHave table (t ∷ ts) (r ∷ rs) = OutcomeHas table t r × AllHave table ts rs
 
-pub with_value_has : (table : Table) (s t : Ty) (r : Outcome) (go : Datum → Outcome) → OutcomeHas table s r → ((v : Datum) → HasType table v s → OutcomeHas table t (go v)) → OutcomeHas table t (with_value r go)
+pub with_value_has : (table : Table) (s t : Results Ty) (r : Outcome) (go : Datum → Outcome) → OutcomeGives table s r → ((v : Datum) → HasResults table v s → OutcomeGives table t (go v)) → OutcomeGives table t (with_value r go)
 with_value_has table s t (Gives v) go h k = k v h
 with_value_has table s t (Stops why) go h k = tt {0}
 
-pub with_values_has : (table : Table) (ts : List Ty) (ty : Ty) (rs : List Outcome) (go : List Datum → Outcome) → AllHave table ts rs → ((vs : List Datum) → HaveTypes table (data_of vs) ts → OutcomeHas table ty (go vs)) → OutcomeHas table ty (with_values rs go)
+pub with_values_has : (table : Table) (ts : List Ty) (ty : Results Ty) (rs : List Outcome) (go : List Datum → Outcome) → AllHave table ts rs → ((vs : List Datum) → HaveTypes table (data_of vs) ts → OutcomeGives table ty (go vs)) → OutcomeGives table ty (with_values rs go)
 with_values_has table [] ty [] go h k = k [] (tt {0})
 with_values_has table [] ty (r ∷ rs) go h k = absurd h
 with_values_has table (t ∷ ts) ty [] go h k = absurd h
 with_values_has table (t ∷ ts) ty (Stops why ∷ rs) go h k = tt {0}
 with_values_has table (t ∷ ts) ty (Gives v ∷ rs) go h k = with_values_has table ts ty rs (λ vs. go (v ∷ vs)) h.1 (λ vs hs. k (v ∷ vs) (h.0, hs))
 
-with_values_any : (table : Table) (ty : Ty) (rs : List Outcome) (go : List Datum → Outcome) → ((vs : List Datum) → OutcomeHas table ty (go vs)) → OutcomeHas table ty (with_values rs go)
+with_values_any : (table : Table) (ty : Results Ty) (rs : List Outcome) (go : List Datum → Outcome) → ((vs : List Datum) → OutcomeGives table ty (go vs)) → OutcomeGives table ty (with_values rs go)
 with_values_any table ty [] go k = k []
 with_values_any table ty (Stops why ∷ rs) go k = tt {0}
 with_values_any table ty (Gives v ∷ rs) go k = with_values_any table ty rs (λ vs. go (v ∷ vs)) (λ vs. k (v ∷ vs))
+
+pub with_fields_has : (table : Table) (ts : List Ty) (ty : Results Ty) (rs : List Outcome) (go : List Datum → Outcome) → AllHave table ts rs → ((vs : List Datum) → HaveTypes table (data_of vs) ts → OutcomeGives table ty (go vs)) → OutcomeGives table ty (with_fields ts rs go)
+with_fields_has table ts ty rs go h k =
+    with_values_any table ty (at_fields true ts rs ++ at_fields false ts rs) (λ _. with_values rs go) (λ _. with_values_has table ts ty rs go h k)
 
 pub made_has : (table : Table) (found : Option ℕ) (c x : ℕ) (rs : List Outcome) → constructor_named table x ≡ Some c → found ≡ Some c → AllHave table (fields_at table c) rs → OutcomeHas table (Tree (record { 0 = owner_at table c })) (made table found rs)
 made_has table None c x rs known e h = absurd cc
 made_has table (Some d) c x rs known e h =
     let is : c ≡ d = sym (same_Some d c e) in
     subst (λ (n : ℕ). OutcomeHas table (Tree (record { 0 = owner_at table c })) (made table (Some n) rs)) is
-    (with_values_any table (Tree (record { 0 = owner_at table c })) (at_fields true (fields_at table c) rs ++ at_fields false (fields_at table c) rs) (λ _. with_values rs (λ vs. Gives (con c (data_of vs))))
-    (λ _. with_values_has table (fields_at table c) (Tree (record { 0 = owner_at table c })) rs (λ vs. Gives (con c (data_of vs))) h
-    (λ vs hs. (con_here table c x known, hs))))
+    (with_fields_has table (fields_at table c) (One (Tree (record { 0 = owner_at table c }))) rs (λ vs. Gives (con c (data_of vs))) h
+    (λ vs hs. (con_here table c x known, hs)))
 
-pub choose_has : (table : Table) (ty : Ty) (b : Bool) (r s : Outcome) → (b ≡ true → OutcomeHas table ty r) → (b ≡ false → OutcomeHas table ty s) → OutcomeHas table ty (choose b r s)
+pub choose_has : (table : Table) (ty : Results Ty) (b : Bool) (r s : Outcome) → (b ≡ true → OutcomeGives table ty r) → (b ≡ false → OutcomeGives table ty s) → OutcomeGives table ty (choose b r s)
 choose_has table ty true r s h k = h refl
 choose_has table ty false r s h k = k refl
 
@@ -142,7 +147,7 @@ operate_has table o.Less x y h k = tt {0}
 operate_has table o.Quotient x y h k = read_sfits w64 (cast_unsigned w64 (int_div x y))
 operate_has table o.Remainder x y h k = sfits_le (mag_rem x y) h
 
-pub unless_has : (table : Table) (ty : Ty) (b : Bool) (v : Datum) → HasType table v ty → OutcomeHas table ty (outcome_unless b v)
+pub unless_has : (table : Table) (ty : Results Ty) (b : Bool) (v : Datum) → HasResults table v ty → OutcomeGives table ty (outcome_unless b v)
 unless_has table ty true v h = tt {0}
 unless_has table ty false v h = h
 
@@ -155,11 +160,29 @@ number_fits table (con k vs) h = absurd h
 
 -- what a call gives is of the result's type, where its arguments are of the parameters' types
 abbrev pub CallsHave : Globals → (ℕ → List Datum → Outcome) → Type 0
-CallsHave g call = (f : ℕ) (h : FunctionTree) (vs : List Datum) → function_named g.functions f ≡ Some h → HaveTypes g.table (data_of vs) (parameter_types g.table h) → OutcomeHas g.table (result_type g.table h) (call f vs)
+CallsHave g call = (f : ℕ) (h : FunctionTree) (vs : List Datum) → function_named g.functions f ≡ Some h → HaveTypes g.table (data_of vs) (parameter_types g.table h) → OutcomeGives g.table (result_types g.table h) (call f vs)
 
 pub fine_arguments : (f : Ident) (xs : Arguments) → IsFine (Call f xs) → AreFine xs
 fine_arguments f NoArgument h = absurd h
 fine_arguments f (Argument a xs) h = h
+
+pub fine_parts : (p : Span) (as' : List TypeName) (xs : Arguments) → IsFine (Tuple p as' xs) → AreParts xs
+fine_parts p as' NoArgument h = absurd h
+fine_parts p as' (Argument a NoArgument) h = absurd h
+fine_parts p as' (Argument a (Argument b xs)) h = h
+
+-- a value and its variables, or its parts and theirs
+pub results_agree : (table : Table) (xs : List Ident) (ts : List Ty) (v : Datum) (scope inner : Scope) (env : Environment) → BindsAll scope xs ts inner → HasResults table v (as_results ts) → Agrees table scope env → Agrees table inner (bind_results xs v env)
+results_agree table [] [] v scope inner env b h agrees = subst (λ (s : Scope). Agrees table s env) (sym b) agrees
+results_agree table [] (t ∷ ts) v scope inner env b h agrees = absurd b
+results_agree table (x ∷ xs) [] v scope inner env b h agrees = absurd b
+results_agree table (x ∷ []) (t ∷ []) v scope inner env b h agrees =
+    subst (λ (s : Scope). Agrees table s ((number_of x, v) ∷ env)) (sym b.1) (agrees_bound table scope env (number_of x) t v h agrees)
+results_agree table (x ∷ []) (t ∷ u ∷ ts) v scope inner env b h agrees = absurd b.1
+results_agree table (x ∷ y ∷ ys) (t ∷ []) v scope inner env b h agrees = absurd b.1
+results_agree table (x ∷ y ∷ ys) (t ∷ u ∷ ts) v scope inner env b h agrees =
+    subst (λ (w : Datum). Agrees table inner (bind (x ∷ y ∷ ys) (parts w) env)) (sym h.1)
+    (binds_agree table (x ∷ y ∷ ys) (t ∷ u ∷ ts) (list_of h.0) scope inner env b (subst (λ (us : Data). HaveTypes table us (t ∷ u ∷ ts)) (sym (data_list h.0)) h.2) agrees)
 
 pub made_by : (found : Option ℕ) (c k : ℕ) (ws : Data) → found ≡ Some c → is_made_by found (con k ws) ≡ true → c ≡ k
 made_by None c k ws e h = absurd cc
@@ -174,10 +197,10 @@ true_or_false true e f = cc
 true_or_false false e f = cc
 
 -- one arm, where the value was made by its constructor
-pub arm_has : (g : Globals) (call : ℕ → List Datum → Outcome) (xs : List Ident) (e : Expression) (ty : Ty) (scope inner : Scope) (env : Environment) (c k : ℕ) (ws : Data) →
-    ((inner : Scope) (env : Environment) → Agrees g.table inner env → Has g inner e ty → OutcomeHas g.table ty (eval g.table call e env)) →
+pub arm_has : (g : Globals) (call : ℕ → List Datum → Outcome) (xs : List Ident) (e : Expression) (ty : Results Ty) (scope inner : Scope) (env : Environment) (c k : ℕ) (ws : Data) →
+    ((inner : Scope) (env : Environment) → Agrees g.table inner env → Has g inner e ty → OutcomeGives g.table ty (eval g.table call e env)) →
     c ≡ k → BindsAll scope xs (fields_at g.table c) inner → Has g inner e ty → HaveTypes g.table ws (fields_at g.table k) → Agrees g.table scope env →
-    OutcomeHas g.table ty (eval g.table call e (bind xs (list_of ws) env))
+    OutcomeGives g.table ty (eval g.table call e (bind xs (list_of ws) env))
 arm_has g call xs e ty scope inner env c k ws go is binds has typed agrees =
     go inner (bind xs (list_of ws) env)
     (binds_agree g.table xs (fields_at g.table k) (list_of ws) scope inner env
@@ -197,44 +220,44 @@ next_arm_step named_by c name k ws i None false is named there miss = absurd cc
 next_arm_step named_by c name k ws i (Some j) false is named there miss = (j, refl)
 
 -- a case on a value of a declared type is one on a constructor of that type
-pub case_has : (g : Globals) (call : ℕ → List Datum → Outcome) (arms : Arms) (ty : Ty) (env : Environment) (v : Datum) (t : TyId) → HasType g.table v (Tree t) →
-    ((k : ℕ) (ws : Data) → con_at g.table t.0 k ≡ Some k → HaveTypes g.table ws (fields_at g.table k) → OutcomeHas g.table ty (eval_arms g.table call arms (con k ws) env)) →
-    OutcomeHas g.table ty (eval_arms g.table call arms v env)
+pub case_has : (g : Globals) (call : ℕ → List Datum → Outcome) (arms : Arms) (ty : Results Ty) (env : Environment) (v : Datum) (t : TyId) → HasType g.table v (Tree t) →
+    ((k : ℕ) (ws : Data) → con_at g.table t.0 k ≡ Some k → HaveTypes g.table ws (fields_at g.table k) → OutcomeGives g.table ty (eval_arms g.table call arms (con k ws) env)) →
+    OutcomeGives g.table ty (eval_arms g.table call arms v env)
 case_has g call arms ty env (whole z) t typed go = absurd typed
 case_has g call arms ty env (truth b) t typed go = absurd typed
 case_has g call arms ty env (con k ws) t typed go = go k ws typed.0 typed.1
 
 mutual
-  pub eval_has : (g : Globals) (call : ℕ → List Datum → Outcome) (distinct : AreDifferent (constructor_names g.table)) (well : CallsHave g call) (e : Expression) (ty : Ty) (scope : Scope) (env : Environment) →
-      IsFine e → Agrees g.table scope env → Has g scope e ty → OutcomeHas g.table ty (eval g.table call e env)
-  eval_has g call distinct well (Var x) ty scope env fine agrees h = agrees (number_of x) ty h
-  eval_has g call distinct well (Num p n) ty scope env fine agrees h = subst (HasType g.table (whole (pos n))) (sym h) (fits_signed_from_abs w64 (pos n) fine)
-  eval_has g call distinct well (Bit p b) ty scope env fine agrees h = subst (HasType g.table (truth b)) (sym h) (tt {0})
+  pub eval_has : (g : Globals) (call : ℕ → List Datum → Outcome) (distinct : AreDifferent (constructor_names g.table)) (well : CallsHave g call) (e : Expression) (ty : Results Ty) (scope : Scope) (env : Environment) →
+      IsFine e → Agrees g.table scope env → Has g scope e ty → OutcomeGives g.table ty (eval g.table call e env)
+  eval_has g call distinct well (Var x) ty scope env fine agrees h = subst (HasResults g.table (value_in env (number_of x))) (sym h.1) (agrees (number_of x) h.0 h.2)
+  eval_has g call distinct well (Num p n) ty scope env fine agrees h = subst (HasResults g.table (whole (pos n))) (sym h) (fits_signed_from_abs w64 (pos n) fine)
+  eval_has g call distinct well (Bit p b) ty scope env fine agrees h = subst (HasResults g.table (truth b)) (sym h) (tt {0})
   eval_has g call distinct well (Paren p e) ty scope env fine agrees h = eval_has g call distinct well e ty scope env fine agrees h
   eval_has g call distinct well (Op p f a b) ty scope env fine agrees h =
-      with_value_has g.table Whole ty (eval g.table call a env) _ (eval_has g call distinct well a Whole scope env fine.0 agrees h.1)
-      (λ x hx. with_value_has g.table Whole ty (eval g.table call b env) _ (eval_has g call distinct well b Whole scope env fine.1 agrees h.2)
+      with_value_has g.table (One Whole) ty (eval g.table call a env) _ (eval_has g call distinct well a (One Whole) scope env fine.0 agrees h.1)
+      (λ x hx. with_value_has g.table (One Whole) ty (eval g.table call b env) _ (eval_has g call distinct well b (One Whole) scope env fine.1 agrees h.2)
       (λ y hy. unless_has g.table ty (is_by_zero f (number_in y)) (operate f (number_in x) (number_in y))
-      (subst (HasType g.table (operate f (number_in x) (number_in y))) (sym h.0) (operate_has g.table f (number_in x) (number_in y) (number_fits g.table x hx) (number_fits g.table y hy)))))
+      (subst (HasResults g.table (operate f (number_in x) (number_in y))) (sym h.0) (operate_has g.table f (number_in x) (number_in y) (number_fits g.table x hx) (number_fits g.table y hy)))))
   eval_has g call distinct well (Call f xs) ty scope env fine agrees h =
       with_values_has g.table (parameter_types g.table h.0) ty (eval_all g.table call xs env) (call (number_of f))
       (all_have g call distinct well xs (parameter_types g.table h.0) scope env (fine_arguments f xs fine) agrees h.3)
-      (λ vs hs. subst (λ (t : Ty). OutcomeHas g.table t (call (number_of f) vs)) (sym h.2) (well (number_of f) h.0 vs h.1 hs))
+      (λ vs hs. subst (λ (t : Results Ty). OutcomeGives g.table t (call (number_of f) vs)) (sym h.2) (well (number_of f) h.0 vs h.1 hs))
   eval_has g call distinct well (Make k xs) ty scope env fine agrees h =
-      subst (λ (t : Ty). OutcomeHas g.table t (made g.table (constructor_named g.table (number_of k)) (eval_all g.table call xs env))) (sym h.2)
+      subst (λ (t : Results Ty). OutcomeGives g.table t (made g.table (constructor_named g.table (number_of k)) (eval_all g.table call xs env))) (sym h.2)
       (made_has g.table (constructor_named g.table (number_of k)) h.0 (number_of k) (eval_all g.table call xs env) h.1 h.1
       (all_have g call distinct well xs (fields_at g.table h.0) scope env fine agrees h.3))
   eval_has g call distinct well (Let p x a b) ty scope env fine agrees h =
-      with_value_has g.table h.0 ty (eval g.table call a env) _ (eval_has g call distinct well a h.0 scope env fine.0 agrees h.1)
+      with_value_has g.table (One h.0) ty (eval g.table call a env) _ (eval_has g call distinct well a (One h.0) scope env fine.0 agrees h.1)
       (λ v hv. eval_has g call distinct well b ty (bound x h.0 scope) ((number_of x, v) ∷ env) fine.1
       (agrees_bound g.table scope env (number_of x) h.0 v hv agrees) h.3)
   eval_has g call distinct well (Par p x a y b c) ty scope env fine agrees h =
-      with_value_has g.table h.0 ty (eval g.table call a env) _ (eval_has g call distinct well a h.0 scope env fine.0 agrees h.2)
-      (λ v hv. with_value_has g.table h.1 ty (eval g.table call b env) _ (eval_has g call distinct well b h.1 scope env fine.1 agrees h.3)
+      with_value_has g.table (One h.0) ty (eval g.table call a env) _ (eval_has g call distinct well a (One h.0) scope env fine.0 agrees h.2)
+      (λ v hv. with_value_has g.table (One h.1) ty (eval g.table call b env) _ (eval_has g call distinct well b (One h.1) scope env fine.1 agrees h.3)
       (λ w hw. eval_has g call distinct well c ty (bound y h.1 (bound x h.0 scope)) ((number_of y, w) ∷ (number_of x, v) ∷ env) fine.2
       (agrees_bound g.table (bound x h.0 scope) ((number_of x, v) ∷ env) (number_of y) h.1 w hw (agrees_bound g.table scope env (number_of x) h.0 v hv agrees)) h.6))
   eval_has g call distinct well (If p a b c) ty scope env fine agrees h =
-      with_value_has g.table Truth ty (eval g.table call a env) _ (eval_has g call distinct well a Truth scope env fine.0 agrees h.0)
+      with_value_has g.table (One Truth) ty (eval g.table call a env) _ (eval_has g call distinct well a (One Truth) scope env fine.0 agrees h.0)
       (λ v hv. choose_has g.table ty (is_true v) (eval g.table call b env) (eval g.table call c env)
       (λ _. eval_has g call distinct well b ty scope env fine.1 agrees h.1) (λ _. eval_has g call distinct well c ty scope env fine.2 agrees h.2))
   eval_has g call distinct well (Case p x arms) ty scope env fine agrees h =
@@ -242,10 +265,24 @@ mutual
       (λ k ws own typed.
       let there = h.2.each k own in
       arms_have g call distinct well arms ty scope env k ws there.0 (name_at g.table k) fine agrees typed (con_found g.table h.0.0 k distinct own) there.1 h.3)
+  eval_has g call distinct well (Tuple p as' xs) ty scope env fine agrees h =
+      subst (λ (t : Results Ty). OutcomeGives g.table t (eval g.table call (Tuple p as' xs) env)) (sym h.0)
+      (with_fields_has g.table (map (type_of_name g.table.types) as') (Several (map (type_of_name g.table.types) as')) (eval_all g.table call xs env) (λ vs. Gives (tuple vs))
+      (parts_have g call distinct well xs (map (type_of_name g.table.types) as') scope env (fine_parts p as' xs fine) agrees h.2) (λ vs hs. (data_of vs, refl, hs)))
+  eval_has g call distinct well (LetSeveral p qs a b) ty scope env fine agrees h =
+      with_value_has g.table (as_results (types_of g.table.types qs)) ty (eval g.table call a env) _ (eval_has g call distinct well a (as_results (types_of g.table.types qs)) scope env fine.1 agrees h.2)
+      (λ v hv. eval_has g call distinct well b ty h.0 (bind_results (names_of qs) v env) fine.2
+      (results_agree g.table (names_of qs) (types_of g.table.types qs) v scope h.0 env h.3 hv agrees) h.4)
+  eval_has g call distinct well (ParSeveral p qs a rs b c) ty scope env fine agrees h =
+      with_value_has g.table (as_results (types_of g.table.types qs)) ty (eval g.table call a env) _ (eval_has g call distinct well a (as_results (types_of g.table.types qs)) scope env fine.1 agrees h.4)
+      (λ v hv. with_value_has g.table (as_results (types_of g.table.types rs)) ty (eval g.table call b env) _ (eval_has g call distinct well b (as_results (types_of g.table.types rs)) scope env fine.2 agrees h.5)
+      (λ w hw. eval_has g call distinct well c ty h.1 (bind_results (names_of rs) w (bind_results (names_of qs) v env)) fine.3
+      (results_agree g.table (names_of rs) (types_of g.table.types rs) w h.0 h.1 (bind_results (names_of qs) v env) h.7 hw
+      (results_agree g.table (names_of qs) (types_of g.table.types qs) v scope h.0 env h.6 hv agrees)) h.8))
 
-  pub arms_have : (g : Globals) (call : ℕ → List Datum → Outcome) (distinct : AreDifferent (constructor_names g.table)) (well : CallsHave g call) (arms : Arms) (ty : Ty) (scope : Scope) (env : Environment) (k : ℕ) (ws : Data) (i name : ℕ) →
+  pub arms_have : (g : Globals) (call : ℕ → List Datum → Outcome) (distinct : AreDifferent (constructor_names g.table)) (well : CallsHave g call) (arms : Arms) (ty : Results Ty) (scope : Scope) (env : Environment) (k : ℕ) (ws : Data) (i name : ℕ) →
       HasFine arms → Agrees g.table scope env → HaveTypes g.table ws (fields_at g.table k) → constructor_named g.table name ≡ Some k → place_of (arm_names arms) name ≡ Some i → HaveArms g scope arms ty →
-      OutcomeHas g.table ty (eval_arms g.table call arms (con k ws) env)
+      OutcomeGives g.table ty (eval_arms g.table call arms (con k ws) env)
   arms_have g call distinct well (LastArm c xs e) ty scope env k ws i name fine agrees typed named there h =
       choose_has g.table ty (is_made_by (constructor_named g.table (number_of c)) (con k ws)) _ _
       (λ hit. arm_has g call xs e ty scope h.1 env h.0 k ws (λ inner env agrees has. eval_has g call distinct well e ty inner env fine agrees has)
@@ -264,7 +301,15 @@ mutual
   all_have g call distinct well NoArgument (t ∷ ts) scope env fine agrees h = absurd h
   all_have g call distinct well (Argument a xs) [] scope env fine agrees h = absurd h
   all_have g call distinct well (Argument a xs) (t ∷ ts) scope env fine agrees h =
-      (eval_has g call distinct well a t scope env fine.0 agrees h.0, all_have g call distinct well xs ts scope env fine.2 agrees h.1)
+      (eval_has g call distinct well a (One t) scope env fine.0 agrees h.0, all_have g call distinct well xs ts scope env fine.2 agrees h.1)
+
+  pub parts_have : (g : Globals) (call : ℕ → List Datum → Outcome) (distinct : AreDifferent (constructor_names g.table)) (well : CallsHave g call) (xs : Arguments) (ts : List Ty) (scope : Scope) (env : Environment) →
+      AreParts xs → Agrees g.table scope env → HaveAll g scope xs ts → AllHave g.table ts (eval_all g.table call xs env)
+  parts_have g call distinct well NoArgument [] scope env fine agrees h = tt {0}
+  parts_have g call distinct well NoArgument (t ∷ ts) scope env fine agrees h = absurd h
+  parts_have g call distinct well (Argument a xs) [] scope env fine agrees h = absurd h
+  parts_have g call distinct well (Argument a xs) (t ∷ ts) scope env fine agrees h =
+      (eval_has g call distinct well a (One t) scope env fine.0 agrees h.0, parts_have g call distinct well xs ts scope env fine.1 agrees h.1)
 
 -- Functions and programs
 
@@ -280,11 +325,11 @@ function_found P (f ∷ fs) x h all e = found_step P (number_of f.name == x) f h
 pub nothing_agrees : (table : Table) → Agrees table [] []
 nothing_agrees table x t e = absurd cc
 
-pub body_has : (g : Globals) (call : ℕ → List Datum → Outcome) → AreDifferent (constructor_names g.table) → CallsHave g call → (qs : List Parameter) (result : TypeName) (body : Expression) (vs : List Datum) →
+pub body_has : (g : Globals) (call : ℕ → List Datum → Outcome) → AreDifferent (constructor_names g.table) → CallsHave g call → (qs : List Parameter) (result : Results TypeName) (body : Expression) (vs : List Datum) →
     IsFine body → IsTypedFunction g qs result body → HaveTypes g.table (data_of vs) (map (λ (q : Parameter). type_of_name g.table.types q.ty) qs) →
-    OutcomeHas g.table (type_of_name g.table.types result) (eval g.table call body (bind (names_of qs) vs []))
+    OutcomeGives g.table (map_results (type_of_name g.table.types) result) (eval g.table call body (bind (names_of qs) vs []))
 body_has g call distinct well qs result body vs fine typed hs =
-    eval_has g call distinct well body (type_of_name g.table.types result) typed.scope (bind (names_of qs) vs []) fine
+    eval_has g call distinct well body (map_results (type_of_name g.table.types) result) typed.scope (bind (names_of qs) vs []) fine
     (binds_agree g.table (names_of qs) (map (λ (q : Parameter). type_of_name g.table.types q.ty) qs) vs [] typed.scope [] typed.bound hs (nothing_agrees g.table))
     typed.typed
 
@@ -299,5 +344,5 @@ calls_have p fine typed (suc n) f h vs e hs =
 
 pub run_has : (p : ProgramTree) (depth : ℕ) (v : Datum) → IsFineProgram p → IsTypedProgram p → HasType (table_of_program p) v (input_type p) → OutcomeHas (table_of_program p) (output_type p) (run p depth v)
 run_has p depth v fine typed h =
-    body_has (globals_of p) (calls p depth) typed.constructors_differ (calls_have p fine typed depth) (p.main.parameter ∷ []) p.main.result p.main.body (v ∷ [])
+    body_has (globals_of p) (calls p depth) typed.constructors_differ (calls_have p fine typed depth) (p.main.parameter ∷ []) (One p.main.result) p.main.body (v ∷ [])
     fine.main typed.main (h, tt {0})

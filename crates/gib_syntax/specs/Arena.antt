@@ -5,7 +5,7 @@ use Rattle.gib_syntax.specs.declared.exprs.ExprId.{ExprId}
 use Rattle.gib_syntax.specs.declared.exprs.Arm.{Arm}
 use Rattle.gib_syntax.specs.declared.exprs.Node.{Node}
 use Rattle.gib_syntax.specs.declared.exprs.Node.TheVariants as n
-use Rattle.gib_syntax.specs.Tree.{Expression, Arguments, Arms, Var, Num, Bit, Paren, Op, Call, Make, Let, Par, If, Case, NoArgument, Argument, LastArm, NextArm}
+use Rattle.gib_syntax.specs.Tree.{Expression, Arguments, Arms, Var, Num, Bit, Paren, Op, Call, Make, Let, Par, If, Case, Tuple, LetSeveral, ParSeveral, NoArgument, Argument, LastArm, NextArm}
 
 -- The expression of an arm has a smaller number.
 abbrev pub IsArmBelow : ℕ → Arm → Type 0
@@ -29,6 +29,9 @@ PartsBelow (n.Let p x a b) id = (a.0 < id) × (b.0 < id)
 PartsBelow (n.LetPar p x a y b c) id = (a.0 < id) × (b.0 < id) × (c.0 < id)
 PartsBelow (n.If p a b c) id = (a.0 < id) × (b.0 < id) × (c.0 < id)
 PartsBelow (n.Case p x arms) id = ArmsBelow arms.items id
+PartsBelow (n.Tuple p ts xs) id = AllByRecursion (λ (a : ExprId). a.0 < id) xs.items
+PartsBelow (n.LetSeveral p qs a b) id = (a.0 < id) × (b.0 < id)
+PartsBelow (n.ParSeveral p qs a rs b c) id = (a.0 < id) × (b.0 < id) × (c.0 < id)
 
 -- Each node stands behind its parts.
 pub record IsArena (nodes : List Node) : Type 0 where
@@ -67,6 +70,9 @@ layer f (Some (n.Let p x a b)) = Let p x (f a.0) (f b.0)
 layer f (Some (n.LetPar p x a y b c)) = Par p x (f a.0) y (f b.0) (f c.0)
 layer f (Some (n.If p a b c)) = If p (f a.0) (f b.0) (f c.0)
 layer f (Some (n.Case p x arms)) = case_from f arms.items (Case p x)
+layer f (Some (n.Tuple p ts xs)) = Tuple p ts.items (arguments_from f xs.items)
+layer f (Some (n.LetSeveral p qs a b)) = LetSeveral p qs.items (f a.0) (f b.0)
+layer f (Some (n.ParSeveral p qs a rs b c)) = ParSeveral p qs.items (f a.0) rs.items (f b.0) (f c.0)
 
 -- The tree of the node of a number, cut after so many levels: below them stands the tree of no node.
 unfoldable pub tree_at : ℕ → List Node → ℕ → Expression

@@ -1,7 +1,8 @@
 -- Which trees the grammar has.
 use Rattle.std.specs.Prelude.{◌≡◌, ◌≢◌, ◌<◌, ◌^◌, Bool, true, false, []}
 use Rattle.std.specs.List.{AllByRecursion}
-use Rattle.gib_syntax.specs.GenericTree.{GenericExpression, GenericArguments, GenericArms, GenericVar, GenericNum, GenericBit, GenericParen, GenericOp, GenericCall, GenericMake, GenericLet, GenericPar, GenericIf, GenericCase, GenericNoArgument, GenericArgument, GenericLastArm, GenericNextArm, GenericDataTree, GenericFunctionTree, GenericProgramTree}
+use Rattle.gib_syntax.specs.Results.{AreSeveral, AreSides, AreResults}
+use Rattle.gib_syntax.specs.GenericTree.{GenericExpression, GenericArguments, GenericArms, GenericVar, GenericNum, GenericBit, GenericParen, GenericOp, GenericCall, GenericMake, GenericLet, GenericPar, GenericIf, GenericCase, GenericTuple, GenericLetSeveral, GenericParSeveral, GenericNoArgument, GenericArgument, GenericLastArm, GenericNextArm, GenericDataTree, GenericFunctionTree, GenericProgramTree}
 
 -- What may stand as an argument.
 abbrev pub is_generic_atom : GenericExpression → Bool
@@ -17,6 +18,9 @@ is_generic_atom (GenericLet p x a b) = false
 is_generic_atom (GenericPar p x a y b c) = false
 is_generic_atom (GenericIf p a b c) = false
 is_generic_atom (GenericCase p x arms) = false
+is_generic_atom (GenericTuple p xs) = false
+is_generic_atom (GenericLetSeveral p xs a b) = false
+is_generic_atom (GenericParSeveral p xs a ys b c) = false
 
 -- What may stand as a side of an operation.
 abbrev pub is_generic_application : GenericExpression → Bool
@@ -31,9 +35,12 @@ is_generic_application (GenericLet p x a b) = false
 is_generic_application (GenericPar p x a y b c) = false
 is_generic_application (GenericIf p a b c) = false
 is_generic_application (GenericCase p x arms) = false
+is_generic_application (GenericTuple p xs) = false
+is_generic_application (GenericLetSeveral p xs a b) = false
+is_generic_application (GenericParSeveral p xs a ys b c) = false
 
--- The trees that the grammar has: literals run to 2^63 - 1, arguments are atoms, a call has an argument at least, and the
--- sides of an operation are applications.
+-- The trees that the grammar has: literals run to 2^63 - 1, arguments are atoms, a call has an argument at least, the
+-- sides of an operation are applications, a tuple has two parts at least, and parts have two names at least.
 abbrev mutual
   pub IsGenericFine : GenericExpression → Type 0
   IsGenericFine (GenericVar x) = Unit {0}
@@ -48,6 +55,16 @@ abbrev mutual
   IsGenericFine (GenericPar p x a y b c) = IsGenericFine a × IsGenericFine b × IsGenericFine c
   IsGenericFine (GenericIf p a b c) = IsGenericFine a × IsGenericFine b × IsGenericFine c
   IsGenericFine (GenericCase p x arms) = HasGenericFine arms
+  IsGenericFine (GenericTuple p GenericNoArgument) = ⊥
+  IsGenericFine (GenericTuple p (GenericArgument a GenericNoArgument)) = ⊥
+  IsGenericFine (GenericTuple p (GenericArgument a (GenericArgument b xs))) = IsGenericFine a × AreGenericParts (GenericArgument b xs)
+  IsGenericFine (GenericLetSeveral p xs a b) = AreSeveral xs × IsGenericFine a × IsGenericFine b
+  IsGenericFine (GenericParSeveral p xs a ys b c) = AreSides xs ys × IsGenericFine a × IsGenericFine b × IsGenericFine c
+
+  -- Further parts of a tuple.
+  pub AreGenericParts : GenericArguments → Type 0
+  AreGenericParts GenericNoArgument = Unit {0}
+  AreGenericParts (GenericArgument a xs) = IsGenericFine a × AreGenericParts xs
 
   pub AreGenericFine : GenericArguments → Type 0
   AreGenericFine GenericNoArgument = Unit {0}
@@ -61,9 +78,9 @@ abbrev mutual
 abbrev pub HasGenericConstructor : GenericDataTree → Type 0
 HasGenericConstructor d = d.constructors ≢ []
 
--- A function has a parameter at least, and its body is an expression that the grammar has.
+-- A function has a parameter at least, its body is an expression that the grammar has, and it gives one thing or two parts at least.
 abbrev pub IsGenericFineFunction : GenericFunctionTree → Type 0
-IsGenericFineFunction f = (f.parameters ≢ []) × IsGenericFine f.body
+IsGenericFineFunction f = (f.parameters ≢ []) × IsGenericFine f.body × AreResults f.result
 
 -- The grammar has the program.
 pub record IsGenericFineProgram (p : GenericProgramTree) : Type 0 where

@@ -2,6 +2,10 @@
 use Rattle.std.specs.Prelude.{◌<◌, List, map, length}
 use Rattle.std.specs.List.{AllByRecursion}
 use Rattle.gib_syntax.specs.declared.written.Word.{Word}
+use Rattle.gib_syntax.specs.declared.written.ResultRuns.{ResultRuns}
+use Rattle.gib_syntax.specs.declared.written.ResultRuns.TheVariants as result
+use Rattle.gib_syntax.specs.Results.{Results, One, Several}
+use Rattle.gib_syntax.specs.Forms.{WrittenType}
 use Rattle.gib_syntax.specs.declared.program.GenericParameter.{GenericParameter}
 use Rattle.gib_syntax.specs.declared.program.GenericConstructor.{GenericConstructor}
 use Rattle.gib_syntax.specs.declared.program.GenericData.{GenericData}
@@ -31,13 +35,18 @@ data_in words d = record { name = d.name; variables = d.variables.items; constru
 abbrev pub parameter_in : List Word → GenericParameter → GenericParameterTree
 parameter_in words q = record { name = q.name; ty = type_in words q.ty }
 
+-- What a function gives, as a tree.
+abbrev pub results_in : List Word → ResultRuns → Results WrittenType
+results_in words (result.One run) = One (type_in words run)
+results_in words (result.Several runs) = Several (map (type_in words) runs.items)
+
 -- A function, as a tree.
 abbrev pub function_in : Arena → GenericFunction → GenericFunctionTree
 function_in a f = record {
   name = f.name;
   variables = f.variables.items;
   parameters = map (parameter_in a.words) f.parameters.items;
-  result = type_in a.words f.result;
+  result = results_in a.words f.result;
   body = tree_of a f.body.0;
 }
 
@@ -61,9 +70,14 @@ IsDataInside words d = AllByRecursion (IsConstructorInside words) d.constructors
 abbrev pub IsParameterInside : List Word → GenericParameter → Type 0
 IsParameterInside words q = IsTypeRun words q.ty
 
+-- What a function gives is.
+abbrev pub AreResultsInside : List Word → ResultRuns → Type 0
+AreResultsInside words (result.One run) = IsTypeRun words run
+AreResultsInside words (result.Several runs) = AllByRecursion (IsTypeRun words) runs.items
+
 -- The types of a function are among the words, and its body is one of its expressions.
 abbrev pub IsFunctionInside : Arena → GenericFunction → Type 0
-IsFunctionInside a f = AllByRecursion (IsParameterInside a.words) f.parameters.items × IsTypeRun a.words f.result × (f.body.0 < length a.nodes)
+IsFunctionInside a f = AllByRecursion (IsParameterInside a.words) f.parameters.items × AreResultsInside a.words f.result × (f.body.0 < length a.nodes)
 
 -- Each type is among the words, each body is one of its expressions, and each data declaration has a constructor.
 pub record AreInside (p : GenericParts) : Type 0 where

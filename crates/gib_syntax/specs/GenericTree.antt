@@ -5,8 +5,10 @@ use Rattle.gib_syntax.specs.declared.tree.Ident.{Ident}
 use Rattle.gib_syntax.specs.declared.tree.Operator.{Operator}
 use Rattle.gib_syntax.specs.Declarations.{number_of, place_of}
 use Rattle.gib_syntax.specs.Forms.{WrittenType, WrittenTypes}
+use Rattle.gib_syntax.specs.Results.{Results}
 
--- An expression, as one without type parameters; a called function and a constructor have type arguments.
+-- An expression, as one without type parameters; a called function and a constructor have type arguments. Neither the parts
+-- of a tuple nor the variables for parts have written types.
 mutual
   pub data GenericExpression : Type 0 where
     GenericVar : Ident → GenericExpression
@@ -20,6 +22,9 @@ mutual
     GenericPar : Span → Ident → GenericExpression → Ident → GenericExpression → GenericExpression → GenericExpression
     GenericIf : Span → GenericExpression → GenericExpression → GenericExpression → GenericExpression
     GenericCase : Span → Ident → GenericArms → GenericExpression
+    GenericTuple : Span → GenericArguments → GenericExpression
+    GenericLetSeveral : Span → List Ident → GenericExpression → GenericExpression → GenericExpression
+    GenericParSeveral : Span → List Ident → GenericExpression → List Ident → GenericExpression → GenericExpression → GenericExpression
 
   pub data GenericArguments : Type 0 where
     GenericNoArgument : GenericArguments
@@ -50,7 +55,7 @@ pub record GenericFunctionTree : Type 0 where
   pub name : Ident
   pub variables : List Ident
   pub parameters : List GenericParameterTree
-  pub result : WrittenType
+  pub result : Results WrittenType
   pub body : GenericExpression
 
 -- Main.

@@ -4,9 +4,10 @@ use Rattle.std.specs.List.{AllByRecursion}
 use Rattle.gib_syntax.specs.declared.tree.Ident.{Ident}
 use Rattle.gib_syntax.specs.declared.tree.Operator.{Operator}
 use Rattle.gib_syntax.specs.declared.tree.Operator.TheVariants as o
+use Rattle.gib_syntax.specs.Results.{Results, One, Several, map_results, as_results}
 use Rattle.gib_syntax.specs.Declarations.{number_of, place_of, AreDifferent}
 use Rattle.gib_syntax.specs.Forms.{WrittenType, WrittenTypes, WholeAt, TruthAt, VariableAt, DataAt, NoType, MoreTypes, Form, Forms, WholeForm, TruthForm, VariableForm, DataForm, Meant, formed, formed_all, assign, count_written}
-use Rattle.gib_syntax.specs.GenericTree.{GenericExpression, GenericArguments, GenericArms, GenericVar, GenericNum, GenericBit, GenericParen, GenericOp, GenericCall, GenericMake, GenericLet, GenericPar, GenericIf, GenericCase, GenericNoArgument, GenericArgument, GenericLastArm, GenericNextArm, GenericConstructorTree, GenericDataTree, GenericParameterTree, GenericFunctionTree, GenericProgramTree, GenericRow, GenericGlobals, globals_of_generic, rows_of, place_named, generic_named, data_named}
+use Rattle.gib_syntax.specs.GenericTree.{GenericExpression, GenericArguments, GenericArms, GenericVar, GenericNum, GenericBit, GenericParen, GenericOp, GenericCall, GenericMake, GenericLet, GenericPar, GenericIf, GenericCase, GenericTuple, GenericLetSeveral, GenericParSeveral, GenericNoArgument, GenericArgument, GenericLastArm, GenericNextArm, GenericConstructorTree, GenericDataTree, GenericParameterTree, GenericFunctionTree, GenericProgramTree, GenericRow, GenericGlobals, globals_of_generic, rows_of, place_named, generic_named, data_named}
 
 -- The variables in scope with their types, the newest first.
 abbrev pub FormScope : Type 0
@@ -46,9 +47,18 @@ field_forms row ts = map (formed (assign row.variables ts)) row.fields
 abbrev pub parameter_forms : GenericFunctionTree → Forms → List Form
 parameter_forms f ts = map (λ (q : GenericParameterTree). formed (assign f.variables ts) q.ty) f.parameters
 
--- The type of its result.
+-- The type of its result, or those of the parts.
+abbrev pub result_forms : GenericFunctionTree → Forms → Results Form
+result_forms f ts = map_results (formed (assign f.variables ts)) f.result
+
+-- The one type; of several parts, where it is not asked, `Int`.
+abbrev pub one_form : Results Form → Form
+one_form (One t) = t
+one_form (Several ts) = WholeForm
+
+-- The type of the result of a function that gives one thing.
 abbrev pub result_form : GenericFunctionTree → Forms → Form
-result_form f ts = formed (assign f.variables ts) f.result
+result_form f ts = one_form (result_forms f ts)
 
 -- A written type is `Int`, `Bool`, one of these type variables, or a declared type with as many known arguments as it
 -- has variables.
@@ -75,45 +85,60 @@ pub record CoversType (rows : List GenericRow) (t : ℕ) (names : List ℕ) : Ty
   pub each : (c : ℕ) (row : GenericRow) → slice_get rows c ≡ Some row → row.owner ≡ t → (i : ℕ) × (place_of names row.name ≡ Some i)
   pub once : AreDifferent names
 
--- The expression has the type, where these variables are in scope, these type variables are known, and each of them
--- stands for a type.
+-- A binding of parts has one to eight variables.
+abbrev pub AreNames : List Ident → Type 0
+AreNames xs = (1 ≤ length xs) × (length xs ≤ 8)
+
+-- The expression gives something of the type, or parts of the types, where these variables are in scope, these type variables
+-- are known, and each of them stands for a type.
 abbrev mutual
-  pub HasForm : GenericGlobals → List ℕ → Meant → FormScope → GenericExpression → Form → Type 0
-  HasForm g vars m scope (GenericVar x) ty = form_in scope (number_of x) ≡ Some ty
-  HasForm g vars m scope (GenericNum p n) ty = ty ≡ WholeForm
-  HasForm g vars m scope (GenericBit p b) ty = ty ≡ TruthForm
-  HasForm g vars m scope (GenericParen p e) ty = HasForm g vars m scope e ty
-  HasForm g vars m scope (GenericOp p f a b) ty = (ty ≡ operator_form f) × HasForm g vars m scope a WholeForm × HasForm g vars m scope b WholeForm
-  HasForm g vars m scope (GenericCall f ws xs) ty =
+  pub HasForm : GenericGlobals → List ℕ → Meant → FormScope → GenericExpression → Results Form → Type 0
+  HasForm g vars m scope (GenericVar x) r = (t : Form) × (r ≡ One t) × (form_in scope (number_of x) ≡ Some t)
+  HasForm g vars m scope (GenericNum p n) r = r ≡ One WholeForm
+  HasForm g vars m scope (GenericBit p b) r = r ≡ One TruthForm
+  HasForm g vars m scope (GenericParen p e) r = HasForm g vars m scope e r
+  HasForm g vars m scope (GenericOp p f a b) r =
+      (r ≡ One (operator_form f)) × HasForm g vars m scope a (One WholeForm) × HasForm g vars m scope b (One WholeForm)
+  HasForm g vars m scope (GenericCall f ws xs) r =
       (h : GenericFunctionTree) × (generic_named g.functions (number_of f) ≡ Some h) × (count_written ws ≡ length h.variables) × AreKnownTypes g.datas vars ws
-      × (ty ≡ result_form h (formed_all m ws)) × HaveForms g vars m scope xs (parameter_forms h (formed_all m ws))
-  HasForm g vars m scope (GenericMake k ws xs) ty =
+      × (r ≡ result_forms h (formed_all m ws)) × HaveForms g vars m scope xs (parameter_forms h (formed_all m ws))
+  HasForm g vars m scope (GenericMake k ws xs) r =
       (c : ℕ) × (row : GenericRow) × (place_named g.rows (number_of k) ≡ Some c) × (slice_get g.rows c ≡ Some row) × (count_written ws ≡ length row.variables)
-      × AreKnownTypes g.datas vars ws × (ty ≡ DataForm row.owner (formed_all m ws)) × HaveForms g vars m scope xs (field_forms row (formed_all m ws))
-  HasForm g vars m scope (GenericLet p x a b) ty = (s : Form) × HasForm g vars m scope a s × (form_in scope (number_of x) ≡ None) × HasForm g vars m (form_bound x s scope) b ty
-  HasForm g vars m scope (GenericPar p x a y b c) ty =
-      (s t : Form) × HasForm g vars m scope a s × HasForm g vars m scope b t × (form_in scope (number_of x) ≡ None) × (form_in (form_bound x s scope) (number_of y) ≡ None)
-      × HasForm g vars m (form_bound y t (form_bound x s scope)) c ty
-  HasForm g vars m scope (GenericIf p a b c) ty = HasForm g vars m scope a TruthForm × HasForm g vars m scope b ty × HasForm g vars m scope c ty
-  HasForm g vars m scope (GenericCase p x arms) ty =
+      × AreKnownTypes g.datas vars ws × (r ≡ One (DataForm row.owner (formed_all m ws))) × HaveForms g vars m scope xs (field_forms row (formed_all m ws))
+  HasForm g vars m scope (GenericLet p x a b) r =
+      (s : Form) × HasForm g vars m scope a (One s) × (form_in scope (number_of x) ≡ None) × HasForm g vars m (form_bound x s scope) b r
+  HasForm g vars m scope (GenericPar p x a y b c) r =
+      (s t : Form) × HasForm g vars m scope a (One s) × HasForm g vars m scope b (One t)
+      × (form_in scope (number_of x) ≡ None) × (form_in (form_bound x s scope) (number_of y) ≡ None)
+      × HasForm g vars m (form_bound y t (form_bound x s scope)) c r
+  HasForm g vars m scope (GenericIf p a b c) r = HasForm g vars m scope a (One TruthForm) × HasForm g vars m scope b r × HasForm g vars m scope c r
+  HasForm g vars m scope (GenericCase p x arms) r =
       (t : ℕ) × (ts : Forms) × (form_in scope (number_of x) ≡ Some (DataForm t ts)) × CoversType g.rows t (generic_arm_names arms)
-      × ArmsHaveForm g vars m scope t ts arms ty
+      × ArmsHaveForm g vars m scope t ts arms r
+  HasForm g vars m scope (GenericTuple p xs) r = (ts : List Form) × (r ≡ Several ts) × HaveForms g vars m scope xs ts
+  HasForm g vars m scope (GenericLetSeveral p xs a b) r =
+      (ss : List Form) × (inner : FormScope) × AreNames xs × HasForm g vars m scope a (as_results ss)
+      × BindsForms scope xs ss inner × HasForm g vars m inner b r
+  HasForm g vars m scope (GenericParSeveral p xs a ys b c) r =
+      (ss ts : List Form) × (middle inner : FormScope) × AreNames xs × AreNames ys
+      × HasForm g vars m scope a (as_results ss) × HasForm g vars m scope b (as_results ts)
+      × BindsForms scope xs ss middle × BindsForms middle ys ts inner × HasForm g vars m inner c r
 
   -- Arguments have these types, as many as there are.
   pub HaveForms : GenericGlobals → List ℕ → Meant → FormScope → GenericArguments → List Form → Type 0
   HaveForms g vars m scope GenericNoArgument [] = Unit {0}
   HaveForms g vars m scope GenericNoArgument (t ∷ ts) = ⊥
   HaveForms g vars m scope (GenericArgument a xs) [] = ⊥
-  HaveForms g vars m scope (GenericArgument a xs) (t ∷ ts) = HasForm g vars m scope a t × HaveForms g vars m scope xs ts
+  HaveForms g vars m scope (GenericArgument a xs) (t ∷ ts) = HasForm g vars m scope a (One t) × HaveForms g vars m scope xs ts
 
-  -- Each arm, of a constructor of the type at these types, binds as many new variables as that has fields, and has the type.
-  pub ArmsHaveForm : GenericGlobals → List ℕ → Meant → FormScope → ℕ → Forms → GenericArms → Form → Type 0
-  ArmsHaveForm g vars m scope t ts (GenericLastArm k xs e) ty =
+  -- Each arm, of a constructor of the type at these types, binds as many new variables as that has fields, and gives such a thing.
+  pub ArmsHaveForm : GenericGlobals → List ℕ → Meant → FormScope → ℕ → Forms → GenericArms → Results Form → Type 0
+  ArmsHaveForm g vars m scope t ts (GenericLastArm k xs e) r =
       (c : ℕ) × (row : GenericRow) × (inner : FormScope) × (place_named g.rows (number_of k) ≡ Some c) × (slice_get g.rows c ≡ Some row) × (row.owner ≡ t)
-      × BindsForms scope xs (field_forms row ts) inner × HasForm g vars m inner e ty
-  ArmsHaveForm g vars m scope t ts (GenericNextArm k xs e arms) ty =
+      × BindsForms scope xs (field_forms row ts) inner × HasForm g vars m inner e r
+  ArmsHaveForm g vars m scope t ts (GenericNextArm k xs e arms) r =
       ((c : ℕ) × (row : GenericRow) × (inner : FormScope) × (place_named g.rows (number_of k) ≡ Some c) × (slice_get g.rows c ≡ Some row) × (row.owner ≡ t)
-      × BindsForms scope xs (field_forms row ts) inner × HasForm g vars m inner e ty) × ArmsHaveForm g vars m scope t ts arms ty
+      × BindsForms scope xs (field_forms row ts) inner × HasForm g vars m inner e r) × ArmsHaveForm g vars m scope t ts arms r
 
 -- How many expressions an expression is; parentheses round one, and the variable of a case, are none.
 abbrev mutual
@@ -129,6 +154,9 @@ abbrev mutual
   generic_expressions (GenericPar p x a y b c) = generic_expressions a + generic_expressions b + generic_expressions c + 1
   generic_expressions (GenericIf p a b c) = generic_expressions a + generic_expressions b + generic_expressions c + 1
   generic_expressions (GenericCase p x arms) = arm_generic_expressions arms + 1
+  generic_expressions (GenericTuple p xs) = all_generic_expressions xs + 1
+  generic_expressions (GenericLetSeveral p xs a b) = generic_expressions a + generic_expressions b + 1
+  generic_expressions (GenericParSeveral p xs a ys b c) = generic_expressions a + generic_expressions b + generic_expressions c + 1
 
   pub all_generic_expressions : GenericArguments → ℕ
   all_generic_expressions GenericNoArgument = 0
@@ -152,6 +180,9 @@ abbrev mutual
   generic_bindings (GenericPar p x a y b c) = generic_bindings a + generic_bindings b + generic_bindings c + 2
   generic_bindings (GenericIf p a b c) = generic_bindings a + generic_bindings b + generic_bindings c
   generic_bindings (GenericCase p x arms) = arm_generic_bindings arms
+  generic_bindings (GenericTuple p xs) = all_generic_bindings xs
+  generic_bindings (GenericLetSeveral p xs a b) = generic_bindings a + generic_bindings b + length xs
+  generic_bindings (GenericParSeveral p xs a ys b c) = generic_bindings a + generic_bindings b + generic_bindings c + (length xs + length ys)
 
   pub all_generic_bindings : GenericArguments → ℕ
   all_generic_bindings GenericNoArgument = 0
@@ -177,14 +208,20 @@ AreTypeVariables vs = (length vs ≤ 8) × AreDifferent (variable_numbers vs)
 abbrev pub HasKnownForm : List GenericDataTree → List ℕ → GenericParameterTree → Type 0
 HasKnownForm datas vars q = IsKnownType datas vars q.ty
 
--- A function, or main as one of a single parameter and no type variables, is typed, where its type variables are opaque.
-pub record IsTypedGenericFunction (g : GenericGlobals) (variables : List Ident) (parameters : List GenericParameterTree) (result : WrittenType) (body : GenericExpression) : Type 0 where
+-- What a function gives is of a known type, or of at most eight known types.
+abbrev pub AreKnownResults : List GenericDataTree → List ℕ → Results WrittenType → Type 0
+AreKnownResults datas vars (One w) = IsKnownType datas vars w
+AreKnownResults datas vars (Several ws) = (length ws ≤ 8) × AllByRecursion (IsKnownType datas vars) ws
+
+-- A function, or main as one of a single parameter, one result and no type variables, is typed, where its type variables are opaque.
+pub record IsTypedGenericFunction (g : GenericGlobals) (variables : List Ident) (parameters : List GenericParameterTree)
+    (result : Results WrittenType) (body : GenericExpression) : Type 0 where
   pub type_variables : AreTypeVariables variables
   pub known : AllByRecursion (HasKnownForm g.datas (variable_numbers variables)) parameters
-  pub known_result : IsKnownType g.datas (variable_numbers variables) result
+  pub known_result : AreKnownResults g.datas (variable_numbers variables) result
   pub scope : FormScope
   pub bound : BindsForms [] (map (λ (q : GenericParameterTree). q.name) parameters) (map (λ (q : GenericParameterTree). formed opaque q.ty) parameters) scope
-  pub typed : HasForm g (variable_numbers variables) opaque scope body (formed opaque result)
+  pub typed : HasForm g (variable_numbers variables) opaque scope body (map_results (formed opaque) result)
   pub few_variables : length parameters + generic_bindings body ≤ 200
   pub few_expressions : generic_expressions body ≤ 2000
 
@@ -209,4 +246,4 @@ pub record IsTypedGeneric (p : GenericProgramTree) : Type 0 where
   pub functions_differ : AreDifferent (map (λ (f : GenericFunctionTree). number_of f.name) p.functions)
   pub few_functions : length p.functions ≤ 1000
   pub functions : AllByRecursion (IsTypedGenericHere (globals_of_generic p)) p.functions
-  pub main : IsTypedGenericFunction (globals_of_generic p) [] (p.main.parameter ∷ []) p.main.result p.main.body
+  pub main : IsTypedGenericFunction (globals_of_generic p) [] (p.main.parameter ∷ []) (One p.main.result) p.main.body

@@ -1,3 +1,4 @@
+pub mod Results
 pub mod Tree
 pub mod Spelling
 pub mod Fine
@@ -13,8 +14,10 @@ pub mod Forms
 pub mod Words
 pub mod GenericTree
 pub mod GenericTyping
+pub mod Inferred
 pub mod GenericMeaning
 pub mod GenericFine
+pub mod Single
 pub mod GenericArena
 pub mod GenericParts
 pub mod Plain

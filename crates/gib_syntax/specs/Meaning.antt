@@ -1,17 +1,18 @@
 -- What a program means: call by value on ordinary trees, with a bound on the depth of calls.
-use Rattle.std.specs.Prelude.{ℕ, zero, suc, ℤ, pos, ◌==◌, Bool, true, false, if◌then◌else◌, int_lt, int_rem, List, [], ◌∷◌, ◌++◌, map, Option, Some, None}
+use Rattle.std.specs.Prelude.{◌≡◌, ℕ, zero, suc, ℤ, pos, ◌==◌, Bool, true, false, if◌then◌else◌, int_lt, int_rem, List, [], ◌∷◌, ◌++◌, map, Option, Some, None}
 use Rattle.std.specs.Int.{w64, int_wrapping_add, int_wrapping_sub, int_wrapping_mul, int_wrapping_div}
 use Rattle.std.specs.Ordering.{int_eq}
 use Rattle.gib_types.specs.declared.table.Ty.{Ty}
 use Rattle.gib_types.specs.Table.{Table, fields_at}
 pub use Rattle.gib_types.specs.Table.{is_scalar, at_fields}
-use Rattle.gib_types.specs.Tree.{Datum, whole, truth, con, data_of, list_of, HasType}
+use Rattle.gib_types.specs.Tree.{Datum, Data, whole, truth, con, data_of, list_of, HasType, HaveTypes}
 use Rattle.gib_syntax.specs.declared.tree.Ident.{Ident}
-use Rattle.gib_syntax.specs.declared.tree.Parameter.{Parameter}
 use Rattle.gib_syntax.specs.declared.tree.Operator.{Operator}
 use Rattle.gib_syntax.specs.declared.tree.Operator.TheVariants as o
-use Rattle.gib_syntax.specs.Tree.{Expression, Arguments, Arms, Var, Num, Bit, Paren, Op, Call, Make, Let, Par, If, Case, NoArgument, Argument, LastArm, NextArm, FunctionTree, ProgramTree}
-use Rattle.gib_syntax.specs.Declarations.{number_of, constructor_named, function_named, table_of_program}
+use Rattle.gib_syntax.specs.Tree.{Expression, Arguments, Arms, Var, Num, Bit, Paren, Op, Call, Make, Let, Par, If, Case, Tuple, LetSeveral, ParSeveral, NoArgument, Argument, LastArm, NextArm, FunctionTree, ProgramTree}
+use Rattle.gib_syntax.specs.Results.{Results, One, Several}
+use Rattle.gib_syntax.specs.Declarations.{number_of, constructor_named, function_named, table_of_program, type_of_name}
+pub use Rattle.gib_syntax.specs.Typing.{names_of}
 
 -- Why an expression has no value.
 pub data Reason : Type 0 where
@@ -82,6 +83,16 @@ parts (whole z) = []
 parts (truth b) = []
 parts (con k vs) = list_of vs
 
+-- Parts as one value, from which they are taken again; it is no value of a type.
+abbrev pub tuple : List Datum → Datum
+tuple vs = con 0 (data_of vs)
+
+-- A value for one variable, its parts for any other number of them.
+abbrev pub bind_results : List Ident → Datum → Environment → Environment
+bind_results [] v env = env
+bind_results (x ∷ []) v env = (number_of x, v) ∷ env
+bind_results (x ∷ y ∷ ys) v env = bind (x ∷ y ∷ ys) (parts v) env
+
 -- The operators; sums, differences, products and quotients wrap modulo 2^64. A quotient is cut towards zero, and
 -- what is left has the sign of the left operand. What is said of a division by 0 is not looked at.
 abbrev pub operate : Operator → ℤ → ℤ → Datum
@@ -138,6 +149,11 @@ abbrev mutual
       with_value (eval table call a env) (λ v. with_value (eval table call b env) (λ w. eval table call c ((number_of y, w) ∷ (number_of x, v) ∷ env)))
   eval table call (If p a b c) env = with_value (eval table call a env) (λ v. choose (is_true v) (eval table call b env) (eval table call c env))
   eval table call (Case p x arms) env = eval_arms table call arms (value_in env (number_of x)) env
+  eval table call (Tuple p as' xs) env = with_fields (map (type_of_name table.types) as') (eval_all table call xs env) (λ vs. Gives (tuple vs))
+  eval table call (LetSeveral p qs a b) env = with_value (eval table call a env) (λ v. eval table call b (bind_results (names_of qs) v env))
+  eval table call (ParSeveral p qs a rs b c) env =
+      with_value (eval table call a env) (λ v. with_value (eval table call b env)
+      (λ w. eval table call c (bind_results (names_of rs) w (bind_results (names_of qs) v env))))
 
   -- What arguments mean, each by itself, in their order.
   pub eval_all : Table → (ℕ → List Datum → Outcome) → Arguments → Environment → List Outcome
@@ -150,10 +166,6 @@ abbrev mutual
       choose (is_made_by (constructor_named table (number_of k)) v) (eval table call e (bind xs (parts v) env)) (Gives (whole (pos 0)))
   eval_arms table call (NextArm k xs e arms) v env =
       choose (is_made_by (constructor_named table (number_of k)) v) (eval table call e (bind xs (parts v) env)) (eval_arms table call arms v env)
-
--- The names of parameters, in their order.
-abbrev pub names_of : List Parameter → List Ident
-names_of qs = map (λ (q : Parameter). q.name) qs
 
 -- Goes on with a function; where there is none, which typing excludes, the outcome is 0.
 abbrev pub of_function : Option FunctionTree → (FunctionTree → Outcome) → Outcome
@@ -175,7 +187,16 @@ means p n env e = eval (table_of_program p) (calls p n) e env
 abbrev pub run : ProgramTree → ℕ → Datum → Outcome
 run p depth v = means p depth ((number_of p.main.parameter.name, v) ∷ []) p.main.body
 
+-- The value is of the type, or one of parts of the types.
+abbrev pub HasResults : Table → Datum → Results Ty → Type 0
+HasResults table v (One t) = HasType table v t
+HasResults table v (Several ts) = (vs : Data) × (v ≡ con 0 vs) × HaveTypes table vs ts
+
+-- The value that an outcome gives, where it gives one, is so.
+abbrev pub OutcomeGives : Table → Results Ty → Outcome → Type 0
+OutcomeGives table r (Gives v) = HasResults table v r
+OutcomeGives table r (Stops why) = Unit {0}
+
 -- The value that an outcome gives, where it gives one, is of the type.
 abbrev pub OutcomeHas : Table → Ty → Outcome → Type 0
-OutcomeHas table ty (Gives v) = HasType table v ty
-OutcomeHas table ty (Stops why) = Unit {0}
+OutcomeHas table ty o = OutcomeGives table (One ty) o

@@ -6,6 +6,10 @@ use Rattle.gib_syntax.specs.declared.tree.ConstructorDecl.{ConstructorDecl}
 use Rattle.gib_syntax.specs.declared.tree.DataDecl.{DataDecl}
 use Rattle.gib_syntax.specs.declared.tree.FunctionDecl.{FunctionDecl}
 use Rattle.gib_syntax.specs.declared.tree.MainDecl.{MainDecl}
+use Rattle.gib_syntax.specs.declared.tree.TypeName.{TypeName}
+use Rattle.gib_syntax.specs.declared.tree.ResultTypes.{ResultTypes}
+use Rattle.gib_syntax.specs.declared.tree.ResultTypes.TheVariants as result
+use Rattle.gib_syntax.specs.Results.{Results, One, Several}
 use Rattle.gib_syntax.specs.Tree.{Expression, ConstructorTree, DataTree, FunctionTree, MainTree, ProgramTree}
 use Rattle.gib_syntax.specs.Arena.{tree_of}
 use Rattle.gib_syntax.specs.Fine.{HasConstructor}
@@ -35,9 +39,14 @@ pub record AreInside (parts : Parts) : Type 0 where
   pub main : parts.main.body.0 < length parts.exprs
   pub constructors : AllByRecursion HasConstructor (map data_tree parts.data_decls)
 
+-- What a function gives, as a tree.
+abbrev pub results_tree : ResultTypes → Results TypeName
+results_tree (result.One a) = One a
+results_tree (result.Several as') = Several as'.items
+
 -- A function as a tree, where expressions have these trees.
 abbrev pub function_tree : (ℕ → Expression) → FunctionDecl → FunctionTree
-function_tree f d = record { name = d.name; parameters = d.parameters.items; result = d.result; body = f d.body.0 }
+function_tree f d = record { name = d.name; parameters = d.parameters.items; result = results_tree d.result; body = f d.body.0 }
 
 -- Main as a tree, where expressions have these trees.
 abbrev pub main_tree : (ℕ → Expression) → MainDecl → MainTree

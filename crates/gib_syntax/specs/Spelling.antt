@@ -7,8 +7,9 @@ use Rattle.gib_base.specs.declared.token.Token.TheVariants as t
 use Rattle.gib_syntax.specs.declared.tree.Ident.{Ident}
 use Rattle.gib_syntax.specs.declared.tree.Operator.{Operator}
 use Rattle.gib_syntax.specs.declared.tree.Operator.TheVariants as o
-use Rattle.gib_syntax.specs.GenericTree.{GenericExpression, GenericArguments, GenericArms, GenericVar, GenericNum, GenericBit, GenericParen, GenericOp, GenericCall, GenericMake, GenericLet, GenericPar, GenericIf, GenericCase, GenericNoArgument, GenericArgument, GenericLastArm, GenericNextArm, GenericConstructorTree, GenericDataTree, GenericParameterTree, GenericFunctionTree, GenericMainTree, GenericProgramTree}
+use Rattle.gib_syntax.specs.GenericTree.{GenericExpression, GenericArguments, GenericArms, GenericVar, GenericNum, GenericBit, GenericParen, GenericOp, GenericCall, GenericMake, GenericLet, GenericPar, GenericIf, GenericCase, GenericTuple, GenericLetSeveral, GenericParSeveral, GenericNoArgument, GenericArgument, GenericLastArm, GenericNextArm, GenericConstructorTree, GenericDataTree, GenericParameterTree, GenericFunctionTree, GenericMainTree, GenericProgramTree}
 use Rattle.gib_syntax.specs.GenericFine.{IsGenericFineProgram}
+use Rattle.gib_syntax.specs.Results.{Results, One, Several}
 use Rattle.gib_syntax.specs.Forms.{WrittenType, WrittenTypes, WholeAt, TruthAt, VariableAt, DataAt, NoType, MoreTypes}
 
 -- The sign of an operator.
@@ -30,6 +31,17 @@ spell_bit false rest = t.Sign s.False ∷ rest
 abbrev pub spell_variables : List Ident → List Token → List Token
 spell_variables [] rest = rest
 spell_variables (x ∷ xs) rest = t.Variable x.name ∷ spell_variables xs rest
+
+-- Variables behind a comma each.
+abbrev pub spell_further_names : List Ident → List Token → List Token
+spell_further_names [] rest = rest
+spell_further_names (x ∷ xs) rest = t.Sign s.Comma ∷ t.Variable x.name ∷ spell_further_names xs rest
+
+-- The variables of a binding: one, or several in parentheses.
+abbrev pub spell_names : List Ident → List Token → List Token
+spell_names [] rest = rest
+spell_names (x ∷ []) rest = t.Variable x.name ∷ rest
+spell_names (x ∷ y ∷ ys) rest = t.Sign s.Open ∷ t.Variable x.name ∷ spell_further_names (y ∷ ys) (t.Sign s.Close ∷ rest)
 
 -- A type: a word, a variable, or a declared type, in parentheses where it has arguments.
 abbrev mutual
@@ -64,6 +76,21 @@ abbrev mutual
   spell (GenericPar p x a y b c) rest = t.Sign s.Let ∷ t.Sign s.Par ∷ t.Variable x.name ∷ t.Sign s.Equals ∷ spell a (t.Sign s.And ∷ t.Variable y.name ∷ t.Sign s.Equals ∷ spell b (t.Sign s.In ∷ spell c rest))
   spell (GenericIf p a b c) rest = t.Sign s.If ∷ spell a (t.Sign s.Then ∷ spell b (t.Sign s.Else ∷ spell c rest))
   spell (GenericCase p x arms) rest = t.Sign s.Case ∷ t.Variable x.name ∷ t.Sign s.Of ∷ t.Sign s.OpenBrace ∷ spell_arms arms (t.Sign s.CloseBrace ∷ rest)
+  spell (GenericTuple p xs) rest = t.Sign s.Open ∷ spell_parts xs (t.Sign s.Close ∷ rest)
+  spell (GenericLetSeveral p xs a b) rest = t.Sign s.Let ∷ spell_names xs (t.Sign s.Equals ∷ spell a (t.Sign s.In ∷ spell b rest))
+  spell (GenericParSeveral p xs a ys b c) rest =
+      t.Sign s.Let ∷ t.Sign s.Par ∷ spell_names xs (t.Sign s.Equals ∷ spell a (t.Sign s.And ∷
+      spell_names ys (t.Sign s.Equals ∷ spell b (t.Sign s.In ∷ spell c rest))))
+
+  -- The tokens of parts, a comma between two, and then the rest.
+  pub spell_parts : GenericArguments → List Token → List Token
+  spell_parts GenericNoArgument rest = rest
+  spell_parts (GenericArgument a xs) rest = spell a (spell_further_parts xs rest)
+
+  -- The tokens of further parts, each behind a comma, and then the rest.
+  pub spell_further_parts : GenericArguments → List Token → List Token
+  spell_further_parts GenericNoArgument rest = rest
+  spell_further_parts (GenericArgument a xs) rest = t.Sign s.Comma ∷ spell a (spell_further_parts xs rest)
 
   -- The tokens of arguments, one after another, and then the rest.
   pub spell_arguments : GenericArguments → List Token → List Token
@@ -112,9 +139,20 @@ abbrev pub spell_parameters : List GenericParameterTree → List Token → List 
 spell_parameters [] rest = rest
 spell_parameters (q ∷ qs) rest = spell_parameter q (spell_parameters qs rest)
 
--- The result type and the body of a function.
-abbrev pub spell_body : WrittenType → GenericExpression → List Token → List Token
-spell_body result body rest = t.Sign s.Colon ∷ spell_type result (t.Sign s.Equals ∷ spell body (t.Sign s.Semicolon ∷ rest))
+-- Types behind a comma each.
+abbrev pub spell_further_types : List WrittenType → List Token → List Token
+spell_further_types [] rest = rest
+spell_further_types (a ∷ as') rest = t.Sign s.Comma ∷ spell_type a (spell_further_types as' rest)
+
+-- What a function gives: a type, or those of several parts in parentheses.
+abbrev pub spell_results : Results WrittenType → List Token → List Token
+spell_results (One a) rest = spell_type a rest
+spell_results (Several []) rest = rest
+spell_results (Several (a ∷ as')) rest = t.Sign s.Open ∷ spell_type a (spell_further_types as' (t.Sign s.Close ∷ rest))
+
+-- What a function gives, and its body.
+abbrev pub spell_body : Results WrittenType → GenericExpression → List Token → List Token
+spell_body result body rest = t.Sign s.Colon ∷ spell_results result (t.Sign s.Equals ∷ spell body (t.Sign s.Semicolon ∷ rest))
 
 -- Type parameters of a function, in brackets where there are some.
 abbrev pub spell_type_parameters : List Ident → List Token → List Token
@@ -132,7 +170,7 @@ spell_functions (f ∷ fs) rest = spell_function f (spell_functions fs rest)
 
 -- Main.
 abbrev pub spell_main : GenericMainTree → List Token → List Token
-spell_main m rest = t.Sign s.Main ∷ spell_parameter m.parameter (spell_body m.result m.body rest)
+spell_main m rest = t.Sign s.Main ∷ spell_parameter m.parameter (spell_body (One m.result) m.body rest)
 
 -- A program.
 abbrev pub spell_program : GenericProgramTree → List Token → List Token
@@ -152,6 +190,9 @@ abbrev mutual
   levels (GenericPar p x a y b c) = suc (max (levels a) (max (levels b) (levels c)))
   levels (GenericIf p a b c) = suc (max (levels a) (max (levels b) (levels c)))
   levels (GenericCase p x arms) = suc (levels_arms arms)
+  levels (GenericTuple p xs) = suc (levels_arguments xs)
+  levels (GenericLetSeveral p xs a b) = suc (max (levels a) (levels b))
+  levels (GenericParSeveral p xs a ys b c) = suc (max (levels a) (max (levels b) (levels c)))
 
   -- The most levels that one of the arguments has.
   pub levels_arguments : GenericArguments → ℕ
@@ -184,6 +225,17 @@ IsAt at x rest = x.span ≡ at (suc (length rest))
 abbrev pub AreAt : Places → List Ident → List Token → Type 0
 AreAt at [] rest = Unit {0}
 AreAt at (x ∷ xs) rest = IsAt at x (spell_variables xs rest) × AreAt at xs rest
+
+-- Names behind a comma each stand before the rest.
+abbrev pub AreFurtherAt : Places → List Ident → List Token → Type 0
+AreFurtherAt at [] rest = Unit {0}
+AreFurtherAt at (x ∷ xs) rest = IsAt at x (spell_further_names xs rest) × AreFurtherAt at xs rest
+
+-- The names of a binding stand before the rest.
+abbrev pub AreNamesAt : Places → List Ident → List Token → Type 0
+AreNamesAt at [] rest = Unit {0}
+AreNamesAt at (x ∷ []) rest = IsAt at x rest
+AreNamesAt at (x ∷ y ∷ ys) rest = IsAt at x (spell_further_names (y ∷ ys) (t.Sign s.Close ∷ rest)) × AreFurtherAt at (y ∷ ys) (t.Sign s.Close ∷ rest)
 
 -- The names of a type, behind which the rest stands, carry the spans of their tokens, and the type that of its first one.
 abbrev mutual
@@ -229,6 +281,22 @@ abbrev mutual
       (p ≡ at (length (spell (GenericCase p x arms) rest)))
       × IsAt at x (t.Sign s.Of ∷ t.Sign s.OpenBrace ∷ spell_arms arms (t.Sign s.CloseBrace ∷ rest))
       × HavePlaces at arms (t.Sign s.CloseBrace ∷ rest)
+  IsPlaced at (GenericTuple p xs) rest =
+      (p ≡ at (length (spell (GenericTuple p xs) rest))) × ArePartsPlaced at xs (t.Sign s.Close ∷ rest)
+  IsPlaced at (GenericLetSeveral p xs a b) rest =
+      (p ≡ at (length (spell (GenericLetSeveral p xs a b) rest))) × AreNamesAt at xs (t.Sign s.Equals ∷ spell a (t.Sign s.In ∷ spell b rest))
+      × IsPlaced at a (t.Sign s.In ∷ spell b rest) × IsPlaced at b rest
+  IsPlaced at (GenericParSeveral p xs a ys b c) rest =
+      (p ≡ at (length (spell (GenericParSeveral p xs a ys b c) rest)))
+      × AreNamesAt at xs (t.Sign s.Equals ∷ spell a (t.Sign s.And ∷ spell_names ys (t.Sign s.Equals ∷ spell b (t.Sign s.In ∷ spell c rest))))
+      × IsPlaced at a (t.Sign s.And ∷ spell_names ys (t.Sign s.Equals ∷ spell b (t.Sign s.In ∷ spell c rest)))
+      × AreNamesAt at ys (t.Sign s.Equals ∷ spell b (t.Sign s.In ∷ spell c rest))
+      × IsPlaced at b (t.Sign s.In ∷ spell c rest) × IsPlaced at c rest
+
+  -- The parts of a tuple carry the spans of their tokens.
+  pub ArePartsPlaced : Places → GenericArguments → List Token → Type 0
+  ArePartsPlaced at GenericNoArgument rest = Unit {0}
+  ArePartsPlaced at (GenericArgument a xs) rest = IsPlaced at a (spell_further_parts xs rest) × ArePartsPlaced at xs rest
 
   -- The arguments carry the spans of their tokens.
   pub ArePlaced : Places → GenericArguments → List Token → Type 0
@@ -279,10 +347,21 @@ abbrev pub AreParametersAt : Places → List GenericParameterTree → List Token
 AreParametersAt at [] rest = Unit {0}
 AreParametersAt at (q ∷ qs) rest = IsParameterAt at q (spell_parameters qs rest) × AreParametersAt at qs rest
 
--- The result type and the body of a function carry the spans of their tokens.
-abbrev pub IsBodyAt : Places → WrittenType → GenericExpression → List Token → Type 0
+-- Types behind a comma each carry the spans of their tokens.
+abbrev pub AreFurtherTypesAt : Places → List WrittenType → List Token → Type 0
+AreFurtherTypesAt at [] rest = Unit {0}
+AreFurtherTypesAt at (a ∷ as') rest = IsTypeAt at a (spell_further_types as' rest) × AreFurtherTypesAt at as' rest
+
+-- What a function gives carries the spans of its tokens.
+abbrev pub AreResultsAt : Places → Results WrittenType → List Token → Type 0
+AreResultsAt at (One a) rest = IsTypeAt at a rest
+AreResultsAt at (Several []) rest = Unit {0}
+AreResultsAt at (Several (a ∷ as')) rest = IsTypeAt at a (spell_further_types as' (t.Sign s.Close ∷ rest)) × AreFurtherTypesAt at as' (t.Sign s.Close ∷ rest)
+
+-- What a function gives, and its body, carry the spans of their tokens.
+abbrev pub IsBodyAt : Places → Results WrittenType → GenericExpression → List Token → Type 0
 IsBodyAt at result body rest =
-    IsTypeAt at result (t.Sign s.Equals ∷ spell body (t.Sign s.Semicolon ∷ rest)) × IsPlaced at body (t.Sign s.Semicolon ∷ rest)
+    AreResultsAt at result (t.Sign s.Equals ∷ spell body (t.Sign s.Semicolon ∷ rest)) × IsPlaced at body (t.Sign s.Semicolon ∷ rest)
 
 -- The type parameters of a function carry the spans of their tokens.
 abbrev pub AreTypeParametersAt : Places → List Ident → List Token → Type 0
@@ -303,7 +382,7 @@ AreFunctionsAt at (f ∷ fs) rest = IsFunctionAt at f (spell_functions fs rest) 
 
 -- The parameter, the result type and the body of main carry the spans of their tokens.
 abbrev pub IsMainAt : Places → GenericMainTree → List Token → Type 0
-IsMainAt at m rest = IsParameterAt at m.parameter (spell_body m.result m.body rest) × IsBodyAt at m.result m.body rest
+IsMainAt at m rest = IsParameterAt at m.parameter (spell_body (One m.result) m.body rest) × IsBodyAt at (One m.result) m.body rest
 
 -- Each name, type and expression of a program carries the span of its first token.
 pub record IsPlacedProgram (at : Places) (p : GenericProgramTree) : Type 0 where

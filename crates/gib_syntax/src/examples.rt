@@ -4,14 +4,16 @@ ghost use Rattle.std.specs.Prelude.{◌≡◌, ◌∷◌, [], pos, negsuc};
 ghost use Rattle.gib_base.specs.declared.Span.{Span};
 ghost use Rattle.gib_base.specs.declared.token.Sign.TheVariants as s;
 ghost use Rattle.gib_base.specs.declared.token.Token.TheVariants as t;
-ghost use Rattle.gib_types.specs.Tree.{whole};
+ghost use Rattle.gib_types.specs.Tree.{whole, con, none, more};
 ghost use Rattle.gib_syntax.specs.declared.tree.Ident.{Ident};
 ghost use Rattle.gib_syntax.specs.declared.tree.Parameter.{Parameter};
+ghost use Rattle.gib_syntax.specs.declared.tree.TypeName.{TypeName};
 ghost use Rattle.gib_syntax.specs.declared.tree.TypeName.TheVariants as ty;
 ghost use Rattle.gib_syntax.specs.declared.tree.Operator.TheVariants as o;
-ghost use Rattle.gib_syntax.specs.Tree.{Expression, Var, Num, Op, Call, Par, If, NoArgument, Argument, ProgramTree};
+ghost use Rattle.gib_syntax.specs.Tree.{Expression, Var, Num, Op, Call, Make, Par, If, Tuple, LetSeveral, NoArgument, Argument, ProgramTree};
+ghost use Rattle.gib_syntax.specs.Results.{One, Several};
 ghost use Rattle.gib_syntax.specs.Forms.{WholeAt, VariableAt, DataAt, NoType, MoreTypes};
-ghost use Rattle.gib_syntax.specs.GenericTree.{GenericVar, GenericNum, GenericParen, GenericOp, GenericCall, GenericLet, GenericNoArgument, GenericArgument};
+ghost use Rattle.gib_syntax.specs.GenericTree.{GenericVar, GenericNum, GenericParen, GenericOp, GenericCall, GenericLet, GenericTuple, GenericLetSeveral, GenericNoArgument, GenericArgument};
 ghost use Rattle.gib_syntax.specs.Spelling.{levels, spell};
 ghost use Rattle.gib_syntax.specs.Meaning.{Gives, Stops, Deep, Trap, run};
 
@@ -40,7 +42,7 @@ pub fn examples()
         let parameter : Parameter = record { name = n; ty = ty.Whole p } in
         let program : ProgramTree = record {
           datas = [];
-          functions = record { name = down; parameters = parameter ∷ []; result = ty.Whole p; body = body } ∷ [];
+          functions = record { name = down; parameters = parameter ∷ []; result = One (ty.Whole p); body = body } ∷ [];
           main = record { parameter = parameter; result = ty.Whole p; body = Call down (Argument (Var n) NoArgument) };
         } in
         (run program 1 (whole (pos 1)) ≡ Stops Deep) × (run program 2 (whole (pos 1)) ≡ Gives (whole (pos 0))) }
@@ -89,11 +91,72 @@ pub fn divisions()
         let parameter : Parameter = record { name = n; ty = ty.Whole p } in
         let main : Expression → Expression → ProgramTree = λ left right. record {
           datas = [];
-          functions = record { name = down; parameters = parameter ∷ []; result = ty.Whole p; body = body }
-              ∷ record { name = div; parameters = parameter ∷ []; result = ty.Whole p; body = Op p o.Quotient (Num p 1) (Var n) } ∷ [];
+          functions = record { name = down; parameters = parameter ∷ []; result = One (ty.Whole p); body = body }
+              ∷ record { name = div; parameters = parameter ∷ []; result = One (ty.Whole p); body = Op p o.Quotient (Num p 1) (Var n) } ∷ [];
           main = record { parameter = parameter; result = ty.Whole p; body = Par p a left b right (Op p o.Add (Var a) (Var b)) };
         } in
         let divided = Call div (Argument (Var n) NoArgument) in
         let deep = Call down (Argument (Num p 5) NoArgument) in
         (run (main divided deep) 3 (whole (pos 0)) ≡ Stops Trap) × (run (main deep divided) 3 (whole (pos 0)) ≡ Stops Deep) }
+{}
+
+/// Results of several parts, with `data Tree = Leaf Int | Node Tree Tree ;`.
+pub fn parts()
+    // `(a, b)` is five tokens, and its parts stand one level deeper.
+    ensures spelling { (p : Span) (a b : Ident) →
+        let both = GenericTuple p (GenericArgument (GenericVar a) (GenericArgument (GenericVar b) GenericNoArgument)) in
+        (spell both [] ≡ t.Sign s.Open ∷ t.Variable a.name ∷ t.Sign s.Comma ∷ t.Variable b.name ∷ t.Sign s.Close ∷ []) × (levels both ≡ 2) }
+    // `let (a, b) = f n in a` is eleven tokens.
+    ensures binding { (p : Span) (a b f n : Ident) → spell (GenericLetSeveral p (a ∷ b ∷ []) (GenericCall f NoType (GenericArgument (GenericVar n) GenericNoArgument)) (GenericVar a)) []
+        ≡ t.Sign s.Let ∷ t.Sign s.Open ∷ t.Variable a.name ∷ t.Sign s.Comma ∷ t.Variable b.name ∷ t.Sign s.Close ∷ t.Sign s.Equals ∷ t.Variable f.name ∷ t.Variable n.name ∷ t.Sign s.In ∷ t.Variable a.name ∷ [] }
+    // `fun split (n : Int) : (Tree, Int) = (Leaf n, (n + 1)) ; main (n : Int) : Tree = let (t, m) = split n in Node t (Leaf m) ;` on 5.
+    ensures split { (p : Span) →
+        let tree : Ident = record { name = record { 0 = 0 }; span = p } in
+        let leaf : Ident = record { name = record { 0 = 1 }; span = p } in
+        let node : Ident = record { name = record { 0 = 2 }; span = p } in
+        let split : Ident = record { name = record { 0 = 3 }; span = p } in
+        let n : Ident = record { name = record { 0 = 4 }; span = p } in
+        let u : Ident = record { name = record { 0 = 5 }; span = p } in
+        let m : Ident = record { name = record { 0 = 6 }; span = p } in
+        let parameter : Parameter = record { name = n; ty = ty.Whole p } in
+        let program : ProgramTree = record {
+          datas = record {
+            name = tree;
+            constructors = record { name = leaf; fields = ty.Whole p ∷ [] } ∷ record { name = node; fields = ty.Declared tree ∷ ty.Declared tree ∷ [] } ∷ [];
+          } ∷ [];
+          functions = record {
+            name = split;
+            parameters = parameter ∷ [];
+            result = Several (ty.Declared tree ∷ ty.Whole p ∷ []);
+            body = Tuple p (ty.Declared tree ∷ ty.Whole p ∷ []) (Argument (Make leaf (Argument (Var n) NoArgument)) (Argument (Op p o.Add (Var n) (Num p 1)) NoArgument));
+          } ∷ [];
+          main = record {
+            parameter = parameter;
+            result = ty.Declared tree;
+            body = LetSeveral p (record { name = u; ty = ty.Declared tree } ∷ record { name = m; ty = ty.Whole p } ∷ []) (Call split (Argument (Var n) NoArgument))
+                (Make node (Argument (Var u) (Argument (Make leaf (Argument (Var m) NoArgument)) NoArgument)));
+          };
+        } in
+        run program 1 (whole (pos 5)) ≡ Gives (con 1 (more (con 0 (more (whole (pos 5)) none)) (more (con 0 (more (whole (pos 6)) none)) none))) }
+    // `let (u, m) = (deep n, (1 quot n)) in m` on 0 with `fun deep (n : Int) : Tree = deep n ;`: the scalar part comes first; where `deep` gives an `Int`, it does.
+    ensures order { (p : Span) →
+        let tree : Ident = record { name = record { 0 = 0 }; span = p } in
+        let leaf : Ident = record { name = record { 0 = 1 }; span = p } in
+        let deep : Ident = record { name = record { 0 = 2 }; span = p } in
+        let n : Ident = record { name = record { 0 = 3 }; span = p } in
+        let u : Ident = record { name = record { 0 = 4 }; span = p } in
+        let m : Ident = record { name = record { 0 = 5 }; span = p } in
+        let parameter : Parameter = record { name = n; ty = ty.Whole p } in
+        let call = Call deep (Argument (Var n) NoArgument) in
+        let program : TypeName → ProgramTree = λ first. record {
+          datas = record { name = tree; constructors = record { name = leaf; fields = ty.Whole p ∷ [] } ∷ [] } ∷ [];
+          functions = record { name = deep; parameters = parameter ∷ []; result = One first; body = call } ∷ [];
+          main = record {
+            parameter = parameter;
+            result = ty.Whole p;
+            body = LetSeveral p (record { name = u; ty = first } ∷ record { name = m; ty = ty.Whole p } ∷ [])
+                (Tuple p (first ∷ ty.Whole p ∷ []) (Argument call (Argument (Op p o.Quotient (Num p 1) (Var n)) NoArgument))) (Var m);
+          };
+        } in
+        (run (program (ty.Declared tree)) 3 (whole (pos 0)) ≡ Stops Trap) × (run (program (ty.Whole p)) 3 (whole (pos 0)) ≡ Stops Deep) }
 {}

@@ -2,7 +2,7 @@
 
 ghost use Rattle.std.specs.Prelude.{◌≡◌};
 
-use crate::tree::{Ident, Operator};
+use crate::tree::{Ident, Operator, Parameter, TypeName};
 use gib_base::{Memory, Span};
 use std::alloc::{AllocError, Global};
 use std::marker::Model;
@@ -77,6 +77,28 @@ pub enum Node {
         span: Span,
         variable: Ident,
         arms: Vec<Arm>,
+    },
+    /// Several parts, with their types.
+    Tuple {
+        span: Span,
+        types: Vec<TypeName>,
+        parts: Vec<ExprId>,
+    },
+    /// Variables with their types, for the parts of an expression.
+    LetSeveral {
+        span: Span,
+        names: Vec<Parameter>,
+        bound: ExprId,
+        body: ExprId,
+    },
+    /// Two sides, of which one at least has several variables.
+    ParSeveral {
+        span: Span,
+        left_names: Vec<Parameter>,
+        left: ExprId,
+        right_names: Vec<Parameter>,
+        right: ExprId,
+        body: ExprId,
     },
 }
 

@@ -52,6 +52,24 @@ pub enum GenericNode {
         variable: Ident,
         arms: Vec<Arm>,
     },
+    /// Several parts.
+    Tuple(Span, Vec<ExprId>),
+    /// Variables for the parts of an expression.
+    LetSeveral {
+        span: Span,
+        names: Vec<Ident>,
+        bound: ExprId,
+        body: ExprId,
+    },
+    /// Two sides, of which one at least has several variables.
+    ParSeveral {
+        span: Span,
+        left_names: Vec<Ident>,
+        left: ExprId,
+        right_names: Vec<Ident>,
+        right: ExprId,
+        body: ExprId,
+    },
 }
 
 /// Expressions, each behind its parts, with the words of the types that a program has.

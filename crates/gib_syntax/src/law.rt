@@ -4,11 +4,17 @@ ghost use Rattle.std.specs.Prelude.{◌≡◌, ◌≤◌, ℕ, [], ◌∷◌};
 ghost use Rattle.gib_types.specs.Tree.{Datum, HasType};
 ghost use Rattle.gib_syntax.specs.Tree.{ProgramTree};
 ghost use Rattle.gib_syntax.specs.Fine.{IsFineProgram};
-ghost use Rattle.gib_syntax.specs.Forms.{WrittenType, WrittenTypes};
+ghost use Rattle.gib_syntax.specs.GenericFine.{IsGenericFineProgram};
+ghost use Rattle.gib_syntax.specs.GenericTree.{GenericExpression, GenericProgramTree};
+ghost use Rattle.gib_syntax.specs.GenericTyping.{FormScope};
+ghost use Rattle.gib_syntax.specs.GenericMeaning.{means_generic};
+ghost use Rattle.gib_syntax.specs.Single.{IsSingle, IsSingleProgram, HasNoComma};
+ghost use Rattle.gib_syntax.specs.Spelling.{spell_program};
+ghost use Rattle.gib_syntax.specs.Forms.{WrittenType, WrittenTypes, Meant};
 ghost use Rattle.gib_syntax.specs.Words.{stack_of, all_types, words_of, words_in};
 ghost use Rattle.gib_syntax.specs.Declarations.{table_of_program, input_type, output_type};
 ghost use Rattle.gib_syntax.specs.Typing.{IsTypedProgram};
-ghost use Rattle.gib_syntax.specs.Meaning.{Gives, run, OutcomeHas};
+ghost use Rattle.gib_syntax.specs.Meaning.{Gives, Environment, run, OutcomeHas};
 
 /// A typed program of the grammar gives a value of the type of its result, where its input is of the
 /// type of its parameter and it gives one at all.
@@ -26,4 +32,14 @@ pub fn more_depth_keeps_the_value()
 pub fn runs_are_read()
     ensures one { (x : WrittenType) → stack_of (words_of x) ≡ x ∷ [] }
     ensures all { (xs : WrittenTypes) → all_types (stack_of (words_in xs)) ≡ xs }
+{}
+
+/// A program of the grammar whose tokens have no comma has no results of several parts.
+pub fn commas_make_parts()
+    ensures { (p : GenericProgramTree) → IsGenericFineProgram p → HasNoComma (spell_program p []) → IsSingleProgram p }
+{}
+
+/// What an expression means that has no tuples does not depend on the types of its variables.
+pub fn types_order_tuples_alone()
+    ensures { (p : GenericProgramTree) (n : ℕ) (m : Meant) (s u : FormScope) (env : Environment) (e : GenericExpression) → IsSingle e → means_generic p n m s env e ≡ means_generic p n m u env e }
 {}

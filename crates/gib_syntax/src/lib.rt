@@ -21,6 +21,6 @@ pub use program::{
 };
 pub use tree::{
     ConstructorDecl, DataDecl, FunctionDecl, Ident, MainDecl, Operator, Parameter, Program,
-    TypeName,
+    ResultTypes, TypeName,
 };
-pub use written::{Run, Word};
+pub use written::{ResultRuns, Run, Word};

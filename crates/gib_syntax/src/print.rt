@@ -5,12 +5,13 @@
 ghost use Rattle.std.specs.Prelude.{◌≡◌, ◌<◌, ◌≤◌, [], ◌∷◌, ◌++◌, ℕ, length, map, IfOk, OnOk};
 ghost use Rattle.std.specs.List.{AllByRecursion};
 ghost use Rattle.gib_base.specs.Spelling.{tokens_text};
-ghost use Rattle.gib_syntax.specs.Spelling.{spell, spell_operator, spell_bit, spell_variables, spell_arguments, spell_type, spell_written, spell_types, spell_type_arguments, spell_type_parameters, spell_constructor, spell_constructors, spell_more, spell_data, spell_datas, spell_parameter, spell_parameters, spell_body, spell_function, spell_functions, spell_main, spell_program, levels_program};
-ghost use Rattle.gib_syntax.specs.Printing.{spell_arm, spell_further, spell_all_arms, spell_case, IsWorded};
+ghost use Rattle.gib_syntax.specs.Spelling.{spell, spell_operator, spell_bit, spell_variables, spell_further_names, spell_names, spell_arguments, spell_parts, spell_further_parts, spell_type, spell_written, spell_types, spell_type_arguments, spell_type_parameters, spell_constructor, spell_constructors, spell_more, spell_data, spell_datas, spell_parameter, spell_parameters, spell_further_types, spell_results, spell_function, spell_functions, spell_main, spell_program, levels_program};
+ghost use Rattle.gib_syntax.specs.Printing.{spell_arm, spell_further, spell_all_arms, spell_case, BindsOne, BindsSeveral, Chooses};
 ghost use Rattle.gib_syntax.specs.GenericArena.{IsArmBelow, ArmsBelow, Opens, tree_of, arguments_from};
 ghost use Rattle.gib_syntax.specs.Words.{run_words, stack_of, types_in, type_in, words_in, IsTypeRun, IsTypesRun};
 ghost use Rattle.gib_syntax.specs.Forms.{WrittenTypes};
-ghost use Rattle.gib_syntax.specs.GenericParts.{IsParameterInside, IsConstructorInside, IsDataInside, IsFunctionInside, constructor_in, data_in, parameter_in, function_in, main_in, generic_program_of};
+ghost use Rattle.gib_syntax.specs.Results.{Several};
+ghost use Rattle.gib_syntax.specs.GenericParts.{IsParameterInside, IsConstructorInside, IsDataInside, IsFunctionInside, AreResultsInside, constructor_in, data_in, parameter_in, results_in, function_in, main_in, generic_program_of};
 
 use crate::exprs::{Arm, ExprId};
 use crate::generic::{GenericExprs, GenericNode};
@@ -21,7 +22,7 @@ use crate::spelled::Spelled;
 use crate::text::text_of;
 use crate::tree::{Ident, Operator};
 use crate::type_tokens::type_tokens;
-use crate::written::{Run, Word};
+use crate::written::{ResultRuns, Run, Word};
 use gib_base::token::{Sign, Token};
 use gib_base::{Memory, Names};
 use std::alloc::Global;
@@ -59,6 +60,35 @@ fn put_variables(names: &[Ident], out: &mut Spelled) -> Result<(), Memory>
         out.put(Token::Variable(names[i].name))?;
     }
     Ok(())
+}
+
+/// Variables, each behind a comma.
+fn put_further_names(names: &[Ident], out: &mut Spelled) -> Result<(), Memory>
+    ensures { OnOk result (out.new ≡ spell_further_names names.now out.old) }
+{
+    let mut i = names.len();
+    'names: while i > 0 {
+        i -= 1;
+        out.put(Token::Variable(names[i].name))?;
+        out.put_sign(Sign::Comma)?;
+    }
+    Ok(())
+}
+
+/// The variables of a binding: one, or several in parentheses.
+fn put_names(names: &[Ident], out: &mut Spelled) -> Result<(), Memory>
+    ensures { OnOk result (out.new ≡ spell_names names.now out.old) }
+{
+    match names {
+        [] => Ok(()),
+        [one] => out.put(Token::Variable(one.name)),
+        [first, rest @ ..] => {
+            out.put_sign(Sign::Close)?;
+            put_further_names(rest, out)?;
+            out.put(Token::Variable(first.name))?;
+            out.put_sign(Sign::Open)
+        }
+    }
 }
 
 /// Tokens before the others.
@@ -174,12 +204,7 @@ fn put_expression(exprs: &GenericExprs, id: ExprId, out: &mut Spelled) -> Result
             left,
             right,
             ..
-        } => {
-            out.put_sign(Sign::Close)?;
-            put_expression(exprs, *right, out)?;
-            put_operator(*operator, out)?;
-            put_behind(exprs, Sign::Open, *left, out)
-        }
+        } => put_operation(exprs, *operator, *left, *right, out),
         GenericNode::Call(name, types, arguments) => {
             put_arguments(exprs, id, arguments, out)?;
             put_type_arguments(exprs, *types, out)?;
@@ -190,16 +215,37 @@ fn put_expression(exprs: &GenericExprs, id: ExprId, out: &mut Spelled) -> Result
             put_type_arguments(exprs, *types, out)?;
             out.put(Token::Constructor(name.name))
         }
-        GenericNode::Let { .. }
-        | GenericNode::LetPar { .. }
-        | GenericNode::If { .. }
-        | GenericNode::Case { .. } => { put_worded(exprs, id, node, out) }
+        GenericNode::Tuple(_, parts) => put_tuple(exprs, id, parts, out),
+        GenericNode::Let { .. } | GenericNode::LetPar { .. } => put_let(exprs, id, node, out),
+        GenericNode::LetSeveral { .. } | GenericNode::ParSeveral { .. } => {
+            put_let_several(exprs, id, node, out)
+        }
+        GenericNode::If { .. } | GenericNode::Case { .. } => put_choice(exprs, id, node, out),
     }
 }
 
-/// An expression that a word begins.
+/// An operation of two expressions, in parentheses.
 #[cycle(expressions)]
-fn put_worded(
+fn put_operation(
+    exprs: &GenericExprs,
+    operator: Operator,
+    left: ExprId,
+    right: ExprId,
+    out: &mut Spelled,
+) -> Result<(), Memory>
+    requires left { left.0 < length exprs.now.nodes }
+    requires right { right.0 < length exprs.now.nodes }
+    ensures { OnOk result (out.new ≡ Token.Sign Sign.Open ∷ spell (tree_of exprs.now left.0) (spell_operator operator (spell (tree_of exprs.now right.0) (Token.Sign Sign.Close ∷ out.old)))) }
+{
+    out.put_sign(Sign::Close)?;
+    put_expression(exprs, right, out)?;
+    put_operator(operator, out)?;
+    put_behind(exprs, Sign::Open, left, out)
+}
+
+/// An expression that binds a variable, or two in parallel.
+#[cycle(expressions)]
+fn put_let(
     exprs: &GenericExprs,
     id: ExprId,
     node: &GenericNode,
@@ -207,7 +253,7 @@ fn put_worded(
 ) -> Result<(), Memory>
     requires inside { id.0 < length exprs.now.nodes }
     requires opens { Opens exprs.now id.0 node.now }
-    requires worded { IsWorded node.now }
+    requires binds { BindsOne node.now }
     ensures { OnOk result (out.new ≡ spell (tree_of exprs.now id.0) out.old) }
 {
     match node {
@@ -236,6 +282,67 @@ fn put_worded(
             out.put_sign(Sign::Par)?;
             out.put_sign(Sign::Let)
         }
+        _ => unreachable!(),
+    }
+}
+
+/// An expression that binds several results, alone or in parallel.
+#[cycle(expressions)]
+fn put_let_several(
+    exprs: &GenericExprs,
+    id: ExprId,
+    node: &GenericNode,
+    out: &mut Spelled,
+) -> Result<(), Memory>
+    requires inside { id.0 < length exprs.now.nodes }
+    requires opens { Opens exprs.now id.0 node.now }
+    requires binds { BindsSeveral node.now }
+    ensures { OnOk result (out.new ≡ spell (tree_of exprs.now id.0) out.old) }
+{
+    match node {
+        GenericNode::LetSeveral {
+            names,
+            bound,
+            body,
+            ..
+        } => {
+            put_behind(exprs, Sign::In, *body, out)?;
+            put_several(exprs, names, *bound, out)?;
+            out.put_sign(Sign::Let)
+        }
+        GenericNode::ParSeveral {
+            left_names,
+            left,
+            right_names,
+            right,
+            body,
+            ..
+        } => {
+            put_behind(exprs, Sign::In, *body, out)?;
+            put_several(exprs, right_names, *right, out)?;
+            out.put_sign(Sign::And)?;
+            put_several(exprs, left_names, *left, out)?;
+            out.put_sign(Sign::Par)?;
+            out.put_sign(Sign::Let)
+        }
+        _ => unreachable!(),
+    }
+}
+
+/// An expression that goes on by what a value is.
+#[cycle(expressions)]
+fn put_choice(
+    exprs: &GenericExprs,
+    id: ExprId,
+    node: &GenericNode,
+    out: &mut Spelled,
+) -> Result<(), Memory>
+    requires inside { id.0 < length exprs.now.nodes }
+    requires opens { Opens exprs.now id.0 node.now }
+    requires chooses { Chooses node.now }
+    ensures { OnOk result (out.new ≡ spell (tree_of exprs.now id.0) out.old) }
+{
+    match node {
         GenericNode::If {
             condition,
             then_part,
@@ -295,6 +402,79 @@ fn put_binding(
 {
     put_behind(exprs, Sign::Equals, id, out)?;
     out.put(Token::Variable(name.name))
+}
+
+/// Variables with what they are bound to.
+#[cycle(expressions)]
+fn put_several(
+    exprs: &GenericExprs,
+    names: &[Ident],
+    id: ExprId,
+    out: &mut Spelled,
+) -> Result<(), Memory>
+    requires { id.0 < length exprs.now.nodes }
+    ensures { OnOk result (out.new ≡ spell_names names.now (Token.Sign Sign.Equals ∷ spell (tree_of exprs.now id.0) out.old)) }
+{
+    put_behind(exprs, Sign::Equals, id, out)?;
+    put_names(names, out)
+}
+
+/// Parts of the expression of a number in parentheses, each below it.
+#[cycle(expressions)]
+fn put_tuple(
+    exprs: &GenericExprs,
+    whole: ExprId,
+    parts: &[ExprId],
+    out: &mut Spelled,
+) -> Result<(), Memory>
+    requires whole { whole.0 < length exprs.now.nodes }
+    requires below { AllByRecursion (λ a. a.0 < whole.0) parts.now }
+    ensures { OnOk result (out.new ≡ Token.Sign Sign.Open ∷ spell_parts (arguments_from (tree_of exprs.now) parts.now) (Token.Sign Sign.Close ∷ out.old)) }
+{
+    out.put_sign(Sign::Close)?;
+    put_parts(exprs, whole, parts, out)?;
+    out.put_sign(Sign::Open)
+}
+
+/// Parts of the expression of a number, a comma between two, each below it.
+#[cycle(expressions)]
+fn put_parts(
+    exprs: &GenericExprs,
+    whole: ExprId,
+    ids: &[ExprId],
+    out: &mut Spelled,
+) -> Result<(), Memory>
+    requires whole { whole.0 < length exprs.now.nodes }
+    requires below { AllByRecursion (λ a. a.0 < whole.0) ids.now }
+    ensures { OnOk result (out.new ≡ spell_parts (arguments_from (tree_of exprs.now) ids.now) out.old) }
+{
+    match ids {
+        [] => Ok(()),
+        [first, rest @ ..] => {
+            put_further_parts(exprs, whole, rest, out)?;
+            put_expression(exprs, *first, out)
+        }
+    }
+}
+
+/// Parts of the expression of a number, each below it and behind a comma.
+#[cycle(expressions)]
+fn put_further_parts(
+    exprs: &GenericExprs,
+    whole: ExprId,
+    ids: &[ExprId],
+    out: &mut Spelled,
+) -> Result<(), Memory>
+    requires whole { whole.0 < length exprs.now.nodes }
+    requires below { AllByRecursion (λ a. a.0 < whole.0) ids.now }
+    ensures { OnOk result (out.new ≡ spell_further_parts (arguments_from (tree_of exprs.now) ids.now) out.old) }
+{
+    let mut i = ids.len();
+    'parts: while i > 0 {
+        i -= 1;
+        put_behind(exprs, Sign::Comma, ids[i], out)?;
+    }
+    Ok(())
 }
 
 /// Arguments of the expression of a number, each below it.
@@ -416,16 +596,54 @@ fn put_datas(
     Ok(())
 }
 
-/// A result type and a body.
-fn put_body(exprs: &GenericExprs, ty: Run, body: ExprId, out: &mut Spelled) -> Result<(), Memory>
-    requires ty { IsTypeRun exprs.now.words ty }
-    requires body { body.0 < length exprs.now.nodes }
-    ensures { OnOk result (out.new ≡ spell_body (type_in exprs.now.words ty) (tree_of exprs.now body.0) out.old) }
+/// Types of a function's further parts, each behind a comma.
+fn put_further_types(exprs: &GenericExprs, types: &[Run], out: &mut Spelled) -> Result<(), Memory>
+    requires { AllByRecursion (IsTypeRun exprs.now.words) types.now }
+    ensures { OnOk result (out.new ≡ spell_further_types (map (type_in exprs.now.words) types.now) out.old) }
+{
+    let mut i = types.len();
+    'types: while i > 0 {
+        i -= 1;
+        put_type(exprs, types[i], out)?;
+        out.put_sign(Sign::Comma)?;
+    }
+    Ok(())
+}
+
+/// The types of a function's parts, in parentheses.
+fn put_part_types(exprs: &GenericExprs, types: &[Run], out: &mut Spelled) -> Result<(), Memory>
+    requires { AllByRecursion (IsTypeRun exprs.now.words) types.now }
+    ensures { OnOk result (out.new ≡ spell_results (Several (map (type_in exprs.now.words) types.now)) out.old) }
+{
+    match types {
+        [] => Ok(()),
+        [first, rest @ ..] => {
+            out.put_sign(Sign::Close)?;
+            put_further_types(exprs, rest, out)?;
+            put_type(exprs, *first, out)?;
+            out.put_sign(Sign::Open)
+        }
+    }
+}
+
+/// What a function gives: the type, or those of several parts.
+fn put_results(exprs: &GenericExprs, results: &ResultRuns, out: &mut Spelled) -> Result<(), Memory>
+    requires { AreResultsInside exprs.now.words results.now }
+    ensures { OnOk result (out.new ≡ spell_results (results_in exprs.now.words results.now) out.old) }
+{
+    match results {
+        ResultRuns::One(ty) => put_type(exprs, *ty, out),
+        ResultRuns::Several(types) => put_part_types(exprs, types, out),
+    }
+}
+
+/// The body of a function, behind its sign.
+fn put_body(exprs: &GenericExprs, body: ExprId, out: &mut Spelled) -> Result<(), Memory>
+    requires { body.0 < length exprs.now.nodes }
+    ensures { OnOk result (out.new ≡ Token.Sign Sign.Equals ∷ spell (tree_of exprs.now body.0) (Token.Sign Sign.Semicolon ∷ out.old)) }
 {
     out.put_sign(Sign::Semicolon)?;
-    put_behind(exprs, Sign::Equals, body, out)?;
-    put_type(exprs, ty, out)?;
-    out.put_sign(Sign::Colon)
+    put_behind(exprs, Sign::Equals, body, out)
 }
 
 /// Type parameters of a function, in brackets where there are some.
@@ -451,7 +669,9 @@ fn put_function(
     requires { IsFunctionInside exprs.now function.now }
     ensures { OnOk result (out.new ≡ spell_function (function_in exprs.now function.now) out.old) }
 {
-    put_body(exprs, function.result, function.body, out)?;
+    put_body(exprs, function.body, out)?;
+    put_results(exprs, &function.result, out)?;
+    out.put_sign(Sign::Colon)?;
     put_parameters(exprs, &function.parameters, out)?;
     put_type_parameters(&function.variables, out)?;
     out.put(Token::Variable(function.name.name))?;
@@ -480,7 +700,9 @@ fn put_main(exprs: &GenericExprs, main: GenericMain, out: &mut Spelled) -> Resul
     requires body { main.body.0 < length exprs.now.nodes }
     ensures { OnOk result (out.new ≡ spell_main (main_in exprs.now main) out.old) }
 {
-    put_body(exprs, main.result, main.body, out)?;
+    put_body(exprs, main.body, out)?;
+    put_type(exprs, main.result, out)?;
+    out.put_sign(Sign::Colon)?;
     put_parameter(exprs, main.parameter, out)?;
     out.put_sign(Sign::Main)
 }

@@ -5,7 +5,7 @@ ghost use Rattle.std.specs.Prelude.{◌≡◌};
 use crate::exprs::ExprId;
 use crate::generic::GenericExprs;
 use crate::tree::Ident;
-use crate::written::Run;
+use crate::written::{ResultRuns, Run};
 use std::marker::Model;
 
 /// A parameter with its type, a run of one type.
@@ -36,7 +36,7 @@ pub struct GenericFunction {
     pub name: Ident,
     pub variables: Vec<Ident>,
     pub parameters: Vec<GenericParameter>,
-    pub result: Run,
+    pub result: ResultRuns,
     pub body: ExprId,
 }
 

@@ -76,12 +76,19 @@ pub struct Parameter {
     pub ty: TypeName,
 }
 
+/// What a function gives: a value of one type, or several parts.
+#[derive(Debug, Drop)]
+pub enum ResultTypes {
+    One(TypeName),
+    Several(Vec<TypeName>),
+}
+
 /// A function declaration.
 #[derive(Debug, Drop)]
 pub struct FunctionDecl {
     pub name: Ident,
     pub parameters: Vec<Parameter>,
-    pub result: TypeName,
+    pub result: ResultTypes,
     pub body: ExprId,
 }
 

@@ -19,3 +19,10 @@ pub struct Run {
     pub start: u32,
     pub end: u32,
 }
+
+/// What a function gives: a run of one type, or one for each of several parts.
+#[derive(Debug, Drop)]
+pub enum ResultRuns {
+    One(Run),
+    Several(Vec<Run>),
+}

@@ -1,5 +1,5 @@
-use Rattle.std.proofs.Common.{◌≡◌, ◌≤◌, ◌+◌, ◌*◌, length, drop}
-use Rattle.gib_syntax.specs.Spelling.{spell_arguments}
+use Rattle.std.proofs.Common.{◌≡◌, ◌≤◌, ◌+◌, ◌*◌, max, length, drop}
+use Rattle.gib_syntax.specs.Spelling.{spell_arguments, spell_further_parts}
 use Rattle.gib_syntax.specs.GenericArena.{arguments_from, tree_of}
 use Rattle.gib_syntax.specs.Printing.{spell_further}
 use Rattle.gib_syntax.proofs.print.+expressions.Given as goal
@@ -7,8 +7,17 @@ use Rattle.gib_syntax.proofs.print.+expressions.Given as goal
 abbrev pub decreases-put_expression : goal.decreases-put_expression
 decreases-put_expression l = 6 * l.id.0 + 5
 
-abbrev pub decreases-put_worded : goal.decreases-put_worded
-decreases-put_worded l = 6 * l.id.0 + 4
+abbrev pub decreases-put_operation : goal.decreases-put_operation
+decreases-put_operation l = 6 * max l.left.0 l.right.0 + 7
+
+abbrev pub decreases-put_let : goal.decreases-put_let
+decreases-put_let l = 6 * l.id.0 + 4
+
+abbrev pub decreases-put_let_several : goal.decreases-put_let_several
+decreases-put_let_several l = 6 * l.id.0 + 4
+
+abbrev pub decreases-put_choice : goal.decreases-put_choice
+decreases-put_choice l = 6 * l.id.0 + 4
 
 abbrev pub decreases-put_case : goal.decreases-put_case
 decreases-put_case l = 6 * l.whole.0 + 3
@@ -18,6 +27,24 @@ decreases-put_behind l = 6 * l.id.0 + 6
 
 abbrev pub decreases-put_binding : goal.decreases-put_binding
 decreases-put_binding l = 6 * l.id.0 + 7
+
+abbrev pub decreases-put_several : goal.decreases-put_several
+decreases-put_several l = 6 * l.id.0 + 7
+
+abbrev pub decreases-put_tuple : goal.decreases-put_tuple
+decreases-put_tuple l = 6 * l.whole.0 + 3
+
+abbrev pub decreases-put_parts : goal.decreases-put_parts
+decreases-put_parts l = 6 * l.whole.0 + 2
+
+abbrev pub decreases-put_further_parts : goal.decreases-put_further_parts
+decreases-put_further_parts l = 6 * l.whole.0 + 1
+
+abbrev pub invariant-put_further_parts-parts : goal.invariant-put_further_parts-parts
+invariant-put_further_parts-parts l = (l.i ≤ length l.ids) × (l.out ≡ spell_further_parts (arguments_from (tree_of l.exprs) (drop l.i l.ids)) l.fn.out)
+
+abbrev pub decreases-put_further_parts-parts : goal.decreases-put_further_parts-parts
+decreases-put_further_parts-parts l = l.i
 
 abbrev pub decreases-put_arm : goal.decreases-put_arm
 decreases-put_arm l = 6 * l.arm.now.body.0 + 7
