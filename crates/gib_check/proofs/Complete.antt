@@ -7,16 +7,21 @@ use Rattle.std.specs.List.{list_all, AllByRecursion}
 use Rattle.gib_base.specs.declared.Span.{Span}
 use Rattle.gib_syntax.specs.declared.tree.Ident.{Ident}
 use Rattle.gib_syntax.specs.Declarations.{number_of, place_of, AreDifferent}
+use Rattle.gib_syntax.specs.Results.{Results, One, Several, as_results}
 use Rattle.gib_types.specs.Form.{Form, Forms, WholeForm, TruthForm, DataForm, Meant}
 use Rattle.gib_types.specs.SameForm.{same_form}
 use Rattle.gib_syntax.specs.Forms.{WrittenType, WrittenTypes, WholeAt, TruthAt, VariableAt, DataAt, NoType, MoreTypes, formed, formed_all, assign, count_written}
-use Rattle.gib_syntax.specs.GenericTree.{GenericExpression, GenericArguments, GenericArms, GenericVar, GenericNum, GenericBit, GenericParen, GenericOp, GenericCall, GenericMake, GenericLet, GenericPar, GenericIf, GenericCase, GenericNoArgument, GenericArgument, GenericLastArm, GenericNextArm, GenericDataTree, GenericRow, GenericGlobals, GenericFunctionTree, GenericParameterTree, place_named, generic_named, data_named}
-use Rattle.gib_syntax.specs.GenericTyping.{FormScope, form_in, form_bound, BindsForms, operator_form, field_forms, parameter_forms, result_form, IsKnownType, AreKnownTypes, CoversType, HasForm, HaveForms, ArmsHaveForm, generic_expressions, all_generic_expressions, arm_generic_expressions, generic_bindings, all_generic_bindings, arm_generic_bindings}
+use Rattle.gib_syntax.specs.GenericTree.{GenericExpression, GenericArguments, GenericArms, GenericVar, GenericNum, GenericBit, GenericParen, GenericOp, GenericCall, GenericMake, GenericLet, GenericPar, GenericIf, GenericCase, GenericTuple, GenericLetSeveral, GenericParSeveral, GenericNoArgument, GenericArgument, GenericLastArm, GenericNextArm, GenericDataTree, GenericRow, GenericGlobals, GenericFunctionTree, GenericParameterTree, place_named, generic_named, data_named}
+use Rattle.gib_syntax.specs.GenericTyping.{FormScope, form_in, form_bound, BindsForms, operator_form, field_forms, parameter_forms, result_forms, IsKnownType, AreKnownTypes, CoversType, HasForm, HaveForms, ArmsHaveForm, generic_expressions, all_generic_expressions, arm_generic_expressions, generic_bindings, all_generic_bindings, arm_generic_bindings}
 use Rattle.gib_check.specs.declared.counts.Counts.{Counts}
 use Rattle.gib_check.specs.declared.fault.Kind.{Kind}
 use Rattle.gib_check.specs.declared.fault.Kind.TheVariants as kind
-use Rattle.gib_check.specs.Faults.{Checked, and_then, allowed, found, FormPart, one_more, new_variable, as_many, known, all_known, row_named, wanted, all_wanted, all_of, declared_type, argument_count, ArmHead, heads, head_names, all_declared, is_of, are_different, is_there, covers, field_count, fields_if, all_counted, bind_all, first_type, infer, infer_all, infer_arms, infer_arm, place}
-use Rattle.gib_check.proofs.Steps.{EachHas, AllDeclared, AllCounted, IsNew, IsOwn, row_join}
+use Rattle.gib_check.specs.declared.standing.Standing.{Standing}
+use Rattle.gib_check.specs.declared.standing.Standing.TheVariants as standing
+use Rattle.gib_check.specs.declared.standing.Standing.TheVariants.{NoTuple}
+use Rattle.gib_check.specs.Faults.{Checked, and_then, allowed, found, FormPart, one_more, new_variable, part_variable, as_many, known, all_known, row_named, same_lists, same_results, wanted, single_at, all_single, all_wanted, all_of, declared_type, argument_count, ArmHead, heads, head_names, all_declared, is_of, are_different, is_there, covers, field_count, fields_if, all_counted, bind_all, bind_parts, parts_for, types_bound, may_stand, standing_for, MayGive, first_type, infer, infer_all, infer_arms, infer_arm, place}
+use Rattle.gib_check.proofs.Steps.{PartsAre, EachHas, AllDeclared, AllCounted, IsNew, IsOwn, row_join}
+use Rattle.gib_check.proofs.States.{part_new}
 use Rattle.gib_types.proofs.SameForms.{same_form_own}
 use Rattle.gib_check.proofs.Sound.{names-heads, OneArmHas}
 
@@ -68,23 +73,37 @@ mutual
   all_known_ok datas vars NoType h = refl
   all_known_ok datas vars (MoreTypes w ws) h = ap (λ z. and_then z (λ _. all_known datas vars ws)) (known_ok datas vars w h.0) ∙ all_known_ok datas vars ws h.1
 
-pub wanted_ok : (due : Form) (part : FormPart) → part.ty ≡ due → wanted due part ≡ Ok (tt {0})
-wanted_ok due part e = ap (λ b. allowed b kind.Shape part.place (tt {0})) (ap (λ z. same_form z due) e ∙ same_form_own due)
+both : (a b : Bool) → a ≡ true → b ≡ true → (a && b) ≡ true
+both a b e f = ap (λ z. z && b) e ∙ f
 
--- Parts have exactly these types.
-abbrev pub PartsAre : List FormPart → List Form → Type 0
-PartsAre [] [] = Unit {0}
-PartsAre [] (t ∷ ts) = ⊥
-PartsAre (part ∷ parts) [] = ⊥
-PartsAre (part ∷ parts) (t ∷ ts) = (part.ty ≡ t) × PartsAre parts ts
+pub same_lists_own : (ts : List Form) → same_lists ts ts ≡ true
+same_lists_own [] = refl
+same_lists_own (t ∷ ts) = both (same_form t t) (same_lists ts ts) (same_form_own t) (same_lists_own ts)
+
+pub same_results_own : (r : Results Form) → same_results r r ≡ true
+same_results_own (One t) = same_form_own t
+same_results_own (Several ts) = same_lists_own ts
+
+pub wanted_ok : (due : Results Form) (part : FormPart) → part.ty ≡ due → wanted due part ≡ Ok (tt {0})
+wanted_ok due part e = ap (λ b. allowed b kind.Shape part.place (tt {0})) (ap (λ z. same_results z due) e ∙ same_results_own due)
+
+single_ok : (r : Results Form) (at : Span) (t : Form) → r ≡ One t → single_at r at ≡ Ok t
+single_ok r at t e = ap (λ z. single_at z at) e
+
+all_single_ok : (parts : List FormPart) (ts : List Form) → PartsAre parts ts → all_single parts ≡ Ok ts
+all_single_ok [] [] h = refl
+all_single_ok [] (t ∷ ts) h = absurd h
+all_single_ok (part ∷ parts) [] h = absurd h
+all_single_ok (part ∷ parts) (t ∷ ts) h =
+    ap (λ z. and_then z (λ t. and_then (all_single parts) (λ ts. Ok (t ∷ ts)))) (single_ok part.ty part.place t h.0) ∙ ap (λ z. and_then z (λ ts. Ok (t ∷ ts))) (all_single_ok parts ts h.1)
 
 all_wanted_ok : (parts : List FormPart) (ts : List Form) → PartsAre parts ts → all_wanted parts ts ≡ Ok (tt {0})
 all_wanted_ok [] [] h = refl
 all_wanted_ok [] (t ∷ ts) h = refl
 all_wanted_ok (part ∷ parts) [] h = refl
-all_wanted_ok (part ∷ parts) (t ∷ ts) h = ap (λ z. and_then z (λ _. all_wanted parts ts)) (wanted_ok t part h.0) ∙ all_wanted_ok parts ts h.1
+all_wanted_ok (part ∷ parts) (t ∷ ts) h = ap (λ z. and_then z (λ _. all_wanted parts ts)) (wanted_ok (One t) part h.0) ∙ all_wanted_ok parts ts h.1
 
-all_of_ok : (t : Form) (parts : List FormPart) → EachHas t parts → all_of t parts ≡ Ok (tt {0})
+all_of_ok : (t : Results Form) (parts : List FormPart) → EachHas t parts → all_of t parts ≡ Ok (tt {0})
 all_of_ok t [] h = refl
 all_of_ok t (part ∷ parts) h = ap (λ z. and_then z (λ _. all_of t parts)) (wanted_ok t part h.0) ∙ all_of_ok t parts h.1
 
@@ -95,9 +114,6 @@ all_declared_ok rows (a ∷ hs) h = ap (λ z. and_then z (λ _. all_declared row
 all_counted_ok : (rows : List GenericRow) (hs : List ArmHead) → AllCounted rows hs → all_counted rows hs ≡ Ok (tt {0})
 all_counted_ok rows [] h = refl
 all_counted_ok rows (a ∷ hs) h = ap (λ z. and_then z (λ _. all_counted rows hs)) (as_many_ok (length a.variables) (field_count (row_named rows (number_of a.constructor))) a.constructor h.0) ∙ all_counted_ok rows hs h.1
-
-both : (a b : Bool) → a ≡ true → b ≡ true → (a && b) ≡ true
-both a b e f = ap (λ z. z && b) e ∙ f
 
 own_ok : (rows : List GenericRow) (ty : ℕ) (names : List ℕ) → AllByRecursion (IsOwn rows ty) names → list_all (λ k. is_of ty (row_named rows k)) names ≡ true
 own_ok rows ty [] h = refl
@@ -145,6 +161,44 @@ bind_all_yields scope n (x ∷ xs) (t ∷ ts) inner h le =
     let o = bind_all_yields (form_bound x t scope) m xs ts inner h.1 (omega (arith, le, p1)) in let oe = o.so.expressions in let ov = o.so.variables in
     record { value = o.value; is = o.is; so = record { scope = o.so.scope; expressions = oe ∙ p0; variables = omega (arith, ov, p1) } })
 
+part_variable_yields : (i : ℕ) (scope : FormScope) (n : Counts) (x : Ident) → IsNew scope x → i < 8 → n.variables < 200 → Yields (part_variable i scope n x) (λ m. (m.expressions ≡ n.expressions) × (m.variables ≡ n.variables + 1))
+part_variable_yields i scope n x h l lt = record { value = record n { variables = n.variables + 1 }; is = part_new i scope n x l ∙ new_variable_ok scope n x h lt; so = (refl, refl) }
+
+bind_parts_yields : (i : ℕ) (scope : FormScope) (n : Counts) (xs : List Ident) (ts : List Form) (inner : FormScope) → BindsForms scope xs ts inner → i + length xs ≤ 8 → n.variables + length xs ≤ 200 → Yields (bind_parts i scope n xs ts) (BoundTo n (length xs) inner)
+bind_parts_yields i scope n [] [] inner h l le = yields_ok (scope, n) (record { scope = sym h; expressions = refl; variables = omega arith })
+bind_parts_yields i scope n [] (t ∷ ts) inner h l le = absurd h
+bind_parts_yields i scope n (x ∷ xs) [] inner h l le = absurd h
+bind_parts_yields i scope n (x ∷ xs) (t ∷ ts) inner h l le =
+    then_yields (part_variable_yields i scope n x h.0 (omega (arith, l)) (omega (arith, le))) (λ m p. let p0 = p.0 in let p1 = p.1 in
+    let o = bind_parts_yields (suc i) (form_bound x t scope) m xs ts inner h.1 (omega (arith, l)) (omega (arith, le, p1)) in let oe = o.so.expressions in let ov = o.so.variables in
+    record { value = o.value; is = o.is; so = record { scope = o.so.scope; expressions = oe ∙ p0; variables = omega (arith, ov, p1) } })
+
+-- The types for the variables of a binding, as a list of as many.
+may_bind : (xs : List Ident) (ts : List Form) → length xs ≡ length ts → MayGive (standing_for xs) (as_results ts)
+may_bind [] [] l = tt
+may_bind [] (t ∷ ts) l = absurd (omega (arith, l))
+may_bind (x ∷ []) [] l = absurd (omega (arith, l))
+may_bind (x ∷ []) (t ∷ []) l = tt
+may_bind (x ∷ []) (t ∷ u ∷ us) l = absurd (omega (arith, l))
+may_bind (x ∷ y ∷ ys) [] l = absurd (omega (arith, l))
+may_bind (x ∷ y ∷ ys) (t ∷ []) l = absurd (omega (arith, l))
+may_bind (x ∷ y ∷ ys) (t ∷ u ∷ us) l = tt
+
+types_bound_ok : (xs : List Ident) (part : FormPart) (ts : List Form) → 1 ≤ length xs → length xs ≡ length ts → part.ty ≡ as_results ts → types_bound xs part ≡ Ok ts
+types_bound_ok [] part ts some l e = absurd (omega (arith, some))
+types_bound_ok (x ∷ []) part [] some l e = absurd (omega (arith, l))
+types_bound_ok (x ∷ []) part (t ∷ []) some l e = ap (λ z. and_then z (λ t. Ok (t ∷ []))) (single_ok part.ty part.place t e)
+types_bound_ok (x ∷ []) part (t ∷ u ∷ us) some l e = absurd (omega (arith, l))
+types_bound_ok (x ∷ y ∷ ys) part [] some l e = absurd (omega (arith, l))
+types_bound_ok (x ∷ y ∷ ys) part (t ∷ []) some l e = absurd (omega (arith, l))
+types_bound_ok (x ∷ y ∷ ys) part (t ∷ u ∷ us) some l e =
+    ap (parts_for (length (x ∷ y ∷ ys)) x part) e ∙ ap (λ z. and_then z (λ _. Ok (t ∷ u ∷ us))) (as_many_ok (length (t ∷ u ∷ us)) (length (x ∷ y ∷ ys)) x (sym l))
+
+may_stand_ok : (st : Standing) (n : ℕ) (at : Span) (ts : List Form) → MayGive st (Several ts) → n ≡ length ts → may_stand st n at ≡ Ok (tt {0})
+may_stand_ok standing.NoTuple n at ts u l = absurd u
+may_stand_ok standing.AnyTuple n at ts u l = refl
+may_stand_ok (standing.TupleOf due) n at ts u l = ap (λ b. allowed b kind.Count at (tt {0})) (eq-eqb n due (l ∙ u))
+
 binds_long : (scope : FormScope) (xs : List Ident) (ts : List Form) (inner : FormScope) → BindsForms scope xs ts inner → length xs ≡ length ts
 binds_long scope [] [] inner h = refl
 binds_long scope [] (t ∷ ts) inner h = absurd h
@@ -157,23 +211,23 @@ have_long g vars m scope GenericNoArgument (t ∷ ts) h = absurd h
 have_long g vars m scope (GenericArgument a xs) [] h = absurd h
 have_long g vars m scope (GenericArgument a xs) (t ∷ ts) h = let e = have_long g vars m scope xs ts h.1 in omega (arith, e)
 
-row_there : (g : GenericGlobals) (vars : List ℕ) (m : Meant) (scope : FormScope) (t : ℕ) (ts : Forms) (k : Ident) (xs : List Ident) (e : GenericExpression) (ty : Form) (h : OneArmHas g vars m scope t ts k xs e ty) → row_named g.rows (number_of k) ≡ Some h.1
+row_there : (g : GenericGlobals) (vars : List ℕ) (m : Meant) (scope : FormScope) (t : ℕ) (ts : Forms) (k : Ident) (xs : List Ident) (e : GenericExpression) (ty : Results Form) (h : OneArmHas g vars m scope t ts k xs e ty) → row_named g.rows (number_of k) ≡ Some h.1
 row_there g vars m scope t ts k xs e ty h = row_join g.rows (place_named g.rows (number_of k)) h.0 h.1 h.3 h.4
 
-one_counted : (g : GenericGlobals) (vars : List ℕ) (m : Meant) (scope : FormScope) (t : ℕ) (ts : Forms) (k : Ident) (xs : List Ident) (e : GenericExpression) (ty : Form) → OneArmHas g vars m scope t ts k xs e ty → length xs ≡ field_count (row_named g.rows (number_of k))
+one_counted : (g : GenericGlobals) (vars : List ℕ) (m : Meant) (scope : FormScope) (t : ℕ) (ts : Forms) (k : Ident) (xs : List Ident) (e : GenericExpression) (ty : Results Form) → OneArmHas g vars m scope t ts k xs e ty → length xs ≡ field_count (row_named g.rows (number_of k))
 one_counted g vars m scope t ts k xs e ty h =
     binds_long scope xs (field_forms h.1 ts) h.2 h.6 ∙ length-map h.1.fields (formed (assign h.1.variables ts)) ∙ ap field_count (sym (row_there g vars m scope t ts k xs e ty h))
 
-arms_declared : (g : GenericGlobals) (vars : List ℕ) (m : Meant) (scope : FormScope) (t : ℕ) (ts : Forms) (arms : GenericArms) (ty : Form) → ArmsHaveForm g vars m scope t ts arms ty → AllDeclared g.rows (heads arms)
+arms_declared : (g : GenericGlobals) (vars : List ℕ) (m : Meant) (scope : FormScope) (t : ℕ) (ts : Forms) (arms : GenericArms) (ty : Results Form) → ArmsHaveForm g vars m scope t ts arms ty → AllDeclared g.rows (heads arms)
 arms_declared g vars m scope t ts (GenericLastArm k xs e) ty h = ((h.1, row_there g vars m scope t ts k xs e ty h), tt)
 arms_declared g vars m scope t ts (GenericNextArm k xs e arms) ty h = ((h.0.1, row_there g vars m scope t ts k xs e ty h.0), arms_declared g vars m scope t ts arms ty h.1)
 
-arms_counted : (g : GenericGlobals) (vars : List ℕ) (m : Meant) (scope : FormScope) (t : ℕ) (ts : Forms) (arms : GenericArms) (ty : Form) → ArmsHaveForm g vars m scope t ts arms ty → AllCounted g.rows (heads arms)
+arms_counted : (g : GenericGlobals) (vars : List ℕ) (m : Meant) (scope : FormScope) (t : ℕ) (ts : Forms) (arms : GenericArms) (ty : Results Form) → ArmsHaveForm g vars m scope t ts arms ty → AllCounted g.rows (heads arms)
 arms_counted g vars m scope t ts (GenericLastArm k xs e) ty h = (one_counted g vars m scope t ts k xs e ty h, tt)
 arms_counted g vars m scope t ts (GenericNextArm k xs e arms) ty h = (one_counted g vars m scope t ts k xs e ty h.0, arms_counted g vars m scope t ts arms ty h.1)
 
 -- An answer of this type, behind so many expressions and variables.
-pub record Told (n : Counts) (t : Form) (es vs : ℕ) (r : Form × Counts) : Type 0 where
+pub record Told (n : Counts) (t : Results Form) (es vs : ℕ) (r : Results Form × Counts) : Type 0 where
   pub type : r.0 ≡ t
   pub expressions : r.1.expressions ≡ n.expressions + es
   pub variables : r.1.variables ≡ n.variables + vs
@@ -183,14 +237,14 @@ pub record AllTold (n : Counts) (ts : List Form) (es vs : ℕ) (r : List FormPar
   pub expressions : r.1.expressions ≡ n.expressions + es
   pub variables : r.1.variables ≡ n.variables + vs
 
-pub record ArmsTold (n : Counts) (t : Form) (es vs : ℕ) (r : List FormPart × Counts) : Type 0 where
+pub record ArmsTold (n : Counts) (t : Results Form) (es vs : ℕ) (r : List FormPart × Counts) : Type 0 where
   pub each : EachHas t r.0
   pub first : first_type r.0 ≡ t
   pub expressions : r.1.expressions ≡ n.expressions + es
   pub variables : r.1.variables ≡ n.variables + vs
 
-arm_ok : (g : GenericGlobals) (vars : List ℕ) (m : Meant) (scope : FormScope) (t : ℕ) (ts : Forms) (n : Counts) (k : Ident) (xs : List Ident) (e : GenericExpression) (ty : Form) (h : OneArmHas g vars m scope t ts k xs e ty) → ((o : Counts) (within : FormScope) → within ≡ h.2 → o.expressions + generic_expressions e ≤ 2000 → o.variables + generic_bindings e ≤ 200 → Yields (infer g vars m within o e) (Told o ty (generic_expressions e) (generic_bindings e))) → n.expressions + generic_expressions e ≤ 2000 → n.variables + (length xs + generic_bindings e) ≤ 200 → Yields (infer_arm g.rows ts scope n k xs (λ inner o. infer g vars m inner o e)) (Told n ty (generic_expressions e) (length xs + generic_bindings e))
-arm_ok g vars m scope t ts n k xs e ty h go le lv =
+arm_ok : (g : GenericGlobals) (vars : List ℕ) (m : Meant) (st : Standing) (scope : FormScope) (t : ℕ) (ts : Forms) (n : Counts) (k : Ident) (xs : List Ident) (e : GenericExpression) (ty : Results Form) (h : OneArmHas g vars m scope t ts k xs e ty) → ((o : Counts) (within : FormScope) → within ≡ h.2 → o.expressions + generic_expressions e ≤ 2000 → o.variables + generic_bindings e ≤ 200 → Yields (infer g vars m st within o e) (Told o ty (generic_expressions e) (generic_bindings e))) → n.expressions + generic_expressions e ≤ 2000 → n.variables + (length xs + generic_bindings e) ≤ 200 → Yields (infer_arm g.rows ts scope n k xs (λ inner o. infer g vars m st inner o e)) (Told n ty (generic_expressions e) (length xs + generic_bindings e))
+arm_ok g vars m st scope t ts n k xs e ty h go le lv =
     let fields : fields_if (row_named g.rows (number_of k)) ts ≡ field_forms h.1 ts = ap (λ z. fields_if z ts) (row_there g vars m scope t ts k xs e ty h) in
     let binds : BindsForms scope xs (fields_if (row_named g.rows (number_of k)) ts) h.2 = subst (λ z. BindsForms scope xs z h.2) (sym fields) h.6 in
     then_yields (bind_all_yields scope n xs (fields_if (row_named g.rows (number_of k)) ts) h.2 binds (omega (arith, lv))) (λ r p. let pe = p.expressions in let pv = p.variables in
@@ -198,28 +252,28 @@ arm_ok g vars m scope t ts n k xs e ty h go le lv =
     record { value = o.value; is = o.is; so = record { type = o.so.type; expressions = omega (arith, oe, pe); variables = omega (arith, ov, pv) } })
 
 mutual
-  pub infer_ok : (g : GenericGlobals) (vars : List ℕ) (m : Meant) (scope : FormScope) (n : Counts) (e : GenericExpression) (t : Form) → HasForm g vars m scope e t → n.expressions + generic_expressions e ≤ 2000 → n.variables + generic_bindings e ≤ 200 → Yields (infer g vars m scope n e) (Told n t (generic_expressions e) (generic_bindings e))
-  infer_ok g vars m scope n (GenericVar x) t h le lv =
+  pub infer_ok : (g : GenericGlobals) (vars : List ℕ) (m : Meant) (st : Standing) (scope : FormScope) (n : Counts) (e : GenericExpression) (t : Results Form) → HasForm g vars m scope e t → MayGive st t → n.expressions + generic_expressions e ≤ 2000 → n.variables + generic_bindings e ≤ 200 → Yields (infer g vars m st scope n e) (Told n t (generic_expressions e) (generic_bindings e))
+  infer_ok g vars m st scope n (GenericVar x) t h u le lv =
       then_yields (one_more_yields n x.span (omega (arith, le))) (λ o p. let p0 = p.0 in let p1 = p.1 in
-      then_yields (yields t (found_ok (form_in scope (number_of x)) kind.Unknown x.span t h)) (λ s q.
-      yields_ok (s, o) (record { type = q; expressions = p0; variables = omega (arith, p1) })))
-  infer_ok g vars m scope n (GenericNum p v) t h le lv =
+      then_yields (yields h.0 (found_ok (form_in scope (number_of x)) kind.Unknown x.span h.0 h.2)) (λ s q.
+      yields_ok (One s, o) (record { type = ap One q ∙ sym h.1; expressions = p0; variables = omega (arith, p1) })))
+  infer_ok g vars m st scope n (GenericNum p v) t h u le lv =
       then_yields (one_more_yields n p (omega (arith, le))) (λ o p. let p0 = p.0 in let p1 = p.1 in
-      yields_ok (WholeForm, o) (record { type = sym h; expressions = p0; variables = omega (arith, p1) }))
-  infer_ok g vars m scope n (GenericBit p b) t h le lv =
+      yields_ok (One WholeForm, o) (record { type = sym h; expressions = p0; variables = omega (arith, p1) }))
+  infer_ok g vars m st scope n (GenericBit p b) t h u le lv =
       then_yields (one_more_yields n p (omega (arith, le))) (λ o p. let p0 = p.0 in let p1 = p.1 in
-      yields_ok (TruthForm, o) (record { type = sym h; expressions = p0; variables = omega (arith, p1) }))
-  infer_ok g vars m scope n (GenericParen p e) t h le lv =
-      let o = infer_ok g vars m scope n e t h le lv in
+      yields_ok (One TruthForm, o) (record { type = sym h; expressions = p0; variables = omega (arith, p1) }))
+  infer_ok g vars m st scope n (GenericParen p e) t h u le lv =
+      let o = infer_ok g vars m st scope n e t h u le lv in
       record { value = o.value; is = o.is; so = record { type = o.so.type; expressions = o.so.expressions; variables = o.so.variables } }
-  infer_ok g vars m scope n (GenericOp p f a b) t h le lv =
+  infer_ok g vars m st scope n (GenericOp p f a b) t h u le lv =
       then_yields (one_more_yields n p (omega (arith, le))) (λ o k. let k0 = k.0 in let k1 = k.1 in
-      then_yields (infer_ok g vars m scope o a WholeForm h.1 (omega (arith, le, k0)) (omega (arith, lv, k1))) (λ x sx. let xe = sx.expressions in let xv = sx.variables in
-      then_yields (infer_ok g vars m scope x.1 b WholeForm h.2 (omega (arith, le, k0, xe)) (omega (arith, lv, k1, xv))) (λ y sy. let ye = sy.expressions in let yv = sy.variables in
-      then_yields (yields (tt {0}) (wanted_ok WholeForm (record { ty = x.0; place = place a }) sx.type)) (λ _ _.
-      then_yields (yields (tt {0}) (wanted_ok WholeForm (record { ty = y.0; place = place b }) sy.type)) (λ _ _.
-      yields_ok (operator_form f, y.1) (record { type = sym h.0; expressions = omega (arith, k0, xe, ye); variables = omega (arith, k1, xv, yv) }))))))
-  infer_ok g vars m scope n (GenericCall f ws xs) t h le lv =
+      then_yields (infer_ok g vars m NoTuple scope o a (One WholeForm) h.1 tt (omega (arith, le, k0)) (omega (arith, lv, k1))) (λ x sx. let xe = sx.expressions in let xv = sx.variables in
+      then_yields (infer_ok g vars m NoTuple scope x.1 b (One WholeForm) h.2 tt (omega (arith, le, k0, xe)) (omega (arith, lv, k1, xv))) (λ y sy. let ye = sy.expressions in let yv = sy.variables in
+      then_yields (yields (tt {0}) (wanted_ok (One WholeForm) (record { ty = x.0; place = place a }) sx.type)) (λ _ _.
+      then_yields (yields (tt {0}) (wanted_ok (One WholeForm) (record { ty = y.0; place = place b }) sy.type)) (λ _ _.
+      yields_ok (One (operator_form f), y.1) (record { type = sym h.0; expressions = omega (arith, k0, xe, ye); variables = omega (arith, k1, xv, yv) }))))))
+  infer_ok g vars m st scope n (GenericCall f ws xs) t h u le lv =
       then_yields (one_more_yields n f.span (omega (arith, le))) (λ o k. let k0 = k.0 in let k1 = k.1 in
       then_yields (yields h.0 (found_ok (generic_named g.functions (number_of f)) kind.Unknown f.span h.0 h.1)) (λ d q.
       let have : HaveForms g vars m scope xs (parameter_forms d (formed_all m ws)) = subst (λ z. HaveForms g vars m scope xs (parameter_forms z (formed_all m ws))) (sym q) h.5 in
@@ -230,8 +284,8 @@ mutual
       then_yields (yields (tt {0}) (as_many_ok (argument_count xs) (length d.parameters) f (have_long g vars m scope xs (parameter_forms d (formed_all m ws)) have ∙ long))) (λ _ _.
       then_yields (all_ok g vars m scope o xs (parameter_forms d (formed_all m ws)) have (omega (arith, le, k0)) (omega (arith, lv, k1))) (λ r s. let se = s.expressions in let sv = s.variables in
       then_yields (yields (tt {0}) (all_wanted_ok r.0 (parameter_forms d (formed_all m ws)) s.types)) (λ _ _.
-      yields_ok (result_form d (formed_all m ws), r.1) (record { type = ap (λ z. result_form z (formed_all m ws)) q ∙ sym h.4; expressions = omega (arith, k0, se); variables = omega (arith, k1, sv) }))))))))
-  infer_ok g vars m scope n (GenericMake c ws xs) t h le lv =
+      yields_ok (result_forms d (formed_all m ws), r.1) (record { type = ap (λ z. result_forms z (formed_all m ws)) q ∙ sym h.4; expressions = omega (arith, k0, se); variables = omega (arith, k1, sv) }))))))))
+  infer_ok g vars m st scope n (GenericMake c ws xs) t h u le lv =
       then_yields (one_more_yields n c.span (omega (arith, le))) (λ o p. let k0 = p.0 in let k1 = p.1 in
       then_yields (yields h.1 (found_ok (row_named g.rows (number_of c)) kind.Unknown c.span h.1 (row_join g.rows (place_named g.rows (number_of c)) h.0 h.1 h.2 h.3))) (λ d q.
       let have : HaveForms g vars m scope xs (field_forms d (formed_all m ws)) = subst (λ z. HaveForms g vars m scope xs (field_forms z (formed_all m ws))) (sym q) h.7 in
@@ -242,33 +296,36 @@ mutual
       then_yields (yields (tt {0}) (as_many_ok (argument_count xs) (length d.fields) c (have_long g vars m scope xs (field_forms d (formed_all m ws)) have ∙ long))) (λ _ _.
       then_yields (all_ok g vars m scope o xs (field_forms d (formed_all m ws)) have (omega (arith, le, k0)) (omega (arith, lv, k1))) (λ r s. let se = s.expressions in let sv = s.variables in
       then_yields (yields (tt {0}) (all_wanted_ok r.0 (field_forms d (formed_all m ws)) s.types)) (λ _ _.
-      yields_ok (DataForm d.owner (formed_all m ws), r.1) (record { type = ap (λ (z : GenericRow). DataForm z.owner (formed_all m ws)) q ∙ sym h.6; expressions = omega (arith, k0, se); variables = omega (arith, k1, sv) }))))))))
-  infer_ok g vars m scope n (GenericLet p x a b) t h le lv =
+      yields_ok (One (DataForm d.owner (formed_all m ws)), r.1) (record { type = ap (λ (z : GenericRow). One (DataForm z.owner (formed_all m ws))) q ∙ sym h.6; expressions = omega (arith, k0, se); variables = omega (arith, k1, sv) }))))))))
+  infer_ok g vars m st scope n (GenericLet p x a b) t h u le lv =
       then_yields (one_more_yields n p (omega (arith, le))) (λ o k. let k0 = k.0 in let k1 = k.1 in
-      then_yields (infer_ok g vars m scope o a h.0 h.1 (omega (arith, le, k0)) (omega (arith, lv, k1))) (λ s ss. let se = ss.expressions in let sv = ss.variables in
+      then_yields (infer_ok g vars m NoTuple scope o a (One h.0) h.1 tt (omega (arith, le, k0)) (omega (arith, lv, k1))) (λ s ss. let se = ss.expressions in let sv = ss.variables in
+      then_yields (yields h.0 (single_ok s.0 (place a) h.0 ss.type)) (λ z e.
       then_yields (new_variable_yields scope s.1 x h.2 (omega (arith, lv, k1, sv))) (λ l q. let q0 = q.0 in let q1 = q.1 in
-      let has : HasForm g vars m (form_bound x s.0 scope) b t = subst (λ z. HasForm g vars m (form_bound x z scope) b t) (sym ss.type) h.3 in
-      let i = infer_ok g vars m (form_bound x s.0 scope) l b t has (omega (arith, le, k0, se, q0)) (omega (arith, lv, k1, sv, q1)) in let oe = i.so.expressions in let ov = i.so.variables in
-      record { value = i.value; is = i.is; so = record { type = i.so.type; expressions = omega (arith, k0, se, q0, oe); variables = omega (arith, k1, sv, q1, ov) } })))
-  infer_ok g vars m scope n (GenericPar p x a y b c) t h le lv =
+      let has : HasForm g vars m (form_bound x z scope) b t = subst (λ z. HasForm g vars m (form_bound x z scope) b t) (sym e) h.3 in
+      let i = infer_ok g vars m st (form_bound x z scope) l b t has u (omega (arith, le, k0, se, q0)) (omega (arith, lv, k1, sv, q1)) in let oe = i.so.expressions in let ov = i.so.variables in
+      record { value = i.value; is = i.is; so = record { type = i.so.type; expressions = omega (arith, k0, se, q0, oe); variables = omega (arith, k1, sv, q1, ov) } }))))
+  infer_ok g vars m st scope n (GenericPar p x a y b c) t h u le lv =
       then_yields (one_more_yields n p (omega (arith, le))) (λ o k. let k0 = k.0 in let k1 = k.1 in
-      then_yields (infer_ok g vars m scope o a h.0 h.2 (omega (arith, le, k0)) (omega (arith, lv, k1))) (λ s ss. let se = ss.expressions in let sv = ss.variables in
-      then_yields (infer_ok g vars m scope s.1 b h.1 h.3 (omega (arith, le, k0, se)) (omega (arith, lv, k1, sv))) (λ u su. let ue = su.expressions in let uv = su.variables in
-      then_yields (new_variable_yields scope u.1 x h.4 (omega (arith, lv, k1, sv, uv))) (λ l q. let q0 = q.0 in let q1 = q.1 in
-      let new : IsNew (form_bound x s.0 scope) y = subst (λ z. IsNew (form_bound x z scope) y) (sym ss.type) h.5 in
-      then_yields (new_variable_yields (form_bound x s.0 scope) l y new (omega (arith, lv, k1, sv, uv, q1))) (λ j w. let w0 = w.0 in let w1 = w.1 in
-      let has : HasForm g vars m (form_bound y u.0 (form_bound x s.0 scope)) c t = subst (λ z. HasForm g vars m (form_bound y z (form_bound x s.0 scope)) c t) (sym su.type) (subst (λ z. HasForm g vars m (form_bound y h.1 (form_bound x z scope)) c t) (sym ss.type) h.6) in
-      let i = infer_ok g vars m (form_bound y u.0 (form_bound x s.0 scope)) j c t has (omega (arith, le, k0, se, ue, q0, w0)) (omega (arith, lv, k1, sv, uv, q1, w1)) in let oe = i.so.expressions in let ov = i.so.variables in
-      record { value = i.value; is = i.is; so = record { type = i.so.type; expressions = omega (arith, k0, se, ue, q0, w0, oe); variables = omega (arith, k1, sv, uv, q1, w1, ov) } })))))
-  infer_ok g vars m scope n (GenericIf p a b c) t h le lv =
+      then_yields (infer_ok g vars m NoTuple scope o a (One h.0) h.2 tt (omega (arith, le, k0)) (omega (arith, lv, k1))) (λ s ss. let se = ss.expressions in let sv = ss.variables in
+      then_yields (infer_ok g vars m NoTuple scope s.1 b (One h.1) h.3 tt (omega (arith, le, k0, se)) (omega (arith, lv, k1, sv))) (λ v sv'. let ue = sv'.expressions in let uv = sv'.variables in
+      then_yields (yields h.0 (single_ok s.0 (place a) h.0 ss.type)) (λ za ea.
+      then_yields (yields h.1 (single_ok v.0 (place b) h.1 sv'.type)) (λ zb eb.
+      then_yields (new_variable_yields scope v.1 x h.4 (omega (arith, lv, k1, sv, uv))) (λ l q. let q0 = q.0 in let q1 = q.1 in
+      let new : IsNew (form_bound x za scope) y = subst (λ z. IsNew (form_bound x z scope) y) (sym ea) h.5 in
+      then_yields (new_variable_yields (form_bound x za scope) l y new (omega (arith, lv, k1, sv, uv, q1))) (λ j w. let w0 = w.0 in let w1 = w.1 in
+      let has : HasForm g vars m (form_bound y zb (form_bound x za scope)) c t = subst (λ z. HasForm g vars m (form_bound y z (form_bound x za scope)) c t) (sym eb) (subst (λ z. HasForm g vars m (form_bound y h.1 (form_bound x z scope)) c t) (sym ea) h.6) in
+      let i = infer_ok g vars m st (form_bound y zb (form_bound x za scope)) j c t has u (omega (arith, le, k0, se, ue, q0, w0)) (omega (arith, lv, k1, sv, uv, q1, w1)) in let oe = i.so.expressions in let ov = i.so.variables in
+      record { value = i.value; is = i.is; so = record { type = i.so.type; expressions = omega (arith, k0, se, ue, q0, w0, oe); variables = omega (arith, k1, sv, uv, q1, w1, ov) } })))))))
+  infer_ok g vars m st scope n (GenericIf p a b c) t h u le lv =
       then_yields (one_more_yields n p (omega (arith, le))) (λ o k. let k0 = k.0 in let k1 = k.1 in
-      then_yields (infer_ok g vars m scope o a TruthForm h.0 (omega (arith, le, k0)) (omega (arith, lv, k1))) (λ x sx. let xe = sx.expressions in let xv = sx.variables in
-      then_yields (infer_ok g vars m scope x.1 b t h.1 (omega (arith, le, k0, xe)) (omega (arith, lv, k1, xv))) (λ y sy. let ye = sy.expressions in let yv = sy.variables in
-      then_yields (infer_ok g vars m scope y.1 c t h.2 (omega (arith, le, k0, xe, ye)) (omega (arith, lv, k1, xv, yv))) (λ z sz. let ze = sz.expressions in let zv = sz.variables in
-      then_yields (yields (tt {0}) (wanted_ok TruthForm (record { ty = x.0; place = place a }) sx.type)) (λ _ _.
+      then_yields (infer_ok g vars m NoTuple scope o a (One TruthForm) h.0 tt (omega (arith, le, k0)) (omega (arith, lv, k1))) (λ x sx. let xe = sx.expressions in let xv = sx.variables in
+      then_yields (infer_ok g vars m st scope x.1 b t h.1 u (omega (arith, le, k0, xe)) (omega (arith, lv, k1, xv))) (λ y sy. let ye = sy.expressions in let yv = sy.variables in
+      then_yields (infer_ok g vars m st scope y.1 c t h.2 u (omega (arith, le, k0, xe, ye)) (omega (arith, lv, k1, xv, yv))) (λ z sz. let ze = sz.expressions in let zv = sz.variables in
+      then_yields (yields (tt {0}) (wanted_ok (One TruthForm) (record { ty = x.0; place = place a }) sx.type)) (λ _ _.
       then_yields (yields (tt {0}) (wanted_ok y.0 (record { ty = z.0; place = place c }) (sz.type ∙ sym sy.type))) (λ _ _.
       yields_ok (y.0, z.1) (record { type = sy.type; expressions = omega (arith, k0, xe, ye, ze); variables = omega (arith, k1, xv, yv, zv) })))))))
-  infer_ok g vars m scope n (GenericCase p x arms) t h le lv =
+  infer_ok g vars m st scope n (GenericCase p x arms) t h u le lv =
       then_yields (one_more_yields n p (omega (arith, le))) (λ o k. let k0 = k.0 in let k1 = k.1 in
       then_yields (yields (DataForm h.0 h.1) (found_ok (form_in scope (number_of x)) kind.Unknown x.span (DataForm h.0 h.1) h.2)) (λ s q.
       then_yields (yields (h.0, h.1) (ap (λ z. declared_type z x) q)) (λ d w.
@@ -277,24 +334,52 @@ mutual
       then_yields (yields (tt {0}) (all_declared_ok g.rows (heads arms) (arms_declared g vars m scope d.0 d.1 arms t have))) (λ _ _.
       then_yields (yields (tt {0}) (ap (λ b. allowed b kind.Arms p (tt {0})) (covers_ok g.rows d.0 (head_names (heads arms)) covers'))) (λ _ _.
       then_yields (yields (tt {0}) (all_counted_ok g.rows (heads arms) (arms_counted g vars m scope d.0 d.1 arms t have))) (λ _ _.
-      then_yields (arms_ok g vars m d.0 d.1 scope o arms t have (omega (arith, le, k0)) (omega (arith, lv, k1))) (λ r i. let oe = i.expressions in let ov = i.variables in
+      then_yields (arms_ok g vars m st d.0 d.1 scope o arms t have u (omega (arith, le, k0)) (omega (arith, lv, k1))) (λ r i. let oe = i.expressions in let ov = i.variables in
       then_yields (yields (tt {0}) (ap (λ z. all_of z r.0) i.first ∙ all_of_ok t r.0 i.each)) (λ _ _.
       yields_ok (first_type r.0, r.1) (record { type = i.first; expressions = omega (arith, k0, oe); variables = omega (arith, k1, ov) })))))))))
+  infer_ok g vars m st scope n (GenericTuple p xs) t h u le lv =
+      then_yields (one_more_yields n p (omega (arith, le))) (λ o k. let k0 = k.0 in let k1 = k.1 in
+      then_yields (yields (tt {0}) (may_stand_ok st (argument_count xs) p h.0 (subst (MayGive st) h.1 u) (have_long g vars m scope xs h.0 h.2))) (λ _ _.
+      then_yields (all_ok g vars m scope o xs h.0 h.2 (omega (arith, le, k0)) (omega (arith, lv, k1))) (λ r s. let se = s.expressions in let sv = s.variables in
+      then_yields (yields h.0 (all_single_ok r.0 h.0 s.types)) (λ ts q.
+      yields_ok (Several ts, r.1) (record { type = ap Several q ∙ sym h.1; expressions = omega (arith, k0, se); variables = omega (arith, k1, sv) })))))
+  infer_ok g vars m st scope n (GenericLetSeveral p xs a b) t h u le lv =
+      let many = binds_long scope xs h.0 h.1 h.4 in
+      then_yields (one_more_yields n p (omega (arith, le))) (λ o k. let k0 = k.0 in let k1 = k.1 in
+      then_yields (infer_ok g vars m (standing_for xs) scope o a (as_results h.0) h.3 (may_bind xs h.0 many) (omega (arith, le, k0)) (omega (arith, lv, k1))) (λ s ss. let se = ss.expressions in let sv = ss.variables in
+      then_yields (yields h.0 (types_bound_ok xs (record { ty = s.0; place = place a }) h.0 h.2.0 many ss.type)) (λ ts e.
+      then_yields (bind_parts_yields 0 scope s.1 xs ts h.1 (subst (λ z. BindsForms scope xs z h.1) (sym e) h.4) (let l = h.2.1 in omega (arith, l)) (omega (arith, lv, k1, sv))) (λ inner q. let q0 = q.expressions in let q1 = q.variables in
+      let has : HasForm g vars m inner.0 b t = subst (λ z. HasForm g vars m z b t) (sym q.scope) h.5 in
+      let i = infer_ok g vars m st inner.0 inner.1 b t has u (omega (arith, le, k0, se, q0)) (omega (arith, lv, k1, sv, q1)) in let oe = i.so.expressions in let ov = i.so.variables in
+      record { value = i.value; is = i.is; so = record { type = i.so.type; expressions = omega (arith, k0, se, q0, oe); variables = omega (arith, k1, sv, q1, ov) } }))))
+  infer_ok g vars m st scope n (GenericParSeveral p xs a ys b c) t h u le lv =
+      let many = binds_long scope xs h.0 h.2 h.8 in let others = binds_long h.2 ys h.1 h.3 h.9 in
+      then_yields (one_more_yields n p (omega (arith, le))) (λ o k. let k0 = k.0 in let k1 = k.1 in
+      then_yields (infer_ok g vars m (standing_for xs) scope o a (as_results h.0) h.6 (may_bind xs h.0 many) (omega (arith, le, k0)) (omega (arith, lv, k1))) (λ s ss. let se = ss.expressions in let sv = ss.variables in
+      then_yields (infer_ok g vars m (standing_for ys) scope s.1 b (as_results h.1) h.7 (may_bind ys h.1 others) (omega (arith, le, k0, se)) (omega (arith, lv, k1, sv))) (λ v vv. let ve = vv.expressions in let vv' = vv.variables in
+      then_yields (yields h.0 (types_bound_ok xs (record { ty = s.0; place = place a }) h.0 h.4.0 many ss.type)) (λ ts e.
+      then_yields (yields h.1 (types_bound_ok ys (record { ty = v.0; place = place b }) h.1 h.5.0 others vv.type)) (λ us f.
+      then_yields (bind_parts_yields 0 scope v.1 xs ts h.2 (subst (λ z. BindsForms scope xs z h.2) (sym e) h.8) (let l = h.4.1 in omega (arith, l)) (omega (arith, lv, k1, sv, vv'))) (λ middle q. let q0 = q.expressions in let q1 = q.variables in
+      let binds : BindsForms middle.0 ys us h.3 = subst (λ z. BindsForms z ys us h.3) (sym q.scope) (subst (λ z. BindsForms h.2 ys z h.3) (sym f) h.9) in
+      then_yields (bind_parts_yields 0 middle.0 middle.1 ys us h.3 binds (let l = h.5.1 in omega (arith, l)) (omega (arith, lv, k1, sv, vv', q1))) (λ inner w. let w0 = w.expressions in let w1 = w.variables in
+      let has : HasForm g vars m inner.0 c t = subst (λ z. HasForm g vars m z c t) (sym w.scope) h.10 in
+      let i = infer_ok g vars m st inner.0 inner.1 c t has u (omega (arith, le, k0, se, ve, q0, w0)) (omega (arith, lv, k1, sv, vv', q1, w1)) in let oe = i.so.expressions in let ov = i.so.variables in
+      record { value = i.value; is = i.is; so = record { type = i.so.type; expressions = omega (arith, k0, se, ve, q0, w0, oe); variables = omega (arith, k1, sv, vv', q1, w1, ov) } })))))))
 
   pub all_ok : (g : GenericGlobals) (vars : List ℕ) (m : Meant) (scope : FormScope) (n : Counts) (xs : GenericArguments) (ts : List Form) → HaveForms g vars m scope xs ts → n.expressions + all_generic_expressions xs ≤ 2000 → n.variables + all_generic_bindings xs ≤ 200 → Yields (infer_all g vars m scope n xs) (AllTold n ts (all_generic_expressions xs) (all_generic_bindings xs))
   all_ok g vars m scope n GenericNoArgument [] h le lv = yields_ok ([], n) (record { types = tt; expressions = omega arith; variables = omega arith })
   all_ok g vars m scope n GenericNoArgument (t ∷ ts) h le lv = absurd h
   all_ok g vars m scope n (GenericArgument a xs) [] h le lv = absurd h
   all_ok g vars m scope n (GenericArgument a xs) (t ∷ ts) h le lv =
-      then_yields (infer_ok g vars m scope n a t h.0 (omega (arith, le)) (omega (arith, lv))) (λ x sx. let xe = sx.expressions in let xv = sx.variables in
+      then_yields (infer_ok g vars m NoTuple scope n a (One t) h.0 tt (omega (arith, le)) (omega (arith, lv))) (λ x sx. let xe = sx.expressions in let xv = sx.variables in
       then_yields (all_ok g vars m scope x.1 xs ts h.1 (omega (arith, le, xe)) (omega (arith, lv, xv))) (λ r s. let se = s.expressions in let sv = s.variables in
       yields_ok (record { ty = x.0; place = place a } ∷ r.0, r.1) (record { types = (sx.type, s.types); expressions = omega (arith, xe, se); variables = omega (arith, xv, sv) })))
 
-  pub arms_ok : (g : GenericGlobals) (vars : List ℕ) (m : Meant) (t : ℕ) (ts : Forms) (scope : FormScope) (n : Counts) (arms : GenericArms) (ty : Form) → ArmsHaveForm g vars m scope t ts arms ty → n.expressions + arm_generic_expressions arms ≤ 2000 → n.variables + arm_generic_bindings arms ≤ 200 → Yields (infer_arms g vars m ts scope n arms) (ArmsTold n ty (arm_generic_expressions arms) (arm_generic_bindings arms))
-  arms_ok g vars m t ts scope n (GenericLastArm k xs e) ty h le lv =
-      then_yields (arm_ok g vars m scope t ts n k xs e ty h (λ o within q a b. infer_ok g vars m within o e ty (subst (λ z. HasForm g vars m z e ty) (sym q) h.7) a b) le lv) (λ x sx.
+  pub arms_ok : (g : GenericGlobals) (vars : List ℕ) (m : Meant) (st : Standing) (t : ℕ) (ts : Forms) (scope : FormScope) (n : Counts) (arms : GenericArms) (ty : Results Form) → ArmsHaveForm g vars m scope t ts arms ty → MayGive st ty → n.expressions + arm_generic_expressions arms ≤ 2000 → n.variables + arm_generic_bindings arms ≤ 200 → Yields (infer_arms g vars m st ts scope n arms) (ArmsTold n ty (arm_generic_expressions arms) (arm_generic_bindings arms))
+  arms_ok g vars m st t ts scope n (GenericLastArm k xs e) ty h u le lv =
+      then_yields (arm_ok g vars m st scope t ts n k xs e ty h (λ o within q a b. infer_ok g vars m st within o e ty (subst (λ z. HasForm g vars m z e ty) (sym q) h.7) u a b) le lv) (λ x sx.
       yields_ok (record { ty = x.0; place = place e } ∷ [], x.1) (record { each = (sx.type, tt); first = sx.type; expressions = sx.expressions; variables = sx.variables }))
-  arms_ok g vars m t ts scope n (GenericNextArm k xs e arms) ty h le lv =
-      then_yields (arm_ok g vars m scope t ts n k xs e ty h.0 (λ o within q a b. infer_ok g vars m within o e ty (subst (λ z. HasForm g vars m z e ty) (sym q) h.0.7) a b) (omega (arith, le)) (omega (arith, lv))) (λ x sx. let xe = sx.expressions in let xv = sx.variables in
-      then_yields (arms_ok g vars m t ts scope x.1 arms ty h.1 (omega (arith, le, xe)) (omega (arith, lv, xv))) (λ r s. let se = s.expressions in let sv = s.variables in
+  arms_ok g vars m st t ts scope n (GenericNextArm k xs e arms) ty h u le lv =
+      then_yields (arm_ok g vars m st scope t ts n k xs e ty h.0 (λ o within q a b. infer_ok g vars m st within o e ty (subst (λ z. HasForm g vars m z e ty) (sym q) h.0.7) u a b) (omega (arith, le)) (omega (arith, lv))) (λ x sx. let xe = sx.expressions in let xv = sx.variables in
+      then_yields (arms_ok g vars m st t ts scope x.1 arms ty h.1 u (omega (arith, le, xe)) (omega (arith, lv, xv))) (λ r s. let se = s.expressions in let sv = s.variables in
       yields_ok (record { ty = x.0; place = place e } ∷ r.0, r.1) (record { each = (sx.type, s.each); first = sx.type; expressions = omega (arith, xe, se); variables = omega (arith, xv, sv) })))

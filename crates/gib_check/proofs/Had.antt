@@ -1,12 +1,14 @@
 -- The type that an expression has comes from where it is said to come from.
-use Rattle.std.proofs.Common.{◌≡◌, Bool, true, false, cond, eqb, List, [], ◌∷◌, Option, Some, None, refl, sym, ap, ◌∙◌, subst}
+use Rattle.std.proofs.Common.{◌≡◌, Bool, true, false, cond, eqb, List, [], ◌∷◌, map, Option, Some, None, refl, sym, ap, ◌∙◌, subst}
 use Rattle.std.proofs.lemmas.Bool.{eqb-true}
 use Rattle.gib_types.specs.declared.table.Ty.{Ty}
-use Rattle.gib_types.specs.Table.{Table, fields_at}
+use Rattle.gib_types.specs.declared.table.Ty.TheVariants.{Whole, Truth, Tree}
+use Rattle.gib_types.specs.Table.{Table, owner_at, fields_at}
 use Rattle.gib_syntax.specs.declared.tree.Ident.{Ident}
-use Rattle.gib_syntax.specs.Tree.{Expression, Arms, Var, Num, Bit, Paren, Op, Call, Make, Let, Par, If, Case, LastArm, NextArm, FunctionTree}
-use Rattle.gib_syntax.specs.Declarations.{number_of, function_named}
-use Rattle.gib_syntax.specs.Typing.{Globals, Scope, type_in, IsNew, bound, BindsAll, result_type, Has, HaveArms}
+use Rattle.gib_syntax.specs.Tree.{Expression, Arms, Var, Num, Bit, Paren, Op, Call, Make, Let, Par, If, Case, Tuple, LetSeveral, ParSeveral, LastArm, NextArm, FunctionTree}
+use Rattle.gib_syntax.specs.Results.{One, Several}
+use Rattle.gib_syntax.specs.Declarations.{number_of, type_of_name, function_named}
+use Rattle.gib_syntax.specs.Typing.{Globals, Scope, type_in, IsNew, bound, BindsAll, names_of, types_of, operator_type, one_type, result_types, Has, HaveArms}
 use Rattle.gib_check.specs.declared.origin.TypeOrigin.{TypeOrigin}
 use Rattle.gib_check.specs.declared.origin.TypeOrigin.TheVariants.{Fixed, Variable}
 use Rattle.gib_check.specs.Origins.{fields_if}
@@ -37,19 +39,25 @@ from_arm scope inner [] (u ∷ ts) t o b e = elim b [ ]
 from_arm scope inner (x ∷ xs) [] t o b e = elim b [ ]
 from_arm scope inner (x ∷ xs) (u ∷ ts) t o b e = from_let scope x u t (Fixed u) (outside_arm xs ts o) refl (from_arm (bound x u scope) inner xs ts t o b.1 e)
 
-result_is : (table : Table) (p : Option FunctionTree) (h : FunctionTree) → p ≡ Some h → result_if table p ≡ result_type table h
-result_is table p h e = ap (λ z. result_if table z) e
+result_is : (table : Table) (p : Option FunctionTree) (h : FunctionTree) (t : Ty) → p ≡ Some h → One t ≡ result_types table h → result_if table p ≡ t
+result_is table p h t e q = ap (λ z. result_if table z) e ∙ sym (ap one_type q)
+
+one_is : (t u : Ty) → One t ≡ One u → t ≡ u
+one_is t u e = ap one_type e
+
+no_parts : (t : Ty) (ts : List Ty) → One t ≡ Several ts → ⊥
+no_parts t ts e = cc
 
 mutual
-  -- The type of an expression comes from there.
-  pub had_from : (g : Globals) (scope : Scope) (e : Expression) (t : Ty) → Has g scope e t → type_from scope (origin g e) ≡ Some t
-  had_from g scope (Var x) t h = h
-  had_from g scope (Num p n) t h = ap Some (sym h)
-  had_from g scope (Bit p b) t h = ap Some (sym h)
+  -- The type of an expression that gives one thing comes from there.
+  pub had_from : (g : Globals) (scope : Scope) (e : Expression) (t : Ty) → Has g scope e (One t) → type_from scope (origin g e) ≡ Some t
+  had_from g scope (Var x) t h = h.2 ∙ ap Some (sym (one_is t h.0 h.1))
+  had_from g scope (Num p n) t h = ap Some (sym (one_is t Whole h))
+  had_from g scope (Bit p b) t h = ap Some (sym (one_is t Truth h))
   had_from g scope (Paren p e) t h = had_from g scope e t h
-  had_from g scope (Op p f a b) t h = ap Some (sym h.0)
-  had_from g scope (Call f xs) t h = ap Some (result_is g.table (function_named g.functions (number_of f)) h.0 h.1 ∙ sym h.2)
-  had_from g scope (Make k xs) t h = ap Some (ap (λ z. made_type g.table z) h.1 ∙ sym h.2)
+  had_from g scope (Op p f a b) t h = ap Some (sym (one_is t (operator_type f) h.0))
+  had_from g scope (Call f xs) t h = ap Some (result_is g.table (function_named g.functions (number_of f)) h.0 t h.1 h.2)
+  had_from g scope (Make k xs) t h = ap Some (ap (λ z. made_type g.table z) h.1 ∙ sym (one_is t (Tree (record { 0 = owner_at g.table h.0 })) h.2))
   had_from g scope (Let p x a b) t h = from_let scope x h.0 t (origin g a) (origin g b) (had_from g scope a h.0 h.1) (had_from g (bound x h.0 scope) b t h.3)
   had_from g scope (Par p x a y b c) t h =
       from_let scope x h.0 t (origin g a) (outside y (origin g b) (origin g c)) (had_from g scope a h.0 h.2)
@@ -57,8 +65,13 @@ mutual
       (had_from g (bound y h.1 (bound x h.0 scope)) c t h.6))
   had_from g scope (If p a b c) t h = had_from g scope b t h.1
   had_from g scope (Case p x arms) t h = had_first g scope arms t h.3
+  had_from g scope (Tuple p as' xs) t h = absurd (no_parts t (map (type_of_name g.table.types) as') h.0)
+  had_from g scope (LetSeveral p qs a b) t h = from_arm scope h.0 (names_of qs) (types_of g.table.types qs) t (origin g b) h.3 (had_from g h.0 b t h.4)
+  had_from g scope (ParSeveral p qs a rs b c) t h =
+      from_arm scope h.0 (names_of qs) (types_of g.table.types qs) t (outside_arm (names_of rs) (types_of g.table.types rs) (origin g c)) h.6
+      (from_arm h.0 h.1 (names_of rs) (types_of g.table.types rs) t (origin g c) h.7 (had_from g h.1 c t h.8))
 
-  had_first : (g : Globals) (scope : Scope) (arms : Arms) (t : Ty) → HaveArms g scope arms t → type_from scope (origin_first g arms) ≡ Some t
+  had_first : (g : Globals) (scope : Scope) (arms : Arms) (t : Ty) → HaveArms g scope arms (One t) → type_from scope (origin_first g arms) ≡ Some t
   had_first g scope (LastArm k xs e) t h =
       subst (λ z. type_from scope (outside_arm xs z (origin g e)) ≡ Some t) (sym (ap (λ z. fields_if g.table z) h.2))
       (from_arm scope h.1 xs (fields_at g.table h.0) t (origin g e) h.3 (had_from g h.1 e t h.4))

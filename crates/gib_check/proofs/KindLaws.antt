@@ -1,21 +1,26 @@
 -- Where the rules are broken.
-use Rattle.std.proofs.Common.{◌≡◌, ℕ, ◌≤◌, Bool, true, false, ltb, eqb, List, Option, Some, None, Ok, Err, refl, sym, ap, ◌∙◌, subst, arith}
+use Rattle.std.proofs.Common.{◌≡◌, ℕ, ◌+◌, ◌≤◌, Bool, true, false, ltb, eqb, List, ◌∷◌, Option, Some, None, Ok, Err, refl, sym, ap, ◌∙◌, subst, arith}
 use Rattle.std.specs.Prelude.{is_none, is_some}
 use Rattle.std.proofs.lemmas.Bool.{ltb-true, ltb-false, eqb-true, eqb-false}
 use Rattle.gib_base.specs.declared.Span.{Span}
 use Rattle.gib_types.specs.Form.{Form, Forms, WholeForm, TruthForm, VariableForm, DataForm}
-use Rattle.gib_syntax.specs.GenericTree.{GenericRow}
+use Rattle.gib_syntax.specs.Results.{Results, One, Several}
+use Rattle.gib_syntax.specs.Forms.{WrittenType, written_place}
+use Rattle.gib_syntax.specs.Declarations.{number_of}
+use Rattle.gib_syntax.specs.GenericTree.{GenericDataTree, GenericRow}
 use Rattle.gib_syntax.specs.declared.tree.Ident.{Ident}
-use Rattle.gib_syntax.specs.GenericTyping.{CoversType}
+use Rattle.gib_syntax.specs.GenericTyping.{FormScope, form_in, CoversType}
 use Rattle.gib_check.specs.declared.fault.Fault.{Fault}
 use Rattle.gib_check.specs.declared.fault.Kind.{Kind}
 use Rattle.gib_check.specs.declared.fault.Kind.TheVariants as kind
-use Rattle.gib_check.specs.Faults.{Checked, allowed, found, FormPart, wanted, declared_type, covers, covered}
-use Rattle.gib_types.specs.SameForm.{same_form}
+use Rattle.gib_check.specs.Faults.{Checked, and_then, allowed, found, FormPart, same_results, wanted, single_at, single, may_stand, counted, part_variable, known, declared_type, covers, covered}
+use Rattle.gib_check.specs.FirstFault.{check_parts}
+use Rattle.gib_check.specs.declared.counts.Counts.{Counts}
+use Rattle.gib_check.specs.declared.standing.Standing.{Standing}
+use Rattle.gib_check.specs.declared.standing.Standing.TheVariants.{NoTuple}
 use Rattle.gib_check.specs.Kinds.{fault, IsBrokenWhere}
-use Rattle.gib_check.proofs.Steps.{covers_is}
-use Rattle.gib_types.proofs.SameForms.{same_form_is, same_form_own}
-use Rattle.gib_check.proofs.Complete.{covers_ok}
+use Rattle.gib_check.proofs.Steps.{same_results_is, covers_is}
+use Rattle.gib_check.proofs.Complete.{same_results_own, covers_ok}
 
 abbrev given : {A : Type 0} → A → Checked A
 given x = Ok x
@@ -60,11 +65,41 @@ is_data TruthForm = false
 is_data (VariableForm v) = false
 is_data (DataForm t ts) = true
 
-pub wanted_broken : (due : Form) (part : FormPart) → IsBrokenWhere (wanted due part) (part.ty ≡ due → ⊥) (fault kind.Shape part.place)
+not_less : (n m : ℕ) → m ≤ n → ltb n m ≡ false
+not_less n m l = go (ltb n m) refl where
+  go : (b : Bool) → ltb n m ≡ b → b ≡ false
+  go true e = absurd (let k = ltb-true n m e in omega (arith, k, l))
+  go false e = refl
+
+pub wanted_broken : (due : Results Form) (part : FormPart) → IsBrokenWhere (wanted due part) (part.ty ≡ due → ⊥) (fault kind.Shape part.place)
 wanted_broken due part =
-    allowed_broken (same_form part.ty due) kind.Shape part.place (tt {0}) (part.ty ≡ due → ⊥)
-    (λ e p. p (same_form_is part.ty due e))
-    (λ e same. true_false (same_form part.ty due) (subst (λ z. same_form part.ty z ≡ true) same (same_form_own part.ty)) e)
+    allowed_broken (same_results part.ty due) kind.Shape part.place (tt {0}) (part.ty ≡ due → ⊥)
+    (λ e p. p (same_results_is part.ty due e))
+    (λ e same. true_false (same_results part.ty due) (subst (λ z. same_results part.ty z ≡ true) same (same_results_own part.ty)) e)
+
+single_at_broken : (r : Results Form) (at : Span) → IsBrokenWhere (single_at r at) ((ts : List Form) × (r ≡ Several ts)) (fault kind.Shape at)
+single_at_broken (One t) at = record { broken = λ p. absurd (clash p.0 p.1); only = λ g e. absurd (over g e) } where
+  clash : (ts : List Form) → One t ≡ Several ts → ⊥
+  clash ts e = cc
+
+  over : (g : Fault) → given t ≡ refused g → ⊥
+  over g e = cc
+single_at_broken (Several ts) at = record { broken = λ p. refl; only = λ g e. ((ts, refl), sym (same_fault {A = Form} (fault kind.Shape at) g e)) }
+
+pub single_broken : (part : FormPart) → IsBrokenWhere (single part) ((ts : List Form) × (part.ty ≡ Several ts)) (fault kind.Shape part.place)
+single_broken part = single_at_broken part.ty part.place
+
+pub none_stands : (st : Standing) (n : ℕ) (at : Span) → st ≡ NoTuple → may_stand st n at ≡ Err (fault kind.Shape at)
+none_stands st n at e = ap (λ z. may_stand z n at) e
+
+pub ninth_variable : (i : ℕ) (scope : FormScope) (n : Counts) (x : Ident) → form_in scope (number_of x) ≡ None → 8 ≤ i → part_variable i scope n x ≡ Err (fault kind.Limit x.span)
+ninth_variable i scope n x e l =
+    ap (λ (o : Option Form). and_then (allowed (is_none o) kind.Twice x.span (tt {0})) (λ _. and_then (allowed (ltb i 8) kind.Limit x.span (tt {0})) (λ _. counted n x))) e
+    ∙ ap (λ b. and_then (allowed b kind.Limit x.span (tt {0})) (λ _. counted n x)) (not_less i 8 l)
+
+pub ninth_part : (datas : List GenericDataTree) (vars : List ℕ) (i : ℕ) (w : WrittenType) (ws : List WrittenType) → 8 ≤ i → check_parts datas vars i (w ∷ ws) ≡ Err (fault kind.Limit (written_place w))
+ninth_part datas vars i w ws l =
+    ap (λ b. and_then (allowed b kind.Limit (written_place w) (tt {0})) (λ _. and_then (known datas vars w) (λ _. check_parts datas vars (i + 1) ws))) (not_less i 8 l)
 
 no_data : (t : Form) (i : ℕ) (ts : Forms) → (is_data t ≡ false) → t ≡ DataForm i ts → ⊥
 no_data t i ts e q = true_false (is_data t) (ap is_data q) e

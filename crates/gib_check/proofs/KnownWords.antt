@@ -1,5 +1,5 @@
 -- The names of written types, word by word.
-use Rattle.std.proofs.Common.{◌≡◌, ℕ, List, [], ◌∷◌, ◌++◌, length, Ok, Err, refl, sym, ap, ◌∙◌}
+use Rattle.std.proofs.Common.{◌≡◌, ℕ, List, [], ◌∷◌, ◌++◌, length, Ok, Err, refl, sym, ap, ◌∙◌, append_assoc, append-nil}
 use Rattle.gib_syntax.specs.declared.written.Word.{Word}
 use Rattle.gib_syntax.specs.Declarations.{number_of}
 use Rattle.gib_syntax.specs.Forms.{WrittenType, WrittenTypes, WholeAt, TruthAt, VariableAt, DataAt, NoType, MoreTypes, count_written}
@@ -23,14 +23,6 @@ unit_then : (c : Checked (Unit {0})) → and_then c (λ _. Ok (tt {0})) ≡ c
 unit_then (Ok u) = refl
 unit_then (Err e) = refl
 
-append_append : (xs ys zs : List Word) → (xs ++ ys) ++ zs ≡ xs ++ (ys ++ zs)
-append_append [] ys zs = refl
-append_append (x ∷ xs) ys zs = ap (λ l. x ∷ l) (append_append xs ys zs)
-
-append_nil : (xs : List Word) → xs ++ [] ≡ xs
-append_nil [] = refl
-append_nil (x ∷ xs) = ap (λ l. x ∷ l) (append_nil xs)
-
 mutual
   one_known : (datas : List GenericDataTree) (vars : List ℕ) (x : WrittenType) (rest : List Word) → known_words datas vars (words_of x ++ rest) ≡ and_then (known datas vars x) (λ _. known_words datas vars rest)
   one_known datas vars (WholeAt p) rest = refl
@@ -48,7 +40,7 @@ mutual
   some_known : (datas : List GenericDataTree) (vars : List ℕ) (xs : WrittenTypes) (rest : List Word) → known_words datas vars (words_in xs ++ rest) ≡ and_then (all_known datas vars xs) (λ _. known_words datas vars rest)
   some_known datas vars NoType rest = refl
   some_known datas vars (MoreTypes x xs) rest =
-      ap (known_words datas vars) (append_append (words_of x) (words_in xs) rest)
+      ap (known_words datas vars) (append_assoc (words_of x) (words_in xs) rest)
       ∙ one_known datas vars x (words_in xs ++ rest)
       ∙ then_same (known datas vars x) (λ _. known_words datas vars (words_in xs ++ rest)) (λ _. and_then (all_known datas vars xs) (λ _. known_words datas vars rest)) (λ _. some_known datas vars xs rest)
       ∙ sym (then_then (known datas vars x) (λ _. all_known datas vars xs) (λ _. known_words datas vars rest))
@@ -56,11 +48,11 @@ mutual
 -- The words of one type, and of several.
 pub type_known : (datas : List GenericDataTree) (vars : List ℕ) (words : List Word) (x : WrittenType) → words ≡ words_of x → known_words datas vars words ≡ known datas vars (first_type (stack_of words))
 type_known datas vars words x e =
-    ap (known_words datas vars) (e ∙ sym (append_nil (words_of x))) ∙ one_known datas vars x [] ∙ unit_then (known datas vars x) ∙ ap (known datas vars) (sym (ap (λ ws. first_type (stack_of ws)) e ∙ read_one x))
+    ap (known_words datas vars) (e ∙ sym (append-nil (words_of x))) ∙ one_known datas vars x [] ∙ unit_then (known datas vars x) ∙ ap (known datas vars) (sym (ap (λ ws. first_type (stack_of ws)) e ∙ read_one x))
 
 pub types_known : (datas : List GenericDataTree) (vars : List ℕ) (words : List Word) (xs : WrittenTypes) → words ≡ words_in xs → known_words datas vars words ≡ all_known datas vars (all_types (stack_of words))
 types_known datas vars words xs e =
-    ap (known_words datas vars) (e ∙ sym (append_nil (words_in xs))) ∙ some_known datas vars xs [] ∙ unit_then (all_known datas vars xs) ∙ ap (all_known datas vars) (sym (ap (λ ws. all_types (stack_of ws)) e ∙ read_all xs))
+    ap (known_words datas vars) (e ∙ sym (append-nil (words_in xs))) ∙ some_known datas vars xs [] ∙ unit_then (all_known datas vars xs) ∙ ap (all_known datas vars) (sym (ap (λ ws. all_types (stack_of ws)) e ∙ read_all xs))
 
 pub each_known : (datas : List GenericDataTree) (vars : List ℕ) (st : List WrittenType) → all_known datas vars (all_types st) ≡ check_types datas vars st
 each_known datas vars [] = refl

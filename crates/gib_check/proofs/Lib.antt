@@ -25,6 +25,7 @@ mod RowLists
 pub mod RowRules
 mod SameNumber
 pub mod Sound
+mod Singles
 mod Stacks
 mod States
 pub mod Steps

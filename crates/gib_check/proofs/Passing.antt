@@ -1,9 +1,12 @@
 -- Where a type comes from, seen from outside of an arm.
-use Rattle.std.proofs.Common.{◌≡◌, ℕ, zero, suc, ◌+◌, ◌-◌, ◌<◌, ◌≤◌, List, [], ◌∷◌, drop, length, get_or, refl, sym, ap, ◌∙◌, subst, arith, ◌⊎◌, inl, inr}
-use Rattle.std.proofs.lemmas.List.{drop_more}
+use Rattle.std.proofs.Common.{◌≡◌, ℕ, zero, suc, ◌+◌, ◌-◌, ◌<◌, ◌≤◌, List, [], ◌∷◌, drop, length, get_or, refl, sym, ap, ap₂, ◌∙◌, subst, arith, ◌⊎◌, inl, inr}
+use Rattle.std.proofs.lemmas.List.{drop_more, get_or-map, length-map}
 use Rattle.std.proofs.Math.Seq.{drop-length}
 use Rattle.gib_types.specs.declared.table.Ty.{Ty}
 use Rattle.gib_syntax.specs.declared.tree.Ident.{Ident}
+use Rattle.gib_syntax.specs.declared.tree.Parameter.{Parameter}
+use Rattle.gib_syntax.specs.Declarations.{type_of_name}
+use Rattle.gib_syntax.specs.Typing.{names_of, types_of}
 use Rattle.gib_check.specs.declared.origin.TypeOrigin.{TypeOrigin}
 use Rattle.gib_check.specs.declared.origin.TypeOrigin.TheVariants.{Fixed}
 use Rattle.gib_check.specs.Origins.{outside, outside_arm}
@@ -25,3 +28,16 @@ passed_more xs ts o here (suc n) x t gt lx lt h = subst (λ m. outside (get_or x
     (sym (
     (λ i. outside_arm (drop_more xs n x (omega (arith, lx)) i) (drop_more ts n t (omega (arith, lt)) i) o)
     ∙ ap (λ z. outside (get_or xs n x) (Fixed (get_or ts n t)) z) ((let e : n + 1 ≡ suc n = omega arith in ap (λ m. outside_arm (drop m xs) (drop m ts) o) e) ∙ sym h)))
+
+-- So for the variables of a binding of parts, with their types.
+pub parts_none : (types : List ℕ) (qs : List Parameter) (o : TypeOrigin) (n : ℕ) → n ≡ length qs → o ≡ outside_arm (drop n (names_of qs)) (drop n (types_of types qs)) o
+parts_none types qs o n e = passed_none (names_of qs) (types_of types qs) o n (inl (e ∙ sym (length-map qs (λ (q : Parameter). q.name))))
+
+pub parts_more : (types : List ℕ) (qs : List Parameter) (o here : TypeOrigin) (n : ℕ) (q : Parameter) → 0 < n → n ≤ length qs → here ≡ outside_arm (drop n (names_of qs)) (drop n (types_of types qs)) o → outside (get_or qs (n - 1) q).name (Fixed (type_of_name types (get_or qs (n - 1) q).ty)) here ≡ outside_arm (drop (n - 1) (names_of qs)) (drop (n - 1) (types_of types qs)) o
+parts_more types qs o here n q gt l h =
+    let names = length-map qs (λ (q : Parameter). q.name) in
+    let many = length-map qs (λ (q : Parameter). type_of_name types q.ty) in
+    ap₂ (λ (x : Ident) (t : Ty). outside x (Fixed t) here)
+    (sym (get_or-map (λ (q : Parameter). q.name) qs (n - 1) q q.name (omega (arith, gt, l))))
+    (sym (get_or-map (λ (q : Parameter). type_of_name types q.ty) qs (n - 1) q (type_of_name types q.ty) (omega (arith, gt, l))))
+    ∙ passed_more (names_of qs) (types_of types qs) o here n q.name (type_of_name types q.ty) gt (omega (arith, l, names)) (omega (arith, l, many)) h

@@ -6,18 +6,19 @@ use Rattle.std.specs.Prelude.{is_none, slice_get}
 use Rattle.std.specs.List.{AllByRecursion}
 use Rattle.gib_syntax.specs.declared.tree.Ident.{Ident}
 use Rattle.gib_syntax.specs.Declarations.{number_of, place_of, AreDifferent}
+use Rattle.gib_syntax.specs.Results.{Results, One, Several, map_results}
 use Rattle.gib_types.specs.Form.{Form}
 use Rattle.gib_syntax.specs.Forms.{WrittenType, written_place, formed}
 use Rattle.gib_syntax.specs.GenericTree.{GenericExpression, GenericConstructorTree, GenericDataTree, GenericParameterTree, GenericFunctionTree, GenericProgramTree, GenericRow, row_of, rows_of, GenericGlobals, globals_of_generic}
-use Rattle.gib_syntax.specs.GenericTyping.{FormScope, form_in, form_bound, BindsForms, IsKnownType, HasForm, generic_expressions, generic_bindings, variable_numbers, opaque, AreTypeVariables, HasKnownForm, IsTypedGenericFunction, IsTypedGenericHere, HasKnownGenericFields, IsKnownData, IsTypedGeneric}
+use Rattle.gib_syntax.specs.GenericTyping.{FormScope, form_in, form_bound, BindsForms, IsKnownType, HasForm, generic_expressions, generic_bindings, variable_numbers, opaque, AreTypeVariables, HasKnownForm, AreKnownResults, IsTypedGenericFunction, IsTypedGenericHere, HasKnownGenericFields, IsKnownData, IsTypedGeneric}
 use Rattle.gib_check.specs.declared.fault.Fault.{Fault}
 use Rattle.gib_check.specs.declared.fault.Kind.TheVariants as kind
 use Rattle.gib_check.specs.declared.fault.TypeFault.{TypeFault}
 use Rattle.gib_check.specs.declared.fault.TypeFault.TheVariants as t
 use Rattle.gib_check.specs.Answers.{IsFaultOf}
 use Rattle.gib_check.specs.Refusals.{IsFirst, IsMemory, IsMemoryOr}
-use Rattle.gib_check.specs.Faults.{Checked, and_then, allowed, known, place}
-use Rattle.gib_check.specs.FirstFault.{new_name, fewer, check_variables, no_ninth, few_fields, check_constructors, check_datas, check_types, check_constructor_fields, check_fields, check_parameters, check_head, check_heads, with_parameters, parameters_met, check_body, check_bodies, check_declarations, check_program, fault_in, first_fault}
+use Rattle.gib_check.specs.Faults.{Checked, and_then, allowed, known, standing_of, MayGive, place}
+use Rattle.gib_check.specs.FirstFault.{new_name, fewer, check_variables, no_ninth, few_fields, check_constructors, check_datas, check_types, check_constructor_fields, check_fields, check_parameters, check_parts, check_results, check_head, check_heads, with_parameters, parameters_met, check_body, check_bodies, check_declarations, check_program, fault_in, first_fault}
 use Rattle.gib_check.proofs.Different.{different_push, new_of, snoc, none_short, short_none, none_push, none_front, none_in}
 use Rattle.gib_check.proofs.Steps.{Holds, holds_ok, holds_err, then_holds, allowed_holds, known_holds, wanted_holds}
 use Rattle.gib_check.proofs.Sound.{infer_sound}
@@ -363,16 +364,44 @@ scope_is : (scope inner : FormScope) (qs : List GenericParameterTree) → BindsF
 scope_is scope inner [] b = b
 scope_is scope inner (q ∷ qs) b = scope_is (form_bound q.name (parameter_form q) scope) inner qs b.1
 
+-- What a function gives.
+pub record TypesHold (datas : List GenericDataTree) (vars : List ℕ) (i : ℕ) (ws : List WrittenType) : Type 0 where
+  pub known : AllByRecursion (IsKnownType datas vars) ws
+  pub few : i ≤ 8 → i + length ws ≤ 8
+
+parts_hold : (datas : List GenericDataTree) (vars : List ℕ) (i : ℕ) (ws : List WrittenType) → Holds (check_parts datas vars i ws) (λ _. TypesHold datas vars i ws)
+parts_hold datas vars i [] = holds_ok (tt {0}) (record { known = tt; few = λ h. omega (arith, h) })
+parts_hold datas vars i (w ∷ ws) =
+    then_holds (allowed_holds (ltb i 8) kind.Limit (written_place w) (tt {0})) (λ _ p. then_holds (known_holds datas vars w) (λ _ k.
+    record {
+      by = λ u e. let o = (parts_hold datas vars (i + 1) ws).by u e in
+          record { known = (k, o.known); few = λ h. (let l = ltb-true i 8 p.0 in let q = o.few (omega (arith, l)) in omega (arith, q)) };
+    }))
+
+results_hold : (datas : List GenericDataTree) (vars : List ℕ) (r : Results WrittenType) → Holds (check_results datas vars r) (λ _. AreKnownResults datas vars r)
+results_hold datas vars (One w) = known_holds datas vars w
+results_hold datas vars (Several ws) = record { by = λ u e. let o = (parts_hold datas vars 0 ws).by u e in ((let l = o.few (omega arith) in omega (arith, l)), o.known) }
+
+parts_ok : (datas : List GenericDataTree) (vars : List ℕ) (i : ℕ) (ws : List WrittenType) → AllByRecursion (IsKnownType datas vars) ws → i + length ws ≤ 8 → check_parts datas vars i ws ≡ Ok (tt {0})
+parts_ok datas vars i [] h l = refl
+parts_ok datas vars i (w ∷ ws) h l =
+    ap (λ b. and_then (allowed b kind.Limit (written_place w) (tt {0})) (λ _. and_then (known datas vars w) (λ _. check_parts datas vars (i + 1) ws))) (lt-ltb i 8 (omega (arith, l)))
+    ∙ ap (λ z. and_then z (λ _. check_parts datas vars (i + 1) ws)) (known_ok datas vars w h.0) ∙ parts_ok datas vars (i + 1) ws h.1 (omega (arith, l))
+
+results_ok : (datas : List GenericDataTree) (vars : List ℕ) (r : Results WrittenType) → AreKnownResults datas vars r → check_results datas vars r ≡ Ok (tt {0})
+results_ok datas vars (One w) h = known_ok datas vars w h
+results_ok datas vars (Several ws) h = parts_ok datas vars 0 ws h.1 (let l = h.0 in omega (arith, l))
+
 -- Heads.
-pub record HeadHolds (datas : List GenericDataTree) (vs : List Ident) (qs : List GenericParameterTree) (result : WrittenType) : Type 0 where
+pub record HeadHolds (datas : List GenericDataTree) (vs : List Ident) (qs : List GenericParameterTree) (result : Results WrittenType) : Type 0 where
   pub variables : AreTypeVariables vs
   pub parameters : ParametersHold datas (variable_numbers vs) [] qs
-  pub known : IsKnownType datas (variable_numbers vs) result
+  pub known : AreKnownResults datas (variable_numbers vs) result
 
-head_holds : (datas : List GenericDataTree) (vs : List Ident) (qs : List GenericParameterTree) (result : WrittenType) → Holds (check_head datas vs qs result) (λ _. HeadHolds datas vs qs result)
+head_holds : (datas : List GenericDataTree) (vs : List Ident) (qs : List GenericParameterTree) (result : Results WrittenType) → Holds (check_head datas vs qs result) (λ _. HeadHolds datas vs qs result)
 head_holds datas vs qs result =
     then_holds (variables_hold [] vs) (λ _ v. then_holds (parameters_hold datas (variable_numbers vs) [] qs) (λ _ p.
-    record { by = λ u e. record { variables = are_variables vs v; parameters = p; known = (known_holds datas (variable_numbers vs) result).by u e } }))
+    record { by = λ u e. record { variables = are_variables vs v; parameters = p; known = (results_hold datas (variable_numbers vs) result).by u e } }))
 
 abbrev HasHead : List GenericDataTree → GenericFunctionTree → Type 0
 HasHead datas f = HeadHolds datas f.variables f.parameters f.result
@@ -402,16 +431,16 @@ heads_hold datas names (f ∷ fs) =
     })))
 
 -- Bodies.
-pub record BodyHolds (g : GenericGlobals) (vs : List Ident) (qs : List GenericParameterTree) (result : WrittenType) (body : GenericExpression) : Type 0 where
-  pub has : HasForm g (variable_numbers vs) opaque (with_parameters qs []) body (formed opaque result)
+pub record BodyHolds (g : GenericGlobals) (vs : List Ident) (qs : List GenericParameterTree) (result : Results WrittenType) (body : GenericExpression) : Type 0 where
+  pub has : HasForm g (variable_numbers vs) opaque (with_parameters qs []) body (map_results (formed opaque) result)
   pub expressions : generic_expressions body ≤ 2000
   pub few : length qs ≤ 200 → length qs + generic_bindings body ≤ 200
 
-body_holds : (g : GenericGlobals) (vs : List Ident) (qs : List GenericParameterTree) (result : WrittenType) (body : GenericExpression) → Holds (check_body g vs qs result body) (λ _. BodyHolds g vs qs result body)
+body_holds : (g : GenericGlobals) (vs : List Ident) (qs : List GenericParameterTree) (result : Results WrittenType) (body : GenericExpression) → Holds (check_body g vs qs result body) (λ _. BodyHolds g vs qs result body)
 body_holds g vs qs result body =
-    then_holds (infer_sound g (variable_numbers vs) opaque (with_parameters qs []) (parameters_met qs) body) (λ r s.
+    then_holds (infer_sound g (variable_numbers vs) opaque (standing_of (map_results (formed opaque) result)) (with_parameters qs []) (parameters_met qs) body) (λ r s.
     record {
-      by = λ u e. (let w = (wanted_holds (formed opaque result) (record { ty = r.0; place = place body })).by u e in
+      by = λ u e. (let w = (wanted_holds (map_results (formed opaque) result) (record { ty = r.0; place = place body })).by u e in
           let se = s.expressions in let sv = s.variables in let short = s.short (omega arith) in
           record {
             has = subst (λ z. HasForm g (variable_numbers vs) opaque (with_parameters qs []) body z) w s.has;
@@ -427,7 +456,7 @@ bodies_hold : (g : GenericGlobals) (fs : List GenericFunctionTree) → Holds (ch
 bodies_hold g [] = holds_ok (tt {0}) tt
 bodies_hold g (f ∷ fs) = then_holds (body_holds g f.variables f.parameters f.result f.body) (λ _ p. record { by = λ u e. (p, (bodies_hold g fs).by u e) })
 
-typed_function : (g : GenericGlobals) (vs : List Ident) (qs : List GenericParameterTree) (result : WrittenType) (body : GenericExpression) → HeadHolds g.datas vs qs result → BodyHolds g vs qs result body → IsTypedGenericFunction g vs qs result body
+typed_function : (g : GenericGlobals) (vs : List Ident) (qs : List GenericParameterTree) (result : Results WrittenType) (body : GenericExpression) → HeadHolds g.datas vs qs result → BodyHolds g vs qs result body → IsTypedGenericFunction g vs qs result body
 typed_function g vs qs result body h b =
     let few = h.parameters.few (omega arith) in let long = length-map qs parameter_number in
     record {
@@ -449,13 +478,13 @@ typed_functions g (f ∷ fs) h b = (typed_function g f.variables f.parameters f.
 pub record DeclarationsTyped (p : GenericProgramTree) : Type 0 where
   pub datas : DatasTyped p
   pub heads : HeadsHold p.datas [] p.functions
-  pub main : HeadHolds p.datas [] (p.main.parameter ∷ []) p.main.result
+  pub main : HeadHolds p.datas [] (p.main.parameter ∷ []) (One p.main.result)
 
 pub declarations_hold : (p : GenericProgramTree) → Holds (check_declarations p) (λ _. DeclarationsTyped p)
 unfolding check_declarations
 declarations_hold p =
     then_holds datas (λ _ d. then_holds fields (λ _ k. then_holds (heads_hold p.datas [] p.functions) (λ _ h.
-    record { by = λ u e. record { datas = datas_typed p d k; heads = h; main = (head_holds p.datas [] (p.main.parameter ∷ []) p.main.result).by u e } }))) where
+    record { by = λ u e. record { datas = datas_typed p d k; heads = h; main = (head_holds p.datas [] (p.main.parameter ∷ []) (One p.main.result)).by u e } }))) where
       datas : Holds (check_datas [] [] p.datas) (λ _. check_datas [] [] p.datas ≡ Ok (tt {0}))
       datas = record { by = λ u q. q }
 
@@ -468,7 +497,7 @@ unfolding check_program
 program_holds p =
     then_holds (declarations_hold p) (λ _ d. then_holds (bodies_hold (globals_of_generic p) p.functions) (λ _ b.
     record {
-      by = λ u e. (let w = (body_holds (globals_of_generic p) [] (p.main.parameter ∷ []) p.main.result p.main.body).by u e in
+      by = λ u e. (let w = (body_holds (globals_of_generic p) [] (p.main.parameter ∷ []) (One p.main.result) p.main.body).by u e in
           let few = d.heads.few (omega arith) in let long = length-map p.functions function_number in
           record {
             types_differ = d.datas.types_differ;
@@ -478,20 +507,20 @@ program_holds p =
             functions_differ = d.heads.differ tt;
             few_functions = omega (arith, few, long);
             functions = typed_functions (globals_of_generic p) p.functions d.heads.heads b;
-            main = typed_function (globals_of_generic p) [] (p.main.parameter ∷ []) p.main.result p.main.body d.main w;
+            main = typed_function (globals_of_generic p) [] (p.main.parameter ∷ []) (One p.main.result) p.main.body d.main w;
           });
     }))
 
 pub program_typed : (p : GenericProgramTree) → check_program p ≡ Ok (tt {0}) → IsTypedGeneric p
 program_typed p e = (program_holds p).by (tt {0}) e
 
-head_ok : (g : GenericGlobals) (vs : List Ident) (qs : List GenericParameterTree) (result : WrittenType) (body : GenericExpression) → IsTypedGenericFunction g vs qs result body → check_head g.datas vs qs result ≡ Ok (tt {0})
+head_ok : (g : GenericGlobals) (vs : List Ident) (qs : List GenericParameterTree) (result : Results WrittenType) (body : GenericExpression) → IsTypedGenericFunction g vs qs result body → check_head g.datas vs qs result ≡ Ok (tt {0})
 head_ok g vs qs result body h =
     let few = h.few_variables in let long = length-map qs parameter_number in
-    ap (λ z. and_then z (λ _. and_then (check_parameters g.datas (variable_numbers vs) [] qs) (λ _. known g.datas (variable_numbers vs) result))) (type_variables_ok vs h.type_variables)
-    ∙ ap (λ z. and_then z (λ _. known g.datas (variable_numbers vs) result))
+    ap (λ z. and_then z (λ _. and_then (check_parameters g.datas (variable_numbers vs) [] qs) (λ _. check_results g.datas (variable_numbers vs) result))) (type_variables_ok vs h.type_variables)
+    ∙ ap (λ z. and_then z (λ _. check_results g.datas (variable_numbers vs) result))
     (parameters_ok g.datas (variable_numbers vs) [] qs h.known (different_binds [] [] h.scope qs (λ y e. refl) tt h.bound) (omega (arith, few, long)))
-    ∙ known_ok g.datas (variable_numbers vs) result h.known_result
+    ∙ results_ok g.datas (variable_numbers vs) result h.known_result
 
 heads_ok : (g : GenericGlobals) (names : List ℕ) (fs : List GenericFunctionTree) → AreDifferent (names ++ map function_number fs) → length (names ++ map function_number fs) ≤ 1000 → AllByRecursion (IsTypedGenericHere g) fs → check_heads g.datas names fs ≡ Ok (tt {0})
 heads_ok g names [] d l h = refl
@@ -505,14 +534,18 @@ heads_ok g names (f ∷ fs) d l h =
     record { value = tt {0}; is = heads_ok g (names ++ number_of f.name ∷ []) fs (subst AreDifferent e d) (subst (λ (z : List ℕ). length z ≤ 1000) e l) h.1; so = tt }))) in
     all.is
 
-body_ok : (g : GenericGlobals) (vs : List Ident) (qs : List GenericParameterTree) (result : WrittenType) (body : GenericExpression) → IsTypedGenericFunction g vs qs result body → check_body g vs qs result body ≡ Ok (tt {0})
+stands_there : (r : Results Form) → MayGive (standing_of r) r
+stands_there (One t) = tt
+stands_there (Several ts) = refl
+
+body_ok : (g : GenericGlobals) (vs : List Ident) (qs : List GenericParameterTree) (result : Results WrittenType) (body : GenericExpression) → IsTypedGenericFunction g vs qs result body → check_body g vs qs result body ≡ Ok (tt {0})
 body_ok g vs qs result body h =
     let scope = with_parameters qs [] in
-    let has : HasForm g (variable_numbers vs) opaque scope body (formed opaque result) = subst (λ z. HasForm g (variable_numbers vs) opaque z body (formed opaque result)) (scope_is [] h.scope qs h.bound) h.typed in
+    let has : HasForm g (variable_numbers vs) opaque scope body (map_results (formed opaque) result) = subst (λ z. HasForm g (variable_numbers vs) opaque z body (map_results (formed opaque) result)) (scope_is [] h.scope qs h.bound) h.typed in
     let fe = h.few_expressions in let fv = h.few_variables in
     let all : Yields (check_body g vs qs result body) (λ _. Unit {0}) =
-    then_yields (infer_ok g (variable_numbers vs) opaque scope (parameters_met qs) body (formed opaque result) has (omega (arith, fe)) (omega (arith, fv))) (λ r s.
-    record { value = tt {0}; is = wanted_ok (formed opaque result) (record { ty = r.0; place = place body }) s.type; so = tt }) in
+    then_yields (infer_ok g (variable_numbers vs) opaque (standing_of (map_results (formed opaque) result)) scope (parameters_met qs) body (map_results (formed opaque) result) has (stands_there (map_results (formed opaque) result)) (omega (arith, fe)) (omega (arith, fv))) (λ r s.
+    record { value = tt {0}; is = wanted_ok (map_results (formed opaque) result) (record { ty = r.0; place = place body }) s.type; so = tt }) in
     all.is
 
 bodies_ok : (g : GenericGlobals) (fs : List GenericFunctionTree) → AllByRecursion (IsTypedGenericHere g) fs → check_bodies g fs ≡ Ok (tt {0})
@@ -529,7 +562,7 @@ declarations_yield p h =
     then_yields (yields (tt {0}) (datas_ok [] [] p.datas h.types_differ (subst AreDifferent (names_rows p.datas) h.constructors_differ) (omega (arith, few, long)) (shorts_of p.datas p.datas h.datas) (variables_of p.datas p.datas h.datas))) (λ _ _.
     then_yields (yields (tt {0}) (fields_ok p.datas p.datas h.datas)) (λ _ _.
     then_yields (yields (tt {0}) (heads_ok g [] p.functions h.functions_differ (omega (arith, fewf, longf)) h.functions)) (λ _ _.
-    record { value = tt {0}; is = head_ok g [] (p.main.parameter ∷ []) p.main.result p.main.body h.main; so = tt })))
+    record { value = tt {0}; is = head_ok g [] (p.main.parameter ∷ []) (One p.main.result) p.main.body h.main; so = tt })))
 
 program_yields : (p : GenericProgramTree) → IsTypedGeneric p → Yields (check_program p) (λ _. Unit {0})
 unfolding check_program
@@ -537,7 +570,7 @@ program_yields p h =
     let g = globals_of_generic p in
     then_yields (declarations_yield p h) (λ _ _.
     then_yields (yields (tt {0}) (bodies_ok g p.functions h.functions)) (λ _ _.
-    record { value = tt {0}; is = body_ok g [] (p.main.parameter ∷ []) p.main.result p.main.body h.main; so = tt }))
+    record { value = tt {0}; is = body_ok g [] (p.main.parameter ∷ []) (One p.main.result) p.main.body h.main; so = tt }))
 
 pub typed_program : (p : GenericProgramTree) → IsTypedGeneric p → check_program p ≡ Ok (tt {0})
 typed_program p h = (program_yields p h).is

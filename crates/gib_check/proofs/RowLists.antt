@@ -5,7 +5,7 @@ use Rattle.std.specs.List.{list_all}
 use Rattle.gib_syntax.specs.GenericTree.{GenericRow}
 use Rattle.gib_check.specs.declared.named.RowDecl.{RowDecl}
 
-rest-is : {A : Type 0} (x : A) (xs : List A) → take (length (x ∷ xs) - 1) xs ≡ xs
+pub rest-is : {A : Type 0} (x : A) (xs : List A) → take (length (x ∷ xs) - 1) xs ≡ xs
 rest-is x xs = let n : length (x ∷ xs) - 1 ≡ length xs = omega arith in ap (λ k. take k xs) n ∙ take-length xs
 
 pub row_failed : (P : GenericRow → Bool) (f : RowDecl → GenericRow) (rest : List RowDecl) (d : RowDecl) (b all : Bool) → 1 ≤ length rest → b ≡ P (f (get_or rest 0 d)) → b ≡ false → all ≡ list_all P (map f rest) → false ≡ all

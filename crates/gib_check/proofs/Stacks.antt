@@ -1,5 +1,5 @@
 -- Items taken from a stack.
-use Rattle.std.proofs.Common.{◌≡◌, ℕ, zero, suc, ◌-◌, ◌<◌, List, [], ◌∷◌, ◌++◌, take, drop, refl, sym, ap, ◌∙◌, arith}
+use Rattle.std.proofs.Common.{◌≡◌, ℕ, zero, suc, ◌-◌, ◌<◌, List, [], ◌∷◌, ◌++◌, take, drop, refl, sym, ap, ◌∙◌, arith, append-nil}
 
 pub record TakenSoFar {T : Type 0} (old now : List T) (count missing : ℕ) (taken : List T) : Type 0 where
   pub items : taken ++ take missing now ≡ take count old
@@ -32,18 +32,14 @@ drop_none : {T : Type 0} (n : ℕ) → drop n (let e : List T = [] in e) ≡ []
 drop_none zero = refl
 drop_none (suc n) = refl
 
-append_nil : {T : Type 0} (xs : List T) → xs ++ [] ≡ xs
-append_nil [] = refl
-append_nil (x ∷ xs) = ap (λ l. x ∷ l) (append_nil xs)
-
 pub taken_all : {T : Type 0} (old now : List T) (count missing : ℕ) (taken : List T) → TakenSoFar old now count missing taken → now ≡ [] → (taken ≡ take count old) × (now ≡ drop count old)
 taken_all old now count missing taken h e = (
-  sym (append_nil taken) ∙ ap (λ l. taken ++ l) (sym (take_none missing)) ∙ ap (λ l. taken ++ take missing l) (sym e) ∙ h.items,
+  sym (append-nil taken) ∙ ap (λ l. taken ++ l) (sym (take_none missing)) ∙ ap (λ l. taken ++ take missing l) (sym e) ∙ h.items,
   e ∙ sym (drop_none missing) ∙ ap (drop missing) (sym e) ∙ h.left,
 )
 
 pub taken_enough : {T : Type 0} (old now : List T) (count missing : ℕ) (taken : List T) → TakenSoFar old now count missing taken → missing ≡ 0 → (taken ≡ take count old) × (now ≡ drop count old)
 taken_enough old now count missing taken h e = (
-  sym (append_nil taken) ∙ ap (λ k. taken ++ take k now) (sym e) ∙ h.items,
+  sym (append-nil taken) ∙ ap (λ k. taken ++ take k now) (sym e) ∙ h.items,
   ap (λ k. drop k now) (sym e) ∙ h.left,
 )

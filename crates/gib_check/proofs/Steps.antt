@@ -1,5 +1,5 @@
 -- What each rule says where it is kept.
-use Rattle.std.proofs.Common.{◌≡◌, ℕ, zero, suc, ◌+◌, ◌<◌, ◌≤◌, ◌==◌, Bool, true, false, eqb, ltb, not, ◌&&◌, ◌||◌, List, [], ◌∷◌, length, Option, Some, None, Ok, Err, refl, sym, ap, ◌∙◌, subst, arith}
+use Rattle.std.proofs.Common.{◌≡◌, ℕ, zero, suc, ◌+◌, ◌<◌, ◌≤◌, ◌==◌, Bool, true, false, eqb, ltb, not, ◌&&◌, ◌||◌, List, [], ◌∷◌, length, Option, Some, None, Ok, Err, refl, sym, ap, ap₂, ◌∙◌, subst, arith}
 use Rattle.std.proofs.lemmas.Bool.{eqb-true, eq-eqb, ltb-true}
 use Rattle.std.proofs.lemmas.List.{length-map}
 use Rattle.std.specs.Prelude.{is_some, is_none, slice_get}
@@ -7,7 +7,8 @@ use Rattle.std.specs.List.{list_all, AllByRecursion}
 use Rattle.gib_base.specs.declared.Span.{Span}
 use Rattle.gib_syntax.specs.declared.tree.Ident.{Ident}
 use Rattle.gib_syntax.specs.Declarations.{number_of, place_of, AreDifferent}
-use Rattle.gib_types.specs.Form.{Form, Forms, WholeForm, TruthForm, VariableForm, DataForm, NoForm, MoreForms}
+use Rattle.gib_syntax.specs.Results.{Results, One, Several, as_results}
+use Rattle.gib_types.specs.Form.{Form, Forms, WholeForm, TruthForm, VariableForm, DataForm}
 use Rattle.gib_types.specs.SameForm.{same_form}
 use Rattle.gib_types.proofs.SameForms.{same_form_is}
 use Rattle.gib_syntax.specs.Forms.{WrittenType, WrittenTypes, WholeAt, TruthAt, VariableAt, DataAt, NoType, MoreTypes, formed, assign, count_written}
@@ -17,7 +18,7 @@ use Rattle.gib_check.specs.declared.counts.Counts.{Counts}
 use Rattle.gib_check.specs.declared.fault.Fault.{Fault}
 use Rattle.gib_check.specs.declared.fault.Kind.{Kind}
 use Rattle.gib_check.specs.declared.fault.Kind.TheVariants as kind
-use Rattle.gib_check.specs.Faults.{Checked, and_then, allowed, found, FormPart, one_more, new_variable, as_many, known, all_known, row_at, row_named, wanted, all_wanted, all_of, declared_type, ArmHead, is_of, are_different, is_there, covers, covered, field_count, fields_if, all_counted, bind_all}
+use Rattle.gib_check.specs.Faults.{Checked, and_then, allowed, found, FormPart, one_more, new_variable, part_variable, as_many, known, all_known, row_at, row_named, same_lists, same_results, wanted, single_at, all_single, all_wanted, all_of, declared_type, ArmHead, is_of, are_different, is_there, covers, covered, field_count, fields_if, all_counted, bind_all, parts_for, types_bound, bind_parts}
 
 -- What is answered is so.
 pub record Holds {A : Type 0} (c : Checked A) (P : A → Type 0) : Type 0 where
@@ -104,31 +105,55 @@ and_right : (a b : Bool) → (a && b) ≡ true → b ≡ true
 and_right true b e = e
 and_right false b e = absurd cc
 
-both_true : (a b : Bool) → a ≡ true → b ≡ true → (a && b) ≡ true
-both_true true true e f = refl
-both_true true false e f = absurd cc
-both_true false b e f = absurd cc
+-- The same types are equal.
+pub same_lists_is : (ts us : List Form) → same_lists ts us ≡ true → ts ≡ us
+same_lists_is [] [] e = refl
+same_lists_is [] (u ∷ us) e = absurd cc
+same_lists_is (t ∷ ts) [] e = absurd cc
+same_lists_is (t ∷ ts) (u ∷ us) e =
+    ap₂ (λ (f : Form) (fs : List Form). f ∷ fs) (same_form_is t u (and_left (same_form t u) (same_lists ts us) e)) (same_lists_is ts us (and_right (same_form t u) (same_lists ts us) e))
 
-pub wanted_holds : (due : Form) (part : FormPart) → Holds (wanted due part) (λ _. part.ty ≡ due)
-wanted_holds due part = record { by = λ x e. same_form_is part.ty due ((allowed_holds (same_form part.ty due) kind.Shape part.place (tt {0})).by x e).0 }
+pub same_results_is : (r q : Results Form) → same_results r q ≡ true → r ≡ q
+same_results_is (One t) (One u) e = ap One (same_form_is t u e)
+same_results_is (One t) (Several us) e = absurd cc
+same_results_is (Several ts) (One u) e = absurd cc
+same_results_is (Several ts) (Several us) e = ap Several (same_lists_is ts us e)
+
+pub wanted_holds : (due : Results Form) (part : FormPart) → Holds (wanted due part) (λ _. part.ty ≡ due)
+wanted_holds due part = record { by = λ x e. same_results_is part.ty due ((allowed_holds (same_results part.ty due) kind.Shape part.place (tt {0})).by x e).0 }
+
+pub single_holds : (r : Results Form) (at : Span) → Holds (single_at r at) (λ t. r ≡ One t)
+single_holds (One t) at = holds_ok t refl
+single_holds (Several ts) at = holds_err (record { kind = kind.Shape; span = at })
+
+-- Parts are one thing each, of these types.
+abbrev pub PartsAre : List FormPart → List Form → Type 0
+PartsAre [] [] = Unit {0}
+PartsAre [] (t ∷ ts) = ⊥
+PartsAre (part ∷ parts) [] = ⊥
+PartsAre (part ∷ parts) (t ∷ ts) = (part.ty ≡ One t) × PartsAre parts ts
+
+pub all_single_holds : (parts : List FormPart) → Holds (all_single parts) (λ ts. PartsAre parts ts)
+all_single_holds [] = holds_ok [] tt
+all_single_holds (part ∷ parts) = then_holds (single_holds part.ty part.place) (λ t p. then_holds (all_single_holds parts) (λ ts q. holds_ok (t ∷ ts) (p, q)))
 
 -- Parts have these types, as far as both go.
 abbrev pub PartsHave : List FormPart → List Form → Type 0
 PartsHave [] ts = Unit {0}
 PartsHave (part ∷ parts) [] = Unit {0}
-PartsHave (part ∷ parts) (t ∷ ts) = (part.ty ≡ t) × PartsHave parts ts
+PartsHave (part ∷ parts) (t ∷ ts) = (part.ty ≡ One t) × PartsHave parts ts
 
 pub all_wanted_holds : (parts : List FormPart) (ts : List Form) → Holds (all_wanted parts ts) (λ _. PartsHave parts ts)
 all_wanted_holds [] ts = holds_ok (tt {0}) tt
 all_wanted_holds (part ∷ parts) [] = holds_ok (tt {0}) tt
-all_wanted_holds (part ∷ parts) (t ∷ ts) = then_holds (wanted_holds t part) (λ _ p. record { by = λ x e. (p, (all_wanted_holds parts ts).by x e) })
+all_wanted_holds (part ∷ parts) (t ∷ ts) = then_holds (wanted_holds (One t) part) (λ _ p. record { by = λ x e. (p, (all_wanted_holds parts ts).by x e) })
 
 -- Each part has the type.
-abbrev pub EachHas : Form → List FormPart → Type 0
+abbrev pub EachHas : Results Form → List FormPart → Type 0
 EachHas t [] = Unit {0}
 EachHas t (part ∷ parts) = (part.ty ≡ t) × EachHas t parts
 
-pub all_of_holds : (t : Form) (parts : List FormPart) → Holds (all_of t parts) (λ _. EachHas t parts)
+pub all_of_holds : (t : Results Form) (parts : List FormPart) → Holds (all_of t parts) (λ _. EachHas t parts)
 all_of_holds t [] = holds_ok (tt {0}) tt
 all_of_holds t (part ∷ parts) = then_holds (wanted_holds t part) (λ _ p. record { by = λ x e. (p, (all_of_holds t parts).by x e) })
 
@@ -229,4 +254,52 @@ bind_all_holds scope n (x ∷ xs) (t ∷ ts) l =
           let v : m.variables ≡ n.variables + 1 = sym (ap (λ (z : Counts). z.variables) p.2) in
           let x' : m.expressions ≡ n.expressions = sym (ap (λ (z : Counts). z.expressions) p.2) in
           record { binds = (p.0, o.binds); variables = (let q = o.variables in omega (arith, q, v)); expressions = o.expressions ∙ x'; few = λ h. o.few (let q = p.1 in omega (arith, q, v)) };
+    })
+
+-- The types for the variables of a binding are what its right side gives.
+pub record ForNames (xs : List Ident) (r : Results Form) (ts : List Form) : Type 0 where
+  pub gives : r ≡ as_results ts
+  pub many : length ts ≡ length xs
+  pub some : 1 ≤ length xs
+
+as_several : (n : ℕ) (ts : List Form) → length ts ≡ suc (suc n) → Several ts ≡ as_results ts
+as_several n [] l = absurd (omega (arith, l))
+as_several n (t ∷ []) l = absurd (omega (arith, l))
+as_several n (t ∷ u ∷ us) l = refl
+
+pub parts_for_holds : (x : Ident) (x2 : Ident) (xs : List Ident) (part : FormPart) (r : Results Form) → Holds (parts_for (length (x ∷ x2 ∷ xs)) x part r) (λ ts. ForNames (x ∷ x2 ∷ xs) r ts)
+parts_for_holds x x2 xs part (One t) = holds_err (record { kind = kind.Shape; span = part.place })
+parts_for_holds x x2 xs part (Several ts) =
+    then_holds (as_many_holds (length ts) (length (x ∷ x2 ∷ xs)) x) (λ _ l. holds_ok ts (record { gives = as_several (length xs) ts l; many = l; some = omega arith }))
+
+pub types_bound_holds : (xs : List Ident) (part : FormPart) → Holds (types_bound xs part) (λ ts. ForNames xs part.ty ts)
+types_bound_holds [] part = holds_err (record { kind = kind.Shape; span = part.place })
+types_bound_holds (x ∷ []) part = then_holds (single_holds part.ty part.place) (λ t p. holds_ok (t ∷ []) (record { gives = p; many = refl; some = omega arith }))
+types_bound_holds (x ∷ y ∷ ys) part = parts_for_holds x y ys part part.ty
+
+-- One of the variables of a binding behind so many.
+pub part_variable_holds : (i : ℕ) (scope : FormScope) (n : Counts) (x : Ident) → Holds (part_variable i scope n x) (λ m. IsNew scope x × (i < 8) × (n.variables < 200) × (record n { variables = n.variables + 1 } ≡ m))
+part_variable_holds i scope n x =
+    then_holds (allowed_holds (is_none (form_in scope (number_of x))) kind.Twice x.span (tt {0})) (λ _ p. then_holds (allowed_holds (ltb i 8) kind.Limit x.span (tt {0}))
+    (λ _ q. record { by = λ m e. let h = (allowed_holds (ltb n.variables 200) kind.Limit x.span (record n { variables = n.variables + 1 })).by m e in (none_is (form_in scope (number_of x)) p.0, ltb-true i 8 q.0, ltb-true n.variables 200 h.0, h.1) }))
+
+-- So for all of them.
+pub record PartsBound (i : ℕ) (scope : FormScope) (n : Counts) (xs : List Ident) (ts : List Form) (inner : FormScope) (m : Counts) : Type 0 where
+  pub bound : Bound scope n xs ts inner m
+  pub eight : i ≤ 8 → i + length xs ≤ 8
+
+pub bind_parts_holds : (i : ℕ) (scope : FormScope) (n : Counts) (xs : List Ident) (ts : List Form) → length ts ≡ length xs → Holds (bind_parts i scope n xs ts) (λ r. PartsBound i scope n xs ts r.0 r.1)
+bind_parts_holds i scope n [] [] l = holds_ok (scope, n) (record { bound = record { binds = refl; variables = omega arith; expressions = refl; few = λ h. h }; eight = λ h. omega (arith, h) })
+bind_parts_holds i scope n [] (t ∷ ts) l = absurd (omega (arith, l))
+bind_parts_holds i scope n (x ∷ xs) [] l = absurd (omega (arith, l))
+bind_parts_holds i scope n (x ∷ xs) (t ∷ ts) l =
+    then_holds (part_variable_holds i scope n x) (λ m p.
+    record {
+      by = λ r e. let o = (bind_parts_holds (suc i) (form_bound x t scope) m xs ts (omega (arith, l))).by r e in
+          let v : m.variables ≡ n.variables + 1 = sym (ap (λ (z : Counts). z.variables) p.3) in
+          let x' : m.expressions ≡ n.expressions = sym (ap (λ (z : Counts). z.expressions) p.3) in
+          record {
+            bound = record { binds = (p.0, o.bound.binds); variables = (let q = o.bound.variables in omega (arith, q, v)); expressions = o.bound.expressions ∙ x'; few = λ h. o.bound.few (let q = p.2 in omega (arith, q, v)) };
+            eight = λ h. (let q = p.1 in let k = o.eight (omega (arith, q)) in omega (arith, k));
+          };
     })

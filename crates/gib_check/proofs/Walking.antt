@@ -1,5 +1,5 @@
 -- What the steps of the walk say together.
-use Rattle.std.proofs.Common.{◌≡◌, ℕ, ◌<◌, ◌-◌, List, ◌∷◌, drop, length, arith, Ok, Err, refl, sym, ap, ap₂, ◌∙◌, subst, map}
+use Rattle.std.proofs.Common.{◌≡◌, ℕ, ◌<◌, ◌-◌, List, ◌∷◌, ◌++◌, append_assoc, drop, length, arith, Ok, Err, refl, sym, ap, ap₂, ◌∙◌, subst, map}
 use Rattle.gib_base.specs.declared.Span.{Span}
 use Rattle.gib_types.specs.declared.types.TypeId.{TypeId}
 use Rattle.gib_types.specs.declared.types.TypeNode.{TypeNode}
@@ -13,8 +13,9 @@ use Rattle.gib_syntax.specs.declared.program.GenericParameter.{GenericParameter}
 use Rattle.gib_syntax.specs.declared.written.Word.{Word}
 use Rattle.gib_syntax.specs.Declarations.{number_of}
 use Rattle.gib_syntax.specs.Forms.{WrittenType, WrittenTypes, formed, formed_all, count_written, assign}
-use Rattle.gib_syntax.specs.GenericTree.{GenericParameterTree, GenericExpression, GenericOp, GenericLet, GenericPar, GenericIf, GenericFunctionTree, GenericRow}
-use Rattle.gib_syntax.specs.GenericTyping.{FormScope, form_bound, variable_numbers, opaque, operator_form, field_forms, parameter_forms, result_form}
+use Rattle.gib_syntax.specs.Results.{Results, One, Several, map_results}
+use Rattle.gib_syntax.specs.GenericTree.{GenericParameterTree, GenericExpression, GenericOp, GenericLet, GenericPar, GenericIf, GenericLetSeveral, GenericParSeveral, GenericFunctionTree, GenericRow}
+use Rattle.gib_syntax.specs.GenericTyping.{FormScope, form_bound, variable_numbers, opaque, operator_form, field_forms, parameter_forms, result_forms}
 use Rattle.gib_syntax.specs.GenericParts.{GenericParts, parameter_in}
 use Rattle.gib_syntax.specs.GenericArena.{arguments_from}
 use Rattle.gib_syntax.specs.Forms.{Meant}
@@ -23,37 +24,37 @@ use Rattle.gib_check.specs.declared.counts.Counts.{Counts}
 use Rattle.gib_check.specs.declared.fault.TypeFault.{TypeFault}
 use Rattle.gib_check.specs.declared.fault.TypeFault.TheVariants as t
 use Rattle.gib_check.specs.Answers.{IsFaultOf}
-use Rattle.gib_check.specs.Faults.{Checked, and_then, FormPart, place, one_more, as_many, all_known, function, constructor, new_variable, wanted, all_wanted, infer, infer_all, infer_call, infer_make, infer_arm, infer_case, infer_variable, infer_literal, row_named, fields_if, bind_all, variable, declared_type, ArmHead, head_names, all_declared, covered, all_counted, all_of, first_type}
+use Rattle.gib_check.specs.Faults.{Checked, and_then, FormPart, place, one_more, as_many, all_known, function, constructor, new_variable, wanted, single_at, all_single, standing_for, may_stand, types_bound, bind_parts, infer_tuple, all_wanted, infer, infer_all, infer_call, infer_make, infer_arm, infer_case, infer_variable, infer_literal, row_named, fields_if, bind_all, variable, declared_type, ArmHead, head_names, all_declared, covered, all_counted, all_of, first_type}
 use Rattle.gib_check.specs.NameViews.{generic_globals, generic_tree}
-use Rattle.gib_check.specs.Judging.{Judging, forms, in_scope, Grows, Keeps, Met, AllMet, part_in, parts_in, IsClosed, meant_by, IsMeaningBelow}
-use Rattle.gib_check.proofs.Growing.{grows_on, form_grows, forms_grow}
+use Rattle.gib_check.specs.Judging.{Judging, forms, in_scope, Grows, Keeps, Advances, Met, AllMet, listed, forms_given, AreMet, part_in, parts_in, IsClosed, meant_by, IsMeaningBelow}
+use Rattle.gib_check.proofs.Growing.{grows_on, forms_grow, advances_on, given_grows, met_stays}
 use Rattle.gib_check.specs.declared.rules.Part.{Part}
+use Rattle.gib_check.specs.declared.rules.ResultIds.{ResultIds}
+use Rattle.gib_check.specs.declared.standing.Standing.{Standing}
+use Rattle.gib_check.specs.declared.standing.Standing.TheVariants.{NoTuple}
 use Rattle.gib_check.specs.declared.reading.Meaning.{Meaning}
-use Rattle.gib_check.proofs.Loops.{passed_on, along, meaning_grows}
+use Rattle.gib_check.proofs.Loops.{passed_on, along, added_kept, meaning_grows}
 
--- A part, seen under the types of a state.
-pub seen : (P : FormPart → Type 0) (ns ms : List TypeNode) (p q : Part) → ns ≡ ms → p ≡ q → P (part_in (forms_of ns) p) → P (part_in (forms_of ms) q)
-seen P ns ms p q e d h = subst (λ z. P (part_in (forms_of ms) z)) d (subst (λ z. P (part_in (forms_of z) p)) e h)
+-- A part, by what it is.
+pub seen : (P : FormPart → Type 0) (s : Judging) (p q : Part) → p ≡ q → P (part_in s p) → P (part_in s q)
+seen P s p q d h = subst (λ z. P (part_in s z)) d h
 
--- Steps of types, one after another.
-pub met_after : (old mid new : List TypeNode) (ty : TypeId) → Grows old mid → Met mid new ty → Met old new ty
-met_after old mid new ty g m = record { grows = grows_on old mid new g m.grows; below = m.below }
+-- Steps, one after another.
+pub met_after : (old mid new : Judging) (ty : ResultIds) → Advances old mid → Met mid new ty → Met old new ty
+met_after old mid new ty g m = record { advances = advances_on old mid new g m.advances; here = m.here }
 
-pub met_before : (old mid new : List TypeNode) (ty : TypeId) → Met old mid ty → Grows mid new → Met old new ty
-met_before old mid new ty m g = record { grows = grows_on old mid new m.grows g; below = (let k = m.below in let l = g.longer in omega (arith, k, l)) }
-
-pub same_grows : (old new : List TypeNode) → new ≡ old → Grows old new
-same_grows old new e = subst (Grows old) (sym e) (Rattle.gib_check.proofs.Growing.grows_none old)
+pub met_before : (old mid new : Judging) (ty : ResultIds) → Met old mid ty → Advances mid new → Met old new ty
+met_before old mid new ty m g = record { advances = advances_on old mid new m.advances g; here = met_stays mid new ty g m.here }
 
 module _ (parts : GenericParts) (variables : List Ident) where
-  abbrev types_of : FormScope → Counts → GenericExpression → Checked (Form × Counts)
-  types_of scope n e = infer (generic_globals parts) (variable_numbers variables) opaque scope n e
+  abbrev types_of : Standing → FormScope → Counts → GenericExpression → Checked (Results Form × Counts)
+  types_of st scope n e = infer (generic_globals parts) (variable_numbers variables) opaque st scope n e
 
-  -- An expression was judged.
-  pub record Judged (before after : Judging) (e : GenericExpression) (ty : TypeId) : Type 0 where
-    pub read : types_of (in_scope before) before.counts e ≡ Ok (form_at (forms after) ty.0, after.counts)
+  -- An expression was judged, where it stands.
+  pub record Judged (st : Standing) (before after : Judging) (e : GenericExpression) (ty : ResultIds) : Type 0 where
+    pub read : types_of st (in_scope before) before.counts e ≡ Ok (forms_given after ty, after.counts)
     pub kept : in_scope after ≡ in_scope before
-    pub met : Met before.types after.types ty
+    pub met : Met before after ty
 
   -- One more expression was counted.
   pub record Counted (before after : Judging) (at : Span) : Type 0 where
@@ -61,57 +62,57 @@ module _ (parts : GenericParts) (variables : List Ident) where
     pub kept : in_scope after ≡ in_scope before
     pub types : after.types ≡ before.types
 
-  -- The type of a part stays.
-  pub stays : (before after : Judging) (ty : TypeId) (at : Span) → Grows before.types after.types → ty.0 < length before.types → part_in (forms after) (record { ty = ty; place = at }) ≡ record { ty = form_at (forms before) ty.0; place = at }
-  stays before after ty at g l = ap (λ (f : Form). record { ty = f; place = at }) (form_grows before.types after.types ty.0 g l)
+  -- A part stays.
+  pub stays : (before after : Judging) (ty : ResultIds) (at : Span) → Advances before after → AreMet before ty → part_in after (record { ty = ty; place = at }) ≡ record { ty = forms_given before ty; place = at }
+  stays before after ty at g h = ap (λ (r : Results Form). record { ty = r; place = at }) (given_grows before after ty g h)
 
   -- Both sides of an operation.
-  abbrev op_rest : Operator → FormPart → FormPart → Counts → Checked (Form × Counts)
-  op_rest f x y n = and_then (wanted WholeForm x) (λ _. and_then (wanted WholeForm y) (λ _. Ok (operator_form f, n)))
+  abbrev op_rest : Operator → FormPart → FormPart → Counts → Checked (Results Form × Counts)
+  op_rest f x y n = and_then (wanted (One WholeForm) x) (λ _. and_then (wanted (One WholeForm) y) (λ _. Ok (One (operator_form f), n)))
 
-  pub op_is : (s0 s1 s2 s3 : Judging) (p : Span) (f : Operator) (a b : GenericExpression) (l r : TypeId) → Counted s0 s1 p → Judged s1 s2 a l → Judged s2 s3 b r → types_of (in_scope s0) s0.counts (GenericOp p f a b) ≡ op_rest f (part_in (forms s3) (record { ty = l; place = place a })) (part_in (forms s3) (record { ty = r; place = place b })) s3.counts
-  op_is s0 s1 s2 s3 p f a b l r o ja jb =
-      ap (λ z. and_then z (λ o. and_then (types_of (in_scope s0) o a) (λ x. and_then (types_of (in_scope s0) x.1 b) (λ y. op_rest f (record { ty = x.0; place = place a }) (record { ty = y.0; place = place b }) y.1)))) o.read
-      ∙ ap (λ z. and_then z (λ x. and_then (types_of (in_scope s0) x.1 b) (λ y. op_rest f (record { ty = x.0; place = place a }) (record { ty = y.0; place = place b }) y.1))) (ap (λ s. types_of s s1.counts a) (sym o.kept) ∙ ja.read)
-      ∙ ap (λ z. and_then z (λ y. op_rest f (record { ty = form_at (forms s2) l.0; place = place a }) (record { ty = y.0; place = place b }) y.1)) (ap (λ s. types_of s s2.counts b) (sym (ja.kept ∙ o.kept)) ∙ jb.read)
-      ∙ ap (λ z. op_rest f z (record { ty = form_at (forms s3) r.0; place = place b }) s3.counts) (sym (stays s2 s3 l (place a) jb.met.grows ja.met.below))
+  pub op_is : (st : Standing) (s0 s1 s2 s3 : Judging) (p : Span) (f : Operator) (a b : GenericExpression) (l r : ResultIds) → Counted s0 s1 p → Judged NoTuple s1 s2 a l → Judged NoTuple s2 s3 b r → types_of st (in_scope s0) s0.counts (GenericOp p f a b) ≡ op_rest f (part_in s3 (record { ty = l; place = place a })) (part_in s3 (record { ty = r; place = place b })) s3.counts
+  op_is st s0 s1 s2 s3 p f a b l r o ja jb =
+      ap (λ z. and_then z (λ o. and_then (types_of NoTuple (in_scope s0) o a) (λ x. and_then (types_of NoTuple (in_scope s0) x.1 b) (λ y. op_rest f (record { ty = x.0; place = place a }) (record { ty = y.0; place = place b }) y.1)))) o.read
+      ∙ ap (λ z. and_then z (λ x. and_then (types_of NoTuple (in_scope s0) x.1 b) (λ y. op_rest f (record { ty = x.0; place = place a }) (record { ty = y.0; place = place b }) y.1))) (ap (λ s. types_of NoTuple s s1.counts a) (sym o.kept) ∙ ja.read)
+      ∙ ap (λ z. and_then z (λ y. op_rest f (record { ty = forms_given s2 l; place = place a }) (record { ty = y.0; place = place b }) y.1)) (ap (λ s. types_of NoTuple s s2.counts b) (sym (ja.kept ∙ o.kept)) ∙ jb.read)
+      ∙ ap (λ z. op_rest f z (record { ty = forms_given s3 r; place = place b }) s3.counts) (sym (stays s2 s3 l (place a) jb.met.advances ja.met.here))
 
-  pub op_left : (e : TypeFault) (s0 s1 s2 s3 : Judging) (p : Span) (f : Operator) (a b : GenericExpression) (l r : TypeId) → Counted s0 s1 p → Judged s1 s2 a l → Judged s2 s3 b r → IsFaultOf e (wanted WholeForm (part_in (forms s3) (record { ty = l; place = place a }))) → IsFaultOf e (types_of (in_scope s0) s0.counts (GenericOp p f a b))
-  op_left e s0 s1 s2 s3 p f a b l r o ja jb h = along e _ _ (op_is s0 s1 s2 s3 p f a b l r o ja jb) (passed_on e _ _ h)
+  pub op_left : (st : Standing) (e : TypeFault) (s0 s1 s2 s3 : Judging) (p : Span) (f : Operator) (a b : GenericExpression) (l r : ResultIds) → Counted s0 s1 p → Judged NoTuple s1 s2 a l → Judged NoTuple s2 s3 b r → IsFaultOf e (wanted (One WholeForm) (part_in s3 (record { ty = l; place = place a }))) → IsFaultOf e (types_of st (in_scope s0) s0.counts (GenericOp p f a b))
+  op_left st e s0 s1 s2 s3 p f a b l r o ja jb h = along e _ _ (op_is st s0 s1 s2 s3 p f a b l r o ja jb) (passed_on e _ _ h)
 
-  pub op_right : (e : TypeFault) (s0 s1 s2 s3 : Judging) (p : Span) (f : Operator) (a b : GenericExpression) (l r : TypeId) → Counted s0 s1 p → Judged s1 s2 a l → Judged s2 s3 b r → wanted WholeForm (part_in (forms s3) (record { ty = l; place = place a })) ≡ Ok (tt {0}) → IsFaultOf e (wanted WholeForm (part_in (forms s3) (record { ty = r; place = place b }))) → IsFaultOf e (types_of (in_scope s0) s0.counts (GenericOp p f a b))
-  op_right e s0 s1 s2 s3 p f a b l r o ja jb w h =
-      along e _ _ (op_is s0 s1 s2 s3 p f a b l r o ja jb ∙ ap (λ z. and_then z (λ _. and_then (wanted WholeForm (part_in (forms s3) (record { ty = r; place = place b }))) (λ _. Ok (operator_form f, s3.counts)))) w) (passed_on e _ _ h)
+  pub op_right : (st : Standing) (e : TypeFault) (s0 s1 s2 s3 : Judging) (p : Span) (f : Operator) (a b : GenericExpression) (l r : ResultIds) → Counted s0 s1 p → Judged NoTuple s1 s2 a l → Judged NoTuple s2 s3 b r → wanted (One WholeForm) (part_in s3 (record { ty = l; place = place a })) ≡ Ok (tt {0}) → IsFaultOf e (wanted (One WholeForm) (part_in s3 (record { ty = r; place = place b }))) → IsFaultOf e (types_of st (in_scope s0) s0.counts (GenericOp p f a b))
+  op_right st e s0 s1 s2 s3 p f a b l r o ja jb w h =
+      along e _ _ (op_is st s0 s1 s2 s3 p f a b l r o ja jb ∙ ap (λ z. and_then z (λ _. and_then (wanted (One WholeForm) (part_in s3 (record { ty = r; place = place b }))) (λ _. Ok (One (operator_form f), s3.counts)))) w) (passed_on e _ _ h)
 
-  pub op_ok : (s0 s1 s2 s3 : Judging) (p : Span) (f : Operator) (a b : GenericExpression) (l r : TypeId) → Counted s0 s1 p → Judged s1 s2 a l → Judged s2 s3 b r → wanted WholeForm (part_in (forms s3) (record { ty = l; place = place a })) ≡ Ok (tt {0}) → wanted WholeForm (part_in (forms s3) (record { ty = r; place = place b })) ≡ Ok (tt {0}) → types_of (in_scope s0) s0.counts (GenericOp p f a b) ≡ Ok (operator_form f, s3.counts)
-  op_ok s0 s1 s2 s3 p f a b l r o ja jb w v =
-      op_is s0 s1 s2 s3 p f a b l r o ja jb ∙ ap (λ z. and_then z (λ _. and_then (wanted WholeForm (part_in (forms s3) (record { ty = r; place = place b }))) (λ _. Ok (operator_form f, s3.counts)))) w ∙ ap (λ z. and_then z (λ _. Ok (operator_form f, s3.counts))) v
+  pub op_ok : (st : Standing) (s0 s1 s2 s3 : Judging) (p : Span) (f : Operator) (a b : GenericExpression) (l r : ResultIds) → Counted s0 s1 p → Judged NoTuple s1 s2 a l → Judged NoTuple s2 s3 b r → wanted (One WholeForm) (part_in s3 (record { ty = l; place = place a })) ≡ Ok (tt {0}) → wanted (One WholeForm) (part_in s3 (record { ty = r; place = place b })) ≡ Ok (tt {0}) → types_of st (in_scope s0) s0.counts (GenericOp p f a b) ≡ Ok (One (operator_form f), s3.counts)
+  op_ok st s0 s1 s2 s3 p f a b l r o ja jb w v =
+      op_is st s0 s1 s2 s3 p f a b l r o ja jb ∙ ap (λ z. and_then z (λ _. and_then (wanted (One WholeForm) (part_in s3 (record { ty = r; place = place b }))) (λ _. Ok (One (operator_form f), s3.counts)))) w ∙ ap (λ z. and_then z (λ _. Ok (One (operator_form f), s3.counts))) v
 
   -- The three parts of an `if`.
-  abbrev if_rest : FormPart → Form → FormPart → Counts → Checked (Form × Counts)
-  if_rest x t z n = and_then (wanted TruthForm x) (λ _. and_then (wanted t z) (λ _. Ok (t, n)))
+  abbrev if_rest : FormPart → Results Form → FormPart → Counts → Checked (Results Form × Counts)
+  if_rest x t z n = and_then (wanted (One TruthForm) x) (λ _. and_then (wanted t z) (λ _. Ok (t, n)))
 
-  pub if_is : (s0 s1 s2 s3 s4 : Judging) (p : Span) (a b c : GenericExpression) (x y z : TypeId) → Counted s0 s1 p → Judged s1 s2 a x → Judged s2 s3 b y → Judged s3 s4 c z → types_of (in_scope s0) s0.counts (GenericIf p a b c) ≡ if_rest (part_in (forms s4) (record { ty = x; place = place a })) (form_at (forms s4) y.0) (part_in (forms s4) (record { ty = z; place = place c })) s4.counts
-  if_is s0 s1 s2 s3 s4 p a b c x y z o ja jb jc =
-      ap (λ q. and_then q (λ o. and_then (types_of (in_scope s0) o a) (λ x. and_then (types_of (in_scope s0) x.1 b) (λ y. and_then (types_of (in_scope s0) y.1 c) (λ z. if_rest (record { ty = x.0; place = place a }) y.0 (record { ty = z.0; place = place c }) z.1))))) o.read
-      ∙ ap (λ q. and_then q (λ x. and_then (types_of (in_scope s0) x.1 b) (λ y. and_then (types_of (in_scope s0) y.1 c) (λ z. if_rest (record { ty = x.0; place = place a }) y.0 (record { ty = z.0; place = place c }) z.1)))) (ap (λ s. types_of s s1.counts a) (sym o.kept) ∙ ja.read)
-      ∙ ap (λ q. and_then q (λ y. and_then (types_of (in_scope s0) y.1 c) (λ z. if_rest (record { ty = form_at (forms s2) x.0; place = place a }) y.0 (record { ty = z.0; place = place c }) z.1))) (ap (λ s. types_of s s2.counts b) (sym (ja.kept ∙ o.kept)) ∙ jb.read)
-      ∙ ap (λ q. and_then q (λ z. if_rest (record { ty = form_at (forms s2) x.0; place = place a }) (form_at (forms s3) y.0) (record { ty = z.0; place = place c }) z.1)) (ap (λ s. types_of s s3.counts c) (sym (jb.kept ∙ ja.kept ∙ o.kept)) ∙ jc.read)
-      ∙ ap₂ (λ (u : FormPart) (t : Form). if_rest u t (record { ty = form_at (forms s4) z.0; place = place c }) s4.counts)
-      (sym (stays s2 s4 x (place a) (grows_on s2.types s3.types s4.types jb.met.grows jc.met.grows) ja.met.below)) (sym (form_grows s3.types s4.types y.0 jc.met.grows jb.met.below))
+  pub if_is : (st : Standing) (s0 s1 s2 s3 s4 : Judging) (p : Span) (a b c : GenericExpression) (x y z : ResultIds) → Counted s0 s1 p → Judged NoTuple s1 s2 a x → Judged st s2 s3 b y → Judged st s3 s4 c z → types_of st (in_scope s0) s0.counts (GenericIf p a b c) ≡ if_rest (part_in s4 (record { ty = x; place = place a })) (forms_given s4 y) (part_in s4 (record { ty = z; place = place c })) s4.counts
+  if_is st s0 s1 s2 s3 s4 p a b c x y z o ja jb jc =
+      ap (λ q. and_then q (λ o. and_then (types_of NoTuple (in_scope s0) o a) (λ x. and_then (types_of st (in_scope s0) x.1 b) (λ y. and_then (types_of st (in_scope s0) y.1 c) (λ z. if_rest (record { ty = x.0; place = place a }) y.0 (record { ty = z.0; place = place c }) z.1))))) o.read
+      ∙ ap (λ q. and_then q (λ x. and_then (types_of st (in_scope s0) x.1 b) (λ y. and_then (types_of st (in_scope s0) y.1 c) (λ z. if_rest (record { ty = x.0; place = place a }) y.0 (record { ty = z.0; place = place c }) z.1)))) (ap (λ s. types_of NoTuple s s1.counts a) (sym o.kept) ∙ ja.read)
+      ∙ ap (λ q. and_then q (λ y. and_then (types_of st (in_scope s0) y.1 c) (λ z. if_rest (record { ty = forms_given s2 x; place = place a }) y.0 (record { ty = z.0; place = place c }) z.1))) (ap (λ s. types_of st s s2.counts b) (sym (ja.kept ∙ o.kept)) ∙ jb.read)
+      ∙ ap (λ q. and_then q (λ z. if_rest (record { ty = forms_given s2 x; place = place a }) (forms_given s3 y) (record { ty = z.0; place = place c }) z.1)) (ap (λ s. types_of st s s3.counts c) (sym (jb.kept ∙ ja.kept ∙ o.kept)) ∙ jc.read)
+      ∙ ap₂ (λ (u : FormPart) (t : Results Form). if_rest u t (record { ty = forms_given s4 z; place = place c }) s4.counts)
+      (sym (stays s2 s4 x (place a) (advances_on s2 s3 s4 jb.met.advances jc.met.advances) ja.met.here)) (sym (given_grows s3 s4 y jc.met.advances jb.met.here))
 
-  pub if_condition : (e : TypeFault) (s0 s1 s2 s3 s4 : Judging) (p : Span) (a b c : GenericExpression) (x y z : TypeId) → Counted s0 s1 p → Judged s1 s2 a x → Judged s2 s3 b y → Judged s3 s4 c z → IsFaultOf e (wanted TruthForm (part_in (forms s4) (record { ty = x; place = place a }))) → IsFaultOf e (types_of (in_scope s0) s0.counts (GenericIf p a b c))
-  if_condition e s0 s1 s2 s3 s4 p a b c x y z o ja jb jc h = along e _ _ (if_is s0 s1 s2 s3 s4 p a b c x y z o ja jb jc) (passed_on e _ _ h)
+  pub if_condition : (st : Standing) (e : TypeFault) (s0 s1 s2 s3 s4 : Judging) (p : Span) (a b c : GenericExpression) (x y z : ResultIds) → Counted s0 s1 p → Judged NoTuple s1 s2 a x → Judged st s2 s3 b y → Judged st s3 s4 c z → IsFaultOf e (wanted (One TruthForm) (part_in s4 (record { ty = x; place = place a }))) → IsFaultOf e (types_of st (in_scope s0) s0.counts (GenericIf p a b c))
+  if_condition st e s0 s1 s2 s3 s4 p a b c x y z o ja jb jc h = along e _ _ (if_is st s0 s1 s2 s3 s4 p a b c x y z o ja jb jc) (passed_on e _ _ h)
 
-  pub if_branches : (e : TypeFault) (s0 s1 s2 s3 s4 : Judging) (p : Span) (a b c : GenericExpression) (x y z : TypeId) → Counted s0 s1 p → Judged s1 s2 a x → Judged s2 s3 b y → Judged s3 s4 c z → wanted TruthForm (part_in (forms s4) (record { ty = x; place = place a })) ≡ Ok (tt {0}) → IsFaultOf e (wanted (form_at (forms s4) y.0) (part_in (forms s4) (record { ty = z; place = place c }))) → IsFaultOf e (types_of (in_scope s0) s0.counts (GenericIf p a b c))
-  if_branches e s0 s1 s2 s3 s4 p a b c x y z o ja jb jc w h =
-      along e _ _ (if_is s0 s1 s2 s3 s4 p a b c x y z o ja jb jc ∙ ap (λ q. and_then q (λ _. and_then (wanted (form_at (forms s4) y.0) (part_in (forms s4) (record { ty = z; place = place c }))) (λ _. Ok (form_at (forms s4) y.0, s4.counts)))) w) (passed_on e _ _ h)
+  pub if_branches : (st : Standing) (e : TypeFault) (s0 s1 s2 s3 s4 : Judging) (p : Span) (a b c : GenericExpression) (x y z : ResultIds) → Counted s0 s1 p → Judged NoTuple s1 s2 a x → Judged st s2 s3 b y → Judged st s3 s4 c z → wanted (One TruthForm) (part_in s4 (record { ty = x; place = place a })) ≡ Ok (tt {0}) → IsFaultOf e (wanted (forms_given s4 y) (part_in s4 (record { ty = z; place = place c }))) → IsFaultOf e (types_of st (in_scope s0) s0.counts (GenericIf p a b c))
+  if_branches st e s0 s1 s2 s3 s4 p a b c x y z o ja jb jc w h =
+      along e _ _ (if_is st s0 s1 s2 s3 s4 p a b c x y z o ja jb jc ∙ ap (λ q. and_then q (λ _. and_then (wanted (forms_given s4 y) (part_in s4 (record { ty = z; place = place c }))) (λ _. Ok (forms_given s4 y, s4.counts)))) w) (passed_on e _ _ h)
 
-  pub if_ok : (s0 s1 s2 s3 s4 : Judging) (p : Span) (a b c : GenericExpression) (x y z : TypeId) → Counted s0 s1 p → Judged s1 s2 a x → Judged s2 s3 b y → Judged s3 s4 c z → wanted TruthForm (part_in (forms s4) (record { ty = x; place = place a })) ≡ Ok (tt {0}) → wanted (form_at (forms s4) y.0) (part_in (forms s4) (record { ty = z; place = place c })) ≡ Ok (tt {0}) → types_of (in_scope s0) s0.counts (GenericIf p a b c) ≡ Ok (form_at (forms s4) y.0, s4.counts)
-  if_ok s0 s1 s2 s3 s4 p a b c x y z o ja jb jc w v =
-      if_is s0 s1 s2 s3 s4 p a b c x y z o ja jb jc
-      ∙ ap (λ q. and_then q (λ _. and_then (wanted (form_at (forms s4) y.0) (part_in (forms s4) (record { ty = z; place = place c }))) (λ _. Ok (form_at (forms s4) y.0, s4.counts)))) w
-      ∙ ap (λ q. and_then q (λ _. Ok (form_at (forms s4) y.0, s4.counts))) v
+  pub if_ok : (st : Standing) (s0 s1 s2 s3 s4 : Judging) (p : Span) (a b c : GenericExpression) (x y z : ResultIds) → Counted s0 s1 p → Judged NoTuple s1 s2 a x → Judged st s2 s3 b y → Judged st s3 s4 c z → wanted (One TruthForm) (part_in s4 (record { ty = x; place = place a })) ≡ Ok (tt {0}) → wanted (forms_given s4 y) (part_in s4 (record { ty = z; place = place c })) ≡ Ok (tt {0}) → types_of st (in_scope s0) s0.counts (GenericIf p a b c) ≡ Ok (forms_given s4 y, s4.counts)
+  if_ok st s0 s1 s2 s3 s4 p a b c x y z o ja jb jc w v =
+      if_is st s0 s1 s2 s3 s4 p a b c x y z o ja jb jc
+      ∙ ap (λ q. and_then q (λ _. and_then (wanted (forms_given s4 y) (part_in s4 (record { ty = z; place = place c }))) (λ _. Ok (forms_given s4 y, s4.counts)))) w
+      ∙ ap (λ q. and_then q (λ _. Ok (forms_given s4 y, s4.counts))) v
 
   -- A variable was bound.
   pub record BoundIn (before after : Judging) (x : Ident) (ty : TypeId) : Type 0 where
@@ -120,50 +121,218 @@ module _ (parts : GenericParts) (variables : List Ident) where
     pub types : after.types ≡ before.types
 
   -- A `let`, up to its variable.
-  let_variable : (s0 s1 s2 : Judging) (p : Span) (x : Ident) (a b : GenericExpression) (t : TypeId) → Counted s0 s1 p → Judged s1 s2 a t → types_of (in_scope s0) s0.counts (GenericLet p x a b) ≡ and_then (new_variable (in_scope s2) s2.counts x) (λ k. types_of (form_bound x (form_at (forms s2) t.0) (in_scope s2)) k b)
-  let_variable s0 s1 s2 p x a b t o ja =
-      ap (λ z. and_then z (λ o. and_then (types_of (in_scope s0) o a) (λ s. and_then (new_variable (in_scope s0) s.1 x) (λ k. types_of (form_bound x s.0 (in_scope s0)) k b)))) o.read
-      ∙ ap (λ z. and_then z (λ s. and_then (new_variable (in_scope s0) s.1 x) (λ k. types_of (form_bound x s.0 (in_scope s0)) k b))) (ap (λ s. types_of s s1.counts a) (sym o.kept) ∙ ja.read)
-      ∙ ap (λ s. and_then (new_variable s s2.counts x) (λ k. types_of (form_bound x (form_at (forms s2) t.0) s) k b)) (sym (ja.kept ∙ o.kept))
+  let_value : (st : Standing) (s0 s1 s2 : Judging) (p : Span) (x : Ident) (a b : GenericExpression) (v : ResultIds) → Counted s0 s1 p → Judged NoTuple s1 s2 a v → types_of st (in_scope s0) s0.counts (GenericLet p x a b) ≡ and_then (single_at (forms_given s2 v) (place a)) (λ t. and_then (new_variable (in_scope s2) s2.counts x) (λ k. types_of st (form_bound x t (in_scope s2)) k b))
+  let_value st s0 s1 s2 p x a b v o ja =
+      ap (λ z. and_then z (λ o. and_then (types_of NoTuple (in_scope s0) o a) (λ s. and_then (single_at s.0 (place a)) (λ t. and_then (new_variable (in_scope s0) s.1 x) (λ k. types_of st (form_bound x t (in_scope s0)) k b))))) o.read
+      ∙ ap (λ z. and_then z (λ s. and_then (single_at s.0 (place a)) (λ t. and_then (new_variable (in_scope s0) s.1 x) (λ k. types_of st (form_bound x t (in_scope s0)) k b)))) (ap (λ s. types_of NoTuple s s1.counts a) (sym o.kept) ∙ ja.read)
+      ∙ ap (λ s. and_then (single_at (forms_given s2 v) (place a)) (λ t. and_then (new_variable s s2.counts x) (λ k. types_of st (form_bound x t s) k b))) (sym (ja.kept ∙ o.kept))
 
-  pub let_bind : (e : TypeFault) (s0 s1 s2 : Judging) (p : Span) (x : Ident) (a b : GenericExpression) (t : TypeId) → Counted s0 s1 p → Judged s1 s2 a t → IsFaultOf e (new_variable (in_scope s2) s2.counts x) → IsFaultOf e (types_of (in_scope s0) s0.counts (GenericLet p x a b))
-  let_bind e s0 s1 s2 p x a b t o ja h = along e _ _ (let_variable s0 s1 s2 p x a b t o ja) (passed_on e _ _ h)
+  pub let_single : (st : Standing) (e : TypeFault) (s0 s1 s2 : Judging) (p : Span) (x : Ident) (a b : GenericExpression) (v : ResultIds) → Counted s0 s1 p → Judged NoTuple s1 s2 a v → IsFaultOf e (single_at (forms_given s2 v) (place a)) → IsFaultOf e (types_of st (in_scope s0) s0.counts (GenericLet p x a b))
+  let_single st e s0 s1 s2 p x a b v o ja h = along e _ _ (let_value st s0 s1 s2 p x a b v o ja) (passed_on e _ _ h)
 
-  pub let_is : (s0 s1 s2 s3 : Judging) (p : Span) (x : Ident) (a b : GenericExpression) (t : TypeId) → Counted s0 s1 p → Judged s1 s2 a t → BoundIn s2 s3 x t → types_of (in_scope s0) s0.counts (GenericLet p x a b) ≡ types_of (in_scope s3) s3.counts b
-  let_is s0 s1 s2 s3 p x a b t o ja bx =
-      let_variable s0 s1 s2 p x a b t o ja
-      ∙ ap (λ z. and_then z (λ k. types_of (form_bound x (form_at (forms s2) t.0) (in_scope s2)) k b)) bx.read
-      ∙ ap (λ s. types_of s s3.counts b) (sym bx.scope)
+  let_variable : (st : Standing) (s0 s1 s2 : Judging) (p : Span) (x : Ident) (a b : GenericExpression) (v : ResultIds) (t : TypeId) → Counted s0 s1 p → Judged NoTuple s1 s2 a v → single_at (forms_given s2 v) (place a) ≡ Ok (form_at (forms s2) t.0) → types_of st (in_scope s0) s0.counts (GenericLet p x a b) ≡ and_then (new_variable (in_scope s2) s2.counts x) (λ k. types_of st (form_bound x (form_at (forms s2) t.0) (in_scope s2)) k b)
+  let_variable st s0 s1 s2 p x a b v t o ja e =
+      let_value st s0 s1 s2 p x a b v o ja ∙ ap (λ z. and_then z (λ t. and_then (new_variable (in_scope s2) s2.counts x) (λ k. types_of st (form_bound x t (in_scope s2)) k b))) e
 
-  pub let_body : (e : TypeFault) (s0 s1 s2 s3 : Judging) (p : Span) (x : Ident) (a b : GenericExpression) (t : TypeId) → Counted s0 s1 p → Judged s1 s2 a t → BoundIn s2 s3 x t → IsFaultOf e (types_of (in_scope s3) s3.counts b) → IsFaultOf e (types_of (in_scope s0) s0.counts (GenericLet p x a b))
-  let_body e s0 s1 s2 s3 p x a b t o ja bx h = along e _ _ (let_is s0 s1 s2 s3 p x a b t o ja bx) h
+  pub let_bind : (st : Standing) (e : TypeFault) (s0 s1 s2 : Judging) (p : Span) (x : Ident) (a b : GenericExpression) (v : ResultIds) (t : TypeId) → Counted s0 s1 p → Judged NoTuple s1 s2 a v → single_at (forms_given s2 v) (place a) ≡ Ok (form_at (forms s2) t.0) → IsFaultOf e (new_variable (in_scope s2) s2.counts x) → IsFaultOf e (types_of st (in_scope s0) s0.counts (GenericLet p x a b))
+  let_bind st e s0 s1 s2 p x a b v t o ja q h = along e _ _ (let_variable st s0 s1 s2 p x a b v t o ja q) (passed_on e _ _ h)
+
+  pub let_is : (st : Standing) (s0 s1 s2 s3 : Judging) (p : Span) (x : Ident) (a b : GenericExpression) (v : ResultIds) (t : TypeId) → Counted s0 s1 p → Judged NoTuple s1 s2 a v → single_at (forms_given s2 v) (place a) ≡ Ok (form_at (forms s2) t.0) → BoundIn s2 s3 x t → types_of st (in_scope s0) s0.counts (GenericLet p x a b) ≡ types_of st (in_scope s3) s3.counts b
+  let_is st s0 s1 s2 s3 p x a b v t o ja q bx =
+      let_variable st s0 s1 s2 p x a b v t o ja q
+      ∙ ap (λ z. and_then z (λ k. types_of st (form_bound x (form_at (forms s2) t.0) (in_scope s2)) k b)) bx.read
+      ∙ ap (λ s. types_of st s s3.counts b) (sym bx.scope)
+
+  pub let_body : (st : Standing) (e : TypeFault) (s0 s1 s2 s3 : Judging) (p : Span) (x : Ident) (a b : GenericExpression) (v : ResultIds) (t : TypeId) → Counted s0 s1 p → Judged NoTuple s1 s2 a v → single_at (forms_given s2 v) (place a) ≡ Ok (form_at (forms s2) t.0) → BoundIn s2 s3 x t → IsFaultOf e (types_of st (in_scope s3) s3.counts b) → IsFaultOf e (types_of st (in_scope s0) s0.counts (GenericLet p x a b))
+  let_body st e s0 s1 s2 s3 p x a b v t o ja q bx h = along e _ _ (let_is st s0 s1 s2 s3 p x a b v t o ja q bx) h
 
   -- A `let par`, up to its variables.
-  par_variables : (s0 s1 s2 s3 : Judging) (p : Span) (x : Ident) (a : GenericExpression) (y : Ident) (b c : GenericExpression) (l r : TypeId) → Counted s0 s1 p → Judged s1 s2 a l → Judged s2 s3 b r → types_of (in_scope s0) s0.counts (GenericPar p x a y b c) ≡ and_then (new_variable (in_scope s3) s3.counts x) (λ k. and_then (new_variable (form_bound x (form_at (forms s3) l.0) (in_scope s3)) k y) (λ q. types_of (form_bound y (form_at (forms s3) r.0) (form_bound x (form_at (forms s3) l.0) (in_scope s3))) q c))
-  par_variables s0 s1 s2 s3 p x a y b c l r o ja jb =
-      ap (λ z. and_then z (λ o. and_then (types_of (in_scope s0) o a) (λ s. and_then (types_of (in_scope s0) s.1 b) (λ t. and_then (new_variable (in_scope s0) t.1 x) (λ k. and_then (new_variable (form_bound x s.0 (in_scope s0)) k y) (λ q. types_of (form_bound y t.0 (form_bound x s.0 (in_scope s0))) q c)))))) o.read
-      ∙ ap (λ z. and_then z (λ s. and_then (types_of (in_scope s0) s.1 b) (λ t. and_then (new_variable (in_scope s0) t.1 x) (λ k. and_then (new_variable (form_bound x s.0 (in_scope s0)) k y) (λ q. types_of (form_bound y t.0 (form_bound x s.0 (in_scope s0))) q c))))) (ap (λ s. types_of s s1.counts a) (sym o.kept) ∙ ja.read)
-      ∙ ap (λ z. and_then z (λ t. and_then (new_variable (in_scope s0) t.1 x) (λ k. and_then (new_variable (form_bound x (form_at (forms s2) l.0) (in_scope s0)) k y) (λ q. types_of (form_bound y t.0 (form_bound x (form_at (forms s2) l.0) (in_scope s0))) q c)))) (ap (λ s. types_of s s2.counts b) (sym (ja.kept ∙ o.kept)) ∙ jb.read)
-      ∙ ap₂ (λ (s : FormScope) (f : Form). and_then (new_variable s s3.counts x) (λ k. and_then (new_variable (form_bound x f s) k y) (λ q. types_of (form_bound y (form_at (forms s3) r.0) (form_bound x f s)) q c)))
-      (sym (jb.kept ∙ ja.kept ∙ o.kept)) (sym (form_grows s2.types s3.types l.0 jb.met.grows ja.met.below))
+  module _ (st : Standing) (p : Span) (x : Ident) (a : GenericExpression) (y : Ident) (b c : GenericExpression) where
+    abbrev par_of : Judging → Checked (Results Form × Counts)
+    par_of s = types_of st (in_scope s) s.counts (GenericPar p x a y b c)
 
-  pub par_left : (e : TypeFault) (s0 s1 s2 s3 : Judging) (p : Span) (x : Ident) (a : GenericExpression) (y : Ident) (b c : GenericExpression) (l r : TypeId) → Counted s0 s1 p → Judged s1 s2 a l → Judged s2 s3 b r → IsFaultOf e (new_variable (in_scope s3) s3.counts x) → IsFaultOf e (types_of (in_scope s0) s0.counts (GenericPar p x a y b c))
-  par_left e s0 s1 s2 s3 p x a y b c l r o ja jb h = along e _ _ (par_variables s0 s1 s2 s3 p x a y b c l r o ja jb) (passed_on e _ _ h)
+    -- Behind the sides.
+    abbrev par_rest : FormScope → Counts → Form → Form → Checked (Results Form × Counts)
+    par_rest scope n u v = and_then (new_variable scope n x) (λ k. and_then (new_variable (form_bound x u scope) k y) (λ q. types_of st (form_bound y v (form_bound x u scope)) q c))
 
-  par_second : (s0 s1 s2 s3 s4 : Judging) (p : Span) (x : Ident) (a : GenericExpression) (y : Ident) (b c : GenericExpression) (l r : TypeId) → Counted s0 s1 p → Judged s1 s2 a l → Judged s2 s3 b r → BoundIn s3 s4 x l → types_of (in_scope s0) s0.counts (GenericPar p x a y b c) ≡ and_then (new_variable (in_scope s4) s4.counts y) (λ q. types_of (form_bound y (form_at (forms s4) r.0) (in_scope s4)) q c)
-  par_second s0 s1 s2 s3 s4 p x a y b c l r o ja jb bx =
-      par_variables s0 s1 s2 s3 p x a y b c l r o ja jb
-      ∙ ap (λ z. and_then z (λ k. and_then (new_variable (form_bound x (form_at (forms s3) l.0) (in_scope s3)) k y) (λ q. types_of (form_bound y (form_at (forms s3) r.0) (form_bound x (form_at (forms s3) l.0) (in_scope s3))) q c))) bx.read
-      ∙ ap₂ (λ (s : FormScope) (f : Form). and_then (new_variable s s4.counts y) (λ q. types_of (form_bound y f s) q c)) (sym bx.scope) (ap (λ ns. form_at (forms_of ns) r.0) (sym bx.types))
+    par_sides : (s0 s1 s2 s3 : Judging) (l r : ResultIds) → Counted s0 s1 p → Judged NoTuple s1 s2 a l → Judged NoTuple s2 s3 b r → par_of s0 ≡ and_then (single_at (forms_given s3 l) (place a)) (λ u. and_then (single_at (forms_given s3 r) (place b)) (λ v. par_rest (in_scope s3) s3.counts u v))
+    par_sides s0 s1 s2 s3 l r o ja jb =
+        ap (λ z. and_then z (λ o. and_then (types_of NoTuple (in_scope s0) o a) (λ s. and_then (types_of NoTuple (in_scope s0) s.1 b) (λ t. and_then (single_at s.0 (place a)) (λ u. and_then (single_at t.0 (place b)) (λ v. par_rest (in_scope s0) t.1 u v)))))) o.read
+        ∙ ap (λ z. and_then z (λ s. and_then (types_of NoTuple (in_scope s0) s.1 b) (λ t. and_then (single_at s.0 (place a)) (λ u. and_then (single_at t.0 (place b)) (λ v. par_rest (in_scope s0) t.1 u v))))) (ap (λ s. types_of NoTuple s s1.counts a) (sym o.kept) ∙ ja.read)
+        ∙ ap (λ z. and_then z (λ t. and_then (single_at (forms_given s2 l) (place a)) (λ u. and_then (single_at t.0 (place b)) (λ v. par_rest (in_scope s0) t.1 u v)))) (ap (λ s. types_of NoTuple s s2.counts b) (sym (ja.kept ∙ o.kept)) ∙ jb.read)
+        ∙ ap₂ (λ (s : FormScope) (f : Results Form). and_then (single_at f (place a)) (λ u. and_then (single_at (forms_given s3 r) (place b)) (λ v. par_rest s s3.counts u v)))
+        (sym (jb.kept ∙ ja.kept ∙ o.kept)) (sym (given_grows s2 s3 l jb.met.advances ja.met.here))
 
-  pub par_right : (e : TypeFault) (s0 s1 s2 s3 s4 : Judging) (p : Span) (x : Ident) (a : GenericExpression) (y : Ident) (b c : GenericExpression) (l r : TypeId) → Counted s0 s1 p → Judged s1 s2 a l → Judged s2 s3 b r → BoundIn s3 s4 x l → IsFaultOf e (new_variable (in_scope s4) s4.counts y) → IsFaultOf e (types_of (in_scope s0) s0.counts (GenericPar p x a y b c))
-  par_right e s0 s1 s2 s3 s4 p x a y b c l r o ja jb bx h = along e _ _ (par_second s0 s1 s2 s3 s4 p x a y b c l r o ja jb bx) (passed_on e _ _ h)
+    -- Both sides give one thing.
+    pub record BothSingle (s : Judging) (l r : ResultIds) (t u : TypeId) : Type 0 where
+      pub left : single_at (forms_given s l) (place a) ≡ Ok (form_at (forms s) t.0)
+      pub right : single_at (forms_given s r) (place b) ≡ Ok (form_at (forms s) u.0)
 
-  pub par_is : (s0 s1 s2 s3 s4 s5 : Judging) (p : Span) (x : Ident) (a : GenericExpression) (y : Ident) (b c : GenericExpression) (l r : TypeId) → Counted s0 s1 p → Judged s1 s2 a l → Judged s2 s3 b r → BoundIn s3 s4 x l → BoundIn s4 s5 y r → types_of (in_scope s0) s0.counts (GenericPar p x a y b c) ≡ types_of (in_scope s5) s5.counts c
-  par_is s0 s1 s2 s3 s4 s5 p x a y b c l r o ja jb bx by' =
-      par_second s0 s1 s2 s3 s4 p x a y b c l r o ja jb bx
-      ∙ ap (λ z. and_then z (λ q. types_of (form_bound y (form_at (forms s4) r.0) (in_scope s4)) q c)) by'.read
-      ∙ ap (λ s. types_of s s5.counts c) (sym by'.scope)
+    pub par_left_single : (e : TypeFault) (s0 s1 s2 s3 : Judging) (l r : ResultIds) → Counted s0 s1 p → Judged NoTuple s1 s2 a l → Judged NoTuple s2 s3 b r → IsFaultOf e (single_at (forms_given s3 l) (place a)) → IsFaultOf e (par_of s0)
+    par_left_single e s0 s1 s2 s3 l r o ja jb h = along e _ _ (par_sides s0 s1 s2 s3 l r o ja jb) (passed_on e _ _ h)
+
+    pub par_right_single : (e : TypeFault) (s0 s1 s2 s3 : Judging) (l r : ResultIds) (t : TypeId) → Counted s0 s1 p → Judged NoTuple s1 s2 a l → Judged NoTuple s2 s3 b r → single_at (forms_given s3 l) (place a) ≡ Ok (form_at (forms s3) t.0) → IsFaultOf e (single_at (forms_given s3 r) (place b)) → IsFaultOf e (par_of s0)
+    par_right_single e s0 s1 s2 s3 l r t o ja jb q h =
+        along e _ _ (par_sides s0 s1 s2 s3 l r o ja jb ∙ ap (λ z. and_then z (λ u. and_then (single_at (forms_given s3 r) (place b)) (λ v. par_rest (in_scope s3) s3.counts u v))) q) (passed_on e _ _ h)
+
+    par_variables : (s0 s1 s2 s3 : Judging) (l r : ResultIds) (t u : TypeId) → Counted s0 s1 p → Judged NoTuple s1 s2 a l → Judged NoTuple s2 s3 b r → BothSingle s3 l r t u → par_of s0 ≡ par_rest (in_scope s3) s3.counts (form_at (forms s3) t.0) (form_at (forms s3) u.0)
+    par_variables s0 s1 s2 s3 l r t u o ja jb q =
+        par_sides s0 s1 s2 s3 l r o ja jb
+        ∙ ap (λ z. and_then z (λ u. and_then (single_at (forms_given s3 r) (place b)) (λ v. par_rest (in_scope s3) s3.counts u v))) q.left
+        ∙ ap (λ z. and_then z (λ v. par_rest (in_scope s3) s3.counts (form_at (forms s3) t.0) v)) q.right
+
+    pub par_left : (e : TypeFault) (s0 s1 s2 s3 : Judging) (l r : ResultIds) (t u : TypeId) → Counted s0 s1 p → Judged NoTuple s1 s2 a l → Judged NoTuple s2 s3 b r → BothSingle s3 l r t u → IsFaultOf e (new_variable (in_scope s3) s3.counts x) → IsFaultOf e (par_of s0)
+    par_left e s0 s1 s2 s3 l r t u o ja jb q h = along e _ _ (par_variables s0 s1 s2 s3 l r t u o ja jb q) (passed_on e _ _ h)
+
+    par_second : (s0 s1 s2 s3 s4 : Judging) (l r : ResultIds) (t u : TypeId) → Counted s0 s1 p → Judged NoTuple s1 s2 a l → Judged NoTuple s2 s3 b r → BothSingle s3 l r t u → BoundIn s3 s4 x t → par_of s0 ≡ and_then (new_variable (in_scope s4) s4.counts y) (λ q. types_of st (form_bound y (form_at (forms s4) u.0) (in_scope s4)) q c)
+    par_second s0 s1 s2 s3 s4 l r t u o ja jb q bx =
+        par_variables s0 s1 s2 s3 l r t u o ja jb q
+        ∙ ap (λ z. and_then z (λ k. and_then (new_variable (form_bound x (form_at (forms s3) t.0) (in_scope s3)) k y) (λ q. types_of st (form_bound y (form_at (forms s3) u.0) (form_bound x (form_at (forms s3) t.0) (in_scope s3))) q c))) bx.read
+        ∙ ap₂ (λ (s : FormScope) (f : Form). and_then (new_variable s s4.counts y) (λ q. types_of st (form_bound y f s) q c)) (sym bx.scope) (ap (λ ns. form_at (forms_of ns) u.0) (sym bx.types))
+
+    pub par_right : (e : TypeFault) (s0 s1 s2 s3 s4 : Judging) (l r : ResultIds) (t u : TypeId) → Counted s0 s1 p → Judged NoTuple s1 s2 a l → Judged NoTuple s2 s3 b r → BothSingle s3 l r t u → BoundIn s3 s4 x t → IsFaultOf e (new_variable (in_scope s4) s4.counts y) → IsFaultOf e (par_of s0)
+    par_right e s0 s1 s2 s3 s4 l r t u o ja jb q bx h = along e _ _ (par_second s0 s1 s2 s3 s4 l r t u o ja jb q bx) (passed_on e _ _ h)
+
+    pub par_is : (s0 s1 s2 s3 s4 s5 : Judging) (l r : ResultIds) (t u : TypeId) → Counted s0 s1 p → Judged NoTuple s1 s2 a l → Judged NoTuple s2 s3 b r → BothSingle s3 l r t u → BoundIn s3 s4 x t → BoundIn s4 s5 y u → par_of s0 ≡ types_of st (in_scope s5) s5.counts c
+    par_is s0 s1 s2 s3 s4 s5 l r t u o ja jb q bx by' =
+        par_second s0 s1 s2 s3 s4 l r t u o ja jb q bx
+        ∙ ap (λ z. and_then z (λ q. types_of st (form_bound y (form_at (forms s4) u.0) (in_scope s4)) q c)) by'.read
+        ∙ ap (λ s. types_of st s s5.counts c) (sym by'.scope)
+
+  -- Variables for parts were bound.
+  pub record PartsIn (before after : Judging) (xs : List Ident) (ts : List TypeId) : Type 0 where
+    pub read : bind_parts 0 (in_scope before) before.counts xs (listed (forms before) ts) ≡ Ok (in_scope after, after.counts)
+    pub types : after.types ≡ before.types
+
+  -- A `let` of several variables.
+  module _ (st : Standing) (p : Span) (xs : List Ident) (a b : GenericExpression) where
+    abbrev several_of : Judging → Checked (Results Form × Counts)
+    several_of s = types_of st (in_scope s) s.counts (GenericLetSeveral p xs a b)
+
+    abbrev several_rest : FormScope → Counts → List Form → Checked (Results Form × Counts)
+    several_rest scope n ts = and_then (bind_parts 0 scope n xs ts) (λ inner. types_of st inner.0 inner.1 b)
+
+    pub several_fails : (e : TypeFault) (s0 s1 : Judging) → Counted s0 s1 p → IsFaultOf e (types_of (standing_for xs) (in_scope s1) s1.counts a) → IsFaultOf e (several_of s0)
+    several_fails e s0 s1 o h =
+        along e _ _ (ap (λ z. and_then z (λ o. and_then (types_of (standing_for xs) (in_scope s0) o a) (λ s. and_then (types_bound xs (record { ty = s.0; place = place a })) (λ ts. several_rest (in_scope s0) s.1 ts)))) o.read
+        ∙ ap (λ z. and_then (types_of (standing_for xs) z s1.counts a) (λ s. and_then (types_bound xs (record { ty = s.0; place = place a })) (λ ts. several_rest (in_scope s0) s.1 ts))) (sym o.kept)) (passed_on e _ _ h)
+
+    several_value : (s0 s1 s2 : Judging) (v : ResultIds) → Counted s0 s1 p → Judged (standing_for xs) s1 s2 a v → several_of s0 ≡ and_then (types_bound xs (part_in s2 (record { ty = v; place = place a }))) (λ ts. several_rest (in_scope s2) s2.counts ts)
+    several_value s0 s1 s2 v o ja =
+        ap (λ z. and_then z (λ o. and_then (types_of (standing_for xs) (in_scope s0) o a) (λ s. and_then (types_bound xs (record { ty = s.0; place = place a })) (λ ts. several_rest (in_scope s0) s.1 ts)))) o.read
+        ∙ ap (λ z. and_then z (λ s. and_then (types_bound xs (record { ty = s.0; place = place a })) (λ ts. several_rest (in_scope s0) s.1 ts))) (ap (λ s. types_of (standing_for xs) s s1.counts a) (sym o.kept) ∙ ja.read)
+        ∙ ap (λ s. and_then (types_bound xs (part_in s2 (record { ty = v; place = place a }))) (λ ts. several_rest s s2.counts ts)) (sym (ja.kept ∙ o.kept))
+
+    pub several_types : (e : TypeFault) (s0 s1 s2 : Judging) (v : ResultIds) → Counted s0 s1 p → Judged (standing_for xs) s1 s2 a v → IsFaultOf e (types_bound xs (part_in s2 (record { ty = v; place = place a }))) → IsFaultOf e (several_of s0)
+    several_types e s0 s1 s2 v o ja h = along e _ _ (several_value s0 s1 s2 v o ja) (passed_on e _ _ h)
+
+    several_variables : (s0 s1 s2 : Judging) (v : ResultIds) (ts : List TypeId) → Counted s0 s1 p → Judged (standing_for xs) s1 s2 a v → types_bound xs (part_in s2 (record { ty = v; place = place a })) ≡ Ok (listed (forms s2) ts) → several_of s0 ≡ several_rest (in_scope s2) s2.counts (listed (forms s2) ts)
+    several_variables s0 s1 s2 v ts o ja q = several_value s0 s1 s2 v o ja ∙ ap (λ z. and_then z (λ ts. several_rest (in_scope s2) s2.counts ts)) q
+
+    pub several_bind : (e : TypeFault) (s0 s1 s2 : Judging) (v : ResultIds) (ts : List TypeId) → Counted s0 s1 p → Judged (standing_for xs) s1 s2 a v → types_bound xs (part_in s2 (record { ty = v; place = place a })) ≡ Ok (listed (forms s2) ts) → IsFaultOf e (bind_parts 0 (in_scope s2) s2.counts xs (listed (forms s2) ts)) → IsFaultOf e (several_of s0)
+    several_bind e s0 s1 s2 v ts o ja q h = along e _ _ (several_variables s0 s1 s2 v ts o ja q) (passed_on e _ _ h)
+
+    pub several_is : (s0 s1 s2 s3 : Judging) (v : ResultIds) (ts : List TypeId) → Counted s0 s1 p → Judged (standing_for xs) s1 s2 a v → types_bound xs (part_in s2 (record { ty = v; place = place a })) ≡ Ok (listed (forms s2) ts) → PartsIn s2 s3 xs ts → several_of s0 ≡ types_of st (in_scope s3) s3.counts b
+    several_is s0 s1 s2 s3 v ts o ja q bx = several_variables s0 s1 s2 v ts o ja q ∙ ap (λ z. and_then z (λ inner. types_of st inner.0 inner.1 b)) bx.read
+
+  -- A `let par` with several variables.
+  module _ (st : Standing) (p : Span) (xs : List Ident) (a : GenericExpression) (ys : List Ident) (b c : GenericExpression) where
+    abbrev sides_of : Judging → Checked (Results Form × Counts)
+    sides_of s = types_of st (in_scope s) s.counts (GenericParSeveral p xs a ys b c)
+
+    abbrev sides_rest : FormScope → Counts → List Form → List Form → Checked (Results Form × Counts)
+    sides_rest scope n ts us = and_then (bind_parts 0 scope n xs ts) (λ middle. and_then (bind_parts 0 middle.0 middle.1 ys us) (λ inner. types_of st inner.0 inner.1 c))
+
+    abbrev left_types : Judging → ResultIds → Checked (List Form)
+    left_types s l = types_bound xs (part_in s (record { ty = l; place = place a }))
+
+    abbrev right_types : Judging → ResultIds → Checked (List Form)
+    right_types s r = types_bound ys (part_in s (record { ty = r; place = place b }))
+
+    abbrev sides_behind : FormScope → Results Form × Counts → Results Form × Counts → Checked (Results Form × Counts)
+    sides_behind scope s t = and_then (types_bound xs (record { ty = s.0; place = place a })) (λ ts. and_then (types_bound ys (record { ty = t.0; place = place b })) (λ us. sides_rest scope t.1 ts us))
+
+    pub sides_fail_left : (e : TypeFault) (s0 s1 : Judging) → Counted s0 s1 p → IsFaultOf e (types_of (standing_for xs) (in_scope s1) s1.counts a) → IsFaultOf e (sides_of s0)
+    sides_fail_left e s0 s1 o h =
+        along e _ _ (ap (λ z. and_then z (λ o. and_then (types_of (standing_for xs) (in_scope s0) o a) (λ s. and_then (types_of (standing_for ys) (in_scope s0) s.1 b) (sides_behind (in_scope s0) s)))) o.read
+        ∙ ap (λ z. and_then (types_of (standing_for xs) z s1.counts a) (λ s. and_then (types_of (standing_for ys) (in_scope s0) s.1 b) (sides_behind (in_scope s0) s))) (sym o.kept)) (passed_on e _ _ h)
+
+    pub sides_fail_right : (e : TypeFault) (s0 s1 s2 : Judging) (l : ResultIds) → Counted s0 s1 p → Judged (standing_for xs) s1 s2 a l → IsFaultOf e (types_of (standing_for ys) (in_scope s2) s2.counts b) → IsFaultOf e (sides_of s0)
+    sides_fail_right e s0 s1 s2 l o ja h =
+        along e _ _ (ap (λ z. and_then z (λ o. and_then (types_of (standing_for xs) (in_scope s0) o a) (λ s. and_then (types_of (standing_for ys) (in_scope s0) s.1 b) (sides_behind (in_scope s0) s)))) o.read
+        ∙ ap (λ z. and_then z (λ s. and_then (types_of (standing_for ys) (in_scope s0) s.1 b) (sides_behind (in_scope s0) s))) (ap (λ s. types_of (standing_for xs) s s1.counts a) (sym o.kept) ∙ ja.read)
+        ∙ ap (λ z. and_then (types_of (standing_for ys) z s2.counts b) (sides_behind (in_scope s0) (forms_given s2 l, s2.counts))) (sym (ja.kept ∙ o.kept))) (passed_on e _ _ h)
+
+    sides_judged : (s0 s1 s2 s3 : Judging) (l r : ResultIds) → Counted s0 s1 p → Judged (standing_for xs) s1 s2 a l → Judged (standing_for ys) s2 s3 b r → sides_of s0 ≡ and_then (left_types s3 l) (λ ts. and_then (right_types s3 r) (λ us. sides_rest (in_scope s3) s3.counts ts us))
+    sides_judged s0 s1 s2 s3 l r o ja jb =
+        ap (λ z. and_then z (λ o. and_then (types_of (standing_for xs) (in_scope s0) o a) (λ s. and_then (types_of (standing_for ys) (in_scope s0) s.1 b) (λ t. and_then (types_bound xs (record { ty = s.0; place = place a })) (λ ts. and_then (types_bound ys (record { ty = t.0; place = place b })) (λ us. sides_rest (in_scope s0) t.1 ts us)))))) o.read
+        ∙ ap (λ z. and_then z (λ s. and_then (types_of (standing_for ys) (in_scope s0) s.1 b) (λ t. and_then (types_bound xs (record { ty = s.0; place = place a })) (λ ts. and_then (types_bound ys (record { ty = t.0; place = place b })) (λ us. sides_rest (in_scope s0) t.1 ts us))))) (ap (λ s. types_of (standing_for xs) s s1.counts a) (sym o.kept) ∙ ja.read)
+        ∙ ap (λ z. and_then z (λ t. and_then (left_types s2 l) (λ ts. and_then (types_bound ys (record { ty = t.0; place = place b })) (λ us. sides_rest (in_scope s0) t.1 ts us)))) (ap (λ s. types_of (standing_for ys) s s2.counts b) (sym (ja.kept ∙ o.kept)) ∙ jb.read)
+        ∙ ap₂ (λ (s : FormScope) (f : FormPart). and_then (types_bound xs f) (λ ts. and_then (right_types s3 r) (λ us. sides_rest s s3.counts ts us)))
+        (sym (jb.kept ∙ ja.kept ∙ o.kept)) (sym (stays s2 s3 l (place a) jb.met.advances ja.met.here))
+
+    pub sides_left : (e : TypeFault) (s0 s1 s2 s3 : Judging) (l r : ResultIds) → Counted s0 s1 p → Judged (standing_for xs) s1 s2 a l → Judged (standing_for ys) s2 s3 b r → IsFaultOf e (left_types s3 l) → IsFaultOf e (sides_of s0)
+    sides_left e s0 s1 s2 s3 l r o ja jb h = along e _ _ (sides_judged s0 s1 s2 s3 l r o ja jb) (passed_on e _ _ h)
+
+    pub sides_right : (e : TypeFault) (s0 s1 s2 s3 : Judging) (l r : ResultIds) (ts : List TypeId) → Counted s0 s1 p → Judged (standing_for xs) s1 s2 a l → Judged (standing_for ys) s2 s3 b r → left_types s3 l ≡ Ok (listed (forms s3) ts) → IsFaultOf e (right_types s3 r) → IsFaultOf e (sides_of s0)
+    sides_right e s0 s1 s2 s3 l r ts o ja jb q h =
+        along e _ _ (sides_judged s0 s1 s2 s3 l r o ja jb ∙ ap (λ z. and_then z (λ ts. and_then (right_types s3 r) (λ us. sides_rest (in_scope s3) s3.counts ts us))) q) (passed_on e _ _ h)
+
+    -- The types for the variables of both sides.
+    pub record BothBound (s : Judging) (l r : ResultIds) (ts us : List TypeId) : Type 0 where
+      pub left : left_types s l ≡ Ok (listed (forms s) ts)
+      pub right : right_types s r ≡ Ok (listed (forms s) us)
+
+    sides_typed : (s0 s1 s2 s3 : Judging) (l r : ResultIds) (ts us : List TypeId) → Counted s0 s1 p → Judged (standing_for xs) s1 s2 a l → Judged (standing_for ys) s2 s3 b r → BothBound s3 l r ts us → sides_of s0 ≡ sides_rest (in_scope s3) s3.counts (listed (forms s3) ts) (listed (forms s3) us)
+    sides_typed s0 s1 s2 s3 l r ts us o ja jb q =
+        sides_judged s0 s1 s2 s3 l r o ja jb
+        ∙ ap (λ z. and_then z (λ ts. and_then (right_types s3 r) (λ us. sides_rest (in_scope s3) s3.counts ts us))) q.left
+        ∙ ap (λ z. and_then z (λ us. sides_rest (in_scope s3) s3.counts (listed (forms s3) ts) us)) q.right
+
+    pub sides_first : (e : TypeFault) (s0 s1 s2 s3 : Judging) (l r : ResultIds) (ts us : List TypeId) → Counted s0 s1 p → Judged (standing_for xs) s1 s2 a l → Judged (standing_for ys) s2 s3 b r → BothBound s3 l r ts us → IsFaultOf e (bind_parts 0 (in_scope s3) s3.counts xs (listed (forms s3) ts)) → IsFaultOf e (sides_of s0)
+    sides_first e s0 s1 s2 s3 l r ts us o ja jb q h = along e _ _ (sides_typed s0 s1 s2 s3 l r ts us o ja jb q) (passed_on e _ _ h)
+
+    sides_middle : (s0 s1 s2 s3 s4 : Judging) (l r : ResultIds) (ts us : List TypeId) → Counted s0 s1 p → Judged (standing_for xs) s1 s2 a l → Judged (standing_for ys) s2 s3 b r → BothBound s3 l r ts us → PartsIn s3 s4 xs ts → sides_of s0 ≡ and_then (bind_parts 0 (in_scope s4) s4.counts ys (listed (forms s4) us)) (λ inner. types_of st inner.0 inner.1 c)
+    sides_middle s0 s1 s2 s3 s4 l r ts us o ja jb q bx =
+        sides_typed s0 s1 s2 s3 l r ts us o ja jb q
+        ∙ ap (λ z. and_then z (λ middle. and_then (bind_parts 0 middle.0 middle.1 ys (listed (forms s3) us)) (λ inner. types_of st inner.0 inner.1 c))) bx.read
+        ∙ ap (λ ns. and_then (bind_parts 0 (in_scope s4) s4.counts ys (listed (forms_of ns) us)) (λ inner. types_of st inner.0 inner.1 c)) (sym bx.types)
+
+    pub sides_second : (e : TypeFault) (s0 s1 s2 s3 s4 : Judging) (l r : ResultIds) (ts us : List TypeId) → Counted s0 s1 p → Judged (standing_for xs) s1 s2 a l → Judged (standing_for ys) s2 s3 b r → BothBound s3 l r ts us → PartsIn s3 s4 xs ts → IsFaultOf e (bind_parts 0 (in_scope s4) s4.counts ys (listed (forms s4) us)) → IsFaultOf e (sides_of s0)
+    sides_second e s0 s1 s2 s3 s4 l r ts us o ja jb q bx h = along e _ _ (sides_middle s0 s1 s2 s3 s4 l r ts us o ja jb q bx) (passed_on e _ _ h)
+
+    pub sides_is : (s0 s1 s2 s3 s4 s5 : Judging) (l r : ResultIds) (ts us : List TypeId) → Counted s0 s1 p → Judged (standing_for xs) s1 s2 a l → Judged (standing_for ys) s2 s3 b r → BothBound s3 l r ts us → PartsIn s3 s4 xs ts → PartsIn s4 s5 ys us → sides_of s0 ≡ types_of st (in_scope s5) s5.counts c
+    sides_is s0 s1 s2 s3 s4 s5 l r ts us o ja jb q bx by' =
+        sides_middle s0 s1 s2 s3 s4 l r ts us o ja jb q bx ∙ ap (λ z. and_then z (λ inner. types_of st inner.0 inner.1 c)) by'.read
+
+  -- A tuple.
+  module _ (st : Standing) (p : Span) (count : ℕ) (results : Counts → Checked (List FormPart × Counts)) where
+    abbrev pub tuple_of : Counts → Checked (Results Form × Counts)
+    tuple_of n = infer_tuple st n p count results
+
+    abbrev tuple_end : List FormPart × Counts → Checked (Results Form × Counts)
+    tuple_end r = and_then (all_single r.0) (λ ts. Ok (Several ts, r.1))
+
+    tuple_counted : (s0 s1 : Judging) → Counted s0 s1 p → tuple_of s0.counts ≡ and_then (may_stand st count p) (λ _. and_then (results s1.counts) tuple_end)
+    tuple_counted s0 s1 o = ap (λ z. and_then z (λ n. and_then (may_stand st count p) (λ _. and_then (results n) tuple_end))) o.read
+
+    pub tuple_stands : (e : TypeFault) (s0 s1 : Judging) → Counted s0 s1 p → IsFaultOf e (may_stand st count p) → IsFaultOf e (tuple_of s0.counts)
+    tuple_stands e s0 s1 o h = along e _ _ (tuple_counted s0 s1 o) (passed_on e _ _ h)
+
+    tuple_there : (s0 s1 : Judging) → Counted s0 s1 p → may_stand st count p ≡ Ok (tt {0}) → tuple_of s0.counts ≡ and_then (results s1.counts) tuple_end
+    tuple_there s0 s1 o q = tuple_counted s0 s1 o ∙ ap (λ z. and_then z (λ _. and_then (results s1.counts) tuple_end)) q
+
+    pub tuple_parts : (e : TypeFault) (s0 s1 : Judging) → Counted s0 s1 p → may_stand st count p ≡ Ok (tt {0}) → IsFaultOf e (results s1.counts) → IsFaultOf e (tuple_of s0.counts)
+    tuple_parts e s0 s1 o q h = along e _ _ (tuple_there s0 s1 o q) (passed_on e _ _ h)
+
+    tuple_judged : (s0 s1 : Judging) (ps : List FormPart) (n : Counts) → Counted s0 s1 p → may_stand st count p ≡ Ok (tt {0}) → results s1.counts ≡ Ok (ps, n) → tuple_of s0.counts ≡ and_then (all_single ps) (λ ts. Ok (Several ts, n))
+    tuple_judged s0 s1 ps n o q r = tuple_there s0 s1 o q ∙ ap (λ z. and_then z tuple_end) r
+
+    pub tuple_single : (e : TypeFault) (s0 s1 : Judging) (ps : List FormPart) (n : Counts) → Counted s0 s1 p → may_stand st count p ≡ Ok (tt {0}) → results s1.counts ≡ Ok (ps, n) → IsFaultOf e (all_single ps) → IsFaultOf e (tuple_of s0.counts)
+    tuple_single e s0 s1 ps n o q r h = along e _ _ (tuple_judged s0 s1 ps n o q r) (passed_on e _ _ h)
+
+    pub tuple_ok : (s0 s1 : Judging) (ps : List FormPart) (n : Counts) (ts : List Form) → Counted s0 s1 p → may_stand st count p ≡ Ok (tt {0}) → results s1.counts ≡ Ok (ps, n) → all_single ps ≡ Ok ts → tuple_of s0.counts ≡ Ok (Several ts, n)
+    tuple_ok s0 s1 ps n ts o q r h = tuple_judged s0 s1 ps n o q r ∙ ap (λ z. and_then z (λ ts. Ok (Several ts, n))) h
 
   -- What is left of a scope behind so many more variables.
   pub one_dropped : (old inner now : FormScope) (b : ℕ × Form) (len : ℕ) → inner ≡ b ∷ old → len ≡ length old → now ≡ drop (length inner - len) inner → now ≡ old
@@ -180,23 +349,23 @@ module _ (parts : GenericParts) (variables : List Ident) where
 
   -- Arguments were judged.
   pub record AllJudged (before after : Judging) (scope : FormScope) (results : Counts → Checked (List FormPart × Counts)) (ps : List Part) : Type 0 where
-    pub read : results before.counts ≡ Ok (parts_in (forms after) ps, after.counts)
+    pub read : results before.counts ≡ Ok (parts_in after ps, after.counts)
     pub kept : in_scope after ≡ scope
-    pub met : AllMet before.types after.types ps
+    pub met : AllMet before after ps
 
   -- A use of a function: what was looked at of it, and what is left.
   module _ (f : Ident) (ws : WrittenTypes) (count : ℕ) (results : Counts → Checked (List FormPart × Counts)) where
     abbrev pub use_types : ℕ → Checked (Unit {0})
     use_types due = and_then (as_many (count_written ws) due f) (λ _. all_known (generic_globals parts).datas (variable_numbers variables) ws)
 
-    abbrev call_rest : Counts → GenericFunctionTree → Checked (Form × Counts)
+    abbrev call_rest : Counts → GenericFunctionTree → Checked (Results Form × Counts)
     call_rest n h =
         and_then (as_many count (length h.parameters) f)
         (λ _. and_then (results n)
         (λ r. and_then (all_wanted r.0 (parameter_forms h (formed_all opaque ws)))
-        (λ _. Ok (result_form h (formed_all opaque ws), r.1))))
+        (λ _. Ok (result_forms h (formed_all opaque ws), r.1))))
 
-    abbrev pub call_of : Counts → Checked (Form × Counts)
+    abbrev pub call_of : Counts → Checked (Results Form × Counts)
     call_of n = infer_call (generic_globals parts) (variable_numbers variables) opaque n f ws count results
 
     pub call_function : (e : TypeFault) (s0 s1 : Judging) → Counted s0 s1 f.span → IsFaultOf e (function (generic_globals parts).functions f) → IsFaultOf e (call_of s0.counts)
@@ -217,32 +386,32 @@ module _ (parts : GenericParts) (variables : List Ident) where
     pub call_count : (e : TypeFault) (s0 s1 : Judging) (h : GenericFunctionTree) → Counted s0 s1 f.span → function (generic_globals parts).functions f ≡ Ok h → use_types (length h.variables) ≡ Ok (tt {0}) → IsFaultOf e (as_many count (length h.parameters) f) → IsFaultOf e (call_of s0.counts)
     call_count e s0 s1 h o q u k = along e _ _ (call_counted s0 s1 h o q u) (passed_on e _ _ k)
 
-    call_results : (s0 s1 : Judging) (h : GenericFunctionTree) → Counted s0 s1 f.span → function (generic_globals parts).functions f ≡ Ok h → use_types (length h.variables) ≡ Ok (tt {0}) → as_many count (length h.parameters) f ≡ Ok (tt {0}) → call_of s0.counts ≡ and_then (results s1.counts) (λ r. and_then (all_wanted r.0 (parameter_forms h (formed_all opaque ws))) (λ _. Ok (result_form h (formed_all opaque ws), r.1)))
-    call_results s0 s1 h o q u m = call_counted s0 s1 h o q u ∙ ap (λ z. and_then z (λ _. and_then (results s1.counts) (λ r. and_then (all_wanted r.0 (parameter_forms h (formed_all opaque ws))) (λ _. Ok (result_form h (formed_all opaque ws), r.1))))) m
+    call_results : (s0 s1 : Judging) (h : GenericFunctionTree) → Counted s0 s1 f.span → function (generic_globals parts).functions f ≡ Ok h → use_types (length h.variables) ≡ Ok (tt {0}) → as_many count (length h.parameters) f ≡ Ok (tt {0}) → call_of s0.counts ≡ and_then (results s1.counts) (λ r. and_then (all_wanted r.0 (parameter_forms h (formed_all opaque ws))) (λ _. Ok (result_forms h (formed_all opaque ws), r.1)))
+    call_results s0 s1 h o q u m = call_counted s0 s1 h o q u ∙ ap (λ z. and_then z (λ _. and_then (results s1.counts) (λ r. and_then (all_wanted r.0 (parameter_forms h (formed_all opaque ws))) (λ _. Ok (result_forms h (formed_all opaque ws), r.1))))) m
 
     pub call_parts : (e : TypeFault) (s0 s1 : Judging) (h : GenericFunctionTree) → Counted s0 s1 f.span → function (generic_globals parts).functions f ≡ Ok h → use_types (length h.variables) ≡ Ok (tt {0}) → as_many count (length h.parameters) f ≡ Ok (tt {0}) → IsFaultOf e (results s1.counts) → IsFaultOf e (call_of s0.counts)
     call_parts e s0 s1 h o q u m k = along e _ _ (call_results s0 s1 h o q u m) (passed_on e _ _ k)
 
-    call_wanted : (s0 s1 : Judging) (h : GenericFunctionTree) (ps qs : List FormPart) (due : List Form) (n : Counts) → Counted s0 s1 f.span → function (generic_globals parts).functions f ≡ Ok h → use_types (length h.variables) ≡ Ok (tt {0}) → as_many count (length h.parameters) f ≡ Ok (tt {0}) → results s1.counts ≡ Ok (ps, n) → qs ≡ ps → due ≡ parameter_forms h (formed_all opaque ws) → call_of s0.counts ≡ and_then (all_wanted qs due) (λ _. Ok (result_form h (formed_all opaque ws), n))
+    call_wanted : (s0 s1 : Judging) (h : GenericFunctionTree) (ps qs : List FormPart) (due : List Form) (n : Counts) → Counted s0 s1 f.span → function (generic_globals parts).functions f ≡ Ok h → use_types (length h.variables) ≡ Ok (tt {0}) → as_many count (length h.parameters) f ≡ Ok (tt {0}) → results s1.counts ≡ Ok (ps, n) → qs ≡ ps → due ≡ parameter_forms h (formed_all opaque ws) → call_of s0.counts ≡ and_then (all_wanted qs due) (λ _. Ok (result_forms h (formed_all opaque ws), n))
     call_wanted s0 s1 h ps qs due n o q u m r e d =
-        call_results s0 s1 h o q u m ∙ ap (λ z. and_then z (λ r. and_then (all_wanted r.0 (parameter_forms h (formed_all opaque ws))) (λ _. Ok (result_form h (formed_all opaque ws), r.1)))) r
-        ∙ ap₂ (λ (xs : List FormPart) (fs : List Form). and_then (all_wanted xs fs) (λ _. Ok (result_form h (formed_all opaque ws), n))) (sym e) (sym d)
+        call_results s0 s1 h o q u m ∙ ap (λ z. and_then z (λ r. and_then (all_wanted r.0 (parameter_forms h (formed_all opaque ws))) (λ _. Ok (result_forms h (formed_all opaque ws), r.1)))) r
+        ∙ ap₂ (λ (xs : List FormPart) (fs : List Form). and_then (all_wanted xs fs) (λ _. Ok (result_forms h (formed_all opaque ws), n))) (sym e) (sym d)
 
     pub call_shape : (e : TypeFault) (s0 s1 : Judging) (h : GenericFunctionTree) (ps qs : List FormPart) (due : List Form) (n : Counts) → Counted s0 s1 f.span → function (generic_globals parts).functions f ≡ Ok h → use_types (length h.variables) ≡ Ok (tt {0}) → as_many count (length h.parameters) f ≡ Ok (tt {0}) → results s1.counts ≡ Ok (ps, n) → qs ≡ ps → due ≡ parameter_forms h (formed_all opaque ws) → IsFaultOf e (all_wanted qs due) → IsFaultOf e (call_of s0.counts)
     call_shape e s0 s1 h ps qs due n o q u m r k d w = along e _ _ (call_wanted s0 s1 h ps qs due n o q u m r k d) (passed_on e _ _ w)
 
-    pub call_ok : (s0 s1 : Judging) (h : GenericFunctionTree) (ps qs : List FormPart) (due : List Form) (n : Counts) → Counted s0 s1 f.span → function (generic_globals parts).functions f ≡ Ok h → use_types (length h.variables) ≡ Ok (tt {0}) → as_many count (length h.parameters) f ≡ Ok (tt {0}) → results s1.counts ≡ Ok (ps, n) → qs ≡ ps → due ≡ parameter_forms h (formed_all opaque ws) → all_wanted qs due ≡ Ok (tt {0}) → call_of s0.counts ≡ Ok (result_form h (formed_all opaque ws), n)
-    call_ok s0 s1 h ps qs due n o q u m r k d w = call_wanted s0 s1 h ps qs due n o q u m r k d ∙ ap (λ z. and_then z (λ _. Ok (result_form h (formed_all opaque ws), n))) w
+    pub call_ok : (s0 s1 : Judging) (h : GenericFunctionTree) (ps qs : List FormPart) (due : List Form) (n : Counts) → Counted s0 s1 f.span → function (generic_globals parts).functions f ≡ Ok h → use_types (length h.variables) ≡ Ok (tt {0}) → as_many count (length h.parameters) f ≡ Ok (tt {0}) → results s1.counts ≡ Ok (ps, n) → qs ≡ ps → due ≡ parameter_forms h (formed_all opaque ws) → all_wanted qs due ≡ Ok (tt {0}) → call_of s0.counts ≡ Ok (result_forms h (formed_all opaque ws), n)
+    call_ok s0 s1 h ps qs due n o q u m r k d w = call_wanted s0 s1 h ps qs due n o q u m r k d ∙ ap (λ z. and_then z (λ _. Ok (result_forms h (formed_all opaque ws), n))) w
 
     -- So for a constructor.
-    abbrev make_rest : Counts → GenericRow → Checked (Form × Counts)
+    abbrev make_rest : Counts → GenericRow → Checked (Results Form × Counts)
     make_rest n row =
         and_then (as_many count (length row.fields) f)
         (λ _. and_then (results n)
         (λ r. and_then (all_wanted r.0 (field_forms row (formed_all opaque ws)))
-        (λ _. Ok (DataForm row.owner (formed_all opaque ws), r.1))))
+        (λ _. Ok (One (DataForm row.owner (formed_all opaque ws)), r.1))))
 
-    abbrev pub make_of : Counts → Checked (Form × Counts)
+    abbrev pub make_of : Counts → Checked (Results Form × Counts)
     make_of n = infer_make (generic_globals parts) (variable_numbers variables) opaque n f ws count results
 
     pub make_constructor : (e : TypeFault) (s0 s1 : Judging) → Counted s0 s1 f.span → IsFaultOf e (constructor (generic_globals parts).rows f) → IsFaultOf e (make_of s0.counts)
@@ -263,32 +432,32 @@ module _ (parts : GenericParts) (variables : List Ident) where
     pub make_count : (e : TypeFault) (s0 s1 : Judging) (h : GenericRow) → Counted s0 s1 f.span → constructor (generic_globals parts).rows f ≡ Ok h → use_types (length h.variables) ≡ Ok (tt {0}) → IsFaultOf e (as_many count (length h.fields) f) → IsFaultOf e (make_of s0.counts)
     make_count e s0 s1 h o q u k = along e _ _ (make_counted s0 s1 h o q u) (passed_on e _ _ k)
 
-    make_results : (s0 s1 : Judging) (h : GenericRow) → Counted s0 s1 f.span → constructor (generic_globals parts).rows f ≡ Ok h → use_types (length h.variables) ≡ Ok (tt {0}) → as_many count (length h.fields) f ≡ Ok (tt {0}) → make_of s0.counts ≡ and_then (results s1.counts) (λ r. and_then (all_wanted r.0 (field_forms h (formed_all opaque ws))) (λ _. Ok (DataForm h.owner (formed_all opaque ws), r.1)))
-    make_results s0 s1 h o q u m = make_counted s0 s1 h o q u ∙ ap (λ z. and_then z (λ _. and_then (results s1.counts) (λ r. and_then (all_wanted r.0 (field_forms h (formed_all opaque ws))) (λ _. Ok (DataForm h.owner (formed_all opaque ws), r.1))))) m
+    make_results : (s0 s1 : Judging) (h : GenericRow) → Counted s0 s1 f.span → constructor (generic_globals parts).rows f ≡ Ok h → use_types (length h.variables) ≡ Ok (tt {0}) → as_many count (length h.fields) f ≡ Ok (tt {0}) → make_of s0.counts ≡ and_then (results s1.counts) (λ r. and_then (all_wanted r.0 (field_forms h (formed_all opaque ws))) (λ _. Ok (One (DataForm h.owner (formed_all opaque ws)), r.1)))
+    make_results s0 s1 h o q u m = make_counted s0 s1 h o q u ∙ ap (λ z. and_then z (λ _. and_then (results s1.counts) (λ r. and_then (all_wanted r.0 (field_forms h (formed_all opaque ws))) (λ _. Ok (One (DataForm h.owner (formed_all opaque ws)), r.1))))) m
 
     pub make_parts : (e : TypeFault) (s0 s1 : Judging) (h : GenericRow) → Counted s0 s1 f.span → constructor (generic_globals parts).rows f ≡ Ok h → use_types (length h.variables) ≡ Ok (tt {0}) → as_many count (length h.fields) f ≡ Ok (tt {0}) → IsFaultOf e (results s1.counts) → IsFaultOf e (make_of s0.counts)
     make_parts e s0 s1 h o q u m k = along e _ _ (make_results s0 s1 h o q u m) (passed_on e _ _ k)
 
-    make_wanted : (s0 s1 : Judging) (h : GenericRow) (ps qs : List FormPart) (due : List Form) (n : Counts) → Counted s0 s1 f.span → constructor (generic_globals parts).rows f ≡ Ok h → use_types (length h.variables) ≡ Ok (tt {0}) → as_many count (length h.fields) f ≡ Ok (tt {0}) → results s1.counts ≡ Ok (ps, n) → qs ≡ ps → due ≡ field_forms h (formed_all opaque ws) → make_of s0.counts ≡ and_then (all_wanted qs due) (λ _. Ok (DataForm h.owner (formed_all opaque ws), n))
+    make_wanted : (s0 s1 : Judging) (h : GenericRow) (ps qs : List FormPart) (due : List Form) (n : Counts) → Counted s0 s1 f.span → constructor (generic_globals parts).rows f ≡ Ok h → use_types (length h.variables) ≡ Ok (tt {0}) → as_many count (length h.fields) f ≡ Ok (tt {0}) → results s1.counts ≡ Ok (ps, n) → qs ≡ ps → due ≡ field_forms h (formed_all opaque ws) → make_of s0.counts ≡ and_then (all_wanted qs due) (λ _. Ok (One (DataForm h.owner (formed_all opaque ws)), n))
     make_wanted s0 s1 h ps qs due n o q u m r e d =
-        make_results s0 s1 h o q u m ∙ ap (λ z. and_then z (λ r. and_then (all_wanted r.0 (field_forms h (formed_all opaque ws))) (λ _. Ok (DataForm h.owner (formed_all opaque ws), r.1)))) r
-        ∙ ap₂ (λ (xs : List FormPart) (fs : List Form). and_then (all_wanted xs fs) (λ _. Ok (DataForm h.owner (formed_all opaque ws), n))) (sym e) (sym d)
+        make_results s0 s1 h o q u m ∙ ap (λ z. and_then z (λ r. and_then (all_wanted r.0 (field_forms h (formed_all opaque ws))) (λ _. Ok (One (DataForm h.owner (formed_all opaque ws)), r.1)))) r
+        ∙ ap₂ (λ (xs : List FormPart) (fs : List Form). and_then (all_wanted xs fs) (λ _. Ok (One (DataForm h.owner (formed_all opaque ws)), n))) (sym e) (sym d)
 
     pub make_shape : (e : TypeFault) (s0 s1 : Judging) (h : GenericRow) (ps qs : List FormPart) (due : List Form) (n : Counts) → Counted s0 s1 f.span → constructor (generic_globals parts).rows f ≡ Ok h → use_types (length h.variables) ≡ Ok (tt {0}) → as_many count (length h.fields) f ≡ Ok (tt {0}) → results s1.counts ≡ Ok (ps, n) → qs ≡ ps → due ≡ field_forms h (formed_all opaque ws) → IsFaultOf e (all_wanted qs due) → IsFaultOf e (make_of s0.counts)
     make_shape e s0 s1 h ps qs due n o q u m r k d w = along e _ _ (make_wanted s0 s1 h ps qs due n o q u m r k d) (passed_on e _ _ w)
 
-    pub make_ok : (s0 s1 : Judging) (h : GenericRow) (ps qs : List FormPart) (due : List Form) (n : Counts) → Counted s0 s1 f.span → constructor (generic_globals parts).rows f ≡ Ok h → use_types (length h.variables) ≡ Ok (tt {0}) → as_many count (length h.fields) f ≡ Ok (tt {0}) → results s1.counts ≡ Ok (ps, n) → qs ≡ ps → due ≡ field_forms h (formed_all opaque ws) → all_wanted qs due ≡ Ok (tt {0}) → make_of s0.counts ≡ Ok (DataForm h.owner (formed_all opaque ws), n)
-    make_ok s0 s1 h ps qs due n o q u m r k d w = make_wanted s0 s1 h ps qs due n o q u m r k d ∙ ap (λ z. and_then z (λ _. Ok (DataForm h.owner (formed_all opaque ws), n))) w
+    pub make_ok : (s0 s1 : Judging) (h : GenericRow) (ps qs : List FormPart) (due : List Form) (n : Counts) → Counted s0 s1 f.span → constructor (generic_globals parts).rows f ≡ Ok h → use_types (length h.variables) ≡ Ok (tt {0}) → as_many count (length h.fields) f ≡ Ok (tt {0}) → results s1.counts ≡ Ok (ps, n) → qs ≡ ps → due ≡ field_forms h (formed_all opaque ws) → all_wanted qs due ≡ Ok (tt {0}) → make_of s0.counts ≡ Ok (One (DataForm h.owner (formed_all opaque ws)), n)
+    make_ok s0 s1 h ps qs due n o q u m r k d w = make_wanted s0 s1 h ps qs due n o q u m r k d ∙ ap (λ z. and_then z (λ _. Ok (One (DataForm h.owner (formed_all opaque ws)), n))) w
 
-abbrev pub answer_of : Form → Counts → Checked (Form × Counts)
+abbrev pub answer_of : Results Form → Counts → Checked (Results Form × Counts)
 answer_of f n = Ok (f, n)
 
-abbrev pub answer : Judging → TypeId → Checked (Form × Counts)
-answer s ty = Ok (form_at (forms s) ty.0, s.counts)
+abbrev pub answer : Judging → ResultIds → Checked (Results Form × Counts)
+answer s ty = Ok (forms_given s ty, s.counts)
 
 -- A state with the same types and counts gives the same answer.
-pub same_answer : (before after : Judging) (ty : TypeId) → after.types ≡ before.types → after.counts ≡ before.counts → answer before ty ≡ answer after ty
-same_answer before after ty e q = ap₂ (λ (ns : List TypeNode) (n : Counts). Ok (form_at (forms_of ns) ty.0, n)) (sym e) (sym q)
+pub same_answer : (before after : Judging) (ty : ResultIds) → Advances before after → AreMet before ty → after.counts ≡ before.counts → answer before ty ≡ answer after ty
+same_answer before after ty g h q = ap₂ answer_of (sym (given_grows before after ty g h)) (sym q)
 
 -- What a call knows of its types.
 pub given_types : (s2 s3 : Judging) (ids : List TypeId) (ws : WrittenTypes) → forms_at (forms s2) ids ≡ formed_all opaque ws → Grows s2.types s3.types → AreBelow (length s2.types) ids → forms_at (forms s3) ids ≡ formed_all opaque ws
@@ -306,6 +475,10 @@ pub results_moved : (parts : GenericParts) (variables : List Ident) (s0 s1 s2 : 
 results_moved parts variables s0 s1 s2 ids k h =
     ap₂ (λ (s : FormScope) (n : Counts). infer_all (generic_globals parts) (variable_numbers variables) opaque s n (arguments_from (generic_tree parts) ids)) (sym (k.scope ∙ h)) (sym k.counts)
 
+-- So where one more expression was counted.
+pub results_same : (parts : GenericParts) (variables : List Ident) (s0 s1 : Judging) (ids : List ExprId) → in_scope s1 ≡ in_scope s0 → infer_all (generic_globals parts) (variable_numbers variables) opaque (in_scope s0) s1.counts (arguments_from (generic_tree parts) ids) ≡ infer_all (generic_globals parts) (variable_numbers variables) opaque (in_scope s1) s1.counts (arguments_from (generic_tree parts) ids)
+results_same parts variables s0 s1 ids h = ap (λ (s : FormScope). infer_all (generic_globals parts) (variable_numbers variables) opaque s s1.counts (arguments_from (generic_tree parts) ids)) (sym h)
+
 -- The types of a function's parameters, by what its variables stand for.
 pub parameters_are : (words : List Word) (ps qs : List GenericParameter) (vs : List Ident) (m : Meant) (ts us : Forms) → qs ≡ ps → m ≡ assign vs ts → ts ≡ us → map (λ (q : GenericParameterTree). formed m q.ty) (map (parameter_in words) qs) ≡ map (λ (q : GenericParameterTree). formed (assign vs us) q.ty) (map (parameter_in words) ps)
 parameters_are words ps qs vs m ts us q e f =
@@ -318,20 +491,20 @@ meant_later s3 s4 m vs ws is js us e w j f g b =
     ∙ ap (assign vs) f
 
 -- The answers of a call and of a constructor.
-pub call_answer : (s3 s4 s5 : Judging) (ty : TypeId) (m n : Meant) (w v : WrittenType) → form_at (forms s5) ty.0 ≡ formed m w → m ≡ n → w ≡ v → s4.counts ≡ s3.counts → s5.counts ≡ s4.counts → answer_of (formed n v) s3.counts ≡ answer s5 ty
+pub call_answer : (s3 s4 s5 : Judging) (ty : ResultIds) (m n : Meant) (w v : Results WrittenType) → forms_given s5 ty ≡ map_results (formed m) w → m ≡ n → w ≡ v → s4.counts ≡ s3.counts → s5.counts ≡ s4.counts → answer_of (map_results (formed n) v) s3.counts ≡ answer s5 ty
 call_answer s3 s4 s5 ty m n w v e q p c d =
-    ap₂ answer_of (sym (e ∙ ap₂ (λ (k : Meant) (z : WrittenType). formed k z) q p)) (sym (d ∙ c))
+    ap₂ answer_of (sym (e ∙ ap₂ (λ (k : Meant) (z : Results WrittenType). map_results (formed k) z) q p)) (sym (d ∙ c))
 
-pub make_answer : (s3 s5 : Judging) (ty : TypeId) (f : Form) (n : Counts) → form_at (forms s5) ty.0 ≡ f → s5.counts ≡ n → answer_of f n ≡ answer s5 ty
-make_answer s3 s5 ty f n e c = ap₂ answer_of (sym e) (sym c)
+pub make_answer : (s3 s5 : Judging) (ty : TypeId) (f : Form) (n : Counts) → form_at (forms s5) ty.0 ≡ f → s5.counts ≡ n → answer_of (One f) n ≡ answer_of (One (form_at (forms s5) ty.0)) s5.counts
+make_answer s3 s5 ty f n e c = ap₂ (λ (g : Form) (k : Counts). answer_of (One g) k) (sym e) (sym c)
 
 -- An arm.
-module _ (parts : GenericParts) (variables : List Ident) (ts : Forms) (k : Ident) (xs : List Ident) (e : GenericExpression) where
-  abbrev pub arm_of : FormScope → Counts → Checked (Form × Counts)
-  arm_of scope n = infer_arm (generic_globals parts).rows ts scope n k xs (λ inner m. infer (generic_globals parts) (variable_numbers variables) opaque inner m e)
+module _ (parts : GenericParts) (variables : List Ident) (st : Standing) (ts : Forms) (k : Ident) (xs : List Ident) (e : GenericExpression) where
+  abbrev pub arm_of : FormScope → Counts → Checked (Results Form × Counts)
+  arm_of scope n = infer_arm (generic_globals parts).rows ts scope n k xs (λ inner m. infer (generic_globals parts) (variable_numbers variables) opaque st inner m e)
 
-  abbrev arm_go : FormScope × Counts → Checked (Form × Counts)
-  arm_go inner = infer (generic_globals parts) (variable_numbers variables) opaque inner.0 inner.1 e
+  abbrev arm_go : FormScope × Counts → Checked (Results Form × Counts)
+  arm_go inner = infer (generic_globals parts) (variable_numbers variables) opaque st inner.0 inner.1 e
 
   arm_same : (s0 s1 : Judging) (vs : List Ident) (gs : List Form) → Keeps s0 s1 → vs ≡ xs → gs ≡ fields_if (row_named (generic_globals parts).rows (number_of k)) ts → bind_all (in_scope s0) s0.counts xs (fields_if (row_named (generic_globals parts).rows (number_of k)) ts) ≡ bind_all (in_scope s1) s1.counts vs gs
   arm_same s0 s1 vs gs h v g = (λ i. bind_all (sym h.scope i) (sym h.counts i) (sym v i) (sym g i))
@@ -339,25 +512,32 @@ module _ (parts : GenericParts) (variables : List Ident) (ts : Forms) (k : Ident
   pub arm_fails : (f : TypeFault) (s0 s1 : Judging) (vs : List Ident) (gs : List Form) → Keeps s0 s1 → vs ≡ xs → gs ≡ fields_if (row_named (generic_globals parts).rows (number_of k)) ts → IsFaultOf f (bind_all (in_scope s1) s1.counts vs gs) → IsFaultOf f (arm_of (in_scope s0) s0.counts)
   arm_fails f s0 s1 vs gs h v g q = passed_on f (bind_all (in_scope s0) s0.counts xs (fields_if (row_named (generic_globals parts).rows (number_of k)) ts)) arm_go (along f _ _ (arm_same s0 s1 vs gs h v g) q)
 
-  pub arm_is : (s0 s1 s2 : Judging) (vs : List Ident) (gs : List Form) → Keeps s0 s1 → vs ≡ xs → gs ≡ fields_if (row_named (generic_globals parts).rows (number_of k)) ts → bind_all (in_scope s1) s1.counts vs gs ≡ Ok (in_scope s2, s2.counts) → arm_of (in_scope s0) s0.counts ≡ infer (generic_globals parts) (variable_numbers variables) opaque (in_scope s2) s2.counts e
+  pub arm_is : (s0 s1 s2 : Judging) (vs : List Ident) (gs : List Form) → Keeps s0 s1 → vs ≡ xs → gs ≡ fields_if (row_named (generic_globals parts).rows (number_of k)) ts → bind_all (in_scope s1) s1.counts vs gs ≡ Ok (in_scope s2, s2.counts) → arm_of (in_scope s0) s0.counts ≡ infer (generic_globals parts) (variable_numbers variables) opaque st (in_scope s2) s2.counts e
   arm_is s0 s1 s2 vs gs h v g q = ap (λ z. and_then z arm_go) (arm_same s0 s1 vs gs h v g ∙ q)
 
 -- What is left of a scope behind the variables of an arm.
 pub arm_dropped : (old inner now : FormScope) (len : ℕ) → drop (length inner - length old) inner ≡ old → len ≡ length old → now ≡ drop (length inner - len) inner → now ≡ old
 arm_dropped old inner now len d l e = e ∙ ap (λ n. drop (length inner - n) inner) l ∙ d
 
-abbrev refused_form : Rattle.gib_check.specs.declared.fault.Fault.Fault → Checked Form
+-- So behind the variables of a binding of parts, and of two.
+pub parts_dropped : (old inner now added : FormScope) (len : ℕ) → inner ≡ added ++ old → len ≡ length old → now ≡ drop (length inner - len) inner → now ≡ old
+parts_dropped old inner now added len d l e = e ∙ ap (λ n. drop (length inner - n) inner) l ∙ added_kept added inner old d
+
+pub both_added : (old mid inner first second : FormScope) → mid ≡ first ++ old → inner ≡ second ++ mid → inner ≡ (second ++ first) ++ old
+both_added old mid inner first second e f = f ∙ ap (λ z. second ++ z) e ∙ sym (append_assoc second first old)
+
+abbrev refused_form : Rattle.gib_check.specs.declared.fault.Fault.Fault → Checked (Results Form)
 refused_form d = Err d
 
-abbrev refused_pair : Rattle.gib_check.specs.declared.fault.Fault.Fault → Checked (Form × Counts)
+abbrev refused_pair : Rattle.gib_check.specs.declared.fault.Fault.Fault → Checked (Results Form × Counts)
 refused_pair d = Err d
 
 -- An answer with counts.
-pub ok_with : (c : Checked (Unit {0})) (f v : Form) (n : Counts) → and_then c (λ _. Ok f) ≡ Ok v → and_then {B = Form × Counts} c (λ _. Ok (f, n)) ≡ Ok (v, n)
+pub ok_with : (c : Checked (Unit {0})) (f v : Results Form) (n : Counts) → and_then c (λ _. Ok f) ≡ Ok v → and_then {B = Results Form × Counts} c (λ _. Ok (f, n)) ≡ Ok (v, n)
 ok_with (Ok u) f v n q = let same : f ≡ v = cc in ap (λ z. Ok (z, n)) same
 ok_with (Err e) f v n q = absurd cc
 
-pub fault_with : (e : TypeFault) (c : Checked (Unit {0})) (f : Form) (n : Counts) → IsFaultOf e (and_then c (λ _. Ok f)) → IsFaultOf {B = Form × Counts} e (and_then c (λ _. Ok (f, n)))
+pub fault_with : (e : TypeFault) (c : Checked (Unit {0})) (f : Results Form) (n : Counts) → IsFaultOf e (and_then c (λ _. Ok f)) → IsFaultOf {B = Results Form × Counts} e (and_then c (λ _. Ok (f, n)))
 fault_with t.Memory c f n q = tt
 fault_with (t.Broken g) (Ok u) f n q = absurd cc
 fault_with (t.Broken g) (Err d) f n q = q_of d g q where
@@ -367,11 +547,11 @@ fault_with (t.Broken g) (Err d) f n q = q_of d g q where
 -- A variable, and a literal.
 pub variable_fails : (e : TypeFault) (s0 s1 : Judging) (x : Ident) → one_more s0.counts x.span ≡ Ok s1.counts → in_scope s1 ≡ in_scope s0 → IsFaultOf e (variable (in_scope s1) x) → IsFaultOf e (infer_variable (in_scope s0) s0.counts x)
 variable_fails e s0 s1 x o k h =
-    along e _ _ (ap (λ z. and_then z (λ m. and_then (variable (in_scope s0) x) (λ t. Ok (t, m)))) o ∙ ap (λ s. and_then (variable s x) (λ t. Ok (t, s1.counts))) (sym k)) (passed_on e _ _ h)
+    along e _ _ (ap (λ z. and_then z (λ m. and_then (variable (in_scope s0) x) (λ t. Ok (One t, m)))) o ∙ ap (λ s. and_then (variable s x) (λ t. Ok (One t, s1.counts))) (sym k)) (passed_on e _ _ h)
 
-pub variable_ok : (s0 s1 : Judging) (x : Ident) (f : Form) → one_more s0.counts x.span ≡ Ok s1.counts → in_scope s1 ≡ in_scope s0 → variable (in_scope s1) x ≡ Ok f → infer_variable (in_scope s0) s0.counts x ≡ Ok (f, s1.counts)
+pub variable_ok : (s0 s1 : Judging) (x : Ident) (f : Form) → one_more s0.counts x.span ≡ Ok s1.counts → in_scope s1 ≡ in_scope s0 → variable (in_scope s1) x ≡ Ok f → infer_variable (in_scope s0) s0.counts x ≡ Ok (One f, s1.counts)
 variable_ok s0 s1 x f o k h =
-    ap (λ z. and_then z (λ m. and_then (variable (in_scope s0) x) (λ t. Ok (t, m)))) o ∙ ap (λ s. and_then (variable s x) (λ t. Ok (t, s1.counts))) (sym k) ∙ ap (λ z. and_then z (λ t. Ok (t, s1.counts))) h
+    ap (λ z. and_then z (λ m. and_then (variable (in_scope s0) x) (λ t. Ok (One t, m)))) o ∙ ap (λ s. and_then (variable s x) (λ t. Ok (One t, s1.counts))) (sym k) ∙ ap (λ z. and_then z (λ t. Ok (One t, s1.counts))) h
 
 pub closed_below : (b : ℕ) (n : TypeNode) → IsClosed n → ArgumentsBelow b n
 closed_below b node.Whole h = tt
@@ -385,19 +565,19 @@ closed_form fs gs node.Truth h = refl
 closed_form fs gs (node.Variable x) h = absurd h
 closed_form fs gs (node.Data x is) h = absurd h
 
-pub literal_ok : (s0 s1 s2 : Judging) (at : Span) (fs : List Form) (n : TypeNode) (id : TypeId) → IsClosed n → one_more s0.counts at ≡ Ok s1.counts → form_at (forms s2) id.0 ≡ form_from (forms s1) n → s2.counts ≡ s1.counts → infer_literal s0.counts at (form_from fs n) ≡ Ok (form_at (forms s2) id.0, s2.counts)
+pub literal_ok : (s0 s1 s2 : Judging) (at : Span) (fs : List Form) (n : TypeNode) (id : TypeId) → IsClosed n → one_more s0.counts at ≡ Ok s1.counts → form_at (forms s2) id.0 ≡ form_from (forms s1) n → s2.counts ≡ s1.counts → infer_literal s0.counts at (form_from fs n) ≡ Ok (One (form_at (forms s2) id.0), s2.counts)
 literal_ok s0 s1 s2 at fs n id h o m k =
-    ap (λ z. and_then z (λ q. Ok (form_from fs n, q))) o ∙ ap₂ (λ (f : Form) (q : Counts). Ok (f, q)) (closed_form fs (forms s1) n h ∙ sym m) (sym k)
+    ap (λ z. and_then z (λ q. Ok (One (form_from fs n), q))) o ∙ ap₂ (λ (f : Form) (q : Counts). Ok (One f, q)) (closed_form fs (forms s1) n h ∙ sym m) (sym k)
 
 -- A case.
 module _ (parts : GenericParts) (variables : List Ident) (rows : List GenericRow) (p : Span) (x : Ident) (hs : List ArmHead) (results : Forms → Counts → Checked (List FormPart × Counts)) where
-  abbrev pub case_of : FormScope → Counts → Checked (Form × Counts)
+  abbrev pub case_of : FormScope → Counts → Checked (Results Form × Counts)
   case_of scope n = infer_case rows scope n p x hs results
 
-  abbrev case_end : List FormPart × Counts → Checked (Form × Counts)
+  abbrev case_end : List FormPart × Counts → Checked (Results Form × Counts)
   case_end r = and_then (all_of (first_type r.0) r.0) (λ _. Ok (first_type r.0, r.1))
 
-  abbrev case_arms : Counts → ℕ × Forms → Checked (Form × Counts)
+  abbrev case_arms : Counts → ℕ × Forms → Checked (Results Form × Counts)
   case_arms n t =
       and_then (all_declared rows hs)
       (λ _. and_then (covered rows t.0 (head_names hs) p)

@@ -2,7 +2,7 @@
 use Rattle.std.specs.Prelude.{ℕ, ◌-◌, ◌==◌, nat_lt, Bool, false, if◌then◌else◌, List, [], ◌∷◌, Option, Some, None}
 use Rattle.gib_types.specs.Table.{Table}
 use Rattle.gib_syntax.specs.declared.exprs.Arm.{Arm}
-use Rattle.gib_syntax.specs.Tree.{Expression, Var, Num, Bit, Paren, Op, Call, Make, Let, Par, If, Case}
+use Rattle.gib_syntax.specs.Tree.{Expression, Var, Num, Bit, Paren, Op, Call, Make, Let, Par, If, Case, Tuple, LetSeveral, ParSeveral}
 use Rattle.gib_syntax.specs.Declarations.{number_of, next_place, constructor_named}
 use Rattle.gib_syntax.specs.Typing.{arm_names}
 use Rattle.gib_check.specs.declared.arm_index.ArmIndex.{ArmIndex}
@@ -31,6 +31,9 @@ case_names (Let p x a b) = []
 case_names (Par p x a y b c) = []
 case_names (If p a b c) = []
 case_names (Case p x arms) = arm_names arms
+case_names (Tuple p as' xs) = []
+case_names (LetSeveral p qs a b) = []
+case_names (ParSeveral p qs a rs b c) = []
 
 -- The name of an arm's constructor.
 abbrev pub arm_name : Arm → ℕ

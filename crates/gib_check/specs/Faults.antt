@@ -1,17 +1,20 @@
 -- The first rule of typing that an expression breaks, in the order in which its rules are looked at.
-use Rattle.std.specs.Prelude.{ℕ, ◌+◌, ◌==◌, nat_lt, Bool, true, false, ◌&&◌, not, ◌||◌, is_some, is_none, List, [], ◌∷◌, length, map, slice_get, Option, Some, None, Result, Ok, Err}
+use Rattle.std.specs.Prelude.{◌≡◌, ℕ, suc, ◌+◌, ◌==◌, nat_lt, Bool, true, false, ◌&&◌, not, ◌||◌, is_some, is_none, List, [], ◌∷◌, length, map, slice_get, Option, Some, None, Result, Ok, Err}
 use Rattle.std.specs.List.{list_all}
 use Rattle.gib_base.specs.declared.Span.{Span}
 use Rattle.gib_syntax.specs.declared.tree.Ident.{Ident}
+use Rattle.gib_syntax.specs.Results.{Results, One, Several}
 use Rattle.gib_syntax.specs.Declarations.{number_of, place_of}
 use Rattle.gib_syntax.specs.Forms.{WrittenType, WrittenTypes, WholeAt, TruthAt, VariableAt, DataAt, NoType, MoreTypes, Form, Forms, WholeForm, TruthForm, VariableForm, DataForm, Meant, formed_all, count_written}
 use Rattle.gib_types.specs.SameForm.{same_form}
-use Rattle.gib_syntax.specs.GenericTree.{GenericExpression, GenericArguments, GenericArms, GenericVar, GenericNum, GenericBit, GenericParen, GenericOp, GenericCall, GenericMake, GenericLet, GenericPar, GenericIf, GenericCase, GenericNoArgument, GenericArgument, GenericLastArm, GenericNextArm, GenericDataTree, GenericFunctionTree, GenericRow, GenericGlobals, place_named, generic_named, data_named}
-use Rattle.gib_syntax.specs.GenericTyping.{FormScope, form_in, form_bound, operator_form, field_forms, parameter_forms, result_form}
+use Rattle.gib_syntax.specs.GenericTree.{GenericExpression, GenericArguments, GenericArms, GenericVar, GenericNum, GenericBit, GenericParen, GenericOp, GenericCall, GenericMake, GenericLet, GenericPar, GenericIf, GenericCase, GenericTuple, GenericLetSeveral, GenericParSeveral, GenericNoArgument, GenericArgument, GenericLastArm, GenericNextArm, GenericDataTree, GenericFunctionTree, GenericRow, GenericGlobals, place_named, generic_named, data_named}
+use Rattle.gib_syntax.specs.GenericTyping.{FormScope, form_in, form_bound, operator_form, field_forms, parameter_forms, result_forms}
 use Rattle.gib_check.specs.declared.counts.Counts.{Counts}
 use Rattle.gib_check.specs.declared.fault.Fault.{Fault}
 use Rattle.gib_check.specs.declared.fault.Kind.{Kind}
 use Rattle.gib_check.specs.declared.fault.Kind.TheVariants as kind
+use Rattle.gib_check.specs.declared.standing.Standing.{Standing}
+use Rattle.gib_check.specs.declared.standing.Standing.TheVariants.{NoTuple, AnyTuple, TupleOf}
 
 -- What is known after a rule, or the fault.
 abbrev pub Checked : Type 0 → Type 0
@@ -32,9 +35,9 @@ abbrev pub found : {A : Type 0} → Option A → Kind → Span → Checked A
 found (Some x) k at = Ok x
 found None k at = Err (record { kind = k; span = at })
 
--- A part of an expression after its check: its type, and where it stands.
+-- A part of an expression after its check: its type, or those of its parts, and where it stands.
 pub record FormPart : Type 0 where
-  pub ty : Form
+  pub ty : Results Form
   pub place : Span
 
 -- Where an expression stands: at its first token; where it is in parentheses, that of the expression inside.
@@ -50,6 +53,9 @@ place (GenericLet p x a b) = p
 place (GenericPar p x a y b c) = p
 place (GenericIf p a b c) = p
 place (GenericCase p x arms) = p
+place (GenericTuple p xs) = p
+place (GenericLetSeveral p xs a b) = p
+place (GenericParSeveral p xs a ys b c) = p
 
 -- `Limit`: one more expression, where 2,000 were not met yet.
 abbrev pub one_more : Counts → Span → Checked Counts
@@ -72,12 +78,12 @@ abbrev pub variable : FormScope → Ident → Checked Form
 variable scope x = found (form_in scope (number_of x)) kind.Unknown x.span
 
 -- A variable: one more expression, then its type.
-abbrev pub infer_variable : FormScope → Counts → Ident → Checked (Form × Counts)
-infer_variable scope n x = and_then (one_more n x.span) (λ m. and_then (variable scope x) (λ t. Ok (t, m)))
+abbrev pub infer_variable : FormScope → Counts → Ident → Checked (Results Form × Counts)
+infer_variable scope n x = and_then (one_more n x.span) (λ m. and_then (variable scope x) (λ t. Ok (One t, m)))
 
 -- A literal of this type.
-abbrev pub infer_literal : Counts → Span → Form → Checked (Form × Counts)
-infer_literal n at t = and_then (one_more n at) (λ m. Ok (t, m))
+abbrev pub infer_literal : Counts → Span → Form → Checked (Results Form × Counts)
+infer_literal n at t = and_then (one_more n at) (λ m. Ok (One t, m))
 
 -- `Count`: as many as there have to be.
 abbrev pub as_many : ℕ → ℕ → Ident → Checked (Unit {0})
@@ -117,18 +123,46 @@ row_named rows k = row_at rows (place_named rows k)
 abbrev pub constructor : List GenericRow → Ident → Checked GenericRow
 constructor rows k = found (row_named rows (number_of k)) kind.Unknown k.span
 
--- `Shape`: the part has the type that is due.
-abbrev pub wanted : Form → FormPart → Checked (Unit {0})
-wanted due part = allowed (same_form part.ty due) kind.Shape part.place (tt {0})
+-- Whether the types of parts are the same, as many as there are.
+abbrev pub same_lists : List Form → List Form → Bool
+same_lists [] [] = true
+same_lists [] (u ∷ us) = false
+same_lists (t ∷ ts) [] = false
+same_lists (t ∷ ts) (u ∷ us) = same_form t u && same_lists ts us
+
+-- Whether types are, or those of parts.
+abbrev pub same_results : Results Form → Results Form → Bool
+same_results (One t) (One u) = same_form t u
+same_results (One t) (Several us) = false
+same_results (Several ts) (One u) = false
+same_results (Several ts) (Several us) = same_lists ts us
+
+-- `Shape`: the part has the type that is due, or its parts the types.
+abbrev pub wanted : Results Form → FormPart → Checked (Unit {0})
+wanted due part = allowed (same_results part.ty due) kind.Shape part.place (tt {0})
+
+-- `Shape`: the part is none of several parts.
+abbrev pub single_at : Results Form → Span → Checked Form
+single_at (One t) at = Ok t
+single_at (Several ts) at = Err (record { kind = kind.Shape; span = at })
+
+-- The type of a part that is one thing.
+abbrev pub single : FormPart → Checked Form
+single part = single_at part.ty part.place
+
+-- Each part is.
+abbrev pub all_single : List FormPart → Checked (List Form)
+all_single [] = Ok []
+all_single (part ∷ parts) = and_then (single part) (λ t. and_then (all_single parts) (λ ts. Ok (t ∷ ts)))
 
 -- Each part has its type.
 abbrev pub all_wanted : List FormPart → List Form → Checked (Unit {0})
 all_wanted [] ts = Ok (tt {0})
 all_wanted (part ∷ parts) [] = Ok (tt {0})
-all_wanted (part ∷ parts) (t ∷ ts) = and_then (wanted t part) (λ _. all_wanted parts ts)
+all_wanted (part ∷ parts) (t ∷ ts) = and_then (wanted (One t) part) (λ _. all_wanted parts ts)
 
--- Each part has the one type.
-abbrev pub all_of : Form → List FormPart → Checked (Unit {0})
+-- Each part has the one type, or its parts the types.
+abbrev pub all_of : Results Form → List FormPart → Checked (Unit {0})
 all_of t [] = Ok (tt {0})
 all_of t (part ∷ parts) = and_then (wanted t part) (λ _. all_of t parts)
 
@@ -209,14 +243,70 @@ bind_all scope n [] ts = Ok (scope, n)
 bind_all scope n (x ∷ xs) [] = Ok (scope, n)
 bind_all scope n (x ∷ xs) (t ∷ ts) = and_then (new_variable scope n x) (λ m. bind_all (form_bound x t scope) m xs ts)
 
--- The type of the first part; there is one wherever this is asked.
-abbrev pub first_type : List FormPart → Form
-first_type [] = WholeForm
+-- The type of the first part, or those of its parts; there is one wherever this is asked.
+abbrev pub first_type : List FormPart → Results Form
+first_type [] = One WholeForm
 first_type (part ∷ parts) = part.ty
+
+-- What gives this may stand there.
+abbrev pub MayGive : Standing → Results Form → Type 0
+MayGive st (One t) = Unit {0}
+MayGive NoTuple (Several ts) = ⊥
+MayGive AnyTuple (Several ts) = Unit {0}
+MayGive (TupleOf n) (Several ts) = length ts ≡ n
+
+-- Where the body of a function stands.
+abbrev pub standing_of : Results Form → Standing
+standing_of (One t) = NoTuple
+standing_of (Several ts) = TupleOf (length ts)
+
+-- Where the right side for these variables stands.
+abbrev pub standing_for : List Ident → Standing
+standing_for [] = AnyTuple
+standing_for (x ∷ []) = NoTuple
+standing_for (x ∷ y ∷ ys) = AnyTuple
+
+-- A tuple of so many parts stands there: `Shape` where none may, `Count` where the function gives more or fewer.
+abbrev pub may_stand : Standing → ℕ → Span → Checked (Unit {0})
+may_stand NoTuple count at = Err (record { kind = kind.Shape; span = at })
+may_stand AnyTuple count at = Ok (tt {0})
+may_stand (TupleOf due) count at = allowed (count == due) kind.Count at (tt {0})
+
+-- The parts for several variables, of which this is the first: `Shape` where the right side is one thing, `Count` where it
+-- has more or fewer parts.
+abbrev pub parts_for : ℕ → Ident → FormPart → Results Form → Checked (List Form)
+parts_for count x part (One t) = Err (record { kind = kind.Shape; span = part.place })
+parts_for count x part (Several ts) = and_then (as_many (length ts) count x) (λ _. Ok ts)
+
+-- The types of the variables of a binding, by its right side: one thing for one, parts for several. (The grammar has no binding
+-- without variables; it would be none of either shape.)
+abbrev pub types_bound : List Ident → FormPart → Checked (List Form)
+types_bound [] part = Err (record { kind = kind.Shape; span = part.place })
+types_bound (x ∷ []) part = and_then (single part) (λ t. Ok (t ∷ []))
+types_bound (x ∷ y ∷ ys) part = parts_for (length (x ∷ y ∷ ys)) x part part.ty
+
+-- One of the variables of a binding behind so many: new in its scope, then `Limit` where it is the ninth.
+abbrev pub part_variable : ℕ → FormScope → Counts → Ident → Checked Counts
+part_variable i scope n x = and_then (unbound scope x) (λ _. and_then (allowed (nat_lt i 8) kind.Limit x.span (tt {0})) (λ _. counted n x))
+
+-- The variables of a binding behind so many, one after another.
+abbrev pub bind_parts : ℕ → FormScope → Counts → List Ident → List Form → Checked (FormScope × Counts)
+bind_parts i scope n [] ts = Ok (scope, n)
+bind_parts i scope n (x ∷ xs) [] = Ok (scope, n)
+bind_parts i scope n (x ∷ xs) (t ∷ ts) = and_then (part_variable i scope n x) (λ m. bind_parts (suc i) (form_bound x t scope) m xs ts)
+
+-- A tuple of so many parts: where it stands, the parts, and that none of them has parts itself.
+abbrev pub infer_tuple : Standing → Counts → Span → ℕ → (Counts → Checked (List FormPart × Counts)) → Checked (Results Form × Counts)
+infer_tuple st n p count results =
+    and_then (one_more n p)
+    (λ o. and_then (may_stand st count p)
+    (λ _. and_then (results o)
+    (λ r. and_then (all_single r.0)
+    (λ ts. Ok (Several ts, r.1)))))
 
 -- A call with so many arguments: its function, the number of its type arguments, their names from left to right, the number of
 -- arguments, the arguments, and their types.
-abbrev pub infer_call : GenericGlobals → List ℕ → Meant → Counts → Ident → WrittenTypes → ℕ → (Counts → Checked (List FormPart × Counts)) → Checked (Form × Counts)
+abbrev pub infer_call : GenericGlobals → List ℕ → Meant → Counts → Ident → WrittenTypes → ℕ → (Counts → Checked (List FormPart × Counts)) → Checked (Results Form × Counts)
 infer_call g vars m n f ws count results =
     and_then (one_more n f.span)
     (λ k. and_then (function g.functions f)
@@ -225,10 +315,10 @@ infer_call g vars m n f ws count results =
     (λ _. and_then (as_many count (length h.parameters) f)
     (λ _. and_then (results k)
     (λ r. and_then (all_wanted r.0 (parameter_forms h (formed_all m ws)))
-    (λ _. Ok (result_form h (formed_all m ws), r.1))))))))
+    (λ _. Ok (result_forms h (formed_all m ws), r.1))))))))
 
 -- A constructor with so many arguments.
-abbrev pub infer_make : GenericGlobals → List ℕ → Meant → Counts → Ident → WrittenTypes → ℕ → (Counts → Checked (List FormPart × Counts)) → Checked (Form × Counts)
+abbrev pub infer_make : GenericGlobals → List ℕ → Meant → Counts → Ident → WrittenTypes → ℕ → (Counts → Checked (List FormPart × Counts)) → Checked (Results Form × Counts)
 infer_make g vars m n k ws count results =
     and_then (one_more n k.span)
     (λ o. and_then (constructor g.rows k)
@@ -237,11 +327,11 @@ infer_make g vars m n k ws count results =
     (λ _. and_then (as_many count (length row.fields) k)
     (λ _. and_then (results o)
     (λ r. and_then (all_wanted r.0 (field_forms row (formed_all m ws)))
-    (λ _. Ok (DataForm row.owner (formed_all m ws), r.1))))))))
+    (λ _. Ok (One (DataForm row.owner (formed_all m ws)), r.1))))))))
 
 -- A case whose arms have these heads: its variable, the arms by their constructors, the arms, and that their
 -- results have the type of the first one. The arms are asked with the arguments of the variable's type.
-abbrev pub infer_case : List GenericRow → FormScope → Counts → Span → Ident → List ArmHead → (Forms → Counts → Checked (List FormPart × Counts)) → Checked (Form × Counts)
+abbrev pub infer_case : List GenericRow → FormScope → Counts → Span → Ident → List ArmHead → (Forms → Counts → Checked (List FormPart × Counts)) → Checked (Results Form × Counts)
 infer_case rows scope n p x hs results =
     and_then (one_more n p)
     (λ m. and_then (variable scope x)
@@ -254,63 +344,82 @@ infer_case rows scope n p x hs results =
     (λ _. Ok (first_type r.0, r.1)))))))))
 
 -- An arm's result, in the scope of its variables.
-abbrev pub infer_arm : List GenericRow → Forms → FormScope → Counts → Ident → List Ident → (FormScope → Counts → Checked (Form × Counts)) → Checked (Form × Counts)
+abbrev pub infer_arm : List GenericRow → Forms → FormScope → Counts → Ident → List Ident → (FormScope → Counts → Checked (Results Form × Counts)) → Checked (Results Form × Counts)
 infer_arm rows ts scope n k xs result =
     and_then (bind_all scope n xs (fields_if (row_named rows (number_of k)) ts)) (λ inner. result inner.0 inner.1)
 
 abbrev mutual
-  -- The type of an expression and the counts behind it, or the first broken rule: its own limit, then its
-  -- own names and counts, then its parts from left to right, then the types of the parts.
-  pub infer : GenericGlobals → List ℕ → Meant → FormScope → Counts → GenericExpression → Checked (Form × Counts)
-  infer g vars m scope n (GenericVar x) = infer_variable scope n x
-  infer g vars m scope n (GenericNum p v) = infer_literal n p WholeForm
-  infer g vars m scope n (GenericBit p b) = infer_literal n p TruthForm
-  infer g vars m scope n (GenericParen p e) = infer g vars m scope n e
-  infer g vars m scope n (GenericOp p f a b) =
+  -- The type of an expression, or those of its parts, and the counts behind it, or the first broken rule: its own limit, then
+  -- its own names and counts, then its parts from left to right, then the types of the parts.
+  pub infer : GenericGlobals → List ℕ → Meant → Standing → FormScope → Counts → GenericExpression → Checked (Results Form × Counts)
+  infer g vars m st scope n (GenericVar x) = infer_variable scope n x
+  infer g vars m st scope n (GenericNum p v) = infer_literal n p WholeForm
+  infer g vars m st scope n (GenericBit p b) = infer_literal n p TruthForm
+  infer g vars m st scope n (GenericParen p e) = infer g vars m st scope n e
+  infer g vars m st scope n (GenericOp p f a b) =
       and_then (one_more n p)
-      (λ o. and_then (infer g vars m scope o a)
-      (λ x. and_then (infer g vars m scope x.1 b)
-      (λ y. and_then (wanted WholeForm (record { ty = x.0; place = place a }))
-      (λ _. and_then (wanted WholeForm (record { ty = y.0; place = place b }))
-      (λ _. Ok (operator_form f, y.1))))))
-  infer g vars m scope n (GenericCall f ws xs) = infer_call g vars m n f ws (argument_count xs) (λ o. infer_all g vars m scope o xs)
-  infer g vars m scope n (GenericMake k ws xs) = infer_make g vars m n k ws (argument_count xs) (λ o. infer_all g vars m scope o xs)
-  infer g vars m scope n (GenericLet p x a b) =
+      (λ o. and_then (infer g vars m NoTuple scope o a)
+      (λ x. and_then (infer g vars m NoTuple scope x.1 b)
+      (λ y. and_then (wanted (One WholeForm) (record { ty = x.0; place = place a }))
+      (λ _. and_then (wanted (One WholeForm) (record { ty = y.0; place = place b }))
+      (λ _. Ok (One (operator_form f), y.1))))))
+  infer g vars m st scope n (GenericCall f ws xs) = infer_call g vars m n f ws (argument_count xs) (λ o. infer_all g vars m scope o xs)
+  infer g vars m st scope n (GenericMake k ws xs) = infer_make g vars m n k ws (argument_count xs) (λ o. infer_all g vars m scope o xs)
+  infer g vars m st scope n (GenericLet p x a b) =
       and_then (one_more n p)
-      (λ o. and_then (infer g vars m scope o a)
-      (λ s. and_then (new_variable scope s.1 x)
-      (λ k. infer g vars m (form_bound x s.0 scope) k b)))
-  infer g vars m scope n (GenericPar p x a y b c) =
+      (λ o. and_then (infer g vars m NoTuple scope o a)
+      (λ s. and_then (single_at s.0 (place a))
+      (λ t. and_then (new_variable scope s.1 x)
+      (λ k. infer g vars m st (form_bound x t scope) k b))))
+  infer g vars m st scope n (GenericPar p x a y b c) =
       and_then (one_more n p)
-      (λ o. and_then (infer g vars m scope o a)
-      (λ s. and_then (infer g vars m scope s.1 b)
-      (λ t. and_then (new_variable scope t.1 x)
-      (λ k. and_then (new_variable (form_bound x s.0 scope) k y)
-      (λ l. infer g vars m (form_bound y t.0 (form_bound x s.0 scope)) l c)))))
-  infer g vars m scope n (GenericIf p a b c) =
+      (λ o. and_then (infer g vars m NoTuple scope o a)
+      (λ s. and_then (infer g vars m NoTuple scope s.1 b)
+      (λ t. and_then (single_at s.0 (place a))
+      (λ u. and_then (single_at t.0 (place b))
+      (λ v. and_then (new_variable scope t.1 x)
+      (λ k. and_then (new_variable (form_bound x u scope) k y)
+      (λ l. infer g vars m st (form_bound y v (form_bound x u scope)) l c)))))))
+  infer g vars m st scope n (GenericIf p a b c) =
       and_then (one_more n p)
-      (λ o. and_then (infer g vars m scope o a)
-      (λ x. and_then (infer g vars m scope x.1 b)
-      (λ y. and_then (infer g vars m scope y.1 c)
-      (λ z. and_then (wanted TruthForm (record { ty = x.0; place = place a }))
+      (λ o. and_then (infer g vars m NoTuple scope o a)
+      (λ x. and_then (infer g vars m st scope x.1 b)
+      (λ y. and_then (infer g vars m st scope y.1 c)
+      (λ z. and_then (wanted (One TruthForm) (record { ty = x.0; place = place a }))
       (λ _. and_then (wanted y.0 (record { ty = z.0; place = place c }))
       (λ _. Ok (y.0, z.1)))))))
-  infer g vars m scope n (GenericCase p x arms) = infer_case g.rows scope n p x (heads arms) (λ ts o. infer_arms g vars m ts scope o arms)
+  infer g vars m st scope n (GenericCase p x arms) = infer_case g.rows scope n p x (heads arms) (λ ts o. infer_arms g vars m st ts scope o arms)
+  infer g vars m st scope n (GenericTuple p xs) = infer_tuple st n p (argument_count xs) (λ o. infer_all g vars m scope o xs)
+  infer g vars m st scope n (GenericLetSeveral p xs a b) =
+      and_then (one_more n p)
+      (λ o. and_then (infer g vars m (standing_for xs) scope o a)
+      (λ s. and_then (types_bound xs (record { ty = s.0; place = place a }))
+      (λ ts. and_then (bind_parts 0 scope s.1 xs ts)
+      (λ inner. infer g vars m st inner.0 inner.1 b))))
+  infer g vars m st scope n (GenericParSeveral p xs a ys b c) =
+      and_then (one_more n p)
+      (λ o. and_then (infer g vars m (standing_for xs) scope o a)
+      (λ s. and_then (infer g vars m (standing_for ys) scope s.1 b)
+      (λ t. and_then (types_bound xs (record { ty = s.0; place = place a }))
+      (λ ts. and_then (types_bound ys (record { ty = t.0; place = place b }))
+      (λ us. and_then (bind_parts 0 scope t.1 xs ts)
+      (λ middle. and_then (bind_parts 0 middle.0 middle.1 ys us)
+      (λ inner. infer g vars m st inner.0 inner.1 c)))))))
 
-  -- Arguments, from left to right.
+  -- Arguments or parts, from left to right.
   pub infer_all : GenericGlobals → List ℕ → Meant → FormScope → Counts → GenericArguments → Checked (List FormPart × Counts)
   infer_all g vars m scope n GenericNoArgument = Ok ([], n)
   infer_all g vars m scope n (GenericArgument a xs) =
-      and_then (infer g vars m scope n a)
+      and_then (infer g vars m NoTuple scope n a)
       (λ x. and_then (infer_all g vars m scope x.1 xs)
       (λ r. Ok (record { ty = x.0; place = place a } ∷ r.0, r.1)))
 
   -- The results of arms, in the order of the text, where the type's variables stand for these types.
-  pub infer_arms : GenericGlobals → List ℕ → Meant → Forms → FormScope → Counts → GenericArms → Checked (List FormPart × Counts)
-  infer_arms g vars m ts scope n (GenericLastArm k xs e) =
-      and_then (infer_arm g.rows ts scope n k xs (λ inner o. infer g vars m inner o e))
+  pub infer_arms : GenericGlobals → List ℕ → Meant → Standing → Forms → FormScope → Counts → GenericArms → Checked (List FormPart × Counts)
+  infer_arms g vars m st ts scope n (GenericLastArm k xs e) =
+      and_then (infer_arm g.rows ts scope n k xs (λ inner o. infer g vars m st inner o e))
       (λ x. Ok (record { ty = x.0; place = place e } ∷ [], x.1))
-  infer_arms g vars m ts scope n (GenericNextArm k xs e arms) =
-      and_then (infer_arm g.rows ts scope n k xs (λ inner o. infer g vars m inner o e))
-      (λ x. and_then (infer_arms g vars m ts scope x.1 arms)
+  infer_arms g vars m st ts scope n (GenericNextArm k xs e arms) =
+      and_then (infer_arm g.rows ts scope n k xs (λ inner o. infer g vars m st inner o e))
+      (λ x. and_then (infer_arms g vars m st ts scope x.1 arms)
       (λ r. Ok (record { ty = x.0; place = place e } ∷ r.0, r.1)))

@@ -3,13 +3,14 @@
 use Rattle.std.specs.Prelude.{◌≡◌, ℕ, ◌+◌, nat_lt, is_none, List, [], ◌∷◌, ◌++◌, length, slice_get, Option, Some, None, Ok, Err}
 use Rattle.gib_syntax.specs.declared.tree.Ident.{Ident}
 use Rattle.gib_syntax.specs.Declarations.{number_of, place_of}
+use Rattle.gib_syntax.specs.Results.{Results, One, Several, map_results}
 use Rattle.gib_syntax.specs.Forms.{WrittenType, written_place, formed}
 use Rattle.gib_syntax.specs.GenericTree.{GenericExpression, GenericConstructorTree, GenericDataTree, GenericParameterTree, GenericFunctionTree, GenericProgramTree, GenericGlobals, globals_of_generic}
 use Rattle.gib_syntax.specs.GenericTyping.{FormScope, form_bound, opaque, variable_numbers, generic_expressions, generic_bindings}
 use Rattle.gib_check.specs.declared.counts.Counts.{Counts}
 use Rattle.gib_check.specs.declared.fault.Fault.{Fault}
 use Rattle.gib_check.specs.declared.fault.Kind.TheVariants as kind
-use Rattle.gib_check.specs.Faults.{Checked, and_then, allowed, known, place, wanted, infer}
+use Rattle.gib_check.specs.Faults.{Checked, and_then, allowed, known, place, wanted, standing_of, infer}
 
 -- Counts behind an expression: its expressions and its variables were added.
 pub record IsCountedOn (before : Counts) (e : GenericExpression) (after : Counts) : Type 0 where
@@ -83,12 +84,25 @@ check_parameters datas vars names (q ∷ qs) =
     (λ _. and_then (known datas vars q.ty)
     (λ _. check_parameters datas vars (names ++ number_of q.name ∷ []) qs)))
 
--- The type variables, the parameters and the result of a function, or of main.
-abbrev pub check_head : List GenericDataTree → List Ident → List GenericParameterTree → WrittenType → Checked (Unit {0})
+-- The types of parts behind so many, each with its names: `Limit` at the ninth.
+abbrev pub check_parts : List GenericDataTree → List ℕ → ℕ → List WrittenType → Checked (Unit {0})
+check_parts datas vars i [] = Ok (tt {0})
+check_parts datas vars i (w ∷ ws) =
+    and_then (allowed (nat_lt i 8) kind.Limit (written_place w) (tt {0}))
+    (λ _. and_then (known datas vars w)
+    (λ _. check_parts datas vars (i + 1) ws))
+
+-- What a function gives: its type, or those of the parts.
+abbrev pub check_results : List GenericDataTree → List ℕ → Results WrittenType → Checked (Unit {0})
+check_results datas vars (One w) = known datas vars w
+check_results datas vars (Several ws) = check_parts datas vars 0 ws
+
+-- The type variables, the parameters and what a function gives, or main.
+abbrev pub check_head : List GenericDataTree → List Ident → List GenericParameterTree → Results WrittenType → Checked (Unit {0})
 check_head datas variables parameters result =
     and_then (check_variables [] variables)
     (λ _. and_then (check_parameters datas (variable_numbers variables) [] parameters)
-    (λ _. known datas (variable_numbers variables) result))
+    (λ _. check_results datas (variable_numbers variables) result))
 
 -- Heads of functions behind those of these names.
 abbrev pub check_heads : List GenericDataTree → List ℕ → List GenericFunctionTree → Checked (Unit {0})
@@ -108,11 +122,11 @@ with_parameters (q ∷ qs) scope = with_parameters qs (form_bound q.name (formed
 abbrev pub parameters_met : List GenericParameterTree → Counts
 parameters_met parameters = record { variables = length parameters; expressions = 0 }
 
--- A body, in the scope of its parameters: its own rules, then its type against the result's.
-abbrev pub check_body : GenericGlobals → List Ident → List GenericParameterTree → WrittenType → GenericExpression → Checked (Unit {0})
+-- A body, in the scope of its parameters: its own rules, then its type against the result's, or those of the parts.
+abbrev pub check_body : GenericGlobals → List Ident → List GenericParameterTree → Results WrittenType → GenericExpression → Checked (Unit {0})
 check_body g variables parameters result body =
-    and_then (infer g (variable_numbers variables) opaque (with_parameters parameters []) (parameters_met parameters) body)
-    (λ r. wanted (formed opaque result) (record { ty = r.0; place = place body }))
+    and_then (infer g (variable_numbers variables) opaque (standing_of (map_results (formed opaque) result)) (with_parameters parameters []) (parameters_met parameters) body)
+    (λ r. wanted (map_results (formed opaque) result) (record { ty = r.0; place = place body }))
 
 -- Bodies of functions, in the order of the text.
 abbrev pub check_bodies : GenericGlobals → List GenericFunctionTree → Checked (Unit {0})
@@ -125,14 +139,14 @@ check_declarations p =
     and_then (check_datas [] [] p.datas)
     (λ _. and_then (check_fields p.datas p.datas)
     (λ _. and_then (check_heads p.datas [] p.functions)
-    (λ _. check_head p.datas [] (p.main.parameter ∷ []) p.main.result)))
+    (λ _. check_head p.datas [] (p.main.parameter ∷ []) (One p.main.result))))
 
 -- All rules, in their order.
 unfoldable pub check_program : GenericProgramTree → Checked (Unit {0})
 check_program p =
     and_then (check_declarations p)
     (λ _. and_then (check_bodies (globals_of_generic p) p.functions)
-    (λ _. check_body (globals_of_generic p) [] (p.main.parameter ∷ []) p.main.result p.main.body))
+    (λ _. check_body (globals_of_generic p) [] (p.main.parameter ∷ []) (One p.main.result) p.main.body))
 
 -- The fault, where a rule is broken.
 abbrev pub fault_in : Checked (Unit {0}) → Option Fault

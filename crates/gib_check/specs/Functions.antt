@@ -6,7 +6,9 @@ use Rattle.gib_syntax.specs.declared.tree.Parameter.{Parameter}
 use Rattle.gib_syntax.specs.declared.tree.FunctionDecl.{FunctionDecl}
 use Rattle.gib_syntax.specs.Tree.{FunctionTree}
 use Rattle.gib_syntax.specs.Declarations.{type_of_name, function_named}
-use Rattle.gib_syntax.specs.Typing.{parameter_types, result_type}
+use Rattle.gib_syntax.specs.Results.{map_results}
+use Rattle.gib_syntax.specs.Parts.{results_tree}
+use Rattle.gib_syntax.specs.Typing.{parameter_types, one_type, result_type}
 use Rattle.gib_check.specs.declared.functions.FunctionHead.{FunctionHead}
 
 -- The function of this number is the one of the name.
@@ -34,4 +36,4 @@ parameter_type types q = type_of_name types q.ty
 
 -- The head of a function, where the declared types have these names.
 abbrev pub head_in : List ℕ → FunctionDecl → Head
-head_in types d = record { parameters = map (parameter_type types) d.parameters.items; result = type_of_name types d.result }
+head_in types d = record { parameters = map (parameter_type types) d.parameters.items; result = one_type (map_results (type_of_name types) (results_tree d.result)) }

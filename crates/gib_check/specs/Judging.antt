@@ -1,5 +1,5 @@
 -- What the check of a body keeps: the types that were met, the variables in scope, and counts.
-use Rattle.std.specs.Prelude.{◌≡◌, ℕ, ◌<◌, ◌≤◌, ◌==◌, if◌then◌else◌, List, [], ◌∷◌, map, length, Option, Some, None, Ok}
+use Rattle.std.specs.Prelude.{◌≡◌, ℕ, ◌+◌, ◌<◌, ◌≤◌, ◌==◌, if◌then◌else◌, List, [], ◌∷◌, ◌++◌, map, length, take, drop, Option, Some, None, Ok}
 use Rattle.std.specs.List.{AllByRecursion}
 use Rattle.gib_types.specs.declared.types.TypeId.{TypeId}
 use Rattle.gib_types.specs.declared.types.TypeNode.{TypeNode}
@@ -7,6 +7,7 @@ use Rattle.gib_types.specs.Form.{Form, Forms, Meant}
 use Rattle.gib_types.specs.Types.{form_at, forms_at, forms_of, AreBelow, GrowsTo}
 use Rattle.gib_syntax.specs.declared.written.Word.{Word}
 use Rattle.gib_syntax.specs.declared.exprs.Arm.{Arm}
+use Rattle.gib_syntax.specs.Results.{Results, One, Several}
 use Rattle.gib_syntax.specs.Forms.{formed, assign}
 use Rattle.gib_syntax.specs.Words.{stack_of}
 use Rattle.gib_syntax.specs.GenericTree.{GenericExpression, GenericGlobals}
@@ -16,6 +17,9 @@ use Rattle.gib_syntax.specs.declared.generic.GenericNode.{GenericNode}
 use Rattle.gib_syntax.specs.declared.generic.GenericNode.TheVariants as n
 use Rattle.gib_check.specs.declared.counts.Counts.{Counts}
 use Rattle.gib_check.specs.declared.rules.Part.{Part}
+use Rattle.gib_check.specs.declared.rules.ResultIds.{ResultIds}
+use Rattle.gib_check.specs.declared.rules.ResultIds.TheVariants as ids
+use Rattle.gib_check.specs.declared.standing.Standing.{Standing}
 use Rattle.gib_check.specs.declared.reading.Meaning.{Meaning}
 use Rattle.gib_check.specs.declared.reading.Meaning.TheVariants as meaning
 use Rattle.gib_check.specs.Faults.{Checked, and_then, FormPart, place, ArmHead, infer, infer_arm}
@@ -44,6 +48,7 @@ scope_forms fs scope = map (form_of_bound fs) scope
 -- What is kept.
 pub record Judging : Type 0 where
   pub types : List TypeNode
+  pub parts : List TypeId
   pub scope : IdScope
   pub counts : Counts
 
@@ -63,6 +68,7 @@ pub record Grows (old new : List TypeNode) : Type 0 where
 -- More types were met, and all else is as it was.
 pub record Keeps (old new : Judging) : Type 0 where
   pub grows : Grows old.types new.types
+  pub parts : new.parts ≡ old.parts
   pub scope : in_scope new ≡ in_scope old
   pub counts : new.counts ≡ old.counts
 
@@ -92,41 +98,61 @@ pub record Reads (old new : List TypeNode) (m : Meant) (words : List Word) (ids 
   pub below : AreBelow (length new) ids
   pub types : listed (forms_of new) ids ≡ map (formed m) (stack_of words)
 
--- A part with its type.
-abbrev pub part_in : List Form → Part → FormPart
-part_in fs part = record { ty = form_at fs part.ty.0; place = part.place }
+-- The types of a run of parts.
+abbrev pub run_of : Judging → ℕ → ℕ → List TypeId
+run_of s start count = take count (drop start s.parts)
+
+-- The type of what an expression gives, or those of its parts.
+abbrev pub forms_given : Judging → ResultIds → Results Form
+forms_given s (ids.One id) = One (form_at (forms s) id.0)
+forms_given s (ids.Several start count) = Several (listed (forms s) (run_of s start count))
+
+-- They were met.
+abbrev pub AreMet : Judging → ResultIds → Type 0
+AreMet s (ids.One id) = id.0 < length s.types
+AreMet s (ids.Several start count) = (start + count ≤ length s.parts) × AreBelow (length s.types) (run_of s start count)
+
+-- A part with its type, or those of its parts.
+abbrev pub part_in : Judging → Part → FormPart
+part_in s part = record { ty = forms_given s part.ty; place = part.place }
 
 -- Parts with their types.
-abbrev pub parts_in : List Form → List Part → List FormPart
-parts_in fs parts = map (part_in fs) parts
+abbrev pub parts_in : Judging → List Part → List FormPart
+parts_in s parts = map (part_in s) parts
 
--- The numbers of their types are below a number.
-abbrev pub ArePartsBelow : ℕ → List Part → Type 0
-ArePartsBelow n parts = AllByRecursion (λ (part : Part). part.ty.0 < n) parts
+-- Their types were met.
+abbrev pub ArePartsMet : Judging → List Part → Type 0
+ArePartsMet s parts = AllByRecursion (λ (part : Part). AreMet s part.ty) parts
 
--- A part after its check.
-pub record Met (old new : List TypeNode) (id : TypeId) : Type 0 where
-  pub grows : Grows old new
-  pub below : id.0 < length new
+-- More types and more parts were met.
+pub record Advances (old new : Judging) : Type 0 where
+  pub types : Grows old.types new.types
+  pub more : List TypeId
+  pub parts : new.parts ≡ old.parts ++ more
+
+-- An expression after its check.
+pub record Met (old new : Judging) (given : ResultIds) : Type 0 where
+  pub advances : Advances old new
+  pub here : AreMet new given
 
 -- Parts after their check.
-pub record AllMet (old new : List TypeNode) (parts : List Part) : Type 0 where
-  pub grows : Grows old new
-  pub below : ArePartsBelow (length new) parts
+pub record AllMet (old new : Judging) (parts : List Part) : Type 0 where
+  pub advances : Advances old new
+  pub here : ArePartsMet new parts
 
 -- An arm without its expression.
 abbrev pub arm_head : Arm → ArmHead
 arm_head arm = record { constructor = arm.constructor; variables = arm.variables.items }
 
 -- The results of arms, in the order of the text, where the type's variables stand for these types.
-abbrev pub infer_each_arm : GenericGlobals → List ℕ → Forms → (ℕ → GenericExpression) → FormScope → Counts → List Arm → Checked (List FormPart × Counts)
-infer_each_arm g vars ts f scope n [] = Ok ([], n)
-infer_each_arm g vars ts f scope n (arm ∷ arms) =
-    and_then (infer_arm g.rows ts scope n arm.constructor arm.variables.items (λ inner m. infer g vars opaque inner m (f arm.body.0)))
-    (λ x. and_then (infer_each_arm g vars ts f scope x.1 arms)
+abbrev pub infer_each_arm : GenericGlobals → List ℕ → Standing → Forms → (ℕ → GenericExpression) → FormScope → Counts → List Arm → Checked (List FormPart × Counts)
+infer_each_arm g vars st ts f scope n [] = Ok ([], n)
+infer_each_arm g vars st ts f scope n (arm ∷ arms) =
+    and_then (infer_arm g.rows ts scope n arm.constructor arm.variables.items (λ inner m. infer g vars opaque st inner m (f arm.body.0)))
+    (λ x. and_then (infer_each_arm g vars st ts f scope x.1 arms)
     (λ r. Ok (record { ty = x.0; place = place (f arm.body.0) } ∷ r.0, r.1)))
 
--- A word begins the expression of the node.
+-- A word begins the expression of the node, which is one thing and binds no parts.
 abbrev pub IsWordedNode : GenericNode → Type 0
 IsWordedNode (n.Variable x) = ⊥
 IsWordedNode (n.Whole p v) = ⊥
@@ -139,6 +165,26 @@ IsWordedNode (n.Let p x a b) = Unit {0}
 IsWordedNode (n.LetPar p x a y b c) = Unit {0}
 IsWordedNode (n.If p a b c) = Unit {0}
 IsWordedNode (n.Case p x arms) = Unit {0}
+IsWordedNode (n.Tuple p xs) = ⊥
+IsWordedNode (n.LetSeveral p xs a b) = ⊥
+IsWordedNode (n.ParSeveral p xs a ys b c) = ⊥
+
+-- The node has several parts, or variables for them.
+abbrev pub IsSeveralNode : GenericNode → Type 0
+IsSeveralNode (n.Variable x) = ⊥
+IsSeveralNode (n.Whole p v) = ⊥
+IsSeveralNode (n.Truth p b) = ⊥
+IsSeveralNode (n.Paren p a) = ⊥
+IsSeveralNode (n.Operation p f a b) = ⊥
+IsSeveralNode (n.Call f ws xs) = ⊥
+IsSeveralNode (n.Make k ws xs) = ⊥
+IsSeveralNode (n.Let p x a b) = ⊥
+IsSeveralNode (n.LetPar p x a y b c) = ⊥
+IsSeveralNode (n.If p a b c) = ⊥
+IsSeveralNode (n.Case p x arms) = ⊥
+IsSeveralNode (n.Tuple p xs) = Unit {0}
+IsSeveralNode (n.LetSeveral p xs a b) = Unit {0}
+IsSeveralNode (n.ParSeveral p xs a ys b c) = Unit {0}
 
 -- The type is `Int` or `Bool`.
 abbrev pub IsClosed : TypeNode → Type 0

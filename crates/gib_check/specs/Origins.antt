@@ -4,9 +4,9 @@ use Rattle.gib_types.specs.declared.table.Ty.{Ty}
 use Rattle.gib_types.specs.declared.table.Ty.TheVariants.{Whole, Truth, Tree}
 use Rattle.gib_types.specs.Table.{Table, owner_at, fields_at}
 use Rattle.gib_syntax.specs.declared.tree.Ident.{Ident}
-use Rattle.gib_syntax.specs.Tree.{Expression, Arms, Var, Num, Bit, Paren, Op, Call, Make, Let, Par, If, Case, LastArm, NextArm, FunctionTree}
+use Rattle.gib_syntax.specs.Tree.{Expression, Arms, Var, Num, Bit, Paren, Op, Call, Make, Let, Par, If, Case, Tuple, LetSeveral, ParSeveral, LastArm, NextArm, FunctionTree}
 use Rattle.gib_syntax.specs.Declarations.{number_of, constructor_named, function_named}
-use Rattle.gib_syntax.specs.Typing.{Globals, Scope, type_in, result_type, operator_type}
+use Rattle.gib_syntax.specs.Typing.{Globals, Scope, type_in, names_of, types_of, result_type, operator_type}
 use Rattle.gib_check.specs.declared.origin.TypeOrigin.{TypeOrigin}
 use Rattle.gib_check.specs.declared.origin.TypeOrigin.TheVariants.{Fixed, Variable}
 
@@ -46,7 +46,7 @@ made_type table None = Whole
 made_type table (Some c) = Tree (record { 0 = owner_at table c })
 
 abbrev mutual
-  -- Where the type of an expression comes from: a variable's from its own, that of a `let` from its body, of an `if`
+  -- Where the type of an expression that gives one thing comes from: a variable's from its own, that of a `let` from its body, of an `if`
   -- from its `then` part, of a `case` from its first arm.
   pub origin : Globals → Expression → TypeOrigin
   origin g (Var x) = Variable x.name
@@ -60,6 +60,10 @@ abbrev mutual
   origin g (Par p x a y b c) = outside x (origin g a) (outside y (origin g b) (origin g c))
   origin g (If p a b c) = origin g b
   origin g (Case p x arms) = origin_first g arms
+  origin g (Tuple p as' xs) = Fixed Whole
+  origin g (LetSeveral p qs a b) = outside_arm (names_of qs) (types_of g.table.types qs) (origin g b)
+  origin g (ParSeveral p qs a rs b c) =
+      outside_arm (names_of qs) (types_of g.table.types qs) (outside_arm (names_of rs) (types_of g.table.types rs) (origin g c))
 
   -- So for the first arm.
   pub origin_first : Globals → Arms → TypeOrigin

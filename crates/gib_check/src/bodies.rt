@@ -2,8 +2,7 @@
 
 ghost use Rattle.std.specs.Prelude.{◌≡◌, ◌<◌, length, map, IfOk};
 ghost use Rattle.std.specs.List.{AllByRecursion};
-ghost use Rattle.gib_syntax.specs.GenericParts.{parameter_in, function_in, IsFunctionInside};
-ghost use Rattle.gib_syntax.specs.Words.{type_in};
+ghost use Rattle.gib_syntax.specs.GenericParts.{parameter_in, results_in, function_in, IsFunctionInside};
 ghost use Rattle.gib_check.specs.Answers.{Gives};
 ghost use Rattle.gib_check.specs.FirstFault as rule;
 ghost use Rattle.gib_check.specs.Judging.{in_scope};
@@ -14,10 +13,12 @@ use crate::named::Named;
 use crate::parts::part;
 use crate::reading::Meaning;
 use crate::rules::wanted;
+use crate::standing::standing_of;
 use crate::state::State;
+use crate::uses::result_types;
 use crate::walk::infer;
 use gib_base::Memory;
-use gib_syntax::{ExprId, GenericFunction, GenericParameter, Ident, Run};
+use gib_syntax::{ExprId, GenericFunction, GenericParameter, Ident, ResultRuns};
 use std::alloc::Global;
 
 /// Puts parameters into the scope.
@@ -44,11 +45,11 @@ pub fn check_body(
     named: &Named,
     variables: &[Ident],
     parameters: &[GenericParameter],
-    result_type: Run,
+    gives: &ResultRuns,
     body: ExprId,
 ) -> Result<(), TypeFault>
     requires { body.0 < length named.now.exprs.nodes }
-    ensures { Gives (λ _. tt {0}) result (rule.check_body (generic_globals named.now) variables.now (map (parameter_in named.now.exprs.words) parameters.now) (type_in named.now.exprs.words result_type) (generic_tree named.now body.0)) }
+    ensures { Gives (λ _. tt {0}) result (rule.check_body (generic_globals named.now) variables.now (map (parameter_in named.now.exprs.words) parameters.now) (results_in named.now.exprs.words gives.now) (generic_tree named.now body.0)) }
 {
     let Ok(count) = u32::try_from(parameters.len()) else {
         return Err(TypeFault::Memory);
@@ -56,9 +57,9 @@ pub fn check_body(
     let mut state = State::new(alloc, count);
     state.meet_plain()?;
     push_parameters(named, &mut state, parameters)?;
-    let ty = infer(named, variables, &mut state, body)?;
-    let due = state.read_first(&Meaning::Opaque, named.words(result_type))?;
-    wanted(state.types(), due, part(named, body, ty))
+    let given = infer(named, variables, &mut state, standing_of(gives), body)?;
+    let due = result_types(named, &mut state, &Meaning::Opaque, gives)?;
+    wanted(&state, due, part(named, body, given))
 }
 
 /// The bodies of functions, in the order of the text.
@@ -77,7 +78,7 @@ pub fn check_bodies(
             named,
             &function.variables,
             &function.parameters,
-            function.result,
+            &function.result,
             function.body,
         )?;
         rest = after;

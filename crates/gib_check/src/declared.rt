@@ -143,7 +143,7 @@ impl Declared {
         &self.heads[id.0 as usize]
     }
 
-    /// The type that the function of a name gives, `Int` where it is not declared.
+    /// The type that the function of a name gives, `Int` where it is not declared or gives several parts.
     pub fn given_type(&self, name: Name) -> Ty
         ensures { result ≡ result_if (table_in self.now) (function_named (functions_in self.now) name.0) }
     {

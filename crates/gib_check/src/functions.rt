@@ -1,13 +1,17 @@
 //! Heads of functions, by their numbers.
 
 ghost use Rattle.std.specs.Prelude.{◌≡◌, map, IfOk};
+ghost use Rattle.gib_syntax.specs.Declarations.{type_of_name};
+ghost use Rattle.gib_syntax.specs.Parts.{results_tree};
+ghost use Rattle.gib_syntax.specs.Results.{map_results};
+ghost use Rattle.gib_syntax.specs.Typing.{one_type};
 ghost use Rattle.gib_check.specs.Functions.{parameter_type, head_of, head_in};
 ghost use Rattle.gib_check.specs.Views.{function_name};
 
 use crate::declared::type_of_name;
 use crate::names::NameList;
 use gib_base::Memory;
-use gib_syntax::{FunctionDecl, Parameter};
+use gib_syntax::{FunctionDecl, Parameter, ResultTypes};
 use gib_types::Ty;
 use std::alloc::Global;
 
@@ -15,7 +19,7 @@ use std::alloc::Global;
 #[derive(Clone, Copy, Debug, PartialEq, Eq)]
 pub struct FunctionId(pub u32);
 
-/// The types of a function's parameters and of its result.
+/// The types of a function's parameters and of its result; of several parts, where it is not asked, `Int`.
 #[derive(Debug, Drop)]
 pub struct FunctionHead {
     pub parameters: Vec<Ty>,
@@ -39,12 +43,22 @@ fn parameter_types(
     Ok(found)
 }
 
+/// The type of the one thing that a function gives; of several parts, where it is not asked, `Int`.
+fn result_type(types: &NameList, gives: &ResultTypes) -> Ty
+    ensures { result ≡ one_type (map_results (type_of_name types.now) (results_tree gives.now)) }
+{
+    match gives {
+        ResultTypes::One(written) => type_of_name(types, *written),
+        ResultTypes::Several(_) => Ty::Whole,
+    }
+}
+
 /// The head of a function.
 fn head(alloc: Global, types: &NameList, function: &FunctionDecl) -> Result<FunctionHead, Memory>
     ensures { IfOk result (λ head. head_of head ≡ head_in types.now function.now) }
 {
     let parameters = parameter_types(alloc, types, &function.parameters)?;
-    let result = type_of_name(types, function.result);
+    let result = result_type(types, &function.result);
     Ok(FunctionHead { parameters, result })
 }
 

@@ -2,7 +2,7 @@
 
 ghost use Rattle.std.specs.Prelude.{[], map};
 ghost use Rattle.std.specs.List.{AllByRecursion};
-ghost use Rattle.gib_syntax.specs.GenericParts.{parameter_in, function_in, IsParameterInside, IsFunctionInside};
+ghost use Rattle.gib_syntax.specs.GenericParts.{parameter_in, results_in, function_in, IsParameterInside, AreResultsInside, IsFunctionInside};
 ghost use Rattle.gib_syntax.specs.GenericTyping.{variable_numbers};
 ghost use Rattle.gib_syntax.specs.Words.{IsTypeRun, type_in};
 ghost use Rattle.gib_check.specs.Answers.{Gives};
@@ -10,12 +10,14 @@ ghost use Rattle.gib_check.specs.FirstFault as rule;
 ghost use Rattle.gib_check.specs.NameViews.{generic_globals};
 
 use crate::datas::{check_variables, fewer, new_name};
-use crate::fault::TypeFault;
+use crate::fault::{Kind, TypeFault};
 use crate::known::known;
 use crate::named::Named;
 use crate::names::NameList;
-use gib_base::limits::{FUNCTIONS, VARIABLES};
-use gib_syntax::{GenericFunction, GenericParameter, Ident, Run};
+use crate::reading::type_place;
+use crate::rules::broken;
+use gib_base::limits::{FUNCTIONS, PARTS, VARIABLES};
+use gib_syntax::{GenericFunction, GenericParameter, Ident, ResultRuns, Run};
 use std::alloc::Global;
 
 /// Parameters: the name of each, then its type.
@@ -40,21 +42,61 @@ fn check_parameters(
     Ok(())
 }
 
-/// The type variables, the parameters and the result of a function, or of main.
+/// The types of parts: each is none past the eighth, then known.
+fn check_parts(
+    alloc: Global,
+    named: &Named,
+    variables: &[Ident],
+    runs: &[Run],
+) -> Result<(), TypeFault>
+    requires { AllByRecursion (IsTypeRun named.now.exprs.words) runs.now }
+    ensures { Gives (λ _. tt {0}) result (rule.check_parts (generic_globals named.now).datas (variable_numbers variables.now) 0 (map (type_in named.now.exprs.words) runs.now)) }
+{
+    let mut behind = 0_u32;
+    let mut rest = runs;
+    'parts: while let [run, after @ ..] = rest {
+        if behind >= PARTS {
+            let place = type_place(alloc, named.words(*run))?;
+            return Err(broken(Kind::Limit, place));
+        }
+        known(named, variables, *run)?;
+        behind += 1;
+        rest = after;
+    }
+    Ok(())
+}
+
+/// What a function gives: its type, or those of the parts.
+fn check_results(
+    alloc: Global,
+    named: &Named,
+    variables: &[Ident],
+    gives: &ResultRuns,
+) -> Result<(), TypeFault>
+    requires { AreResultsInside named.now.exprs.words gives.now }
+    ensures { Gives (λ _. tt {0}) result (rule.check_results (generic_globals named.now).datas (variable_numbers variables.now) (results_in named.now.exprs.words gives.now)) }
+{
+    match gives {
+        ResultRuns::One(run) => known(named, variables, *run),
+        ResultRuns::Several(runs) => check_parts(alloc, named, variables, runs),
+    }
+}
+
+/// The type variables and the parameters of a function, or of main, and what it gives.
 pub fn check_head(
     alloc: Global,
     named: &Named,
     variables: &[Ident],
     parameters: &[GenericParameter],
-    result_type: Run,
+    gives: &ResultRuns,
 ) -> Result<(), TypeFault>
     requires parameters { AllByRecursion (IsParameterInside named.now.exprs.words) parameters.now }
-    requires result { IsTypeRun named.now.exprs.words result_type }
-    ensures { Gives (λ _. tt {0}) result (rule.check_head (generic_globals named.now).datas variables.now (map (parameter_in named.now.exprs.words) parameters.now) (type_in named.now.exprs.words result_type)) }
+    requires result { AreResultsInside named.now.exprs.words gives.now }
+    ensures { Gives (λ _. tt {0}) result (rule.check_head (generic_globals named.now).datas variables.now (map (parameter_in named.now.exprs.words) parameters.now) (results_in named.now.exprs.words gives.now)) }
 {
     check_variables(alloc, variables)?;
     check_parameters(alloc, named, variables, parameters)?;
-    known(named, variables, result_type)
+    check_results(alloc, named, variables, gives)
 }
 
 /// Heads of functions, in the order of the text.
@@ -76,7 +118,7 @@ pub fn check_heads(
             named,
             &function.variables,
             &function.parameters,
-            function.result,
+            &function.result,
         )?;
         names.push(function.name.name)?;
         rest = after;

@@ -1,16 +1,19 @@
 //! Laws of the kinds of faults: where each rule is broken, with which kind and at which place. In which order the
 //! rules are looked at, `first_fault` says.
 
-ghost use Rattle.std.specs.Prelude.{◌≡◌, ◌≤◌, ℕ, List, None, Some, Ok, Err, length, slice_get};
+ghost use Rattle.std.specs.Prelude.{◌≡◌, ◌≤◌, ℕ, List, ◌∷◌, None, Some, Ok, Err, length, slice_get};
 ghost use Rattle.gib_base.specs.declared.Span.{Span};
 ghost use Rattle.gib_types.specs.Form.{Form, Forms, DataForm};
 ghost use Rattle.gib_syntax.specs.declared.tree.Ident.{Ident};
+ghost use Rattle.gib_syntax.specs.Results.{Results, Several};
 ghost use Rattle.gib_syntax.specs.Declarations.{number_of, place_of};
 ghost use Rattle.gib_syntax.specs.Forms.{WrittenType, WrittenTypes, VariableAt, DataAt, written_place};
 ghost use Rattle.gib_syntax.specs.GenericTree.{GenericDataTree, GenericFunctionTree, GenericRow, data_named, generic_named};
 ghost use Rattle.gib_syntax.specs.GenericTyping.{FormScope, form_in, CoversType};
 ghost use Rattle.gib_check.specs.declared.counts.Counts.{Counts};
 ghost use Rattle.gib_check.specs.declared.fault.Kind.TheVariants as kind;
+ghost use Rattle.gib_check.specs.declared.standing.Standing.{Standing};
+ghost use Rattle.gib_check.specs.declared.standing.Standing.TheVariants.{NoTuple, TupleOf};
 ghost use Rattle.gib_check.specs.Faults as rule;
 ghost use Rattle.gib_check.specs.FirstFault as first;
 ghost use Rattle.gib_check.specs.Kinds.{fault, IsBrokenWhere};
@@ -32,10 +35,12 @@ pub fn twice()
     ensures variable { (scope : FormScope) (x : Ident) → IsBrokenWhere (rule.unbound scope x) ((t : Form) × (form_in scope (number_of x) ≡ Some t)) (fault kind.Twice x.span) }
 {}
 
-/// `Shape`: a part of another type than is due, at the part; a `case` of a variable whose type is not declared, at
-/// the variable.
+/// `Shape`: a part of another type than is due, and one of several parts where one thing is, at the part; a tuple where none may
+/// stand, at the tuple; a `case` of a variable whose type is not declared, at the variable.
 pub fn shape()
-    ensures part { (due : Form) (part : rule.FormPart) → IsBrokenWhere (rule.wanted due part) (part.ty ≡ due → ⊥) (fault kind.Shape part.place) }
+    ensures part { (due : Results Form) (part : rule.FormPart) → IsBrokenWhere (rule.wanted due part) (part.ty ≡ due → ⊥) (fault kind.Shape part.place) }
+    ensures single { (part : rule.FormPart) → IsBrokenWhere (rule.single part) ((ts : List Form) × (part.ty ≡ Several ts)) (fault kind.Shape part.place) }
+    ensures tuple { (st : Standing) (n : ℕ) (at : Span) → st ≡ NoTuple → rule.may_stand st n at ≡ Err (fault kind.Shape at) }
     ensures case { (t : Form) (x : Ident) → IsBrokenWhere (rule.declared_type t x) ((i : ℕ) (ts : Forms) → t ≡ DataForm i ts → ⊥) (fault kind.Shape x.span) }
 {}
 
@@ -44,17 +49,21 @@ pub fn arms()
     ensures { (rows : List GenericRow) (ty : ℕ) (names : List ℕ) (at : Span) → IsBrokenWhere (rule.covered rows ty names at) (CoversType rows ty names → ⊥) (fault kind.Arms at) }
 {}
 
-/// `Count`: more or fewer arguments, type arguments, or variables of an arm, than are due; at the name.
+/// `Count`: more or fewer arguments, type arguments, variables of an arm, or variables for parts, than are due, at the name; a
+/// tuple of more or fewer parts than the function gives, at the tuple.
 pub fn count()
-    ensures { (n due : ℕ) (x : Ident) → IsBrokenWhere (rule.as_many n due x) (n ≡ due → ⊥) (fault kind.Count x.span) }
+    ensures tuple { (due n : ℕ) (at : Span) → IsBrokenWhere (rule.may_stand (TupleOf due) n at) (n ≡ due → ⊥) (fault kind.Count at) }
+    ensures number { (n due : ℕ) (x : Ident) → IsBrokenWhere (rule.as_many n due x) (n ≡ due → ⊥) (fault kind.Count x.span) }
 {}
 
-/// `Limit`: a type variable, constructor, parameter or function behind so many, a ninth field, a 2,001st expression, a
-/// 201st variable.
+/// `Limit`: a type variable, constructor, parameter or function behind so many, a ninth field, a ninth variable for parts or
+/// type of a part, a 2,001st expression, a 201st variable.
 pub fn limit()
     ensures name { (most : ℕ) (names : List ℕ) (x : Ident) → IsBrokenWhere (first.fewer most names x) (most ≤ length names) (fault kind.Limit x.span) }
     ensures field { (fields : List WrittenType) (ninth : WrittenType) → slice_get fields 8 ≡ Some ninth → first.few_fields fields ≡ Err (fault kind.Limit (written_place ninth)) }
     ensures eight { (fields : List WrittenType) → slice_get fields 8 ≡ None → first.few_fields fields ≡ Ok (tt {0}) }
+    ensures part { (i : ℕ) (scope : FormScope) (n : Counts) (x : Ident) → form_in scope (number_of x) ≡ None → 8 ≤ i → rule.part_variable i scope n x ≡ Err (fault kind.Limit x.span) }
+    ensures result { (datas : List GenericDataTree) (vars : List ℕ) (i : ℕ) (w : WrittenType) (ws : List WrittenType) → 8 ≤ i → first.check_parts datas vars i (w ∷ ws) ≡ Err (fault kind.Limit (written_place w)) }
     ensures expression { (n : Counts) (at : Span) → IsBrokenWhere (rule.one_more n at) (2000 ≤ n.expressions) (fault kind.Limit at) }
     ensures variable { (n : Counts) (x : Ident) → IsBrokenWhere (rule.counted n x) (200 ≤ n.variables) (fault kind.Limit x.span) }
 {}

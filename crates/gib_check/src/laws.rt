@@ -2,21 +2,23 @@
 
 ghost use Rattle.std.specs.Prelude.{◌≡◌, ◌+◌, ◌≤◌, ℕ, List, None, Ok};
 ghost use Rattle.gib_types.specs.Form.{Form, Meant};
+ghost use Rattle.gib_syntax.specs.Results.{Results};
 ghost use Rattle.gib_syntax.specs.GenericTree.{GenericExpression, GenericGlobals, GenericProgramTree};
 ghost use Rattle.gib_syntax.specs.GenericTyping.{FormScope, HasForm, generic_expressions, generic_bindings, IsTypedGeneric};
 ghost use Rattle.gib_check.specs.declared.counts.Counts.{Counts};
-ghost use Rattle.gib_check.specs.Faults.{infer};
+ghost use Rattle.gib_check.specs.declared.standing.Standing.{Standing};
+ghost use Rattle.gib_check.specs.Faults.{MayGive, infer};
 ghost use Rattle.gib_check.specs.FirstFault.{IsCountedOn, first_fault};
 
-/// An expression has the type that is inferred, and it was counted whole.
+/// An expression gives what is inferred, and it was counted whole.
 pub fn inferred_types_are_had()
-    ensures has { (g : GenericGlobals) (vars : List ℕ) (meant : Meant) (scope : FormScope) (n m : Counts) (e : GenericExpression) (t : Form) → infer g vars meant scope n e ≡ Ok (t, m) → HasForm g vars meant scope e t }
-    ensures counts { (g : GenericGlobals) (vars : List ℕ) (meant : Meant) (scope : FormScope) (n m : Counts) (e : GenericExpression) (t : Form) → infer g vars meant scope n e ≡ Ok (t, m) → IsCountedOn n e m }
+    ensures has { (g : GenericGlobals) (vars : List ℕ) (meant : Meant) (scope : FormScope) (n m : Counts) (e : GenericExpression) (r : Results Form) (st : Standing) → infer g vars meant st scope n e ≡ Ok (r, m) → HasForm g vars meant scope e r }
+    ensures counts { (g : GenericGlobals) (vars : List ℕ) (meant : Meant) (scope : FormScope) (n m : Counts) (e : GenericExpression) (r : Results Form) (st : Standing) → infer g vars meant st scope n e ≡ Ok (r, m) → IsCountedOn n e m }
 {}
 
-/// The type that an expression has is inferred, within the limits.
+/// What an expression gives is inferred where it may stand, within the limits.
 pub fn had_types_are_inferred()
-    ensures { (g : GenericGlobals) (vars : List ℕ) (meant : Meant) (scope : FormScope) (n : Counts) (e : GenericExpression) (t : Form) → HasForm g vars meant scope e t → n.expressions + generic_expressions e ≤ 2000 → n.variables + generic_bindings e ≤ 200 → (m : Counts) × (infer g vars meant scope n e ≡ Ok (t, m)) }
+    ensures { (g : GenericGlobals) (vars : List ℕ) (meant : Meant) (scope : FormScope) (n : Counts) (e : GenericExpression) (r : Results Form) (st : Standing) → HasForm g vars meant scope e r → MayGive st r → n.expressions + generic_expressions e ≤ 2000 → n.variables + generic_bindings e ≤ 200 → (m : Counts) × (infer g vars meant st scope n e ≡ Ok (r, m)) }
 {}
 
 /// A program breaks no rule exactly where it is typed.

@@ -32,6 +32,7 @@ mod parts;
 mod reading;
 mod rules;
 mod stack;
+pub mod standing;
 mod state;
 mod tables;
 pub mod typed;
@@ -47,11 +48,12 @@ pub use declared::type_of_name;
 pub use fault::{Fault, Kind, TypeFault};
 pub use functions::FunctionId;
 pub use generic::Generic;
-use gib_syntax::GenericProgram;
+use gib_syntax::{GenericProgram, ResultRuns};
 use heads::{check_head, check_heads};
 use named::Named;
 pub use names::NameList;
 pub use origin::TypeOrigin;
+pub use rules::ResultIds;
 pub use stack::Stack;
 use std::alloc::Global;
 pub use tables::{list_types, make_table};
@@ -68,7 +70,8 @@ fn check_declarations(alloc: Global, named: &Named) -> Result<(), TypeFault>
     check_fields(named, datas)?;
     check_heads(alloc, named, program.functions())?;
     let main = program.main();
-    check_head(alloc, named, &[], &[main.parameter], main.result)
+    let gives = ResultRuns::One(main.result);
+    check_head(alloc, named, &[], &[main.parameter], &gives)
 }
 
 /// All rules, in their order.
@@ -80,7 +83,8 @@ fn check_rules(alloc: Global, named: &Named) -> Result<(), TypeFault>
     let program = named.program();
     check_bodies(alloc, named, program.functions())?;
     let main = program.main();
-    check_body(alloc, named, &[], &[main.parameter], main.result, main.body)
+    let gives = ResultRuns::One(main.result);
+    check_body(alloc, named, &[], &[main.parameter], &gives, main.body)
 }
 
 /// Checks a program: which rule it breaks first, or none.

@@ -5,17 +5,17 @@ ghost use Rattle.gib_base.specs.declared.Span.{Span};
 ghost use Rattle.gib_syntax.specs.declared.tree.Ident.{Ident};
 ghost use Rattle.gib_syntax.specs.Arena.{layer, case_from, PartsBelow, ArmsBelow};
 ghost use Rattle.gib_syntax.specs.Tree.{Expression, Case};
-ghost use Rattle.gib_syntax.specs.Typing.{Globals};
+ghost use Rattle.gib_syntax.specs.Typing.{Globals, names_of, types_of};
 ghost use Rattle.gib_check.specs.ArmPlaces.{place_named, place_in, case_names};
 ghost use Rattle.gib_check.specs.NodeFacts.{AreFacts};
-ghost use Rattle.gib_check.specs.Origins.{origin};
+ghost use Rattle.gib_check.specs.Origins.{origin, outside_arm};
 ghost use Rattle.gib_check.specs.Views.{table_in, tree_in, globals_in};
 
 use crate::arm_index::{ArmIndex, index_arms};
 use crate::declared::Declared;
 use crate::origin::{TypeOrigin, outside, outside_arm};
 use gib_base::Memory;
-use gib_syntax::{Arm, ExprId, Node};
+use gib_syntax::{Arm, ExprId, Node, Parameter};
 use gib_types::Ty;
 use std::alloc::{AllocError, Global};
 
@@ -48,6 +48,21 @@ fn case_origin(declared: &Declared, facts: &[NodeFacts], arms: &[Arm]) -> TypeOr
             origin_at(facts, first.body),
         ),
     }
+}
+
+/// Where a type comes from, seen from outside of a binding of parts.
+fn outside_parts(declared: &Declared, names: &[Parameter], body: TypeOrigin) -> TypeOrigin
+    ensures { result ≡ outside_arm (names_of names.now) (types_of (table_in declared.now).types names.now) body }
+{
+    let mut origin = body;
+    let mut place = names.len();
+    'variables: while place > 0 {
+        place -= 1;
+        let variable = names[place];
+        let ty = declared.type_named(variable.ty);
+        origin = outside(variable.name, TypeOrigin::Fixed(ty), origin);
+    }
+    origin
 }
 
 /// Where the type of a node comes from, where it is known of its parts.
@@ -87,6 +102,19 @@ fn node_origin(declared: &Declared, facts: &[NodeFacts], node: &Node) -> TypeOri
         }
         Node::If { then_part, .. } => origin_at(facts, *then_part),
         Node::Case { arms, .. } => case_origin(declared, facts, arms),
+        Node::Tuple { .. } => TypeOrigin::Fixed(Ty::Whole),
+        Node::LetSeveral { names, body, .. } => {
+            outside_parts(declared, names, origin_at(facts, *body))
+        }
+        Node::ParSeveral {
+            left_names,
+            right_names,
+            body,
+            ..
+        } => {
+            let body = outside_parts(declared, right_names, origin_at(facts, *body));
+            outside_parts(declared, left_names, body)
+        }
     }
 }
 
@@ -105,7 +133,10 @@ fn node_arms(alloc: Global, declared: &Declared, node: &Node) -> Result<ArmIndex
         | Node::Make(..)
         | Node::Let { .. }
         | Node::LetPar { .. }
-        | Node::If { .. } => index_arms(alloc, declared, &[]),
+        | Node::If { .. }
+        | Node::Tuple { .. }
+        | Node::LetSeveral { .. }
+        | Node::ParSeveral { .. } => index_arms(alloc, declared, &[]),
     }
 }
 

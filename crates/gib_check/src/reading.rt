@@ -256,6 +256,21 @@ fn push_place(stack: &mut Stack<Span>, word: Word) -> Result<(), Memory>
     }
 }
 
+/// Where the one type stands that words spell.
+///
+/// # Errors
+///
+/// Want of memory.
+pub fn type_place(alloc: Global, words: &[Word]) -> Result<Span, Memory>
+    ensures { IfOk result (λ place. place ≡ written_place (first_type (stack_of words.now))) }
+{
+    let places = type_places(alloc, words)?;
+    match places.as_slice() {
+        [] => Ok(Span { start: 0, end: 0 }),
+        [first, ..] => Ok(*first),
+    }
+}
+
 /// Where the types stand that words spell, in the order of the text.
 ///
 /// # Errors

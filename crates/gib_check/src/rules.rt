@@ -2,21 +2,32 @@
 
 ghost use Rattle.std.specs.Prelude.{◌≡◌, ◌<◌, length, IfOk};
 ghost use Rattle.gib_types.specs.Form.{WholeForm, TruthForm};
+ghost use Rattle.gib_types.specs.SameForm.{same_form};
 ghost use Rattle.gib_types.specs.Types.{form_at, forms_at, forms_of, AreBelow};
+ghost use Rattle.gib_syntax.specs.Results.{One};
 ghost use Rattle.gib_check.specs.Answers.{Gives};
 ghost use Rattle.gib_check.specs.Faults as rule;
-ghost use Rattle.gib_check.specs.Judging.{listed, part_in, parts_in, ArePartsBelow};
+ghost use Rattle.gib_check.specs.Judging.{Judging, forms, listed, forms_given, AreMet, part_in, parts_in, ArePartsMet};
 
 use crate::fault::{Fault, Kind, TypeFault};
+use crate::state::State;
 use gib_base::Span;
 use gib_syntax::Ident;
 use gib_types::types::{TypeId, TypeNode, Types};
 use std::alloc::Global;
 
-/// A part of an expression, after its check: its type, and where it stands.
-#[derive(Clone, Copy, Debug, PartialEq, Eq)]
+/// What an expression gives: one thing of a type, or several parts, whose types are a run of those that a state keeps for
+/// parts.
+#[derive(Clone, Copy)]
+pub enum ResultIds {
+    One(TypeId),
+    Several { start: u32, count: u32 },
+}
+
+/// A part of an expression, after its check: what it gives, and where it stands.
+#[derive(Clone, Copy)]
 pub struct Part {
-    pub ty: TypeId,
+    pub ty: ResultIds,
     pub place: Span,
 }
 
@@ -34,14 +45,69 @@ pub fn broken(kind: Kind, span: Span) -> TypeFault
     TypeFault::Broken(Fault { kind, span })
 }
 
-/// A part has the type that is due.
-pub fn wanted(types: &Types, due: TypeId, part: Part) -> Result<(), TypeFault>
-    requires due { due.0 < length types.now }
-    requires part { part.ty.0 < length types.now }
-    ensures { Gives (λ _. tt {0}) result (rule.wanted (form_at (forms_of types.now) due.0) (part_in (forms_of types.now) part)) }
+/// Whether two types are the same: each has one number.
+fn is_same(types: &Types, left: TypeId, right: TypeId) -> bool
+    requires left { left.0 < length types.now }
+    requires right { right.0 < length types.now }
+    ensures { result ≡ same_form (form_at (forms_of types.now) left.0) (form_at (forms_of types.now) right.0) }
 {
     let _once = types.len();
-    if part.ty.0 == due.0 {
+    left.0 == right.0
+}
+
+/// Whether the types of parts are the same, as many as there are.
+fn are_same(types: &Types, left: &[TypeId], right: &[TypeId]) -> bool
+    requires left { AreBelow (length types.now) left.now }
+    requires right { AreBelow (length types.now) right.now }
+    ensures { result ≡ rule.same_lists (listed (forms_of types.now) left.now) (listed (forms_of types.now) right.now) }
+{
+    let mut lefts = left;
+    let mut rights = right;
+    'parts: while let [first, lefts_after @ ..] = lefts {
+        let [other, rights_after @ ..] = rights else {
+            return false;
+        };
+        if !is_same(types, *first, *other) {
+            return false;
+        }
+        lefts = lefts_after;
+        rights = rights_after;
+    }
+    rights.is_empty()
+}
+
+/// Whether two expressions give something of the same type, or parts of the same types.
+fn give_same(state: &State, left: ResultIds, right: ResultIds) -> bool
+    requires left { AreMet state.now left }
+    requires right { AreMet state.now right }
+    ensures { result ≡ rule.same_results (forms_given state.now left) (forms_given state.now right) }
+{
+    match left {
+        ResultIds::One(id) => match right {
+            ResultIds::One(other) => is_same(state.types(), id, other),
+            ResultIds::Several { .. } => false,
+        },
+        ResultIds::Several { start, count } => match right {
+            ResultIds::One(_) => false,
+            ResultIds::Several {
+                start: other_start,
+                count: other_count,
+            } => are_same(
+                state.types(),
+                state.parts(start, count),
+                state.parts(other_start, other_count),
+            ),
+        },
+    }
+}
+
+/// A part gives what is due.
+pub fn wanted(state: &State, due: ResultIds, part: Part) -> Result<(), TypeFault>
+    requires due { AreMet state.now due }
+    requires part { AreMet state.now part.ty }
+    ensures { Gives (λ _. tt {0}) result (rule.wanted (forms_given state.now due) (part_in state.now part)) }
+{
+    if give_same(state, part.ty, due) {
         Ok(())
     } else {
         Err(broken(Kind::Shape, part.place))
@@ -49,11 +115,14 @@ pub fn wanted(types: &Types, due: TypeId, part: Part) -> Result<(), TypeFault>
 }
 
 /// A part is a whole number.
-pub fn wanted_whole(types: &Types, part: Part) -> Result<(), TypeFault>
-    requires { part.ty.0 < length types.now }
-    ensures { Gives (λ _. tt {0}) result (rule.wanted WholeForm (part_in (forms_of types.now) part)) }
+pub fn wanted_whole(state: &State, part: Part) -> Result<(), TypeFault>
+    requires { AreMet state.now part.ty }
+    ensures { Gives (λ _. tt {0}) result (rule.wanted (One WholeForm) (part_in state.now part)) }
 {
-    match types.node(part.ty) {
+    let ResultIds::One(ty) = part.ty else {
+        return Err(broken(Kind::Shape, part.place));
+    };
+    match state.types().node(ty) {
         TypeNode::Whole => Ok(()),
         TypeNode::Truth => Err(broken(Kind::Shape, part.place)),
         TypeNode::Variable(_) => Err(broken(Kind::Shape, part.place)),
@@ -62,11 +131,14 @@ pub fn wanted_whole(types: &Types, part: Part) -> Result<(), TypeFault>
 }
 
 /// A part is a truth value.
-pub fn wanted_truth(types: &Types, part: Part) -> Result<(), TypeFault>
-    requires { part.ty.0 < length types.now }
-    ensures { Gives (λ _. tt {0}) result (rule.wanted TruthForm (part_in (forms_of types.now) part)) }
+pub fn wanted_truth(state: &State, part: Part) -> Result<(), TypeFault>
+    requires { AreMet state.now part.ty }
+    ensures { Gives (λ _. tt {0}) result (rule.wanted (One TruthForm) (part_in state.now part)) }
 {
-    match types.node(part.ty) {
+    let ResultIds::One(ty) = part.ty else {
+        return Err(broken(Kind::Shape, part.place));
+    };
+    match state.types().node(ty) {
         TypeNode::Whole => Err(broken(Kind::Shape, part.place)),
         TypeNode::Truth => Ok(()),
         TypeNode::Variable(_) => Err(broken(Kind::Shape, part.place)),
@@ -75,10 +147,10 @@ pub fn wanted_truth(types: &Types, part: Part) -> Result<(), TypeFault>
 }
 
 /// Each part has its type.
-pub fn all_wanted(types: &Types, parts: &[Part], due: &[TypeId]) -> Result<(), TypeFault>
-    requires parts { ArePartsBelow (length types.now) parts.now }
-    requires due { AreBelow (length types.now) due.now }
-    ensures { Gives (λ _. tt {0}) result (rule.all_wanted (parts_in (forms_of types.now) parts.now) (listed (forms_of types.now) due.now)) }
+pub fn all_wanted(state: &State, parts: &[Part], due: &[TypeId]) -> Result<(), TypeFault>
+    requires parts { ArePartsMet state.now parts.now }
+    requires due { AreBelow (length state.now.types) due.now }
+    ensures { Gives (λ _. tt {0}) result (rule.all_wanted (parts_in state.now parts.now) (listed (forms state.now) due.now)) }
 {
     let mut ids = due;
     let mut rest = parts;
@@ -86,7 +158,7 @@ pub fn all_wanted(types: &Types, parts: &[Part], due: &[TypeId]) -> Result<(), T
         match ids {
             [] => return Ok(()),
             [ty, later @ ..] => {
-                wanted(types, *ty, *part)?;
+                wanted(state, ResultIds::One(*ty), *part)?;
                 ids = later;
                 rest = after;
             }
@@ -95,18 +167,56 @@ pub fn all_wanted(types: &Types, parts: &[Part], due: &[TypeId]) -> Result<(), T
     Ok(())
 }
 
-/// Each part has the one type.
-pub fn all_of(types: &Types, due: TypeId, parts: &[Part]) -> Result<(), TypeFault>
-    requires due { due.0 < length types.now }
-    requires parts { ArePartsBelow (length types.now) parts.now }
-    ensures { Gives (λ _. tt {0}) result (rule.all_of (form_at (forms_of types.now) due.0) (parts_in (forms_of types.now) parts.now)) }
+/// Each part gives the one thing that is due, or the parts.
+pub fn all_of(state: &State, due: ResultIds, parts: &[Part]) -> Result<(), TypeFault>
+    requires due { AreMet state.now due }
+    requires parts { ArePartsMet state.now parts.now }
+    ensures { Gives (λ _. tt {0}) result (rule.all_of (forms_given state.now due) (parts_in state.now parts.now)) }
 {
     let mut rest = parts;
     'parts: while let [part, after @ ..] = rest {
-        wanted(types, due, *part)?;
+        wanted(state, due, *part)?;
         rest = after;
     }
     Ok(())
+}
+
+/// The types of parts, each of which is one thing.
+pub fn all_single(state: &State, parts: &[Part]) -> Result<Vec<TypeId>, TypeFault>
+    requires { ArePartsMet state.now parts.now }
+    ensures types { Gives (λ ids. listed (forms state.now) ids.items) result (rule.all_single (parts_in state.now parts.now)) }
+    ensures below { IfOk result (λ ids. AreBelow (length state.now.types) ids.items) }
+{
+    let mut ids = Vec::new(state.alloc());
+    let mut rest = parts;
+    'parts: while let [part, after @ ..] = rest {
+        let ResultIds::One(id) = part.ty else {
+            return Err(broken(Kind::Shape, part.place));
+        };
+        ids.push(id)?;
+        rest = after;
+    }
+    Ok(ids)
+}
+
+/// The types of the variables of a binding, by its right side: one thing for one, parts for several.
+pub fn types_bound(state: &State, names: &[Ident], part: Part) -> Result<Vec<TypeId>, TypeFault>
+    requires { AreMet state.now part.ty }
+    ensures types { Gives (λ ids. listed (forms state.now) ids.items) result (rule.types_bound names.now (part_in state.now part)) }
+    ensures below { IfOk result (λ ids. AreBelow (length state.now.types) ids.items) }
+{
+    match names {
+        [] => Err(broken(Kind::Shape, part.place)),
+        [_] => all_single(state, &[part]),
+        [first, _, ..] => match part.ty {
+            ResultIds::One(_) => Err(broken(Kind::Shape, part.place)),
+            ResultIds::Several { start, count } => {
+                as_many(count as usize, names.len(), *first)?;
+                let ids = Vec::from_slice(state.alloc(), state.parts(start, count))?;
+                Ok(ids)
+            }
+        },
+    }
 }
 
 /// As many as there have to be.

@@ -5,20 +5,23 @@ ghost use Rattle.std.specs.Prelude.{◌≡◌};
 use crate::counts::Counts;
 use crate::fault::{Kind, TypeFault};
 use crate::reading::{Meaning, put_type, read, read_first};
-use crate::rules::broken;
+use crate::rules::{ResultIds, broken};
 use crate::variables::Variables;
-use gib_base::limits::{EXPRESSIONS, VARIABLES};
+use gib_base::limits::{EXPRESSIONS, PARTS, VARIABLES};
 use gib_base::{Memory, Span};
 use gib_syntax::{Ident, Word};
 use gib_types::types::{TypeId, TypeNode, Types};
-use std::alloc::Global;
+use std::alloc::{AllocError, Global};
 use std::marker::Model;
 
-/// Where memory comes from, the types that were met, what is in scope, and what was met so far of a function.
+/// Where memory comes from, the types that were met, those of the parts of results, what is in scope, and what was met so
+/// far of a function.
 #[derive(Drop)]
 pub struct State {
     alloc: Global,
     types: Types,
+    /// A run for each result of several parts.
+    parts: Vec<TypeId>,
     scope: Variables,
     counts: Counts,
 }
@@ -29,28 +32,30 @@ impl Model for State {
 
     ghost Value = { Judging };
 
-    ghost view = { λ s. record { types = s.types; scope = s.scope; counts = s.counts } };
+    ghost view = { λ s. record { types = s.types; parts = s.parts.items; scope = s.scope; counts = s.counts } };
 
     ghost invariant = { λ s. IsScopeBelow (length s.types) s.scope };
 }
 
 impl State {
-    ghost use Rattle.std.specs.Prelude.{◌<◌, ◌-◌, [], length, drop, IfOk, OnOk};
+    ghost use Rattle.std.specs.Prelude.{◌<◌, ◌≤◌, ◌+◌, ◌-◌, [], ◌++◌, length, drop, IfOk, OnOk};
     ghost use Rattle.gib_types.specs.Types.{form_at, form_from, ArgumentsBelow, AreBelow};
     ghost use Rattle.gib_syntax.specs.Forms.{formed};
+    ghost use Rattle.gib_syntax.specs.Results.{Several};
     ghost use Rattle.gib_syntax.specs.Words.{stack_of, first_type};
-    ghost use Rattle.gib_syntax.specs.GenericTyping.{form_bound};
+    ghost use Rattle.gib_syntax.specs.GenericTyping.{FormScope, form_bound};
     ghost use Rattle.gib_check.specs.Answers.{Gives};
     ghost use Rattle.gib_check.specs.Faults as rule;
-    ghost use Rattle.gib_check.specs.Judging.{Judging, forms, in_scope, listed, Meets, Reads, Keeps, meant_by, IsMeaningBelow};
+    ghost use Rattle.gib_check.specs.Judging.{Judging, forms, in_scope, listed, run_of, forms_given, Met, Meets, Reads, Keeps, meant_by, IsMeaningBelow};
 
     /// Nothing was met but so many parameters, which are not in scope yet.
     pub fn new(alloc: Global, variables: u32) -> State
-        ensures { result ≡ record { types = []; scope = []; counts = record { variables = variables; expressions = 0 } } }
+        ensures { result ≡ record { types = []; parts = []; scope = []; counts = record { variables = variables; expressions = 0 } } }
     {
         State {
             alloc,
             types: Types::new(alloc),
+            parts: Vec::new(alloc),
             scope: Variables::new(alloc),
             counts: Counts {
                 variables,
@@ -71,6 +76,15 @@ impl State {
         &self.types
     }
 
+    /// The types of the parts of a run.
+    pub fn parts(&self, start: u32, count: u32) -> &[TypeId]
+        requires { start + count ≤ length self.now.parts }
+        ensures { result.now ≡ run_of self.now start count }
+    {
+        let first = start as usize;
+        &self.parts[first..first + count as usize]
+    }
+
     /// How many variables are in scope.
     pub fn len(&self) -> usize
         ensures { result ≡ length (in_scope self.now) }
@@ -83,6 +97,7 @@ impl State {
         ensures counts { Gives (λ _. self.new.counts) result (rule.one_more self.old.counts at) }
         ensures scope { (in_scope self.new) ≡ (in_scope self.old) }
         ensures types { self.new.types ≡ self.old.types }
+        ensures parts { self.new.parts ≡ self.old.parts }
     {
         if self.counts.expressions >= EXPRESSIONS {
             return Err(broken(Kind::Limit, at));
@@ -107,6 +122,7 @@ impl State {
         ensures counts { Gives (λ _. self.new.counts) result (rule.new_variable (in_scope self.old) self.old.counts x) }
         ensures scope { (in_scope self.new) ≡ (in_scope self.old) }
         ensures types { self.new.types ≡ self.old.types }
+        ensures parts { self.new.parts ≡ self.old.parts }
     {
         if self.scope.find(x.name).is_some() {
             return Err(broken(Kind::Twice, x.span));
@@ -128,6 +144,7 @@ impl State {
         ensures scope { OnOk result ((in_scope self.new) ≡ form_bound x (form_at (forms self.old) ty.0) (in_scope self.old)) }
         ensures counts { self.new.counts ≡ self.old.counts }
         ensures types { self.new.types ≡ self.old.types }
+        ensures parts { self.new.parts ≡ self.old.parts }
     {
         self.scope.push(x, ty)
     }
@@ -138,9 +155,64 @@ impl State {
         ensures counts { Gives (λ _. self.new.counts) result (rule.new_variable (in_scope self.old) self.old.counts x) }
         ensures scope { OnOk result ((in_scope self.new) ≡ form_bound x (form_at (forms self.old) ty.0) (in_scope self.old)) }
         ensures types { self.new.types ≡ self.old.types }
+        ensures parts { self.new.parts ≡ self.old.parts }
     {
         self.new_variable(x)?;
         self.enter(x, ty)?;
+        Ok(())
+    }
+
+    /// One more variable of a binding, behind so many: new in its scope, then no ninth, then it is counted.
+    fn new_part(&mut self, behind: usize, x: Ident) -> Result<(), TypeFault>
+        ensures counts { Gives (λ _. self.new.counts) result (rule.part_variable behind (in_scope self.old) self.old.counts x) }
+        ensures scope { (in_scope self.new) ≡ (in_scope self.old) }
+        ensures types { self.new.types ≡ self.old.types }
+        ensures parts { self.new.parts ≡ self.old.parts }
+    {
+        if self.scope.find(x.name).is_some() {
+            return Err(broken(Kind::Twice, x.span));
+        }
+        if behind >= PARTS as usize {
+            return Err(broken(Kind::Limit, x.span));
+        }
+        self.new_variable(x)
+    }
+
+    /// Binds a new variable behind so many of a binding.
+    fn bind_part(&mut self, behind: usize, x: Ident, ty: TypeId) -> Result<(), TypeFault>
+        requires { ty.0 < length self.old.types }
+        ensures counts { Gives (λ _. self.new.counts) result (rule.part_variable behind (in_scope self.old) self.old.counts x) }
+        ensures scope { OnOk result ((in_scope self.new) ≡ form_bound x (form_at (forms self.old) ty.0) (in_scope self.old)) }
+        ensures types { self.new.types ≡ self.old.types }
+        ensures parts { self.new.parts ≡ self.old.parts }
+    {
+        self.new_part(behind, x)?;
+        self.enter(x, ty)?;
+        Ok(())
+    }
+
+    /// Binds the variables of a binding of parts.
+    pub fn bind_parts(&mut self, names: &[Ident], types: &[TypeId]) -> Result<(), TypeFault>
+        requires { AreBelow (length self.old.types) types.now }
+        ensures read { Gives (λ _. ((in_scope self.new), self.new.counts)) result (rule.bind_parts 0 (in_scope self.old) self.old.counts names.now (listed (forms self.old) types.now)) }
+        ensures kept { OnOk result ((added : FormScope) × ((in_scope self.new) ≡ added ++ (in_scope self.old))) }
+        ensures types { self.new.types ≡ self.old.types }
+        ensures parts { self.new.parts ≡ self.old.parts }
+    {
+        let mut behind = 0_usize;
+        let mut rest = names;
+        let mut ids = types;
+        'variables: while let [name, after @ ..] = rest {
+            match ids {
+                [] => return Ok(()),
+                [ty, ids_after @ ..] => {
+                    self.bind_part(behind, *name, *ty)?;
+                    rest = after;
+                    ids = ids_after;
+                    behind += 1;
+                }
+            }
+        }
         Ok(())
     }
 
@@ -150,6 +222,7 @@ impl State {
         ensures read { Gives (λ _. ((in_scope self.new), self.new.counts)) result (rule.bind_all (in_scope self.old) self.old.counts variables.now (listed (forms self.old) fields.now)) }
         ensures kept { OnOk result (drop (length (in_scope self.new) - length (in_scope self.old)) (in_scope self.new) ≡ (in_scope self.old)) }
         ensures types { self.new.types ≡ self.old.types }
+        ensures parts { self.new.parts ≡ self.old.parts }
     {
         let mut names = variables;
         let mut ids = fields;
@@ -175,6 +248,7 @@ impl State {
         ensures scope { OnOk result ((in_scope self.new) ≡ drop (length (in_scope self.old) - len) (in_scope self.old)) }
         ensures counts { self.new.counts ≡ self.old.counts }
         ensures types { self.new.types ≡ self.old.types }
+        ensures parts { self.new.parts ≡ self.old.parts }
     {
         self.scope.truncate(len)
     }
@@ -190,6 +264,28 @@ impl State {
         ensures keeps { Keeps self.old self.new }
     {
         put_type(&mut self.types, node)
+    }
+
+    /// What gives several parts of these types.
+    ///
+    /// # Errors
+    ///
+    /// Want of memory.
+    pub fn put_parts(&mut self, ids: &[TypeId]) -> Result<ResultIds, Memory>
+        requires { AreBelow (length self.old.types) ids.now }
+        ensures forms { IfOk result (λ given. forms_given self.new given ≡ Several (listed (forms self.old) ids.now)) }
+        ensures met { IfOk result (λ given. Met self.old self.new given) }
+        ensures counts { self.new.counts ≡ self.old.counts }
+        ensures scope { (in_scope self.new) ≡ (in_scope self.old) }
+    {
+        let Ok(start) = u32::try_from(self.parts.len()) else {
+            return Err(AllocError);
+        };
+        let Ok(count) = u32::try_from(ids.len()) else {
+            return Err(AllocError);
+        };
+        self.parts.extend_from_slice(ids)?;
+        Ok(ResultIds::Several { start, count })
     }
 
     /// `Int` and `Bool` are met. Before all other types they get the numbers at which `put` and `read` look for them.

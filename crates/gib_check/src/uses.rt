@@ -5,21 +5,22 @@ ghost use Rattle.gib_types.specs.Types.{forms_at, AreBelow};
 ghost use Rattle.gib_syntax.specs.Forms.{formed, formed_all, count_written, assign};
 ghost use Rattle.gib_syntax.specs.GenericTree.{GenericParameterTree};
 ghost use Rattle.gib_syntax.specs.GenericTyping.{variable_numbers, opaque, field_forms};
-ghost use Rattle.gib_syntax.specs.GenericParts.{parameter_in};
-ghost use Rattle.gib_syntax.specs.Words.{IsTypesRun, types_in};
+ghost use Rattle.gib_syntax.specs.GenericParts.{parameter_in, results_in};
+ghost use Rattle.gib_syntax.specs.Results.{map_results};
+ghost use Rattle.gib_syntax.specs.Words.{IsTypesRun, type_in, types_in};
 ghost use Rattle.gib_check.specs.Answers.{Gives};
 ghost use Rattle.gib_check.specs.Faults as rule;
-ghost use Rattle.gib_check.specs.Judging.{forms, listed, Keeps, meant_by, IsMeaningBelow};
+ghost use Rattle.gib_check.specs.Judging.{forms, in_scope, listed, forms_given, Met, Keeps, meant_by, IsMeaningBelow};
 ghost use Rattle.gib_check.specs.NameViews.{generic_globals, row_in};
 
 use crate::fault::TypeFault;
 use crate::known::all_known;
 use crate::named::{Named, RowDecl};
 use crate::reading::Meaning;
-use crate::rules::as_many;
+use crate::rules::{ResultIds, as_many};
 use crate::state::State;
 use gib_base::{Memory, Name};
-use gib_syntax::{GenericParameter, Ident, Run};
+use gib_syntax::{GenericParameter, Ident, ResultRuns, Run};
 use gib_types::types::TypeId;
 
 /// The type arguments at a use, of which there have to be as many as type variables: their number, their names.
@@ -113,4 +114,52 @@ pub fn parameter_types(
         rest = after;
     }
     Ok(ids)
+}
+
+/// The types of the parts that a function gives.
+fn part_types(
+    named: &Named,
+    state: &mut State,
+    meaning: &Meaning,
+    runs: &[Run],
+) -> Result<Vec<TypeId>, Memory>
+    requires { IsMeaningBelow (length state.old.types) meaning.now }
+    ensures types { IfOk result (λ ids. listed (forms state.new) ids.items ≡ map (formed (meant_by (forms state.old) meaning.now)) (map (type_in named.now.exprs.words) runs.now)) }
+    ensures below { IfOk result (λ ids. AreBelow (length state.new.types) ids.items) }
+    ensures keeps { IfOk result (λ _. Keeps state.old state.new) }
+{
+    let mut ids = Vec::new(state.alloc());
+    let mut rest = runs;
+    'runs: while let [run, after @ ..] = rest {
+        let id = state.read_first(meaning, named.words(*run))?;
+        ids.push(id)?;
+        rest = after;
+    }
+    Ok(ids)
+}
+
+/// What a function gives, by what its type variables stand for.
+pub fn result_types(
+    named: &Named,
+    state: &mut State,
+    meaning: &Meaning,
+    gives: &ResultRuns,
+) -> Result<ResultIds, Memory>
+    requires { IsMeaningBelow (length state.old.types) meaning.now }
+    ensures forms { IfOk result (λ given. forms_given state.new given ≡ map_results (formed (meant_by (forms state.old) meaning.now)) (results_in named.now.exprs.words gives.now)) }
+    ensures met { IfOk result (λ given. Met state.old state.new given) }
+    ensures counts { IfOk result (λ _. state.new.counts ≡ state.old.counts) }
+    ensures scope { IfOk result (λ _. (in_scope state.new) ≡ (in_scope state.old)) }
+{
+    match gives {
+        ResultRuns::One(run) => {
+            let id = state.read_first(meaning, named.words(*run))?;
+            Ok(ResultIds::One(id))
+        }
+        ResultRuns::Several(runs) => {
+            let ids = part_types(named, state, meaning, runs)?;
+            let given = state.put_parts(&ids)?;
+            Ok(given)
+        }
+    }
 }

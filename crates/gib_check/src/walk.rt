@@ -3,25 +3,27 @@
 ghost use Rattle.std.specs.Prelude.{◌≡◌, ◌<◌, List, Ok, length, map, IfOk};
 ghost use Rattle.std.specs.List.{AllByRecursion};
 ghost use Rattle.gib_types.specs.Form.{Form};
-ghost use Rattle.gib_types.specs.Types.{form_at, forms_at, form_from, AreBelow};
+ghost use Rattle.gib_types.specs.Types.{forms_at, form_from, AreBelow};
 ghost use Rattle.gib_syntax.specs.GenericArena.{IsArmBelow, Opens, arguments_from};
 ghost use Rattle.gib_syntax.specs.GenericTree as tree;
 ghost use Rattle.gib_syntax.specs.GenericTyping.{variable_numbers, opaque, operator_form};
 ghost use Rattle.gib_syntax.specs.Words.{IsTypesRun, types_in};
 ghost use Rattle.gib_check.specs.Answers.{Gives};
 ghost use Rattle.gib_check.specs.Faults as rule;
-ghost use Rattle.gib_check.specs.Judging.{forms, in_scope, Met, AllMet, parts_in, ArePartsBelow, arm_head, infer_each_arm, IsWordedNode, IsClosed};
+ghost use Rattle.gib_check.specs.Judging.{forms, in_scope, forms_given, Met, AllMet, parts_in, ArePartsMet, arm_head, infer_each_arm, IsWordedNode, IsSeveralNode, IsClosed};
 ghost use Rattle.gib_check.specs.NameViews.{generic_globals, generic_tree};
 
 use crate::arms::{all_counted, all_declared, covered};
 use crate::fault::TypeFault;
 use crate::named::Named;
-use crate::parts::part;
+use crate::parts::{part, single};
 use crate::rules::{
-    Part, all_of, all_wanted, as_many, declared_type, wanted, wanted_truth, wanted_whole,
+    Part, ResultIds, all_of, all_single, all_wanted, as_many, declared_type, types_bound, wanted,
+    wanted_truth, wanted_whole,
 };
+use crate::standing::{Standing, may_stand, standing_for};
 use crate::state::State;
-use crate::uses::{fields_named, given, parameter_types, row_fields, type_arguments};
+use crate::uses::{fields_named, given, parameter_types, result_types, row_fields, type_arguments};
 use gib_base::Span;
 use gib_syntax::{Arm, Bound, ExprId, GenericNode, Ident, Operator, Run};
 use gib_types::types::{TypeId, TypeNode};
@@ -31,6 +33,7 @@ use gib_types::types::{TypeId, TypeNode};
 struct At {
     id: ExprId,
     span: Span,
+    standing: Standing,
 }
 
 /// A called function or a constructor, with its type arguments.
@@ -54,6 +57,21 @@ struct BoundSides {
     right: Bound,
 }
 
+/// Two parts that are bound, and the part in which they are.
+#[derive(Clone, Copy)]
+struct BoundParts {
+    left: ExprId,
+    right: ExprId,
+    body: ExprId,
+}
+
+/// The variables of two sides.
+#[derive(Drop)]
+struct SideNames<'a> {
+    left: &'a [Ident],
+    right: &'a [Ident],
+}
+
 /// The node of an operator's result.
 fn result_node(operator: Operator) -> TypeNode
     ensures form { (fs : List Form) → form_from fs result ≡ operator_form operator }
@@ -70,54 +88,59 @@ fn result_node(operator: Operator) -> TypeNode
 }
 
 /// The type of a variable.
-fn variable(state: &mut State, x: Ident) -> Result<TypeId, TypeFault>
-    ensures read { Gives (λ t. (form_at (forms state.new) t.0, state.new.counts)) result (rule.infer_variable (in_scope state.old) state.old.counts x) }
+fn variable(state: &mut State, x: Ident) -> Result<ResultIds, TypeFault>
+    ensures read { Gives (λ r. (forms_given state.new r, state.new.counts)) result (rule.infer_variable (in_scope state.old) state.old.counts x) }
     ensures kept { (in_scope state.new) ≡ (in_scope state.old) }
-    ensures met { IfOk result (λ t. Met state.old.types state.new.types t) }
+    ensures met { IfOk result (λ r. Met state.old state.new r) }
 {
     state.one_more(x.span)?;
     let ty = state.type_of(x)?;
-    Ok(ty)
+    Ok(ResultIds::One(ty))
 }
 
 /// The type of a literal.
-fn literal(state: &mut State, at: Span, node: TypeNode) -> Result<TypeId, TypeFault>
+fn literal(state: &mut State, at: Span, node: TypeNode) -> Result<ResultIds, TypeFault>
     requires { IsClosed node }
-    ensures read { (fs : List Form) → Gives (λ t. (form_at (forms state.new) t.0, state.new.counts)) result (rule.infer_literal state.old.counts at (form_from fs node)) }
+    ensures read { (fs : List Form) → Gives (λ r. (forms_given state.new r, state.new.counts)) result (rule.infer_literal state.old.counts at (form_from fs node)) }
     ensures kept { (in_scope state.new) ≡ (in_scope state.old) }
-    ensures met { IfOk result (λ t. Met state.old.types state.new.types t) }
+    ensures met { IfOk result (λ r. Met state.old state.new r) }
 {
     state.one_more(at)?;
     let id = state.put(node)?;
-    Ok(id)
+    Ok(ResultIds::One(id))
 }
 
-/// The type of an expression.
+/// What an expression gives.
 #[cycle(infer)]
 pub fn infer(
     named: &Named,
     variables: &[Ident],
     state: &mut State,
+    standing: Standing,
     id: ExprId,
-) -> Result<TypeId, TypeFault>
+) -> Result<ResultIds, TypeFault>
     requires { id.0 < length named.now.exprs.nodes }
-    ensures read { Gives (λ t. (form_at (forms state.new) t.0, state.new.counts)) result (rule.infer (generic_globals named.now) (variable_numbers variables.now) opaque (in_scope state.old) state.old.counts (generic_tree named.now id.0)) }
+    ensures read { Gives (λ r. (forms_given state.new r, state.new.counts)) result (rule.infer (generic_globals named.now) (variable_numbers variables.now) opaque standing (in_scope state.old) state.old.counts (generic_tree named.now id.0)) }
     ensures kept { IfOk result (λ _. (in_scope state.new) ≡ (in_scope state.old)) }
-    ensures met { IfOk result (λ t. Met state.old.types state.new.types t) }
+    ensures met { IfOk result (λ r. Met state.old state.new r) }
 {
     let node = named.node(id);
     match node {
         GenericNode::Variable(x) => variable(state, *x),
         GenericNode::Whole(span, _) => literal(state, *span, TypeNode::Whole),
         GenericNode::Truth(span, _) => literal(state, *span, TypeNode::Truth),
-        GenericNode::Paren(_, inner) => infer(named, variables, state, *inner),
+        GenericNode::Paren(_, inner) => infer(named, variables, state, standing, *inner),
         GenericNode::Operation {
             span,
             operator,
             left,
             right,
         } => {
-            let at = At { id, span: *span };
+            let at = At {
+                id,
+                span: *span,
+                standing,
+            };
             let sides = Sides {
                 left: *left,
                 right: *right,
@@ -141,25 +164,28 @@ pub fn infer(
         GenericNode::Let { .. }
         | GenericNode::LetPar { .. }
         | GenericNode::If { .. }
-        | GenericNode::Case { .. } => infer_worded(named, variables, state, id, node),
+        | GenericNode::Case { .. } => infer_worded(named, variables, state, standing, id, node),
+        GenericNode::Tuple(..) | GenericNode::LetSeveral { .. } | GenericNode::ParSeveral { .. } =>
+            { infer_several(named, variables, state, standing, id, node) }
     }
 }
 
-/// The type of an expression that a word begins.
+/// What an expression gives that a word begins.
 #[cycle(infer)]
 fn infer_worded(
     named: &Named,
     variables: &[Ident],
     state: &mut State,
+    standing: Standing,
     id: ExprId,
     node: &GenericNode,
-) -> Result<TypeId, TypeFault>
+) -> Result<ResultIds, TypeFault>
     requires inside { id.0 < length named.now.exprs.nodes }
     requires opens { Opens named.now.exprs id.0 node.now }
     requires worded { IsWordedNode node.now }
-    ensures read { Gives (λ t. (form_at (forms state.new) t.0, state.new.counts)) result (rule.infer (generic_globals named.now) (variable_numbers variables.now) opaque (in_scope state.old) state.old.counts (generic_tree named.now id.0)) }
+    ensures read { Gives (λ r. (forms_given state.new r, state.new.counts)) result (rule.infer (generic_globals named.now) (variable_numbers variables.now) opaque standing (in_scope state.old) state.old.counts (generic_tree named.now id.0)) }
     ensures kept { IfOk result (λ _. (in_scope state.new) ≡ (in_scope state.old)) }
-    ensures met { IfOk result (λ t. Met state.old.types state.new.types t) }
+    ensures met { IfOk result (λ r. Met state.old state.new r) }
 {
     match node {
         GenericNode::Let {
@@ -168,15 +194,13 @@ fn infer_worded(
             bound,
             body,
         } => {
-            let at = At { id, span: *span };
-            let_in(
-                named,
-                variables,
-                state,
-                at,
-                Bound::new(*name, *bound),
-                *body,
-            )
+            let at = At {
+                id,
+                span: *span,
+                standing,
+            };
+            let bound = Bound::new(*name, *bound);
+            let_in(named, variables, state, at, bound, *body)
         }
         GenericNode::LetPar {
             span,
@@ -186,7 +210,11 @@ fn infer_worded(
             right,
             body,
         } => {
-            let at = At { id, span: *span };
+            let at = At {
+                id,
+                span: *span,
+                standing,
+            };
             let sides = BoundSides {
                 left: Bound::new(*left_name, *left),
                 right: Bound::new(*right_name, *right),
@@ -199,7 +227,11 @@ fn infer_worded(
             then_part,
             else_part,
         } => {
-            let at = At { id, span: *span };
+            let at = At {
+                id,
+                span: *span,
+                standing,
+            };
             let branches = Sides {
                 left: *then_part,
                 right: *else_part,
@@ -210,14 +242,85 @@ fn infer_worded(
             span,
             variable,
             arms,
-        } => case(
-            named,
-            variables,
-            state,
-            At { id, span: *span },
-            *variable,
-            arms,
-        ),
+        } => {
+            let at = At {
+                id,
+                span: *span,
+                standing,
+            };
+            case(named, variables, state, at, *variable, arms)
+        }
+        _ => unreachable!(),
+    }
+}
+
+/// What an expression gives that has several parts, or binds them.
+#[cycle(infer)]
+fn infer_several(
+    named: &Named,
+    variables: &[Ident],
+    state: &mut State,
+    standing: Standing,
+    id: ExprId,
+    node: &GenericNode,
+) -> Result<ResultIds, TypeFault>
+    requires inside { id.0 < length named.now.exprs.nodes }
+    requires opens { Opens named.now.exprs id.0 node.now }
+    requires several { IsSeveralNode node.now }
+    ensures read { Gives (λ r. (forms_given state.new r, state.new.counts)) result (rule.infer (generic_globals named.now) (variable_numbers variables.now) opaque standing (in_scope state.old) state.old.counts (generic_tree named.now id.0)) }
+    ensures kept { IfOk result (λ _. (in_scope state.new) ≡ (in_scope state.old)) }
+    ensures met { IfOk result (λ r. Met state.old state.new r) }
+{
+    match node {
+        GenericNode::Tuple(span, parts) => {
+            let at = At {
+                id,
+                span: *span,
+                standing,
+            };
+            tuple(named, variables, state, at, parts)
+        }
+        GenericNode::LetSeveral {
+            span,
+            names,
+            bound,
+            body,
+        } => {
+            let at = At {
+                id,
+                span: *span,
+                standing,
+            };
+            let sides = Sides {
+                left: *bound,
+                right: *body,
+            };
+            let_several(named, variables, state, at, names, sides)
+        }
+        GenericNode::ParSeveral {
+            span,
+            left_names,
+            left,
+            right_names,
+            right,
+            body,
+        } => {
+            let at = At {
+                id,
+                span: *span,
+                standing,
+            };
+            let names = SideNames {
+                left: left_names,
+                right: right_names,
+            };
+            let parts = BoundParts {
+                left: *left,
+                right: *right,
+                body: *body,
+            };
+            par_several(named, variables, state, at, &names, parts)
+        }
         _ => unreachable!(),
     }
 }
@@ -231,21 +334,21 @@ fn operation(
     at: At,
     operator: Operator,
     sides: Sides,
-) -> Result<TypeId, TypeFault>
+) -> Result<ResultIds, TypeFault>
     requires inside { at.id.0 < length named.now.exprs.nodes }
     requires left { sides.left.0 < at.id.0 }
     requires right { sides.right.0 < at.id.0 }
-    ensures read { Gives (λ t. (form_at (forms state.new) t.0, state.new.counts)) result (rule.infer (generic_globals named.now) (variable_numbers variables.now) opaque (in_scope state.old) state.old.counts (tree.GenericOp at.span operator (generic_tree named.now sides.left.0) (generic_tree named.now sides.right.0))) }
+    ensures read { Gives (λ r. (forms_given state.new r, state.new.counts)) result (rule.infer (generic_globals named.now) (variable_numbers variables.now) opaque at.standing (in_scope state.old) state.old.counts (tree.GenericOp at.span operator (generic_tree named.now sides.left.0) (generic_tree named.now sides.right.0))) }
     ensures kept { IfOk result (λ _. (in_scope state.new) ≡ (in_scope state.old)) }
-    ensures met { IfOk result (λ t. Met state.old.types state.new.types t) }
+    ensures met { IfOk result (λ r. Met state.old state.new r) }
 {
     state.one_more(at.span)?;
-    let left_ty = infer(named, variables, state, sides.left)?;
-    let right_ty = infer(named, variables, state, sides.right)?;
-    wanted_whole(state.types(), part(named, sides.left, left_ty))?;
-    wanted_whole(state.types(), part(named, sides.right, right_ty))?;
+    let left_ty = infer(named, variables, state, Standing::NoTuple, sides.left)?;
+    let right_ty = infer(named, variables, state, Standing::NoTuple, sides.right)?;
+    wanted_whole(state, part(named, sides.left, left_ty))?;
+    wanted_whole(state, part(named, sides.right, right_ty))?;
     let id = state.put(result_node(operator))?;
-    Ok(id)
+    Ok(ResultIds::One(id))
 }
 
 /// The types of arguments, from left to right.
@@ -259,14 +362,14 @@ fn arguments(
 ) -> Result<Vec<Part>, TypeFault>
     requires inside { id.0 < length named.now.exprs.nodes }
     requires below { AllByRecursion (λ a. a.0 < id.0) ids.now }
-    ensures read { Gives (λ parts. (parts_in (forms state.new) parts.items, state.new.counts)) result (rule.infer_all (generic_globals named.now) (variable_numbers variables.now) opaque (in_scope state.old) state.old.counts (arguments_from (generic_tree named.now) ids.now)) }
+    ensures read { Gives (λ parts. (parts_in state.new parts.items, state.new.counts)) result (rule.infer_all (generic_globals named.now) (variable_numbers variables.now) opaque (in_scope state.old) state.old.counts (arguments_from (generic_tree named.now) ids.now)) }
     ensures kept { IfOk result (λ _. (in_scope state.new) ≡ (in_scope state.old)) }
-    ensures met { IfOk result (λ parts. AllMet state.old.types state.new.types parts.items) }
+    ensures met { IfOk result (λ parts. AllMet state.old state.new parts.items) }
 {
     let mut parts = Vec::new(state.alloc());
     let mut rest = ids;
     'arguments: while let [first, after @ ..] = rest {
-        let ty = infer(named, variables, state, *first)?;
+        let ty = infer(named, variables, state, Standing::NoTuple, *first)?;
         parts.push(part(named, *first, ty))?;
         rest = after;
     }
@@ -282,13 +385,13 @@ fn call(
     id: ExprId,
     called: Use,
     ids: &[ExprId],
-) -> Result<TypeId, TypeFault>
+) -> Result<ResultIds, TypeFault>
     requires inside { id.0 < length named.now.exprs.nodes }
     requires below { AllByRecursion (λ a. a.0 < id.0) ids.now }
     requires types { IsTypesRun named.now.exprs.words called.types }
-    ensures read { Gives (λ t. (form_at (forms state.new) t.0, state.new.counts)) result (rule.infer_call (generic_globals named.now) (variable_numbers variables.now) opaque state.old.counts called.name (types_in named.now.exprs.words called.types) (length ids.now) (λ n. rule.infer_all (generic_globals named.now) (variable_numbers variables.now) opaque (in_scope state.old) n (arguments_from (generic_tree named.now) ids.now))) }
+    ensures read { Gives (λ r. (forms_given state.new r, state.new.counts)) result (rule.infer_call (generic_globals named.now) (variable_numbers variables.now) opaque state.old.counts called.name (types_in named.now.exprs.words called.types) (length ids.now) (λ n. rule.infer_all (generic_globals named.now) (variable_numbers variables.now) opaque (in_scope state.old) n (arguments_from (generic_tree named.now) ids.now))) }
     ensures kept { IfOk result (λ _. (in_scope state.new) ≡ (in_scope state.old)) }
-    ensures met { IfOk result (λ t. Met state.old.types state.new.types t) }
+    ensures met { IfOk result (λ r. Met state.old state.new r) }
 {
     state.one_more(called.name.span)?;
     let function = named.function(called.name)?;
@@ -298,9 +401,9 @@ fn call(
     let parts = arguments(named, variables, state, id, ids)?;
     let meaning = given(state, &function.variables, &types)?;
     let wanted_types = parameter_types(named, state, &meaning, &function.parameters)?;
-    all_wanted(state.types(), &parts, &wanted_types)?;
-    let ty = state.read_first(&meaning, named.words(function.result))?;
-    Ok(ty)
+    all_wanted(state, &parts, &wanted_types)?;
+    let given = result_types(named, state, &meaning, &function.result)?;
+    Ok(given)
 }
 
 /// The type of a constructor with its arguments.
@@ -312,13 +415,13 @@ fn make(
     id: ExprId,
     made: Use,
     ids: &[ExprId],
-) -> Result<TypeId, TypeFault>
+) -> Result<ResultIds, TypeFault>
     requires inside { id.0 < length named.now.exprs.nodes }
     requires below { AllByRecursion (λ a. a.0 < id.0) ids.now }
     requires types { IsTypesRun named.now.exprs.words made.types }
-    ensures read { Gives (λ t. (form_at (forms state.new) t.0, state.new.counts)) result (rule.infer_make (generic_globals named.now) (variable_numbers variables.now) opaque state.old.counts made.name (types_in named.now.exprs.words made.types) (length ids.now) (λ n. rule.infer_all (generic_globals named.now) (variable_numbers variables.now) opaque (in_scope state.old) n (arguments_from (generic_tree named.now) ids.now))) }
+    ensures read { Gives (λ r. (forms_given state.new r, state.new.counts)) result (rule.infer_make (generic_globals named.now) (variable_numbers variables.now) opaque state.old.counts made.name (types_in named.now.exprs.words made.types) (length ids.now) (λ n. rule.infer_all (generic_globals named.now) (variable_numbers variables.now) opaque (in_scope state.old) n (arguments_from (generic_tree named.now) ids.now))) }
     ensures kept { IfOk result (λ _. (in_scope state.new) ≡ (in_scope state.old)) }
-    ensures met { IfOk result (λ t. Met state.old.types state.new.types t) }
+    ensures met { IfOk result (λ r. Met state.old state.new r) }
 {
     state.one_more(made.name.span)?;
     let row = named.constructor(made.name)?;
@@ -327,9 +430,9 @@ fn make(
     as_many(ids.len(), row.count, made.name)?;
     let parts = arguments(named, variables, state, id, ids)?;
     let fields = row_fields(named, state, row, &types)?;
-    all_wanted(state.types(), &parts, &fields)?;
+    all_wanted(state, &parts, &fields)?;
     let ty = state.put(TypeNode::Data(row.owner.0, types))?;
-    Ok(ty)
+    Ok(ResultIds::One(ty))
 }
 
 /// The type of a `let`.
@@ -341,21 +444,22 @@ fn let_in(
     at: At,
     bound: Bound,
     body: ExprId,
-) -> Result<TypeId, TypeFault>
+) -> Result<ResultIds, TypeFault>
     requires inside { at.id.0 < length named.now.exprs.nodes }
     requires value { bound.value.0 < at.id.0 }
     requires body { body.0 < at.id.0 }
-    ensures read { Gives (λ t. (form_at (forms state.new) t.0, state.new.counts)) result (rule.infer (generic_globals named.now) (variable_numbers variables.now) opaque (in_scope state.old) state.old.counts (tree.GenericLet at.span bound.name (generic_tree named.now bound.value.0) (generic_tree named.now body.0))) }
+    ensures read { Gives (λ r. (forms_given state.new r, state.new.counts)) result (rule.infer (generic_globals named.now) (variable_numbers variables.now) opaque at.standing (in_scope state.old) state.old.counts (tree.GenericLet at.span bound.name (generic_tree named.now bound.value.0) (generic_tree named.now body.0))) }
     ensures kept { IfOk result (λ _. (in_scope state.new) ≡ (in_scope state.old)) }
-    ensures met { IfOk result (λ t. Met state.old.types state.new.types t) }
+    ensures met { IfOk result (λ r. Met state.old state.new r) }
 {
     state.one_more(at.span)?;
-    let value_ty = infer(named, variables, state, bound.value)?;
+    let value = infer(named, variables, state, Standing::NoTuple, bound.value)?;
+    let ty = single(named, bound.value, value)?;
     let len = state.len();
-    state.bind(bound.name, value_ty)?;
-    let ty = infer(named, variables, state, body)?;
+    state.bind(bound.name, ty)?;
+    let given = infer(named, variables, state, at.standing, body)?;
     state.truncate(len)?;
-    Ok(ty)
+    Ok(given)
 }
 
 /// The type of a `let par`.
@@ -367,24 +471,125 @@ fn let_par(
     at: At,
     sides: BoundSides,
     body: ExprId,
-) -> Result<TypeId, TypeFault>
+) -> Result<ResultIds, TypeFault>
     requires inside { at.id.0 < length named.now.exprs.nodes }
     requires left { sides.left.value.0 < at.id.0 }
     requires right { sides.right.value.0 < at.id.0 }
     requires body { body.0 < at.id.0 }
-    ensures read { Gives (λ t. (form_at (forms state.new) t.0, state.new.counts)) result (rule.infer (generic_globals named.now) (variable_numbers variables.now) opaque (in_scope state.old) state.old.counts (tree.GenericPar at.span sides.left.name (generic_tree named.now sides.left.value.0) sides.right.name (generic_tree named.now sides.right.value.0) (generic_tree named.now body.0))) }
+    ensures read { Gives (λ r. (forms_given state.new r, state.new.counts)) result (rule.infer (generic_globals named.now) (variable_numbers variables.now) opaque at.standing (in_scope state.old) state.old.counts (tree.GenericPar at.span sides.left.name (generic_tree named.now sides.left.value.0) sides.right.name (generic_tree named.now sides.right.value.0) (generic_tree named.now body.0))) }
     ensures kept { IfOk result (λ _. (in_scope state.new) ≡ (in_scope state.old)) }
-    ensures met { IfOk result (λ t. Met state.old.types state.new.types t) }
+    ensures met { IfOk result (λ r. Met state.old state.new r) }
 {
     state.one_more(at.span)?;
-    let left_ty = infer(named, variables, state, sides.left.value)?;
-    let right_ty = infer(named, variables, state, sides.right.value)?;
+    let left = infer(named, variables, state, Standing::NoTuple, sides.left.value)?;
+    let right = infer(
+        named,
+        variables,
+        state,
+        Standing::NoTuple,
+        sides.right.value,
+    )?;
+    let left_ty = single(named, sides.left.value, left)?;
+    let right_ty = single(named, sides.right.value, right)?;
     let len = state.len();
     state.bind(sides.left.name, left_ty)?;
     state.bind(sides.right.name, right_ty)?;
-    let ty = infer(named, variables, state, body)?;
+    let given = infer(named, variables, state, at.standing, body)?;
     state.truncate(len)?;
-    Ok(ty)
+    Ok(given)
+}
+
+/// The types of the parts of a tuple.
+#[cycle(infer)]
+fn tuple(
+    named: &Named,
+    variables: &[Ident],
+    state: &mut State,
+    at: At,
+    ids: &[ExprId],
+) -> Result<ResultIds, TypeFault>
+    requires inside { at.id.0 < length named.now.exprs.nodes }
+    requires below { AllByRecursion (λ a. a.0 < at.id.0) ids.now }
+    ensures read { Gives (λ r. (forms_given state.new r, state.new.counts)) result (rule.infer_tuple at.standing state.old.counts at.span (length ids.now) (λ n. rule.infer_all (generic_globals named.now) (variable_numbers variables.now) opaque (in_scope state.old) n (arguments_from (generic_tree named.now) ids.now))) }
+    ensures kept { IfOk result (λ _. (in_scope state.new) ≡ (in_scope state.old)) }
+    ensures met { IfOk result (λ r. Met state.old state.new r) }
+{
+    state.one_more(at.span)?;
+    may_stand(at.standing, ids.len(), at.span)?;
+    let parts = arguments(named, variables, state, at.id, ids)?;
+    let types = all_single(state, &parts)?;
+    let given = state.put_parts(&types)?;
+    Ok(given)
+}
+
+/// What a `let` of several variables gives: its value is on the left, its body on the right.
+#[cycle(infer)]
+fn let_several(
+    named: &Named,
+    variables: &[Ident],
+    state: &mut State,
+    at: At,
+    names: &[Ident],
+    sides: Sides,
+) -> Result<ResultIds, TypeFault>
+    requires inside { at.id.0 < length named.now.exprs.nodes }
+    requires value { sides.left.0 < at.id.0 }
+    requires body { sides.right.0 < at.id.0 }
+    ensures read { Gives (λ r. (forms_given state.new r, state.new.counts)) result (rule.infer (generic_globals named.now) (variable_numbers variables.now) opaque at.standing (in_scope state.old) state.old.counts (tree.GenericLetSeveral at.span names.now (generic_tree named.now sides.left.0) (generic_tree named.now sides.right.0))) }
+    ensures kept { IfOk result (λ _. (in_scope state.new) ≡ (in_scope state.old)) }
+    ensures met { IfOk result (λ r. Met state.old state.new r) }
+{
+    state.one_more(at.span)?;
+    let value = infer(named, variables, state, standing_for(names), sides.left)?;
+    let types = types_bound(state, names, part(named, sides.left, value))?;
+    let len = state.len();
+    state.bind_parts(names, &types)?;
+    let given = infer(named, variables, state, at.standing, sides.right)?;
+    state.truncate(len)?;
+    Ok(given)
+}
+
+/// What a `let par` of several variables gives.
+#[cycle(infer)]
+fn par_several(
+    named: &Named,
+    variables: &[Ident],
+    state: &mut State,
+    at: At,
+    names: &SideNames,
+    parts: BoundParts,
+) -> Result<ResultIds, TypeFault>
+    requires inside { at.id.0 < length named.now.exprs.nodes }
+    requires left { parts.left.0 < at.id.0 }
+    requires right { parts.right.0 < at.id.0 }
+    requires body { parts.body.0 < at.id.0 }
+    ensures read { Gives (λ r. (forms_given state.new r, state.new.counts)) result (rule.infer (generic_globals named.now) (variable_numbers variables.now) opaque at.standing (in_scope state.old) state.old.counts (tree.GenericParSeveral at.span names.now.left.now (generic_tree named.now parts.left.0) names.now.right.now (generic_tree named.now parts.right.0) (generic_tree named.now parts.body.0))) }
+    ensures kept { IfOk result (λ _. (in_scope state.new) ≡ (in_scope state.old)) }
+    ensures met { IfOk result (λ r. Met state.old state.new r) }
+{
+    state.one_more(at.span)?;
+    let left = infer(
+        named,
+        variables,
+        state,
+        standing_for(names.left),
+        parts.left,
+    )?;
+    let right = infer(
+        named,
+        variables,
+        state,
+        standing_for(names.right),
+        parts.right,
+    )?;
+    let left_types = types_bound(state, names.left, part(named, parts.left, left))?;
+    let right_types = types_bound(state, names.right, part(named, parts.right, right))?;
+    let len = state.len();
+    state.bind_parts(names.left, &left_types)?;
+    state.bind_parts(names.right, &right_types)?;
+    let given = infer(named, variables, state, at.standing, parts.body)?;
+    state.truncate(len)?;
+    Ok(given)
 }
 
 /// The type of an `if`.
@@ -396,21 +601,21 @@ fn if_else(
     at: At,
     condition: ExprId,
     branches: Sides,
-) -> Result<TypeId, TypeFault>
+) -> Result<ResultIds, TypeFault>
     requires inside { at.id.0 < length named.now.exprs.nodes }
     requires condition { condition.0 < at.id.0 }
     requires then_part { branches.left.0 < at.id.0 }
     requires else_part { branches.right.0 < at.id.0 }
-    ensures read { Gives (λ t. (form_at (forms state.new) t.0, state.new.counts)) result (rule.infer (generic_globals named.now) (variable_numbers variables.now) opaque (in_scope state.old) state.old.counts (tree.GenericIf at.span (generic_tree named.now condition.0) (generic_tree named.now branches.left.0) (generic_tree named.now branches.right.0))) }
+    ensures read { Gives (λ r. (forms_given state.new r, state.new.counts)) result (rule.infer (generic_globals named.now) (variable_numbers variables.now) opaque at.standing (in_scope state.old) state.old.counts (tree.GenericIf at.span (generic_tree named.now condition.0) (generic_tree named.now branches.left.0) (generic_tree named.now branches.right.0))) }
     ensures kept { IfOk result (λ _. (in_scope state.new) ≡ (in_scope state.old)) }
-    ensures met { IfOk result (λ t. Met state.old.types state.new.types t) }
+    ensures met { IfOk result (λ r. Met state.old state.new r) }
 {
     state.one_more(at.span)?;
-    let condition_ty = infer(named, variables, state, condition)?;
-    let then_ty = infer(named, variables, state, branches.left)?;
-    let else_ty = infer(named, variables, state, branches.right)?;
-    wanted_truth(state.types(), part(named, condition, condition_ty))?;
-    wanted(state.types(), then_ty, part(named, branches.right, else_ty))?;
+    let condition_ty = infer(named, variables, state, Standing::NoTuple, condition)?;
+    let then_ty = infer(named, variables, state, at.standing, branches.left)?;
+    let else_ty = infer(named, variables, state, at.standing, branches.right)?;
+    wanted_truth(state, part(named, condition, condition_ty))?;
+    wanted(state, then_ty, part(named, branches.right, else_ty))?;
     Ok(then_ty)
 }
 
@@ -420,23 +625,23 @@ fn arm_result(
     named: &Named,
     variables: &[Ident],
     state: &mut State,
-    id: ExprId,
+    at: At,
     types: &[TypeId],
     arm: &Arm,
-) -> Result<TypeId, TypeFault>
-    requires inside { id.0 < length named.now.exprs.nodes }
-    requires below { arm.now.body.0 < id.0 }
+) -> Result<ResultIds, TypeFault>
+    requires inside { at.id.0 < length named.now.exprs.nodes }
+    requires below { arm.now.body.0 < at.id.0 }
     requires types { AreBelow (length state.old.types) types.now }
-    ensures read { Gives (λ t. (form_at (forms state.new) t.0, state.new.counts)) result (rule.infer_arm (generic_globals named.now).rows (forms_at (forms state.old) types.now) (in_scope state.old) state.old.counts arm.now.constructor arm.now.variables.items (λ inner n. rule.infer (generic_globals named.now) (variable_numbers variables.now) opaque inner n (generic_tree named.now arm.now.body.0))) }
+    ensures read { Gives (λ r. (forms_given state.new r, state.new.counts)) result (rule.infer_arm (generic_globals named.now).rows (forms_at (forms state.old) types.now) (in_scope state.old) state.old.counts arm.now.constructor arm.now.variables.items (λ inner n. rule.infer (generic_globals named.now) (variable_numbers variables.now) opaque at.standing inner n (generic_tree named.now arm.now.body.0))) }
     ensures kept { IfOk result (λ _. (in_scope state.new) ≡ (in_scope state.old)) }
-    ensures met { IfOk result (λ t. Met state.old.types state.new.types t) }
+    ensures met { IfOk result (λ r. Met state.old state.new r) }
 {
     let fields = fields_named(named, state, arm.constructor.name, types)?;
     let len = state.len();
     state.bind_all(&arm.variables, &fields)?;
-    let ty = infer(named, variables, state, arm.body)?;
+    let given = infer(named, variables, state, at.standing, arm.body)?;
     state.truncate(len)?;
-    Ok(ty)
+    Ok(given)
 }
 
 /// The types of arms, in the order of the text.
@@ -445,42 +650,42 @@ fn arm_results(
     named: &Named,
     variables: &[Ident],
     state: &mut State,
-    id: ExprId,
+    at: At,
     types: &[TypeId],
     arms: &[Arm],
 ) -> Result<Vec<Part>, TypeFault>
-    requires inside { id.0 < length named.now.exprs.nodes }
-    requires below { AllByRecursion (IsArmBelow id.0) arms.now }
+    requires inside { at.id.0 < length named.now.exprs.nodes }
+    requires below { AllByRecursion (IsArmBelow at.id.0) arms.now }
     requires types { AreBelow (length state.old.types) types.now }
-    ensures read { Gives (λ parts. (parts_in (forms state.new) parts.items, state.new.counts)) result (infer_each_arm (generic_globals named.now) (variable_numbers variables.now) (forms_at (forms state.old) types.now) (generic_tree named.now) (in_scope state.old) state.old.counts arms.now) }
+    ensures read { Gives (λ parts. (parts_in state.new parts.items, state.new.counts)) result (infer_each_arm (generic_globals named.now) (variable_numbers variables.now) at.standing (forms_at (forms state.old) types.now) (generic_tree named.now) (in_scope state.old) state.old.counts arms.now) }
     ensures kept { IfOk result (λ _. (in_scope state.new) ≡ (in_scope state.old)) }
-    ensures met { IfOk result (λ parts. AllMet state.old.types state.new.types parts.items) }
+    ensures met { IfOk result (λ parts. AllMet state.old state.new parts.items) }
 {
     let mut parts = Vec::new(state.alloc());
     let mut rest = arms;
     'arms: while let [first, after @ ..] = rest {
-        let ty = arm_result(named, variables, state, id, types, first)?;
+        let ty = arm_result(named, variables, state, at, types, first)?;
         parts.push(part(named, first.body, ty))?;
         rest = after;
     }
     Ok(parts)
 }
 
-/// The type of the first part, and that all have it.
-fn common_type(state: &mut State, parts: &[Part]) -> Result<TypeId, TypeFault>
-    requires { ArePartsBelow (length state.old.types) parts.now }
-    ensures read { Gives (λ t. form_at (forms state.new) t.0) result (rule.and_then (rule.all_of (rule.first_type (parts_in (forms state.old) parts.now)) (parts_in (forms state.old) parts.now)) (λ _. Ok (rule.first_type (parts_in (forms state.old) parts.now)))) }
-    ensures met { IfOk result (λ t. Met state.old.types state.new.types t) }
+/// What the first part gives, and that all give such a thing.
+fn common_type(state: &mut State, parts: &[Part]) -> Result<ResultIds, TypeFault>
+    requires { ArePartsMet state.old parts.now }
+    ensures read { Gives (λ r. forms_given state.new r) result (rule.and_then (rule.all_of (rule.first_type (parts_in state.old parts.now)) (parts_in state.old parts.now)) (λ _. Ok (rule.first_type (parts_in state.old parts.now)))) }
+    ensures met { IfOk result (λ r. Met state.old state.new r) }
     ensures counts { state.new.counts ≡ state.old.counts }
     ensures scope { (in_scope state.new) ≡ (in_scope state.old) }
 {
     match parts {
         [] => {
             let ty = state.put(TypeNode::Whole)?;
-            Ok(ty)
+            Ok(ResultIds::One(ty))
         }
         [first, ..] => {
-            all_of(state.types(), first.ty, parts)?;
+            all_of(state, first.ty, parts)?;
             Ok(first.ty)
         }
     }
@@ -495,12 +700,12 @@ fn case(
     at: At,
     variable: Ident,
     arms: &[Arm],
-) -> Result<TypeId, TypeFault>
+) -> Result<ResultIds, TypeFault>
     requires inside { at.id.0 < length named.now.exprs.nodes }
     requires below { AllByRecursion (IsArmBelow at.id.0) arms.now }
-    ensures read { Gives (λ t. (form_at (forms state.new) t.0, state.new.counts)) result (rule.infer_case (generic_globals named.now).rows (in_scope state.old) state.old.counts at.span variable (map arm_head arms.now) (λ ts n. infer_each_arm (generic_globals named.now) (variable_numbers variables.now) ts (generic_tree named.now) (in_scope state.old) n arms.now)) }
+    ensures read { Gives (λ r. (forms_given state.new r, state.new.counts)) result (rule.infer_case (generic_globals named.now).rows (in_scope state.old) state.old.counts at.span variable (map arm_head arms.now) (λ ts n. infer_each_arm (generic_globals named.now) (variable_numbers variables.now) at.standing ts (generic_tree named.now) (in_scope state.old) n arms.now)) }
     ensures kept { IfOk result (λ _. (in_scope state.new) ≡ (in_scope state.old)) }
-    ensures met { IfOk result (λ t. Met state.old.types state.new.types t) }
+    ensures met { IfOk result (λ r. Met state.old state.new r) }
 {
     state.one_more(at.span)?;
     let ty = state.type_of(variable)?;
@@ -508,7 +713,7 @@ fn case(
     all_declared(named, arms)?;
     covered(named, ty.name, arms, at.span)?;
     all_counted(named, arms)?;
-    let parts = arm_results(named, variables, state, at.id, &ty.arguments, arms)?;
+    let parts = arm_results(named, variables, state, at, &ty.arguments, arms)?;
     let common = common_type(state, &parts)?;
     Ok(common)
 }

@@ -1,6 +1,7 @@
 use Rattle.std.proofs.Common.{ap, ◌∙◌, ◌∷◌, [], map}
 use Rattle.std.proofs.lemmas.Result.{err_from_is_err_and}
 use Rattle.gib_syntax.specs.GenericParts.{GenericParts, generic_program_of, parameter_in}
+use Rattle.gib_syntax.specs.Results.{One}
 use Rattle.gib_syntax.specs.Words.{type_in}
 use Rattle.gib_check.specs.FirstFault.{check_declarations, check_head}
 use Rattle.gib_check.specs.NameViews.{generic_globals}
@@ -25,6 +26,6 @@ returns-in_err-check_heads c =
 
 pub returns : goal.returns
 returns c =
-    gives_same (λ _. tt {0}) c.check_head.result (check_declarations (generic_program_of c.args.named.now)) (check_head (generic_globals c.args.named.now).datas [] (map (parameter_in c.args.named.now.exprs.words) (c.main-main.result.parameter ∷ [])) (type_in c.args.named.now.exprs.words c.main-main.result.result))
+    gives_same (λ _. tt {0}) c.check_head.result (check_declarations (generic_program_of c.args.named.now)) (check_head (generic_globals c.args.named.now).datas [] (map (parameter_in c.args.named.now.exprs.words) (c.main-main.result.parameter ∷ [])) (One (type_in c.args.named.now.exprs.words c.main-main.result.result)))
     (after_heads c.args.named.now c.exprs.result.now c.datas-datas.result.now (record { are_exprs = c.exprs.ensures.value ∙ ap (λ (p : GenericParts). p.exprs) c.program-program.ensures; are_datas = c.datas-datas.ensures.value ∙ ap (λ (p : GenericParts). p.datas) c.program-program.ensures }) c.functions.result.now c.main-main.result (c.functions.ensures.value ∙ ap (λ (p : GenericParts). p.functions) c.program-program.ensures) (c.main-main.ensures.value ∙ ap (λ (p : GenericParts). p.main) c.program-program.ensures) c.in_ok-check_datas.ensures c.in_ok-check_fields.ensures c.in_ok-check_heads.ensures)
     c.check_head.ensures

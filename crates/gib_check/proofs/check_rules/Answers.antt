@@ -1,6 +1,7 @@
 use Rattle.std.proofs.Common.{ap, ◌∙◌, ◌∷◌, [], map}
 use Rattle.std.proofs.lemmas.Result.{err_from_is_err_and}
 use Rattle.gib_syntax.specs.GenericParts.{GenericParts, generic_program_of, parameter_in}
+use Rattle.gib_syntax.specs.Results.{One}
 use Rattle.gib_syntax.specs.Words.{type_in}
 use Rattle.gib_check.specs.FirstFault.{check_program, check_body}
 use Rattle.gib_check.specs.NameViews.{generic_globals, generic_tree}
@@ -20,6 +21,6 @@ returns-in_err-check_bodies c =
 
 pub returns : goal.returns
 returns c =
-    gives_same (λ _. tt {0}) c.check_body.result (check_program (generic_program_of c.args.named.now)) (check_body (generic_globals c.args.named.now) [] (map (parameter_in c.args.named.now.exprs.words) (c.main-main.result.parameter ∷ [])) (type_in c.args.named.now.exprs.words c.main-main.result.result) (generic_tree c.args.named.now c.main-main.result.body.0))
+    gives_same (λ _. tt {0}) c.check_body.result (check_program (generic_program_of c.args.named.now)) (check_body (generic_globals c.args.named.now) [] (map (parameter_in c.args.named.now.exprs.words) (c.main-main.result.parameter ∷ [])) (One (type_in c.args.named.now.exprs.words c.main-main.result.result)) (generic_tree c.args.named.now c.main-main.result.body.0))
     (after_bodies c.args.named.now c.functions.result.now c.main-main.result (c.functions.ensures.value ∙ ap (λ (p : GenericParts). p.functions) c.program-program.ensures) (c.main-main.ensures.value ∙ ap (λ (p : GenericParts). p.main) c.program-program.ensures) c.in_ok-check_declarations.ensures c.in_ok-check_bodies.ensures)
     c.check_body.ensures

@@ -1,7 +1,7 @@
 use Rattle.std.proofs.Common.{◌+◌, ap, length}
 use Rattle.gib_check.specs.declared.fault.Kind.TheVariants as kind
 use Rattle.gib_check.specs.FirstFault.{no_ninth}
-use Rattle.gib_check.proofs.KindLaws.{less_broken}
+use Rattle.gib_check.proofs.KindLaws.{less_broken, ninth_variable, ninth_part}
 use Rattle.gib_check.proofs.kinds.limit.Goals as goal
 
 pub returns-clause-name : goal.returns-clause-name
@@ -18,3 +18,9 @@ returns-clause-expression c = λ n at. less_broken n.expressions 2000 kind.Limit
 
 pub returns-clause-variable : goal.returns-clause-variable
 returns-clause-variable c = λ n x. less_broken n.variables 200 kind.Limit x.span (record n { variables = n.variables + 1 })
+
+pub returns-clause-part : goal.returns-clause-part
+returns-clause-part c = λ i scope n x e l. ninth_variable i scope n x e l
+
+pub returns-clause-result : goal.returns-clause-result
+returns-clause-result c = λ datas vars i w ws l. ninth_part datas vars i w ws l

@@ -1,57 +1,80 @@
-use Rattle.std.proofs.Common.{◌≡◌, ◌<◌, ◌-◌, List, [], ap, sym, refl, ◌∙◌, subst, Some, length, rules}
+use Rattle.std.proofs.Common.{◌≡◌, ◌<◌, ◌-◌, List, [], ap, ap₂, sym, refl, ◌∙◌, subst, Some, length, rules}
 use Rattle.std.proofs.lemmas.Result.{err_from_is_err_and}
-use Rattle.gib_types.specs.Form.{Form}
-use Rattle.gib_types.specs.Types.{form_at, forms_of}
+use Rattle.gib_types.specs.Form.{Form, WholeForm, TruthForm}
+use Rattle.gib_types.specs.Types.{form_at, forms_of, AreBelow}
 use Rattle.gib_check.specs.declared.counts.Counts.{Counts}
 use Rattle.gib_check.specs.declared.rules.Part.{Part}
 use Rattle.gib_check.specs.Faults.{infer}
+use Rattle.gib_syntax.specs.Results.{Results, One, Several}
+use Rattle.gib_syntax.specs.GenericTree.{GenericLetSeveral, GenericParSeveral}
 use Rattle.gib_syntax.specs.GenericArena.{tree_of, layer, PartsBelow}
 use Rattle.gib_syntax.specs.GenericTyping.{variable_numbers, opaque}
 use Rattle.gib_syntax.specs.Words.{types_in}
 use Rattle.gib_check.specs.NameViews.{generic_globals, generic_tree}
-use Rattle.gib_check.specs.Judging.{forms, in_scope, part_in}
-use Rattle.gib_check.proofs.Opening.{call_opened, make_opened, case_opened, gives_same}
-use Rattle.gib_check.proofs.Loops.{ArgumentsSoFar, ArmsSoFar, arguments_start, arguments_next, arguments_stops, arguments_fails, arms_start, arms_next, arms_stops, arms_fails}
+use Rattle.gib_check.specs.Judging.{forms, in_scope, listed, forms_given, AreMet, part_in, parts_in, ArePartsMet}
+use Rattle.gib_check.proofs.Opening.{call_opened, make_opened, tuple_opened, case_opened, gives_same}
+use Rattle.gib_check.proofs.Growing.{advances_on, same_advance, keeps_advance, met_stays, parts_grow, parts_stay}
+use Rattle.gib_check.proofs.Loops.{along, ArgumentsSoFar, ArmsSoFar, arguments_start, arguments_next, arguments_stops, arguments_fails, arms_start, arms_next, arms_stops, arms_fails}
 use Rattle.gib_check.proofs.Walking as walking
 use Rattle.gib_check.proofs.walk.+infer.Goals as goal
 
 pub infer-returns-in-Whole-clause-read : goal.infer-returns-in-Whole-clause-read
 infer-returns-in-Whole-clause-read t c =
-    gives_same (λ ty. (form_at (forms c.literal.new.state) ty.0, c.literal.new.state.counts)) c.literal.result _ _
-    (ap (infer (generic_globals c.args.named.now) (variable_numbers c.args.variables.now) opaque (in_scope c.args.state.now) c.args.state.now.counts)
+    gives_same (λ ty. (forms_given c.literal.new.state ty, c.literal.new.state.counts)) c.literal.result _ _
+    (ap (infer (generic_globals c.args.named.now) (variable_numbers c.args.variables.now) opaque c.args.standing (in_scope c.args.state.now) c.args.state.now.counts)
     (c.node-node.ensures.opens.0 ∙ ap (λ z. layer c.args.named.now.exprs.words (tree_of c.args.named.now.exprs) (Some z)) c.in-Whole.is))
     (c.literal.ensures.read [])
 
 pub infer-returns-in-Truth-clause-read : goal.infer-returns-in-Truth-clause-read
 infer-returns-in-Truth-clause-read t c =
-    gives_same (λ ty. (form_at (forms c.literal-in-Truth.new.state) ty.0, c.literal-in-Truth.new.state.counts)) c.literal-in-Truth.result _ _
-    (ap (infer (generic_globals c.args.named.now) (variable_numbers c.args.variables.now) opaque (in_scope c.args.state.now) c.args.state.now.counts)
+    gives_same (λ ty. (forms_given c.literal-in-Truth.new.state ty, c.literal-in-Truth.new.state.counts)) c.literal-in-Truth.result _ _
+    (ap (infer (generic_globals c.args.named.now) (variable_numbers c.args.variables.now) opaque c.args.standing (in_scope c.args.state.now) c.args.state.now.counts)
     (c.node-node.ensures.opens.0 ∙ ap (λ z. layer c.args.named.now.exprs.words (tree_of c.args.named.now.exprs) (Some z)) c.in-Truth.is))
     (c.literal-in-Truth.ensures.read [])
 
-pub operation-put-requires : goal.operation-put-requires
-operation-put-requires t c = walking.closed_below (length c.infer-2.new.state.types) c.result_node.result c.result_node.ensures.closed
-
 pub infer-returns-in-Call-clause-read : goal.infer-returns-in-Call-clause-read
 infer-returns-in-Call-clause-read t c =
-    gives_same (λ ty. (form_at (forms c.call.new.state) ty.0, c.call.new.state.counts)) c.call.result _ _
-    (call_opened (generic_globals c.args.named.now) (variable_numbers c.args.variables.now) (generic_tree c.args.named.now) (in_scope c.args.state.now) c.args.state.now.counts (generic_tree c.args.named.now c.args.id.0) c.in-Call.f (types_in c.args.named.now.exprs.words c.in-Call.types) c.deref.result.now c.in-Call.ids.items
+    gives_same (λ ty. (forms_given c.call.new.state ty, c.call.new.state.counts)) c.call.result _ _
+    (call_opened (generic_globals c.args.named.now) (variable_numbers c.args.variables.now) (generic_tree c.args.named.now) c.args.standing (in_scope c.args.state.now) c.args.state.now.counts (generic_tree c.args.named.now c.args.id.0) c.in-Call.f (types_in c.args.named.now.exprs.words c.in-Call.types) c.deref.result.now c.in-Call.ids.items
     (c.node-node.ensures.opens.0 ∙ ap (λ z. layer c.args.named.now.exprs.words (tree_of c.args.named.now.exprs) (Some z)) c.in-Call.is) c.deref.ensures.value)
     c.call.ensures.read
 
 pub infer-returns-in-Make-clause-read : goal.infer-returns-in-Make-clause-read
 infer-returns-in-Make-clause-read t c =
-    gives_same (λ ty. (form_at (forms c.make.new.state) ty.0, c.make.new.state.counts)) c.make.result _ _
-    (make_opened (generic_globals c.args.named.now) (variable_numbers c.args.variables.now) (generic_tree c.args.named.now) (in_scope c.args.state.now) c.args.state.now.counts (generic_tree c.args.named.now c.args.id.0) c.in-Make.k (types_in c.args.named.now.exprs.words c.in-Make.types) c.deref-in-Make.result.now c.in-Make.ids.items
+    gives_same (λ ty. (forms_given c.make.new.state ty, c.make.new.state.counts)) c.make.result _ _
+    (make_opened (generic_globals c.args.named.now) (variable_numbers c.args.variables.now) (generic_tree c.args.named.now) c.args.standing (in_scope c.args.state.now) c.args.state.now.counts (generic_tree c.args.named.now c.args.id.0) c.in-Make.k (types_in c.args.named.now.exprs.words c.in-Make.types) c.deref-in-Make.result.now c.in-Make.ids.items
     (c.node-node.ensures.opens.0 ∙ ap (λ z. layer c.args.named.now.exprs.words (tree_of c.args.named.now.exprs) (Some z)) c.in-Make.is) c.deref-in-Make.ensures.value)
     c.make.ensures.read
 
 pub infer_worded-returns-in-Case-clause-read : goal.infer_worded-returns-in-Case-clause-read
 infer_worded-returns-in-Case-clause-read t c =
-    gives_same (λ ty. (form_at (forms c.case.new.state) ty.0, c.case.new.state.counts)) c.case.result _ _
-    (case_opened (generic_globals c.args.named.now) (variable_numbers c.args.variables.now) (generic_tree c.args.named.now) (in_scope c.args.state.now) c.args.state.now.counts (generic_tree c.args.named.now c.args.id.0) c.in-Case.span c.in-Case.variable c.args.id.0 c.deref.result.now c.in-Case.arms.items
+    gives_same (λ ty. (forms_given c.case.new.state ty, c.case.new.state.counts)) c.case.result _ _
+    (case_opened (generic_globals c.args.named.now) (variable_numbers c.args.variables.now) (generic_tree c.args.named.now) c.args.standing (in_scope c.args.state.now) c.args.state.now.counts (generic_tree c.args.named.now c.args.id.0) c.in-Case.span c.in-Case.variable c.args.id.0 c.deref.result.now c.in-Case.arms.items
     (c.requires.opens.0 ∙ ap (λ z. layer c.args.named.now.exprs.words (tree_of c.args.named.now.exprs) (Some z)) c.in-Case.is) (subst (λ z. PartsBelow z c.args.id.0) c.in-Case.is c.requires.opens.1) c.deref.ensures.value)
     c.case.ensures.read
+
+pub infer_several-returns-in-Tuple-clause-read : goal.infer_several-returns-in-Tuple-clause-read
+infer_several-returns-in-Tuple-clause-read t c =
+    gives_same (λ ty. (forms_given c.tuple.new.state ty, c.tuple.new.state.counts)) c.tuple.result _ _
+    (tuple_opened (generic_globals c.args.named.now) (variable_numbers c.args.variables.now) (generic_tree c.args.named.now) c.args.standing (in_scope c.args.state.now) c.args.state.now.counts (generic_tree c.args.named.now c.args.id.0) c.in-Tuple.span c.deref.result.now c.in-Tuple.parts.items
+    (c.requires.opens.0 ∙ ap (λ z. layer c.args.named.now.exprs.words (tree_of c.args.named.now.exprs) (Some z)) c.in-Tuple.is) c.deref.ensures.value)
+    c.tuple.ensures.read
+
+pub infer_several-returns-in-LetSeveral-clause-read : goal.infer_several-returns-in-LetSeveral-clause-read
+infer_several-returns-in-LetSeveral-clause-read t c =
+    gives_same (λ ty. (forms_given c.let_several.new.state ty, c.let_several.new.state.counts)) c.let_several.result _ _
+    (ap (infer (generic_globals c.args.named.now) (variable_numbers c.args.variables.now) opaque c.args.standing (in_scope c.args.state.now) c.args.state.now.counts)
+    (c.requires.opens.0 ∙ ap (λ z. layer c.args.named.now.exprs.words (tree_of c.args.named.now.exprs) (Some z)) c.in-LetSeveral.is
+    ∙ ap (λ xs. GenericLetSeveral c.in-LetSeveral.span xs (generic_tree c.args.named.now c.in-LetSeveral.bound.0) (generic_tree c.args.named.now c.in-LetSeveral.body.0)) (sym c.deref-in-LetSeveral.ensures.value)))
+    c.let_several.ensures.read
+
+pub infer_several-returns-in-ParSeveral-clause-read : goal.infer_several-returns-in-ParSeveral-clause-read
+infer_several-returns-in-ParSeveral-clause-read t c =
+    gives_same (λ ty. (forms_given c.par_several.new.state ty, c.par_several.new.state.counts)) c.par_several.result _ _
+    (ap (infer (generic_globals c.args.named.now) (variable_numbers c.args.variables.now) opaque c.args.standing (in_scope c.args.state.now) c.args.state.now.counts)
+    (c.requires.opens.0 ∙ ap (λ z. layer c.args.named.now.exprs.words (tree_of c.args.named.now.exprs) (Some z)) c.in-ParSeveral.is
+    ∙ ap₂ (λ xs ys. GenericParSeveral c.in-ParSeveral.span xs (generic_tree c.args.named.now c.in-ParSeveral.left.0) ys (generic_tree c.args.named.now c.in-ParSeveral.right.0) (generic_tree c.args.named.now c.in-ParSeveral.body.0)) (sym c.deref-in-ParSeveral.ensures.value) (sym c.deref-in-ParSeveral-2.ensures.value)))
+    c.par_several.ensures.read
 
 pub arguments-arguments-init : goal.arguments-arguments-init
 arguments-arguments-init t c =
@@ -74,135 +97,311 @@ arguments-returns-clause-read t c =
 pub arm_results-arms-init : goal.arm_results-arms-init
 arm_results-arms-init t c =
     let e : c.new-parts.result.items ≡ [] = search rules in
-    subst (λ (ps : List Part). ArmsSoFar c.args.named.now c.args.variables.now c.args.id.0 c.args.state.now c.args.state.now c.args.types.now c.args.arms.now c.args.arms.now ps) (sym e) (arms_start c.args.named.now c.args.variables.now c.args.id.0 c.args.state.now c.args.types.now c.args.arms.now c.requires.below c.requires.types)
+    subst (λ (ps : List Part). ArmsSoFar c.args.named.now c.args.variables.now c.args.at.standing c.args.at.id.0 c.args.state.now c.args.state.now c.args.types.now c.args.arms.now c.args.arms.now ps) (sym e) (arms_start c.args.named.now c.args.variables.now c.args.at.standing c.args.at.id.0 c.args.state.now c.args.types.now c.args.arms.now c.requires.below c.requires.types)
 
 pub arm_results-returns-in_err-ty-clause-read : goal.arm_results-returns-in_err-ty-clause-read
 arm_results-returns-in_err-ty-clause-read t c =
     let p = err_from_is_err_and c.from_residual.result c.from_residual.ensures.1 in
-    rw (p.1, p.2) (arms_fails c.args.named.now c.args.variables.now c.args.id.0 c.args.state.now c.arms.state c.args.types.now c.args.arms.now c.arms.rest.now c.first-item.result c.arms.parts.items c.in_err-ty.field-0.0 c.in-len1-up.len_at_least c.first-item.is c.arms.invariant c.in_err-ty.ensures.read)
+    rw (p.1, p.2) (arms_fails c.args.named.now c.args.variables.now c.args.at.standing c.args.at.id.0 c.args.state.now c.arms.state c.args.types.now c.args.arms.now c.arms.rest.now c.first-item.result c.arms.parts.items c.in_err-ty.field-0.0 c.in-len1-up.len_at_least c.first-item.is c.arms.invariant c.in_err-ty.ensures.read)
 
 pub arm_results-arms-preserved : goal.arm_results-arms-preserved
 arm_results-arms-preserved t c =
-    arms_next c.args.named.now c.args.variables.now c.args.id.0 c.args.state.now c.arms.state c.arm_result.new.state c.args.types.now c.args.arms.now c.arms.rest.now c.first-item.result c.arms.parts.items c.push.new.self.items c.in_ok-ty.ty c.part.result c.in-len1-up.len_at_least c.first-item.is c.arms.invariant c.in_ok-ty.ensures.read c.in_ok-ty.ensures.kept c.in_ok-ty.ensures.met c.part.ensures c.in_ok-push.ensures.items
+    arms_next c.args.named.now c.args.variables.now c.args.at.standing c.args.at.id.0 c.args.state.now c.arms.state c.arm_result.new.state c.args.types.now c.args.arms.now c.arms.rest.now c.first-item.result c.arms.parts.items c.push.new.self.items c.in_ok-ty.ty c.part.result c.in-len1-up.len_at_least c.first-item.is c.arms.invariant c.in_ok-ty.ensures.read c.in_ok-ty.ensures.kept c.in_ok-ty.ensures.met c.part.ensures c.in_ok-push.ensures.items
 
 pub arm_results-returns-clause-read : goal.arm_results-returns-clause-read
 arm_results-returns-clause-read t c =
-    arms_stops c.args.named.now c.args.variables.now c.args.id.0 c.args.state.now c.arms.state c.args.types.now c.args.arms.now c.arms.rest.now c.arms.parts.items c.in_default.len_below c.arms.invariant
+    arms_stops c.args.named.now c.args.variables.now c.args.at.standing c.args.at.id.0 c.args.state.now c.arms.state c.args.types.now c.args.arms.now c.arms.rest.now c.arms.parts.items c.in_default.len_below c.arms.invariant
+
+pub operation-put-requires : goal.operation-put-requires
+operation-put-requires t c = walking.closed_below (length c.infer-2.new.state.types) c.result_node.result c.result_node.ensures.closed
 
 pub operation-returns-in_err-wanted_whole-clause-read : goal.operation-returns-in_err-wanted_whole-clause-read
 operation-returns-in_err-wanted_whole-clause-read t c =
     let p = err_from_is_err_and c.from_residual-in_err-wanted_whole.result c.from_residual-in_err-wanted_whole.ensures.1 in
-    rw (p.1, p.2) (walking.op_left c.args.named.now c.args.variables.now c.in_err-wanted_whole.field-0.0 c.args.state.now c.one_more.new.self c.infer.new.state c.infer-2.new.state c.args.at.span c.args.operator (generic_tree c.args.named.now c.args.sides.left.0) (generic_tree c.args.named.now c.args.sides.right.0) c.in_ok-left_ty.left_ty c.in_ok-right_ty.right_ty (record { read = c.in_ok-one_more.ensures.counts; kept = c.one_more.ensures.scope; types = c.one_more.ensures.types }) (record { read = c.in_ok-left_ty.ensures.read; kept = c.in_ok-left_ty.ensures.kept; met = c.in_ok-left_ty.ensures.met }) (record { read = c.in_ok-right_ty.ensures.read; kept = c.in_ok-right_ty.ensures.kept; met = c.in_ok-right_ty.ensures.met })
-    (walking.seen (λ z. Rattle.gib_check.specs.Answers.IsFaultOf c.in_err-wanted_whole.field-0.0 (Rattle.gib_check.specs.Faults.wanted Rattle.gib_types.specs.Form.WholeForm z)) c.types.result.now c.infer-2.new.state.types c.part.result (record { ty = c.in_ok-left_ty.left_ty; place = Rattle.gib_check.specs.Faults.place (generic_tree c.args.named.now c.args.sides.left.0) }) c.types.ensures c.part.ensures c.in_err-wanted_whole.ensures))
+    rw (p.1, p.2) (walking.op_left c.args.named.now c.args.variables.now c.args.at.standing c.in_err-wanted_whole.field-0.0 c.args.state.now c.one_more.new.self c.infer.new.state c.infer-2.new.state c.args.at.span c.args.operator (generic_tree c.args.named.now c.args.sides.left.0) (generic_tree c.args.named.now c.args.sides.right.0) c.in_ok-left_ty.left_ty c.in_ok-right_ty.right_ty (record { read = c.in_ok-one_more.ensures.counts; kept = c.one_more.ensures.scope; types = c.one_more.ensures.types }) (record { read = c.in_ok-left_ty.ensures.read; kept = c.in_ok-left_ty.ensures.kept; met = c.in_ok-left_ty.ensures.met }) (record { read = c.in_ok-right_ty.ensures.read; kept = c.in_ok-right_ty.ensures.kept; met = c.in_ok-right_ty.ensures.met })
+    (walking.seen (λ z. Rattle.gib_check.specs.Answers.IsFaultOf c.in_err-wanted_whole.field-0.0 (Rattle.gib_check.specs.Faults.wanted (One WholeForm) z)) c.infer-2.new.state c.part.result (record { ty = c.in_ok-left_ty.left_ty; place = Rattle.gib_check.specs.Faults.place (generic_tree c.args.named.now c.args.sides.left.0) }) c.part.ensures c.in_err-wanted_whole.ensures))
 
 pub operation-returns-in_err-wanted_whole-2-clause-read : goal.operation-returns-in_err-wanted_whole-2-clause-read
 operation-returns-in_err-wanted_whole-2-clause-read t c =
     let p = err_from_is_err_and c.from_residual-in_err-wanted_whole-2.result c.from_residual-in_err-wanted_whole-2.ensures.1 in
-    rw (p.1, p.2) (walking.op_right c.args.named.now c.args.variables.now c.in_err-wanted_whole-2.field-0.0 c.args.state.now c.one_more.new.self c.infer.new.state c.infer-2.new.state c.args.at.span c.args.operator (generic_tree c.args.named.now c.args.sides.left.0) (generic_tree c.args.named.now c.args.sides.right.0) c.in_ok-left_ty.left_ty c.in_ok-right_ty.right_ty (record { read = c.in_ok-one_more.ensures.counts; kept = c.one_more.ensures.scope; types = c.one_more.ensures.types }) (record { read = c.in_ok-left_ty.ensures.read; kept = c.in_ok-left_ty.ensures.kept; met = c.in_ok-left_ty.ensures.met }) (record { read = c.in_ok-right_ty.ensures.read; kept = c.in_ok-right_ty.ensures.kept; met = c.in_ok-right_ty.ensures.met })
-    (walking.seen (λ z. Rattle.gib_check.specs.Faults.wanted Rattle.gib_types.specs.Form.WholeForm z ≡ Rattle.std.proofs.Common.Ok (tt {0})) c.types.result.now c.infer-2.new.state.types c.part.result (record { ty = c.in_ok-left_ty.left_ty; place = Rattle.gib_check.specs.Faults.place (generic_tree c.args.named.now c.args.sides.left.0) }) c.types.ensures c.part.ensures c.in_ok-wanted_whole.ensures)
-    (walking.seen (λ z. Rattle.gib_check.specs.Answers.IsFaultOf c.in_err-wanted_whole-2.field-0.0 (Rattle.gib_check.specs.Faults.wanted Rattle.gib_types.specs.Form.WholeForm z)) c.types-2.result.now c.infer-2.new.state.types c.part-2.result (record { ty = c.in_ok-right_ty.right_ty; place = Rattle.gib_check.specs.Faults.place (generic_tree c.args.named.now c.args.sides.right.0) }) c.types-2.ensures c.part-2.ensures c.in_err-wanted_whole-2.ensures))
+    rw (p.1, p.2) (walking.op_right c.args.named.now c.args.variables.now c.args.at.standing c.in_err-wanted_whole-2.field-0.0 c.args.state.now c.one_more.new.self c.infer.new.state c.infer-2.new.state c.args.at.span c.args.operator (generic_tree c.args.named.now c.args.sides.left.0) (generic_tree c.args.named.now c.args.sides.right.0) c.in_ok-left_ty.left_ty c.in_ok-right_ty.right_ty (record { read = c.in_ok-one_more.ensures.counts; kept = c.one_more.ensures.scope; types = c.one_more.ensures.types }) (record { read = c.in_ok-left_ty.ensures.read; kept = c.in_ok-left_ty.ensures.kept; met = c.in_ok-left_ty.ensures.met }) (record { read = c.in_ok-right_ty.ensures.read; kept = c.in_ok-right_ty.ensures.kept; met = c.in_ok-right_ty.ensures.met })
+    (walking.seen (λ z. Rattle.gib_check.specs.Faults.wanted (One WholeForm) z ≡ Rattle.std.proofs.Common.Ok (tt {0})) c.infer-2.new.state c.part.result (record { ty = c.in_ok-left_ty.left_ty; place = Rattle.gib_check.specs.Faults.place (generic_tree c.args.named.now c.args.sides.left.0) }) c.part.ensures c.in_ok-wanted_whole.ensures)
+    (walking.seen (λ z. Rattle.gib_check.specs.Answers.IsFaultOf c.in_err-wanted_whole-2.field-0.0 (Rattle.gib_check.specs.Faults.wanted (One WholeForm) z)) c.infer-2.new.state c.part-2.result (record { ty = c.in_ok-right_ty.right_ty; place = Rattle.gib_check.specs.Faults.place (generic_tree c.args.named.now c.args.sides.right.0) }) c.part-2.ensures c.in_err-wanted_whole-2.ensures))
 
 pub operation-returns-clause-read : goal.operation-returns-clause-read
 operation-returns-clause-read t c =
-    walking.op_ok c.args.named.now c.args.variables.now c.args.state.now c.one_more.new.self c.infer.new.state c.infer-2.new.state c.args.at.span c.args.operator (generic_tree c.args.named.now c.args.sides.left.0) (generic_tree c.args.named.now c.args.sides.right.0) c.in_ok-left_ty.left_ty c.in_ok-right_ty.right_ty (record { read = c.in_ok-one_more.ensures.counts; kept = c.one_more.ensures.scope; types = c.one_more.ensures.types }) (record { read = c.in_ok-left_ty.ensures.read; kept = c.in_ok-left_ty.ensures.kept; met = c.in_ok-left_ty.ensures.met }) (record { read = c.in_ok-right_ty.ensures.read; kept = c.in_ok-right_ty.ensures.kept; met = c.in_ok-right_ty.ensures.met })
-    (walking.seen (λ z. Rattle.gib_check.specs.Faults.wanted Rattle.gib_types.specs.Form.WholeForm z ≡ Rattle.std.proofs.Common.Ok (tt {0})) c.types.result.now c.infer-2.new.state.types c.part.result (record { ty = c.in_ok-left_ty.left_ty; place = Rattle.gib_check.specs.Faults.place (generic_tree c.args.named.now c.args.sides.left.0) }) c.types.ensures c.part.ensures c.in_ok-wanted_whole.ensures)
-    (walking.seen (λ z. Rattle.gib_check.specs.Faults.wanted Rattle.gib_types.specs.Form.WholeForm z ≡ Rattle.std.proofs.Common.Ok (tt {0})) c.types-2.result.now c.infer-2.new.state.types c.part-2.result (record { ty = c.in_ok-right_ty.right_ty; place = Rattle.gib_check.specs.Faults.place (generic_tree c.args.named.now c.args.sides.right.0) }) c.types-2.ensures c.part-2.ensures c.in_ok-wanted_whole-2.ensures)
-    ∙ ap (λ (f : Rattle.gib_types.specs.Form.Form). Rattle.std.proofs.Common.Ok (f, c.infer-2.new.state.counts)) (sym (c.in_ok-id.ensures.met.form ∙ c.result_node.ensures.form (forms c.infer-2.new.state)))
-    ∙ ap (λ (n : Rattle.gib_check.specs.declared.counts.Counts.Counts). Rattle.std.proofs.Common.Ok (form_at (forms c.put.new.self) c.in_ok-id.id.0, n)) (sym c.put.ensures.keeps.counts)
+    walking.op_ok c.args.named.now c.args.variables.now c.args.at.standing c.args.state.now c.one_more.new.self c.infer.new.state c.infer-2.new.state c.args.at.span c.args.operator (generic_tree c.args.named.now c.args.sides.left.0) (generic_tree c.args.named.now c.args.sides.right.0) c.in_ok-left_ty.left_ty c.in_ok-right_ty.right_ty (record { read = c.in_ok-one_more.ensures.counts; kept = c.one_more.ensures.scope; types = c.one_more.ensures.types }) (record { read = c.in_ok-left_ty.ensures.read; kept = c.in_ok-left_ty.ensures.kept; met = c.in_ok-left_ty.ensures.met }) (record { read = c.in_ok-right_ty.ensures.read; kept = c.in_ok-right_ty.ensures.kept; met = c.in_ok-right_ty.ensures.met })
+    (walking.seen (λ z. Rattle.gib_check.specs.Faults.wanted (One WholeForm) z ≡ Rattle.std.proofs.Common.Ok (tt {0})) c.infer-2.new.state c.part.result (record { ty = c.in_ok-left_ty.left_ty; place = Rattle.gib_check.specs.Faults.place (generic_tree c.args.named.now c.args.sides.left.0) }) c.part.ensures c.in_ok-wanted_whole.ensures)
+    (walking.seen (λ z. Rattle.gib_check.specs.Faults.wanted (One WholeForm) z ≡ Rattle.std.proofs.Common.Ok (tt {0})) c.infer-2.new.state c.part-2.result (record { ty = c.in_ok-right_ty.right_ty; place = Rattle.gib_check.specs.Faults.place (generic_tree c.args.named.now c.args.sides.right.0) }) c.part-2.ensures c.in_ok-wanted_whole-2.ensures)
+    ∙ ap (λ (f : Form). Rattle.std.proofs.Common.Ok (One f, c.infer-2.new.state.counts)) (sym (c.in_ok-id.ensures.met.form ∙ c.result_node.ensures.form (forms c.infer-2.new.state)))
+    ∙ ap (λ (n : Rattle.gib_check.specs.declared.counts.Counts.Counts). Rattle.std.proofs.Common.Ok (One (form_at (forms c.put.new.self) c.in_ok-id.id.0), n)) (sym c.put.ensures.keeps.counts)
 
 pub if_else-returns-in_err-wanted_truth-clause-read : goal.if_else-returns-in_err-wanted_truth-clause-read
 if_else-returns-in_err-wanted_truth-clause-read t c =
     let p = err_from_is_err_and c.from_residual-in_err-wanted_truth.result c.from_residual-in_err-wanted_truth.ensures.1 in
-    rw (p.1, p.2) (walking.if_condition c.args.named.now c.args.variables.now c.in_err-wanted_truth.field-0.0 c.args.state.now c.one_more.new.self c.infer.new.state c.infer-2.new.state c.infer-3.new.state c.args.at.span (generic_tree c.args.named.now c.args.condition.0) (generic_tree c.args.named.now c.args.branches.left.0) (generic_tree c.args.named.now c.args.branches.right.0) c.in_ok-condition_ty.condition_ty c.in_ok-then_ty.then_ty c.in_ok-else_ty.else_ty (record { read = c.in_ok-one_more.ensures.counts; kept = c.one_more.ensures.scope; types = c.one_more.ensures.types }) (record { read = c.in_ok-condition_ty.ensures.read; kept = c.in_ok-condition_ty.ensures.kept; met = c.in_ok-condition_ty.ensures.met }) (record { read = c.in_ok-then_ty.ensures.read; kept = c.in_ok-then_ty.ensures.kept; met = c.in_ok-then_ty.ensures.met }) (record { read = c.in_ok-else_ty.ensures.read; kept = c.in_ok-else_ty.ensures.kept; met = c.in_ok-else_ty.ensures.met })
-    (walking.seen (λ z. Rattle.gib_check.specs.Answers.IsFaultOf c.in_err-wanted_truth.field-0.0 (Rattle.gib_check.specs.Faults.wanted Rattle.gib_types.specs.Form.TruthForm z)) c.types.result.now c.infer-3.new.state.types c.part.result (record { ty = c.in_ok-condition_ty.condition_ty; place = Rattle.gib_check.specs.Faults.place (generic_tree c.args.named.now c.args.condition.0) }) c.types.ensures c.part.ensures c.in_err-wanted_truth.ensures))
+    rw (p.1, p.2) (walking.if_condition c.args.named.now c.args.variables.now c.args.at.standing c.in_err-wanted_truth.field-0.0 c.args.state.now c.one_more.new.self c.infer.new.state c.infer-2.new.state c.infer-3.new.state c.args.at.span (generic_tree c.args.named.now c.args.condition.0) (generic_tree c.args.named.now c.args.branches.left.0) (generic_tree c.args.named.now c.args.branches.right.0) c.in_ok-condition_ty.condition_ty c.in_ok-then_ty.then_ty c.in_ok-else_ty.else_ty (record { read = c.in_ok-one_more.ensures.counts; kept = c.one_more.ensures.scope; types = c.one_more.ensures.types }) (record { read = c.in_ok-condition_ty.ensures.read; kept = c.in_ok-condition_ty.ensures.kept; met = c.in_ok-condition_ty.ensures.met }) (record { read = c.in_ok-then_ty.ensures.read; kept = c.in_ok-then_ty.ensures.kept; met = c.in_ok-then_ty.ensures.met }) (record { read = c.in_ok-else_ty.ensures.read; kept = c.in_ok-else_ty.ensures.kept; met = c.in_ok-else_ty.ensures.met })
+    (walking.seen (λ z. Rattle.gib_check.specs.Answers.IsFaultOf c.in_err-wanted_truth.field-0.0 (Rattle.gib_check.specs.Faults.wanted (One TruthForm) z)) c.infer-3.new.state c.part.result (record { ty = c.in_ok-condition_ty.condition_ty; place = Rattle.gib_check.specs.Faults.place (generic_tree c.args.named.now c.args.condition.0) }) c.part.ensures c.in_err-wanted_truth.ensures))
 
 pub if_else-returns-in_err-wanted-clause-read : goal.if_else-returns-in_err-wanted-clause-read
 if_else-returns-in_err-wanted-clause-read t c =
     let p = err_from_is_err_and c.from_residual-in_err-wanted.result c.from_residual-in_err-wanted.ensures.1 in
-    rw (p.1, p.2) (walking.if_branches c.args.named.now c.args.variables.now c.in_err-wanted.field-0.0 c.args.state.now c.one_more.new.self c.infer.new.state c.infer-2.new.state c.infer-3.new.state c.args.at.span (generic_tree c.args.named.now c.args.condition.0) (generic_tree c.args.named.now c.args.branches.left.0) (generic_tree c.args.named.now c.args.branches.right.0) c.in_ok-condition_ty.condition_ty c.in_ok-then_ty.then_ty c.in_ok-else_ty.else_ty (record { read = c.in_ok-one_more.ensures.counts; kept = c.one_more.ensures.scope; types = c.one_more.ensures.types }) (record { read = c.in_ok-condition_ty.ensures.read; kept = c.in_ok-condition_ty.ensures.kept; met = c.in_ok-condition_ty.ensures.met }) (record { read = c.in_ok-then_ty.ensures.read; kept = c.in_ok-then_ty.ensures.kept; met = c.in_ok-then_ty.ensures.met }) (record { read = c.in_ok-else_ty.ensures.read; kept = c.in_ok-else_ty.ensures.kept; met = c.in_ok-else_ty.ensures.met })
-    (walking.seen (λ z. Rattle.gib_check.specs.Faults.wanted Rattle.gib_types.specs.Form.TruthForm z ≡ Rattle.std.proofs.Common.Ok (tt {0})) c.types.result.now c.infer-3.new.state.types c.part.result (record { ty = c.in_ok-condition_ty.condition_ty; place = Rattle.gib_check.specs.Faults.place (generic_tree c.args.named.now c.args.condition.0) }) c.types.ensures c.part.ensures c.in_ok-wanted_truth.ensures)
-    (subst (λ z. Rattle.gib_check.specs.Answers.IsFaultOf c.in_err-wanted.field-0.0 (Rattle.gib_check.specs.Faults.wanted (form_at (forms c.infer-3.new.state) c.in_ok-then_ty.then_ty.0) (part_in (forms c.infer-3.new.state) z))) c.part-2.ensures (subst (λ ns. Rattle.gib_check.specs.Answers.IsFaultOf c.in_err-wanted.field-0.0 (Rattle.gib_check.specs.Faults.wanted (form_at (forms_of ns) c.in_ok-then_ty.then_ty.0) (part_in (forms_of ns) c.part-2.result))) c.types-2.ensures c.in_err-wanted.ensures)))
+    rw (p.1, p.2) (walking.if_branches c.args.named.now c.args.variables.now c.args.at.standing c.in_err-wanted.field-0.0 c.args.state.now c.one_more.new.self c.infer.new.state c.infer-2.new.state c.infer-3.new.state c.args.at.span (generic_tree c.args.named.now c.args.condition.0) (generic_tree c.args.named.now c.args.branches.left.0) (generic_tree c.args.named.now c.args.branches.right.0) c.in_ok-condition_ty.condition_ty c.in_ok-then_ty.then_ty c.in_ok-else_ty.else_ty (record { read = c.in_ok-one_more.ensures.counts; kept = c.one_more.ensures.scope; types = c.one_more.ensures.types }) (record { read = c.in_ok-condition_ty.ensures.read; kept = c.in_ok-condition_ty.ensures.kept; met = c.in_ok-condition_ty.ensures.met }) (record { read = c.in_ok-then_ty.ensures.read; kept = c.in_ok-then_ty.ensures.kept; met = c.in_ok-then_ty.ensures.met }) (record { read = c.in_ok-else_ty.ensures.read; kept = c.in_ok-else_ty.ensures.kept; met = c.in_ok-else_ty.ensures.met })
+    (walking.seen (λ z. Rattle.gib_check.specs.Faults.wanted (One TruthForm) z ≡ Rattle.std.proofs.Common.Ok (tt {0})) c.infer-3.new.state c.part.result (record { ty = c.in_ok-condition_ty.condition_ty; place = Rattle.gib_check.specs.Faults.place (generic_tree c.args.named.now c.args.condition.0) }) c.part.ensures c.in_ok-wanted_truth.ensures)
+    (subst (λ z. Rattle.gib_check.specs.Answers.IsFaultOf c.in_err-wanted.field-0.0 (Rattle.gib_check.specs.Faults.wanted (forms_given c.infer-3.new.state c.in_ok-then_ty.then_ty) (part_in c.infer-3.new.state z))) c.part-2.ensures c.in_err-wanted.ensures))
 
 pub if_else-returns-clause-read : goal.if_else-returns-clause-read
 if_else-returns-clause-read t c =
-    walking.if_ok c.args.named.now c.args.variables.now c.args.state.now c.one_more.new.self c.infer.new.state c.infer-2.new.state c.infer-3.new.state c.args.at.span (generic_tree c.args.named.now c.args.condition.0) (generic_tree c.args.named.now c.args.branches.left.0) (generic_tree c.args.named.now c.args.branches.right.0) c.in_ok-condition_ty.condition_ty c.in_ok-then_ty.then_ty c.in_ok-else_ty.else_ty (record { read = c.in_ok-one_more.ensures.counts; kept = c.one_more.ensures.scope; types = c.one_more.ensures.types }) (record { read = c.in_ok-condition_ty.ensures.read; kept = c.in_ok-condition_ty.ensures.kept; met = c.in_ok-condition_ty.ensures.met }) (record { read = c.in_ok-then_ty.ensures.read; kept = c.in_ok-then_ty.ensures.kept; met = c.in_ok-then_ty.ensures.met }) (record { read = c.in_ok-else_ty.ensures.read; kept = c.in_ok-else_ty.ensures.kept; met = c.in_ok-else_ty.ensures.met })
-    (walking.seen (λ z. Rattle.gib_check.specs.Faults.wanted Rattle.gib_types.specs.Form.TruthForm z ≡ Rattle.std.proofs.Common.Ok (tt {0})) c.types.result.now c.infer-3.new.state.types c.part.result (record { ty = c.in_ok-condition_ty.condition_ty; place = Rattle.gib_check.specs.Faults.place (generic_tree c.args.named.now c.args.condition.0) }) c.types.ensures c.part.ensures c.in_ok-wanted_truth.ensures)
-    (subst (λ z. Rattle.gib_check.specs.Faults.wanted (form_at (forms c.infer-3.new.state) c.in_ok-then_ty.then_ty.0) (part_in (forms c.infer-3.new.state) z) ≡ Rattle.std.proofs.Common.Ok (tt {0})) c.part-2.ensures (subst (λ ns. Rattle.gib_check.specs.Faults.wanted (form_at (forms_of ns) c.in_ok-then_ty.then_ty.0) (part_in (forms_of ns) c.part-2.result) ≡ Rattle.std.proofs.Common.Ok (tt {0})) c.types-2.ensures c.in_ok-wanted.ensures))
-
-pub let_in-returns-in_err-bind-clause-read : goal.let_in-returns-in_err-bind-clause-read
-let_in-returns-in_err-bind-clause-read t c =
-    let p = err_from_is_err_and c.from_residual-in_err-bind.result c.from_residual-in_err-bind.ensures.1 in
-    rw (p.1, p.2) (walking.let_bind c.args.named.now c.args.variables.now c.in_err-bind.field-0.0 c.args.state.now c.one_more.new.self c.infer.new.state c.args.at.span c.args.bound.name (generic_tree c.args.named.now c.args.bound.value.0) (generic_tree c.args.named.now c.args.body.0) c.in_ok-value_ty.value_ty (record { read = c.in_ok-one_more.ensures.counts; kept = c.one_more.ensures.scope; types = c.one_more.ensures.types }) (record { read = c.in_ok-value_ty.ensures.read; kept = c.in_ok-value_ty.ensures.kept; met = c.in_ok-value_ty.ensures.met }) c.in_err-bind.ensures.counts)
+    walking.if_ok c.args.named.now c.args.variables.now c.args.at.standing c.args.state.now c.one_more.new.self c.infer.new.state c.infer-2.new.state c.infer-3.new.state c.args.at.span (generic_tree c.args.named.now c.args.condition.0) (generic_tree c.args.named.now c.args.branches.left.0) (generic_tree c.args.named.now c.args.branches.right.0) c.in_ok-condition_ty.condition_ty c.in_ok-then_ty.then_ty c.in_ok-else_ty.else_ty (record { read = c.in_ok-one_more.ensures.counts; kept = c.one_more.ensures.scope; types = c.one_more.ensures.types }) (record { read = c.in_ok-condition_ty.ensures.read; kept = c.in_ok-condition_ty.ensures.kept; met = c.in_ok-condition_ty.ensures.met }) (record { read = c.in_ok-then_ty.ensures.read; kept = c.in_ok-then_ty.ensures.kept; met = c.in_ok-then_ty.ensures.met }) (record { read = c.in_ok-else_ty.ensures.read; kept = c.in_ok-else_ty.ensures.kept; met = c.in_ok-else_ty.ensures.met })
+    (walking.seen (λ z. Rattle.gib_check.specs.Faults.wanted (One TruthForm) z ≡ Rattle.std.proofs.Common.Ok (tt {0})) c.infer-3.new.state c.part.result (record { ty = c.in_ok-condition_ty.condition_ty; place = Rattle.gib_check.specs.Faults.place (generic_tree c.args.named.now c.args.condition.0) }) c.part.ensures c.in_ok-wanted_truth.ensures)
+    (subst (λ z. Rattle.gib_check.specs.Faults.wanted (forms_given c.infer-3.new.state c.in_ok-then_ty.then_ty) (part_in c.infer-3.new.state z) ≡ Rattle.std.proofs.Common.Ok (tt {0})) c.part-2.ensures c.in_ok-wanted.ensures)
 
 pub let_in-returns-in_err-ty-clause-read : goal.let_in-returns-in_err-ty-clause-read
 let_in-returns-in_err-ty-clause-read t c =
     let p = err_from_is_err_and c.from_residual-in_err-ty.result c.from_residual-in_err-ty.ensures.1 in
-    rw (p.1, p.2) (walking.let_body c.args.named.now c.args.variables.now c.in_err-ty.field-0.0 c.args.state.now c.one_more.new.self c.infer.new.state c.bind.new.self c.args.at.span c.args.bound.name (generic_tree c.args.named.now c.args.bound.value.0) (generic_tree c.args.named.now c.args.body.0) c.in_ok-value_ty.value_ty (record { read = c.in_ok-one_more.ensures.counts; kept = c.one_more.ensures.scope; types = c.one_more.ensures.types }) (record { read = c.in_ok-value_ty.ensures.read; kept = c.in_ok-value_ty.ensures.kept; met = c.in_ok-value_ty.ensures.met }) (record { read = c.in_ok-bind.ensures.counts; scope = c.in_ok-bind.ensures.scope; types = c.bind.ensures.types }) c.in_err-ty.ensures.read)
+    rw (p.1, p.2) (walking.let_single c.args.named.now c.args.variables.now c.args.at.standing c.in_err-ty.field-0.0 c.args.state.now c.one_more.new.self c.infer.new.state c.args.at.span c.args.bound.name (generic_tree c.args.named.now c.args.bound.value.0) (generic_tree c.args.named.now c.args.body.0) c.in_ok-value.value (record { read = c.in_ok-one_more.ensures.counts; kept = c.one_more.ensures.scope; types = c.one_more.ensures.types }) (record { read = c.in_ok-value.ensures.read; kept = c.in_ok-value.ensures.kept; met = c.in_ok-value.ensures.met }) (c.in_err-ty.ensures.form c.infer.new.state))
+
+pub let_in-returns-in_err-bind-clause-read : goal.let_in-returns-in_err-bind-clause-read
+let_in-returns-in_err-bind-clause-read t c =
+    let p = err_from_is_err_and c.from_residual-in_err-bind.result c.from_residual-in_err-bind.ensures.1 in
+    rw (p.1, p.2) (walking.let_bind c.args.named.now c.args.variables.now c.args.at.standing c.in_err-bind.field-0.0 c.args.state.now c.one_more.new.self c.infer.new.state c.args.at.span c.args.bound.name (generic_tree c.args.named.now c.args.bound.value.0) (generic_tree c.args.named.now c.args.body.0) c.in_ok-value.value c.in_ok-ty.ty (record { read = c.in_ok-one_more.ensures.counts; kept = c.one_more.ensures.scope; types = c.one_more.ensures.types }) (record { read = c.in_ok-value.ensures.read; kept = c.in_ok-value.ensures.kept; met = c.in_ok-value.ensures.met }) (c.in_ok-ty.ensures.form c.infer.new.state) c.in_err-bind.ensures.counts)
+
+pub let_in-returns-in_err-given-clause-read : goal.let_in-returns-in_err-given-clause-read
+let_in-returns-in_err-given-clause-read t c =
+    let p = err_from_is_err_and c.from_residual-in_err-given.result c.from_residual-in_err-given.ensures.1 in
+    rw (p.1, p.2) (walking.let_body c.args.named.now c.args.variables.now c.args.at.standing c.in_err-given.field-0.0 c.args.state.now c.one_more.new.self c.infer.new.state c.bind.new.self c.args.at.span c.args.bound.name (generic_tree c.args.named.now c.args.bound.value.0) (generic_tree c.args.named.now c.args.body.0) c.in_ok-value.value c.in_ok-ty.ty (record { read = c.in_ok-one_more.ensures.counts; kept = c.one_more.ensures.scope; types = c.one_more.ensures.types }) (record { read = c.in_ok-value.ensures.read; kept = c.in_ok-value.ensures.kept; met = c.in_ok-value.ensures.met }) (c.in_ok-ty.ensures.form c.infer.new.state) (record { read = c.in_ok-bind.ensures.counts; scope = c.in_ok-bind.ensures.scope; types = c.bind.ensures.types }) c.in_err-given.ensures.read)
 
 pub let_in-returns-clause-read : goal.let_in-returns-clause-read
 let_in-returns-clause-read t c =
-    walking.let_is c.args.named.now c.args.variables.now c.args.state.now c.one_more.new.self c.infer.new.state c.bind.new.self c.args.at.span c.args.bound.name (generic_tree c.args.named.now c.args.bound.value.0) (generic_tree c.args.named.now c.args.body.0) c.in_ok-value_ty.value_ty (record { read = c.in_ok-one_more.ensures.counts; kept = c.one_more.ensures.scope; types = c.one_more.ensures.types }) (record { read = c.in_ok-value_ty.ensures.read; kept = c.in_ok-value_ty.ensures.kept; met = c.in_ok-value_ty.ensures.met }) (record { read = c.in_ok-bind.ensures.counts; scope = c.in_ok-bind.ensures.scope; types = c.bind.ensures.types })
-    ∙ c.in_ok-ty.ensures.read
-    ∙ walking.same_answer c.infer-2.new.state c.truncate.new.self c.in_ok-ty.ty c.truncate.ensures.types c.truncate.ensures.counts
+    walking.let_is c.args.named.now c.args.variables.now c.args.at.standing c.args.state.now c.one_more.new.self c.infer.new.state c.bind.new.self c.args.at.span c.args.bound.name (generic_tree c.args.named.now c.args.bound.value.0) (generic_tree c.args.named.now c.args.body.0) c.in_ok-value.value c.in_ok-ty.ty (record { read = c.in_ok-one_more.ensures.counts; kept = c.one_more.ensures.scope; types = c.one_more.ensures.types }) (record { read = c.in_ok-value.ensures.read; kept = c.in_ok-value.ensures.kept; met = c.in_ok-value.ensures.met }) (c.in_ok-ty.ensures.form c.infer.new.state) (record { read = c.in_ok-bind.ensures.counts; scope = c.in_ok-bind.ensures.scope; types = c.bind.ensures.types })
+    ∙ c.in_ok-given.ensures.read
+    ∙ walking.same_answer c.infer-2.new.state c.truncate.new.self c.in_ok-given.given (same_advance c.infer-2.new.state c.truncate.new.self c.truncate.ensures.types c.truncate.ensures.parts) c.in_ok-given.ensures.met.here c.truncate.ensures.counts
 
 pub let_in-returns-clause-kept : goal.let_in-returns-clause-kept
 let_in-returns-clause-kept t c =
-    walking.one_dropped c.args.named.now c.args.variables.now (in_scope c.infer.new.state) (in_scope c.infer-2.new.state) (in_scope c.truncate.new.self) _ c.len-len.result (c.in_ok-ty.ensures.kept ∙ c.in_ok-bind.ensures.scope) c.len-len.ensures c.in_ok-truncate.ensures.scope
-    ∙ c.in_ok-value_ty.ensures.kept ∙ c.one_more.ensures.scope
+    walking.one_dropped c.args.named.now c.args.variables.now (in_scope c.infer.new.state) (in_scope c.infer-2.new.state) (in_scope c.truncate.new.self) _ c.len-len.result (c.in_ok-given.ensures.kept ∙ c.in_ok-bind.ensures.scope) c.len-len.ensures c.in_ok-truncate.ensures.scope
+    ∙ c.in_ok-value.ensures.kept ∙ c.one_more.ensures.scope
+
+pub operation-wanted_whole-requires : goal.operation-wanted_whole-requires
+operation-wanted_whole-requires t c =
+    subst (λ (q : Part). AreMet c.infer-2.new.state q.ty) (sym c.part.ensures) (met_stays c.infer.new.state c.infer-2.new.state c.in_ok-left_ty.left_ty c.in_ok-right_ty.ensures.met.advances c.in_ok-left_ty.ensures.met.here)
+
+pub if_else-wanted_truth-requires : goal.if_else-wanted_truth-requires
+if_else-wanted_truth-requires t c =
+    subst (λ (q : Part). AreMet c.infer-3.new.state q.ty) (sym c.part.ensures)
+    (met_stays c.infer-2.new.state c.infer-3.new.state c.in_ok-condition_ty.condition_ty c.in_ok-else_ty.ensures.met.advances (met_stays c.infer.new.state c.infer-2.new.state c.in_ok-condition_ty.condition_ty c.in_ok-then_ty.ensures.met.advances c.in_ok-condition_ty.ensures.met.here))
+
+pub if_else-wanted-requires-clause-due : goal.if_else-wanted-requires-clause-due
+if_else-wanted-requires-clause-due t c =
+    met_stays c.infer-2.new.state c.infer-3.new.state c.in_ok-then_ty.then_ty c.in_ok-else_ty.ensures.met.advances c.in_ok-then_ty.ensures.met.here
+
+pub let_in-bind-requires : goal.let_in-bind-requires
+let_in-bind-requires t c =
+    c.in_ok-ty.ensures.met c.infer.new.state c.in_ok-value.ensures.met.here
+
+pub let_in-returns-clause-met : goal.let_in-returns-clause-met
+let_in-returns-clause-met t c =
+    record { advances = (advances_on c.args.state.now c.infer-2.new.state c.truncate.new.self (advances_on c.args.state.now c.bind.new.self c.infer-2.new.state (advances_on c.args.state.now c.infer.new.state c.bind.new.self (advances_on c.args.state.now c.one_more.new.self c.infer.new.state (same_advance c.args.state.now c.one_more.new.self c.one_more.ensures.types c.one_more.ensures.parts) c.in_ok-value.ensures.met.advances) (same_advance c.infer.new.state c.bind.new.self c.bind.ensures.types c.bind.ensures.parts)) c.in_ok-given.ensures.met.advances) (same_advance c.infer-2.new.state c.truncate.new.self c.truncate.ensures.types c.truncate.ensures.parts)); here = met_stays c.infer-2.new.state c.truncate.new.self c.in_ok-given.given (same_advance c.infer-2.new.state c.truncate.new.self c.truncate.ensures.types c.truncate.ensures.parts) c.in_ok-given.ensures.met.here }
+
+pub let_par-returns-in_err-left_ty-clause-read : goal.let_par-returns-in_err-left_ty-clause-read
+let_par-returns-in_err-left_ty-clause-read t c =
+    let p = err_from_is_err_and c.from_residual-in_err-left_ty.result c.from_residual-in_err-left_ty.ensures.1 in
+    rw (p.1, p.2) (walking.par_left_single c.args.named.now c.args.variables.now c.args.at.standing c.args.at.span c.args.sides.left.name (generic_tree c.args.named.now c.args.sides.left.value.0) c.args.sides.right.name (generic_tree c.args.named.now c.args.sides.right.value.0) (generic_tree c.args.named.now c.args.body.0) c.in_err-left_ty.field-0.0 c.args.state.now c.one_more.new.self c.infer.new.state c.infer-2.new.state c.in_ok-left.left c.in_ok-right.right (record { read = c.in_ok-one_more.ensures.counts; kept = c.one_more.ensures.scope; types = c.one_more.ensures.types }) (record { read = c.in_ok-left.ensures.read; kept = c.in_ok-left.ensures.kept; met = c.in_ok-left.ensures.met }) (record { read = c.in_ok-right.ensures.read; kept = c.in_ok-right.ensures.kept; met = c.in_ok-right.ensures.met }) (c.in_err-left_ty.ensures.form c.infer-2.new.state))
+
+pub let_par-returns-in_err-right_ty-clause-read : goal.let_par-returns-in_err-right_ty-clause-read
+let_par-returns-in_err-right_ty-clause-read t c =
+    let p = err_from_is_err_and c.from_residual-in_err-right_ty.result c.from_residual-in_err-right_ty.ensures.1 in
+    rw (p.1, p.2) (walking.par_right_single c.args.named.now c.args.variables.now c.args.at.standing c.args.at.span c.args.sides.left.name (generic_tree c.args.named.now c.args.sides.left.value.0) c.args.sides.right.name (generic_tree c.args.named.now c.args.sides.right.value.0) (generic_tree c.args.named.now c.args.body.0) c.in_err-right_ty.field-0.0 c.args.state.now c.one_more.new.self c.infer.new.state c.infer-2.new.state c.in_ok-left.left c.in_ok-right.right c.in_ok-left_ty.left_ty (record { read = c.in_ok-one_more.ensures.counts; kept = c.one_more.ensures.scope; types = c.one_more.ensures.types }) (record { read = c.in_ok-left.ensures.read; kept = c.in_ok-left.ensures.kept; met = c.in_ok-left.ensures.met }) (record { read = c.in_ok-right.ensures.read; kept = c.in_ok-right.ensures.kept; met = c.in_ok-right.ensures.met }) (c.in_ok-left_ty.ensures.form c.infer-2.new.state) (c.in_err-right_ty.ensures.form c.infer-2.new.state))
 
 pub let_par-returns-in_err-bind-clause-read : goal.let_par-returns-in_err-bind-clause-read
 let_par-returns-in_err-bind-clause-read t c =
     let p = err_from_is_err_and c.from_residual-in_err-bind.result c.from_residual-in_err-bind.ensures.1 in
-    rw (p.1, p.2) (walking.par_left c.args.named.now c.args.variables.now c.in_err-bind.field-0.0 c.args.state.now c.one_more.new.self c.infer.new.state c.infer-2.new.state c.args.at.span c.args.sides.left.name (generic_tree c.args.named.now c.args.sides.left.value.0) c.args.sides.right.name (generic_tree c.args.named.now c.args.sides.right.value.0) (generic_tree c.args.named.now c.args.body.0) c.in_ok-left_ty.left_ty c.in_ok-right_ty.right_ty (record { read = c.in_ok-one_more.ensures.counts; kept = c.one_more.ensures.scope; types = c.one_more.ensures.types }) (record { read = c.in_ok-left_ty.ensures.read; kept = c.in_ok-left_ty.ensures.kept; met = c.in_ok-left_ty.ensures.met }) (record { read = c.in_ok-right_ty.ensures.read; kept = c.in_ok-right_ty.ensures.kept; met = c.in_ok-right_ty.ensures.met }) c.in_err-bind.ensures.counts)
+    rw (p.1, p.2) (walking.par_left c.args.named.now c.args.variables.now c.args.at.standing c.args.at.span c.args.sides.left.name (generic_tree c.args.named.now c.args.sides.left.value.0) c.args.sides.right.name (generic_tree c.args.named.now c.args.sides.right.value.0) (generic_tree c.args.named.now c.args.body.0) c.in_err-bind.field-0.0 c.args.state.now c.one_more.new.self c.infer.new.state c.infer-2.new.state c.in_ok-left.left c.in_ok-right.right c.in_ok-left_ty.left_ty c.in_ok-right_ty.right_ty (record { read = c.in_ok-one_more.ensures.counts; kept = c.one_more.ensures.scope; types = c.one_more.ensures.types }) (record { read = c.in_ok-left.ensures.read; kept = c.in_ok-left.ensures.kept; met = c.in_ok-left.ensures.met }) (record { read = c.in_ok-right.ensures.read; kept = c.in_ok-right.ensures.kept; met = c.in_ok-right.ensures.met }) (record { left = (c.in_ok-left_ty.ensures.form c.infer-2.new.state); right = (c.in_ok-right_ty.ensures.form c.infer-2.new.state) }) c.in_err-bind.ensures.counts)
 
 pub let_par-returns-in_err-bind-2-clause-read : goal.let_par-returns-in_err-bind-2-clause-read
 let_par-returns-in_err-bind-2-clause-read t c =
     let p = err_from_is_err_and c.from_residual-in_err-bind-2.result c.from_residual-in_err-bind-2.ensures.1 in
-    rw (p.1, p.2) (walking.par_right c.args.named.now c.args.variables.now c.in_err-bind-2.field-0.0 c.args.state.now c.one_more.new.self c.infer.new.state c.infer-2.new.state c.bind.new.self c.args.at.span c.args.sides.left.name (generic_tree c.args.named.now c.args.sides.left.value.0) c.args.sides.right.name (generic_tree c.args.named.now c.args.sides.right.value.0) (generic_tree c.args.named.now c.args.body.0) c.in_ok-left_ty.left_ty c.in_ok-right_ty.right_ty (record { read = c.in_ok-one_more.ensures.counts; kept = c.one_more.ensures.scope; types = c.one_more.ensures.types }) (record { read = c.in_ok-left_ty.ensures.read; kept = c.in_ok-left_ty.ensures.kept; met = c.in_ok-left_ty.ensures.met }) (record { read = c.in_ok-right_ty.ensures.read; kept = c.in_ok-right_ty.ensures.kept; met = c.in_ok-right_ty.ensures.met }) (record { read = c.in_ok-bind.ensures.counts; scope = c.in_ok-bind.ensures.scope; types = c.bind.ensures.types }) c.in_err-bind-2.ensures.counts)
+    rw (p.1, p.2) (walking.par_right c.args.named.now c.args.variables.now c.args.at.standing c.args.at.span c.args.sides.left.name (generic_tree c.args.named.now c.args.sides.left.value.0) c.args.sides.right.name (generic_tree c.args.named.now c.args.sides.right.value.0) (generic_tree c.args.named.now c.args.body.0) c.in_err-bind-2.field-0.0 c.args.state.now c.one_more.new.self c.infer.new.state c.infer-2.new.state c.bind.new.self c.in_ok-left.left c.in_ok-right.right c.in_ok-left_ty.left_ty c.in_ok-right_ty.right_ty (record { read = c.in_ok-one_more.ensures.counts; kept = c.one_more.ensures.scope; types = c.one_more.ensures.types }) (record { read = c.in_ok-left.ensures.read; kept = c.in_ok-left.ensures.kept; met = c.in_ok-left.ensures.met }) (record { read = c.in_ok-right.ensures.read; kept = c.in_ok-right.ensures.kept; met = c.in_ok-right.ensures.met }) (record { left = (c.in_ok-left_ty.ensures.form c.infer-2.new.state); right = (c.in_ok-right_ty.ensures.form c.infer-2.new.state) }) (record { read = c.in_ok-bind.ensures.counts; scope = c.in_ok-bind.ensures.scope; types = c.bind.ensures.types }) c.in_err-bind-2.ensures.counts)
 
-pub let_par-returns-in_err-ty-clause-read : goal.let_par-returns-in_err-ty-clause-read
-let_par-returns-in_err-ty-clause-read t c =
-    let p = err_from_is_err_and c.from_residual-in_err-ty.result c.from_residual-in_err-ty.ensures.1 in
-    rw (p.1, p.2) (Rattle.gib_check.proofs.Loops.along c.in_err-ty.field-0.0 _ _ (walking.par_is c.args.named.now c.args.variables.now c.args.state.now c.one_more.new.self c.infer.new.state c.infer-2.new.state c.bind.new.self c.bind-2.new.self c.args.at.span c.args.sides.left.name (generic_tree c.args.named.now c.args.sides.left.value.0) c.args.sides.right.name (generic_tree c.args.named.now c.args.sides.right.value.0) (generic_tree c.args.named.now c.args.body.0) c.in_ok-left_ty.left_ty c.in_ok-right_ty.right_ty (record { read = c.in_ok-one_more.ensures.counts; kept = c.one_more.ensures.scope; types = c.one_more.ensures.types }) (record { read = c.in_ok-left_ty.ensures.read; kept = c.in_ok-left_ty.ensures.kept; met = c.in_ok-left_ty.ensures.met }) (record { read = c.in_ok-right_ty.ensures.read; kept = c.in_ok-right_ty.ensures.kept; met = c.in_ok-right_ty.ensures.met }) (record { read = c.in_ok-bind.ensures.counts; scope = c.in_ok-bind.ensures.scope; types = c.bind.ensures.types }) (record { read = c.in_ok-bind-2.ensures.counts; scope = c.in_ok-bind-2.ensures.scope; types = c.bind-2.ensures.types })) c.in_err-ty.ensures.read)
+pub let_par-returns-in_err-given-clause-read : goal.let_par-returns-in_err-given-clause-read
+let_par-returns-in_err-given-clause-read t c =
+    let p = err_from_is_err_and c.from_residual-in_err-given.result c.from_residual-in_err-given.ensures.1 in
+    rw (p.1, p.2) (along c.in_err-given.field-0.0 _ _ (walking.par_is c.args.named.now c.args.variables.now c.args.at.standing c.args.at.span c.args.sides.left.name (generic_tree c.args.named.now c.args.sides.left.value.0) c.args.sides.right.name (generic_tree c.args.named.now c.args.sides.right.value.0) (generic_tree c.args.named.now c.args.body.0) c.args.state.now c.one_more.new.self c.infer.new.state c.infer-2.new.state c.bind.new.self c.bind-2.new.self c.in_ok-left.left c.in_ok-right.right c.in_ok-left_ty.left_ty c.in_ok-right_ty.right_ty (record { read = c.in_ok-one_more.ensures.counts; kept = c.one_more.ensures.scope; types = c.one_more.ensures.types }) (record { read = c.in_ok-left.ensures.read; kept = c.in_ok-left.ensures.kept; met = c.in_ok-left.ensures.met }) (record { read = c.in_ok-right.ensures.read; kept = c.in_ok-right.ensures.kept; met = c.in_ok-right.ensures.met }) (record { left = (c.in_ok-left_ty.ensures.form c.infer-2.new.state); right = (c.in_ok-right_ty.ensures.form c.infer-2.new.state) }) (record { read = c.in_ok-bind.ensures.counts; scope = c.in_ok-bind.ensures.scope; types = c.bind.ensures.types }) (record { read = c.in_ok-bind-2.ensures.counts; scope = c.in_ok-bind-2.ensures.scope; types = c.bind-2.ensures.types })) c.in_err-given.ensures.read)
 
 pub let_par-returns-clause-read : goal.let_par-returns-clause-read
 let_par-returns-clause-read t c =
-    walking.par_is c.args.named.now c.args.variables.now c.args.state.now c.one_more.new.self c.infer.new.state c.infer-2.new.state c.bind.new.self c.bind-2.new.self c.args.at.span c.args.sides.left.name (generic_tree c.args.named.now c.args.sides.left.value.0) c.args.sides.right.name (generic_tree c.args.named.now c.args.sides.right.value.0) (generic_tree c.args.named.now c.args.body.0) c.in_ok-left_ty.left_ty c.in_ok-right_ty.right_ty (record { read = c.in_ok-one_more.ensures.counts; kept = c.one_more.ensures.scope; types = c.one_more.ensures.types }) (record { read = c.in_ok-left_ty.ensures.read; kept = c.in_ok-left_ty.ensures.kept; met = c.in_ok-left_ty.ensures.met }) (record { read = c.in_ok-right_ty.ensures.read; kept = c.in_ok-right_ty.ensures.kept; met = c.in_ok-right_ty.ensures.met }) (record { read = c.in_ok-bind.ensures.counts; scope = c.in_ok-bind.ensures.scope; types = c.bind.ensures.types }) (record { read = c.in_ok-bind-2.ensures.counts; scope = c.in_ok-bind-2.ensures.scope; types = c.bind-2.ensures.types })
-    ∙ c.in_ok-ty.ensures.read
-    ∙ walking.same_answer c.infer-3.new.state c.truncate.new.self c.in_ok-ty.ty c.truncate.ensures.types c.truncate.ensures.counts
+    walking.par_is c.args.named.now c.args.variables.now c.args.at.standing c.args.at.span c.args.sides.left.name (generic_tree c.args.named.now c.args.sides.left.value.0) c.args.sides.right.name (generic_tree c.args.named.now c.args.sides.right.value.0) (generic_tree c.args.named.now c.args.body.0) c.args.state.now c.one_more.new.self c.infer.new.state c.infer-2.new.state c.bind.new.self c.bind-2.new.self c.in_ok-left.left c.in_ok-right.right c.in_ok-left_ty.left_ty c.in_ok-right_ty.right_ty (record { read = c.in_ok-one_more.ensures.counts; kept = c.one_more.ensures.scope; types = c.one_more.ensures.types }) (record { read = c.in_ok-left.ensures.read; kept = c.in_ok-left.ensures.kept; met = c.in_ok-left.ensures.met }) (record { read = c.in_ok-right.ensures.read; kept = c.in_ok-right.ensures.kept; met = c.in_ok-right.ensures.met }) (record { left = (c.in_ok-left_ty.ensures.form c.infer-2.new.state); right = (c.in_ok-right_ty.ensures.form c.infer-2.new.state) }) (record { read = c.in_ok-bind.ensures.counts; scope = c.in_ok-bind.ensures.scope; types = c.bind.ensures.types }) (record { read = c.in_ok-bind-2.ensures.counts; scope = c.in_ok-bind-2.ensures.scope; types = c.bind-2.ensures.types })
+    ∙ c.in_ok-given.ensures.read
+    ∙ walking.same_answer c.infer-3.new.state c.truncate.new.self c.in_ok-given.given (same_advance c.infer-3.new.state c.truncate.new.self c.truncate.ensures.types c.truncate.ensures.parts) c.in_ok-given.ensures.met.here c.truncate.ensures.counts
 
 pub let_par-returns-clause-kept : goal.let_par-returns-clause-kept
 let_par-returns-clause-kept t c =
     walking.two_dropped c.args.named.now c.args.variables.now (in_scope c.infer-2.new.state) (in_scope c.infer-3.new.state) (in_scope c.truncate.new.self) _ _ c.len-len.result
-    (c.in_ok-ty.ensures.kept ∙ c.in_ok-bind-2.ensures.scope ∙ ap (Rattle.gib_syntax.specs.GenericTyping.form_bound c.args.sides.right.name _) c.in_ok-bind.ensures.scope) c.len-len.ensures c.in_ok-truncate.ensures.scope
-    ∙ c.in_ok-right_ty.ensures.kept ∙ c.in_ok-left_ty.ensures.kept ∙ c.one_more.ensures.scope
+    (c.in_ok-given.ensures.kept ∙ c.in_ok-bind-2.ensures.scope ∙ ap (Rattle.gib_syntax.specs.GenericTyping.form_bound c.args.sides.right.name _) c.in_ok-bind.ensures.scope) c.len-len.ensures c.in_ok-truncate.ensures.scope
+    ∙ c.in_ok-right.ensures.kept ∙ c.in_ok-left.ensures.kept ∙ c.one_more.ensures.scope
+
+pub let_par-returns-clause-met : goal.let_par-returns-clause-met
+let_par-returns-clause-met t c =
+    record { advances = (advances_on c.args.state.now c.infer-3.new.state c.truncate.new.self (advances_on c.args.state.now c.bind-2.new.self c.infer-3.new.state (advances_on c.args.state.now c.bind.new.self c.bind-2.new.self (advances_on c.args.state.now c.infer-2.new.state c.bind.new.self (advances_on c.args.state.now c.infer.new.state c.infer-2.new.state (advances_on c.args.state.now c.one_more.new.self c.infer.new.state (same_advance c.args.state.now c.one_more.new.self c.one_more.ensures.types c.one_more.ensures.parts) c.in_ok-left.ensures.met.advances) c.in_ok-right.ensures.met.advances) (same_advance c.infer-2.new.state c.bind.new.self c.bind.ensures.types c.bind.ensures.parts)) (same_advance c.bind.new.self c.bind-2.new.self c.bind-2.ensures.types c.bind-2.ensures.parts)) c.in_ok-given.ensures.met.advances) (same_advance c.infer-3.new.state c.truncate.new.self c.truncate.ensures.types c.truncate.ensures.parts)); here = met_stays c.infer-3.new.state c.truncate.new.self c.in_ok-given.given (same_advance c.infer-3.new.state c.truncate.new.self c.truncate.ensures.types c.truncate.ensures.parts) c.in_ok-given.ensures.met.here }
+
+pub let_par-bind-requires : goal.let_par-bind-requires
+let_par-bind-requires t c =
+    c.in_ok-left_ty.ensures.met c.infer-2.new.state (met_stays c.infer.new.state c.infer-2.new.state c.in_ok-left.left c.in_ok-right.ensures.met.advances c.in_ok-left.ensures.met.here)
+
+pub let_par-bind-requires-2 : goal.let_par-bind-requires-2
+let_par-bind-requires-2 t c =
+    subst (λ ns. c.in_ok-right_ty.right_ty.0 < length ns) (sym c.bind.ensures.types) (c.in_ok-right_ty.ensures.met c.infer-2.new.state c.in_ok-right.ensures.met.here)
+
+pub let_several-returns-in_err-value-clause-read : goal.let_several-returns-in_err-value-clause-read
+let_several-returns-in_err-value-clause-read t c =
+    let p = err_from_is_err_and c.from_residual-in_err-value.result c.from_residual-in_err-value.ensures.1 in
+    rw (p.1, p.2) (walking.several_fails c.args.named.now c.args.variables.now c.args.at.standing c.args.at.span c.args.names.now (generic_tree c.args.named.now c.args.sides.left.0) (generic_tree c.args.named.now c.args.sides.right.0) c.in_err-value.field-0.0 c.args.state.now c.one_more.new.self (record { read = c.in_ok-one_more.ensures.counts; kept = c.one_more.ensures.scope; types = c.one_more.ensures.types }) (subst (λ st. Rattle.gib_check.specs.Answers.IsFaultOf c.in_err-value.field-0.0 (infer (generic_globals c.args.named.now) (variable_numbers c.args.variables.now) opaque st (in_scope c.one_more.new.self) c.one_more.new.self.counts (generic_tree c.args.named.now c.args.sides.left.0))) c.standing_for.ensures c.in_err-value.ensures.read))
+
+pub let_several-returns-in_err-types-clause-read : goal.let_several-returns-in_err-types-clause-read
+let_several-returns-in_err-types-clause-read t c =
+    let p = err_from_is_err_and c.from_residual-in_err-types.result c.from_residual-in_err-types.ensures.1 in
+    rw (p.1, p.2) (walking.several_types c.args.named.now c.args.variables.now c.args.at.standing c.args.at.span c.args.names.now (generic_tree c.args.named.now c.args.sides.left.0) (generic_tree c.args.named.now c.args.sides.right.0) c.in_err-types.field-0.0 c.args.state.now c.one_more.new.self c.infer.new.state c.in_ok-value.value (record { read = c.in_ok-one_more.ensures.counts; kept = c.one_more.ensures.scope; types = c.one_more.ensures.types }) (record { read = (subst (λ st. infer (generic_globals c.args.named.now) (variable_numbers c.args.variables.now) opaque st (in_scope c.one_more.new.self) c.one_more.new.self.counts (generic_tree c.args.named.now c.args.sides.left.0) ≡ Rattle.std.proofs.Common.Ok (forms_given c.infer.new.state c.in_ok-value.value, c.infer.new.state.counts)) c.standing_for.ensures c.in_ok-value.ensures.read); kept = c.in_ok-value.ensures.kept; met = c.in_ok-value.ensures.met }) (walking.seen (λ z. Rattle.gib_check.specs.Answers.IsFaultOf c.in_err-types.field-0.0 (Rattle.gib_check.specs.Faults.types_bound c.args.names.now z)) c.infer.new.state c.part.result (record { ty = c.in_ok-value.value; place = Rattle.gib_check.specs.Faults.place (generic_tree c.args.named.now c.args.sides.left.0) }) c.part.ensures c.in_err-types.ensures.types))
+
+pub let_several-returns-in_err-bind_parts-clause-read : goal.let_several-returns-in_err-bind_parts-clause-read
+let_several-returns-in_err-bind_parts-clause-read t c =
+    let p = err_from_is_err_and c.from_residual-in_err-bind_parts.result c.from_residual-in_err-bind_parts.ensures.1 in
+    rw (p.1, p.2) (walking.several_bind c.args.named.now c.args.variables.now c.args.at.standing c.args.at.span c.args.names.now (generic_tree c.args.named.now c.args.sides.left.0) (generic_tree c.args.named.now c.args.sides.right.0) c.in_err-bind_parts.field-0.0 c.args.state.now c.one_more.new.self c.infer.new.state c.in_ok-value.value c.in_ok-types.types.items (record { read = c.in_ok-one_more.ensures.counts; kept = c.one_more.ensures.scope; types = c.one_more.ensures.types }) (record { read = (subst (λ st. infer (generic_globals c.args.named.now) (variable_numbers c.args.variables.now) opaque st (in_scope c.one_more.new.self) c.one_more.new.self.counts (generic_tree c.args.named.now c.args.sides.left.0) ≡ Rattle.std.proofs.Common.Ok (forms_given c.infer.new.state c.in_ok-value.value, c.infer.new.state.counts)) c.standing_for.ensures c.in_ok-value.ensures.read); kept = c.in_ok-value.ensures.kept; met = c.in_ok-value.ensures.met }) (walking.seen (λ z. Rattle.gib_check.specs.Faults.types_bound c.args.names.now z ≡ Rattle.std.proofs.Common.Ok (listed (forms c.infer.new.state) c.in_ok-types.types.items)) c.infer.new.state c.part.result (record { ty = c.in_ok-value.value; place = Rattle.gib_check.specs.Faults.place (generic_tree c.args.named.now c.args.sides.left.0) }) c.part.ensures c.in_ok-types.ensures.types) (subst (λ is. Rattle.gib_check.specs.Answers.IsFaultOf c.in_err-bind_parts.field-0.0 (Rattle.gib_check.specs.Faults.bind_parts 0 (in_scope c.infer.new.state) c.infer.new.state.counts c.args.names.now (listed (forms c.infer.new.state) is))) c.deref.ensures.value c.in_err-bind_parts.ensures.read))
+
+pub let_several-returns-in_err-given-clause-read : goal.let_several-returns-in_err-given-clause-read
+let_several-returns-in_err-given-clause-read t c =
+    let p = err_from_is_err_and c.from_residual-in_err-given.result c.from_residual-in_err-given.ensures.1 in
+    rw (p.1, p.2) (along c.in_err-given.field-0.0 _ _ (walking.several_is c.args.named.now c.args.variables.now c.args.at.standing c.args.at.span c.args.names.now (generic_tree c.args.named.now c.args.sides.left.0) (generic_tree c.args.named.now c.args.sides.right.0) c.args.state.now c.one_more.new.self c.infer.new.state c.bind_parts.new.self c.in_ok-value.value c.in_ok-types.types.items (record { read = c.in_ok-one_more.ensures.counts; kept = c.one_more.ensures.scope; types = c.one_more.ensures.types }) (record { read = (subst (λ st. infer (generic_globals c.args.named.now) (variable_numbers c.args.variables.now) opaque st (in_scope c.one_more.new.self) c.one_more.new.self.counts (generic_tree c.args.named.now c.args.sides.left.0) ≡ Rattle.std.proofs.Common.Ok (forms_given c.infer.new.state c.in_ok-value.value, c.infer.new.state.counts)) c.standing_for.ensures c.in_ok-value.ensures.read); kept = c.in_ok-value.ensures.kept; met = c.in_ok-value.ensures.met }) (walking.seen (λ z. Rattle.gib_check.specs.Faults.types_bound c.args.names.now z ≡ Rattle.std.proofs.Common.Ok (listed (forms c.infer.new.state) c.in_ok-types.types.items)) c.infer.new.state c.part.result (record { ty = c.in_ok-value.value; place = Rattle.gib_check.specs.Faults.place (generic_tree c.args.named.now c.args.sides.left.0) }) c.part.ensures c.in_ok-types.ensures.types) (record { read = (subst (λ is. Rattle.gib_check.specs.Faults.bind_parts 0 (in_scope c.infer.new.state) c.infer.new.state.counts c.args.names.now (listed (forms c.infer.new.state) is) ≡ Rattle.std.proofs.Common.Ok (in_scope c.bind_parts.new.self, c.bind_parts.new.self.counts)) c.deref.ensures.value c.in_ok-bind_parts.ensures.read); types = c.bind_parts.ensures.types })) c.in_err-given.ensures.read)
+
+pub let_several-returns-clause-read : goal.let_several-returns-clause-read
+let_several-returns-clause-read t c =
+    walking.several_is c.args.named.now c.args.variables.now c.args.at.standing c.args.at.span c.args.names.now (generic_tree c.args.named.now c.args.sides.left.0) (generic_tree c.args.named.now c.args.sides.right.0) c.args.state.now c.one_more.new.self c.infer.new.state c.bind_parts.new.self c.in_ok-value.value c.in_ok-types.types.items (record { read = c.in_ok-one_more.ensures.counts; kept = c.one_more.ensures.scope; types = c.one_more.ensures.types }) (record { read = (subst (λ st. infer (generic_globals c.args.named.now) (variable_numbers c.args.variables.now) opaque st (in_scope c.one_more.new.self) c.one_more.new.self.counts (generic_tree c.args.named.now c.args.sides.left.0) ≡ Rattle.std.proofs.Common.Ok (forms_given c.infer.new.state c.in_ok-value.value, c.infer.new.state.counts)) c.standing_for.ensures c.in_ok-value.ensures.read); kept = c.in_ok-value.ensures.kept; met = c.in_ok-value.ensures.met }) (walking.seen (λ z. Rattle.gib_check.specs.Faults.types_bound c.args.names.now z ≡ Rattle.std.proofs.Common.Ok (listed (forms c.infer.new.state) c.in_ok-types.types.items)) c.infer.new.state c.part.result (record { ty = c.in_ok-value.value; place = Rattle.gib_check.specs.Faults.place (generic_tree c.args.named.now c.args.sides.left.0) }) c.part.ensures c.in_ok-types.ensures.types) (record { read = (subst (λ is. Rattle.gib_check.specs.Faults.bind_parts 0 (in_scope c.infer.new.state) c.infer.new.state.counts c.args.names.now (listed (forms c.infer.new.state) is) ≡ Rattle.std.proofs.Common.Ok (in_scope c.bind_parts.new.self, c.bind_parts.new.self.counts)) c.deref.ensures.value c.in_ok-bind_parts.ensures.read); types = c.bind_parts.ensures.types })
+    ∙ c.in_ok-given.ensures.read
+    ∙ walking.same_answer c.infer-2.new.state c.truncate.new.self c.in_ok-given.given (same_advance c.infer-2.new.state c.truncate.new.self c.truncate.ensures.types c.truncate.ensures.parts) c.in_ok-given.ensures.met.here c.truncate.ensures.counts
+
+pub let_several-returns-clause-kept : goal.let_several-returns-clause-kept
+let_several-returns-clause-kept t c =
+    walking.parts_dropped (in_scope c.infer.new.state) (in_scope c.infer-2.new.state) (in_scope c.truncate.new.self) c.in_ok-bind_parts.ensures.kept.0 c.len-len.result
+    (c.in_ok-given.ensures.kept ∙ c.in_ok-bind_parts.ensures.kept.1) c.len-len.ensures c.in_ok-truncate.ensures.scope
+    ∙ c.in_ok-value.ensures.kept ∙ c.one_more.ensures.scope
+
+pub let_several-returns-clause-met : goal.let_several-returns-clause-met
+let_several-returns-clause-met t c =
+    record { advances = (advances_on c.args.state.now c.infer-2.new.state c.truncate.new.self (advances_on c.args.state.now c.bind_parts.new.self c.infer-2.new.state (advances_on c.args.state.now c.infer.new.state c.bind_parts.new.self (advances_on c.args.state.now c.one_more.new.self c.infer.new.state (same_advance c.args.state.now c.one_more.new.self c.one_more.ensures.types c.one_more.ensures.parts) c.in_ok-value.ensures.met.advances) (same_advance c.infer.new.state c.bind_parts.new.self c.bind_parts.ensures.types c.bind_parts.ensures.parts)) c.in_ok-given.ensures.met.advances) (same_advance c.infer-2.new.state c.truncate.new.self c.truncate.ensures.types c.truncate.ensures.parts)); here = met_stays c.infer-2.new.state c.truncate.new.self c.in_ok-given.given (same_advance c.infer-2.new.state c.truncate.new.self c.truncate.ensures.types c.truncate.ensures.parts) c.in_ok-given.ensures.met.here }
+
+pub let_several-types_bound-requires : goal.let_several-types_bound-requires
+let_several-types_bound-requires t c =
+    subst (λ (q : Part). AreMet c.infer.new.state q.ty) (sym c.part.ensures) c.in_ok-value.ensures.met.here
+
+pub let_several-bind_parts-requires : goal.let_several-bind_parts-requires
+let_several-bind_parts-requires t c =
+    subst (AreBelow (length c.infer.new.state.types)) (sym c.deref.ensures.value) c.in_ok-types.ensures.below
+
+pub par_several-returns-in_err-left-clause-read : goal.par_several-returns-in_err-left-clause-read
+par_several-returns-in_err-left-clause-read t c =
+    let p = err_from_is_err_and c.from_residual-in_err-left.result c.from_residual-in_err-left.ensures.1 in
+    rw (p.1, p.2) (walking.sides_fail_left c.args.named.now c.args.variables.now c.args.at.standing c.args.at.span c.args.names.now.left.now (generic_tree c.args.named.now c.args.parts.left.0) c.args.names.now.right.now (generic_tree c.args.named.now c.args.parts.right.0) (generic_tree c.args.named.now c.args.parts.body.0) c.in_err-left.field-0.0 c.args.state.now c.one_more.new.self (record { read = c.in_ok-one_more.ensures.counts; kept = c.one_more.ensures.scope; types = c.one_more.ensures.types }) (subst (λ st. Rattle.gib_check.specs.Answers.IsFaultOf c.in_err-left.field-0.0 (infer (generic_globals c.args.named.now) (variable_numbers c.args.variables.now) opaque st (in_scope c.one_more.new.self) c.one_more.new.self.counts (generic_tree c.args.named.now c.args.parts.left.0))) c.standing_for.ensures c.in_err-left.ensures.read))
+
+pub par_several-returns-in_err-right-clause-read : goal.par_several-returns-in_err-right-clause-read
+par_several-returns-in_err-right-clause-read t c =
+    let p = err_from_is_err_and c.from_residual-in_err-right.result c.from_residual-in_err-right.ensures.1 in
+    rw (p.1, p.2) (walking.sides_fail_right c.args.named.now c.args.variables.now c.args.at.standing c.args.at.span c.args.names.now.left.now (generic_tree c.args.named.now c.args.parts.left.0) c.args.names.now.right.now (generic_tree c.args.named.now c.args.parts.right.0) (generic_tree c.args.named.now c.args.parts.body.0) c.in_err-right.field-0.0 c.args.state.now c.one_more.new.self c.infer.new.state c.in_ok-left.left (record { read = c.in_ok-one_more.ensures.counts; kept = c.one_more.ensures.scope; types = c.one_more.ensures.types }) (record { read = (subst (λ st. infer (generic_globals c.args.named.now) (variable_numbers c.args.variables.now) opaque st (in_scope c.one_more.new.self) c.one_more.new.self.counts (generic_tree c.args.named.now c.args.parts.left.0) ≡ Rattle.std.proofs.Common.Ok (forms_given c.infer.new.state c.in_ok-left.left, c.infer.new.state.counts)) c.standing_for.ensures c.in_ok-left.ensures.read); kept = c.in_ok-left.ensures.kept; met = c.in_ok-left.ensures.met }) (subst (λ st. Rattle.gib_check.specs.Answers.IsFaultOf c.in_err-right.field-0.0 (infer (generic_globals c.args.named.now) (variable_numbers c.args.variables.now) opaque st (in_scope c.infer.new.state) c.infer.new.state.counts (generic_tree c.args.named.now c.args.parts.right.0))) c.standing_for-2.ensures c.in_err-right.ensures.read))
+
+pub par_several-returns-in_err-left_types-clause-read : goal.par_several-returns-in_err-left_types-clause-read
+par_several-returns-in_err-left_types-clause-read t c =
+    let p = err_from_is_err_and c.from_residual-in_err-left_types.result c.from_residual-in_err-left_types.ensures.1 in
+    rw (p.1, p.2) (walking.sides_left c.args.named.now c.args.variables.now c.args.at.standing c.args.at.span c.args.names.now.left.now (generic_tree c.args.named.now c.args.parts.left.0) c.args.names.now.right.now (generic_tree c.args.named.now c.args.parts.right.0) (generic_tree c.args.named.now c.args.parts.body.0) c.in_err-left_types.field-0.0 c.args.state.now c.one_more.new.self c.infer.new.state c.infer-2.new.state c.in_ok-left.left c.in_ok-right.right (record { read = c.in_ok-one_more.ensures.counts; kept = c.one_more.ensures.scope; types = c.one_more.ensures.types }) (record { read = (subst (λ st. infer (generic_globals c.args.named.now) (variable_numbers c.args.variables.now) opaque st (in_scope c.one_more.new.self) c.one_more.new.self.counts (generic_tree c.args.named.now c.args.parts.left.0) ≡ Rattle.std.proofs.Common.Ok (forms_given c.infer.new.state c.in_ok-left.left, c.infer.new.state.counts)) c.standing_for.ensures c.in_ok-left.ensures.read); kept = c.in_ok-left.ensures.kept; met = c.in_ok-left.ensures.met }) (record { read = (subst (λ st. infer (generic_globals c.args.named.now) (variable_numbers c.args.variables.now) opaque st (in_scope c.infer.new.state) c.infer.new.state.counts (generic_tree c.args.named.now c.args.parts.right.0) ≡ Rattle.std.proofs.Common.Ok (forms_given c.infer-2.new.state c.in_ok-right.right, c.infer-2.new.state.counts)) c.standing_for-2.ensures c.in_ok-right.ensures.read); kept = c.in_ok-right.ensures.kept; met = c.in_ok-right.ensures.met }) (walking.seen (λ z. Rattle.gib_check.specs.Answers.IsFaultOf c.in_err-left_types.field-0.0 (Rattle.gib_check.specs.Faults.types_bound c.args.names.now.left.now z)) c.infer-2.new.state c.part.result (record { ty = c.in_ok-left.left; place = Rattle.gib_check.specs.Faults.place (generic_tree c.args.named.now c.args.parts.left.0) }) c.part.ensures c.in_err-left_types.ensures.types))
+
+pub par_several-returns-in_err-right_types-clause-read : goal.par_several-returns-in_err-right_types-clause-read
+par_several-returns-in_err-right_types-clause-read t c =
+    let p = err_from_is_err_and c.from_residual-in_err-right_types.result c.from_residual-in_err-right_types.ensures.1 in
+    rw (p.1, p.2) (walking.sides_right c.args.named.now c.args.variables.now c.args.at.standing c.args.at.span c.args.names.now.left.now (generic_tree c.args.named.now c.args.parts.left.0) c.args.names.now.right.now (generic_tree c.args.named.now c.args.parts.right.0) (generic_tree c.args.named.now c.args.parts.body.0) c.in_err-right_types.field-0.0 c.args.state.now c.one_more.new.self c.infer.new.state c.infer-2.new.state c.in_ok-left.left c.in_ok-right.right c.in_ok-left_types.left_types.items (record { read = c.in_ok-one_more.ensures.counts; kept = c.one_more.ensures.scope; types = c.one_more.ensures.types }) (record { read = (subst (λ st. infer (generic_globals c.args.named.now) (variable_numbers c.args.variables.now) opaque st (in_scope c.one_more.new.self) c.one_more.new.self.counts (generic_tree c.args.named.now c.args.parts.left.0) ≡ Rattle.std.proofs.Common.Ok (forms_given c.infer.new.state c.in_ok-left.left, c.infer.new.state.counts)) c.standing_for.ensures c.in_ok-left.ensures.read); kept = c.in_ok-left.ensures.kept; met = c.in_ok-left.ensures.met }) (record { read = (subst (λ st. infer (generic_globals c.args.named.now) (variable_numbers c.args.variables.now) opaque st (in_scope c.infer.new.state) c.infer.new.state.counts (generic_tree c.args.named.now c.args.parts.right.0) ≡ Rattle.std.proofs.Common.Ok (forms_given c.infer-2.new.state c.in_ok-right.right, c.infer-2.new.state.counts)) c.standing_for-2.ensures c.in_ok-right.ensures.read); kept = c.in_ok-right.ensures.kept; met = c.in_ok-right.ensures.met }) (walking.seen (λ z. Rattle.gib_check.specs.Faults.types_bound c.args.names.now.left.now z ≡ Rattle.std.proofs.Common.Ok (listed (forms c.infer-2.new.state) c.in_ok-left_types.left_types.items)) c.infer-2.new.state c.part.result (record { ty = c.in_ok-left.left; place = Rattle.gib_check.specs.Faults.place (generic_tree c.args.named.now c.args.parts.left.0) }) c.part.ensures c.in_ok-left_types.ensures.types) (walking.seen (λ z. Rattle.gib_check.specs.Answers.IsFaultOf c.in_err-right_types.field-0.0 (Rattle.gib_check.specs.Faults.types_bound c.args.names.now.right.now z)) c.infer-2.new.state c.part-2.result (record { ty = c.in_ok-right.right; place = Rattle.gib_check.specs.Faults.place (generic_tree c.args.named.now c.args.parts.right.0) }) c.part-2.ensures c.in_err-right_types.ensures.types))
+
+pub par_several-returns-in_err-bind_parts-clause-read : goal.par_several-returns-in_err-bind_parts-clause-read
+par_several-returns-in_err-bind_parts-clause-read t c =
+    let p = err_from_is_err_and c.from_residual-in_err-bind_parts.result c.from_residual-in_err-bind_parts.ensures.1 in
+    rw (p.1, p.2) (walking.sides_first c.args.named.now c.args.variables.now c.args.at.standing c.args.at.span c.args.names.now.left.now (generic_tree c.args.named.now c.args.parts.left.0) c.args.names.now.right.now (generic_tree c.args.named.now c.args.parts.right.0) (generic_tree c.args.named.now c.args.parts.body.0) c.in_err-bind_parts.field-0.0 c.args.state.now c.one_more.new.self c.infer.new.state c.infer-2.new.state c.in_ok-left.left c.in_ok-right.right c.in_ok-left_types.left_types.items c.in_ok-right_types.right_types.items (record { read = c.in_ok-one_more.ensures.counts; kept = c.one_more.ensures.scope; types = c.one_more.ensures.types }) (record { read = (subst (λ st. infer (generic_globals c.args.named.now) (variable_numbers c.args.variables.now) opaque st (in_scope c.one_more.new.self) c.one_more.new.self.counts (generic_tree c.args.named.now c.args.parts.left.0) ≡ Rattle.std.proofs.Common.Ok (forms_given c.infer.new.state c.in_ok-left.left, c.infer.new.state.counts)) c.standing_for.ensures c.in_ok-left.ensures.read); kept = c.in_ok-left.ensures.kept; met = c.in_ok-left.ensures.met }) (record { read = (subst (λ st. infer (generic_globals c.args.named.now) (variable_numbers c.args.variables.now) opaque st (in_scope c.infer.new.state) c.infer.new.state.counts (generic_tree c.args.named.now c.args.parts.right.0) ≡ Rattle.std.proofs.Common.Ok (forms_given c.infer-2.new.state c.in_ok-right.right, c.infer-2.new.state.counts)) c.standing_for-2.ensures c.in_ok-right.ensures.read); kept = c.in_ok-right.ensures.kept; met = c.in_ok-right.ensures.met }) (record { left = (walking.seen (λ z. Rattle.gib_check.specs.Faults.types_bound c.args.names.now.left.now z ≡ Rattle.std.proofs.Common.Ok (listed (forms c.infer-2.new.state) c.in_ok-left_types.left_types.items)) c.infer-2.new.state c.part.result (record { ty = c.in_ok-left.left; place = Rattle.gib_check.specs.Faults.place (generic_tree c.args.named.now c.args.parts.left.0) }) c.part.ensures c.in_ok-left_types.ensures.types); right = (walking.seen (λ z. Rattle.gib_check.specs.Faults.types_bound c.args.names.now.right.now z ≡ Rattle.std.proofs.Common.Ok (listed (forms c.infer-2.new.state) c.in_ok-right_types.right_types.items)) c.infer-2.new.state c.part-2.result (record { ty = c.in_ok-right.right; place = Rattle.gib_check.specs.Faults.place (generic_tree c.args.named.now c.args.parts.right.0) }) c.part-2.ensures c.in_ok-right_types.ensures.types) }) (subst (λ is. Rattle.gib_check.specs.Answers.IsFaultOf c.in_err-bind_parts.field-0.0 (Rattle.gib_check.specs.Faults.bind_parts 0 (in_scope c.infer-2.new.state) c.infer-2.new.state.counts c.args.names.now.left.now (listed (forms c.infer-2.new.state) is))) c.deref.ensures.value c.in_err-bind_parts.ensures.read))
+
+pub par_several-returns-in_err-bind_parts-2-clause-read : goal.par_several-returns-in_err-bind_parts-2-clause-read
+par_several-returns-in_err-bind_parts-2-clause-read t c =
+    let p = err_from_is_err_and c.from_residual-in_err-bind_parts-2.result c.from_residual-in_err-bind_parts-2.ensures.1 in
+    rw (p.1, p.2) (walking.sides_second c.args.named.now c.args.variables.now c.args.at.standing c.args.at.span c.args.names.now.left.now (generic_tree c.args.named.now c.args.parts.left.0) c.args.names.now.right.now (generic_tree c.args.named.now c.args.parts.right.0) (generic_tree c.args.named.now c.args.parts.body.0) c.in_err-bind_parts-2.field-0.0 c.args.state.now c.one_more.new.self c.infer.new.state c.infer-2.new.state c.bind_parts.new.self c.in_ok-left.left c.in_ok-right.right c.in_ok-left_types.left_types.items c.in_ok-right_types.right_types.items (record { read = c.in_ok-one_more.ensures.counts; kept = c.one_more.ensures.scope; types = c.one_more.ensures.types }) (record { read = (subst (λ st. infer (generic_globals c.args.named.now) (variable_numbers c.args.variables.now) opaque st (in_scope c.one_more.new.self) c.one_more.new.self.counts (generic_tree c.args.named.now c.args.parts.left.0) ≡ Rattle.std.proofs.Common.Ok (forms_given c.infer.new.state c.in_ok-left.left, c.infer.new.state.counts)) c.standing_for.ensures c.in_ok-left.ensures.read); kept = c.in_ok-left.ensures.kept; met = c.in_ok-left.ensures.met }) (record { read = (subst (λ st. infer (generic_globals c.args.named.now) (variable_numbers c.args.variables.now) opaque st (in_scope c.infer.new.state) c.infer.new.state.counts (generic_tree c.args.named.now c.args.parts.right.0) ≡ Rattle.std.proofs.Common.Ok (forms_given c.infer-2.new.state c.in_ok-right.right, c.infer-2.new.state.counts)) c.standing_for-2.ensures c.in_ok-right.ensures.read); kept = c.in_ok-right.ensures.kept; met = c.in_ok-right.ensures.met }) (record { left = (walking.seen (λ z. Rattle.gib_check.specs.Faults.types_bound c.args.names.now.left.now z ≡ Rattle.std.proofs.Common.Ok (listed (forms c.infer-2.new.state) c.in_ok-left_types.left_types.items)) c.infer-2.new.state c.part.result (record { ty = c.in_ok-left.left; place = Rattle.gib_check.specs.Faults.place (generic_tree c.args.named.now c.args.parts.left.0) }) c.part.ensures c.in_ok-left_types.ensures.types); right = (walking.seen (λ z. Rattle.gib_check.specs.Faults.types_bound c.args.names.now.right.now z ≡ Rattle.std.proofs.Common.Ok (listed (forms c.infer-2.new.state) c.in_ok-right_types.right_types.items)) c.infer-2.new.state c.part-2.result (record { ty = c.in_ok-right.right; place = Rattle.gib_check.specs.Faults.place (generic_tree c.args.named.now c.args.parts.right.0) }) c.part-2.ensures c.in_ok-right_types.ensures.types) }) (record { read = (subst (λ is. Rattle.gib_check.specs.Faults.bind_parts 0 (in_scope c.infer-2.new.state) c.infer-2.new.state.counts c.args.names.now.left.now (listed (forms c.infer-2.new.state) is) ≡ Rattle.std.proofs.Common.Ok (in_scope c.bind_parts.new.self, c.bind_parts.new.self.counts)) c.deref.ensures.value c.in_ok-bind_parts.ensures.read); types = c.bind_parts.ensures.types }) (subst (λ is. Rattle.gib_check.specs.Answers.IsFaultOf c.in_err-bind_parts-2.field-0.0 (Rattle.gib_check.specs.Faults.bind_parts 0 (in_scope c.bind_parts.new.self) c.bind_parts.new.self.counts c.args.names.now.right.now (listed (forms c.bind_parts.new.self) is))) c.deref-2.ensures.value c.in_err-bind_parts-2.ensures.read))
+
+pub par_several-returns-in_err-given-clause-read : goal.par_several-returns-in_err-given-clause-read
+par_several-returns-in_err-given-clause-read t c =
+    let p = err_from_is_err_and c.from_residual-in_err-given.result c.from_residual-in_err-given.ensures.1 in
+    rw (p.1, p.2) (along c.in_err-given.field-0.0 _ _ (walking.sides_is c.args.named.now c.args.variables.now c.args.at.standing c.args.at.span c.args.names.now.left.now (generic_tree c.args.named.now c.args.parts.left.0) c.args.names.now.right.now (generic_tree c.args.named.now c.args.parts.right.0) (generic_tree c.args.named.now c.args.parts.body.0) c.args.state.now c.one_more.new.self c.infer.new.state c.infer-2.new.state c.bind_parts.new.self c.bind_parts-2.new.self c.in_ok-left.left c.in_ok-right.right c.in_ok-left_types.left_types.items c.in_ok-right_types.right_types.items (record { read = c.in_ok-one_more.ensures.counts; kept = c.one_more.ensures.scope; types = c.one_more.ensures.types }) (record { read = (subst (λ st. infer (generic_globals c.args.named.now) (variable_numbers c.args.variables.now) opaque st (in_scope c.one_more.new.self) c.one_more.new.self.counts (generic_tree c.args.named.now c.args.parts.left.0) ≡ Rattle.std.proofs.Common.Ok (forms_given c.infer.new.state c.in_ok-left.left, c.infer.new.state.counts)) c.standing_for.ensures c.in_ok-left.ensures.read); kept = c.in_ok-left.ensures.kept; met = c.in_ok-left.ensures.met }) (record { read = (subst (λ st. infer (generic_globals c.args.named.now) (variable_numbers c.args.variables.now) opaque st (in_scope c.infer.new.state) c.infer.new.state.counts (generic_tree c.args.named.now c.args.parts.right.0) ≡ Rattle.std.proofs.Common.Ok (forms_given c.infer-2.new.state c.in_ok-right.right, c.infer-2.new.state.counts)) c.standing_for-2.ensures c.in_ok-right.ensures.read); kept = c.in_ok-right.ensures.kept; met = c.in_ok-right.ensures.met }) (record { left = (walking.seen (λ z. Rattle.gib_check.specs.Faults.types_bound c.args.names.now.left.now z ≡ Rattle.std.proofs.Common.Ok (listed (forms c.infer-2.new.state) c.in_ok-left_types.left_types.items)) c.infer-2.new.state c.part.result (record { ty = c.in_ok-left.left; place = Rattle.gib_check.specs.Faults.place (generic_tree c.args.named.now c.args.parts.left.0) }) c.part.ensures c.in_ok-left_types.ensures.types); right = (walking.seen (λ z. Rattle.gib_check.specs.Faults.types_bound c.args.names.now.right.now z ≡ Rattle.std.proofs.Common.Ok (listed (forms c.infer-2.new.state) c.in_ok-right_types.right_types.items)) c.infer-2.new.state c.part-2.result (record { ty = c.in_ok-right.right; place = Rattle.gib_check.specs.Faults.place (generic_tree c.args.named.now c.args.parts.right.0) }) c.part-2.ensures c.in_ok-right_types.ensures.types) }) (record { read = (subst (λ is. Rattle.gib_check.specs.Faults.bind_parts 0 (in_scope c.infer-2.new.state) c.infer-2.new.state.counts c.args.names.now.left.now (listed (forms c.infer-2.new.state) is) ≡ Rattle.std.proofs.Common.Ok (in_scope c.bind_parts.new.self, c.bind_parts.new.self.counts)) c.deref.ensures.value c.in_ok-bind_parts.ensures.read); types = c.bind_parts.ensures.types }) (record { read = (subst (λ is. Rattle.gib_check.specs.Faults.bind_parts 0 (in_scope c.bind_parts.new.self) c.bind_parts.new.self.counts c.args.names.now.right.now (listed (forms c.bind_parts.new.self) is) ≡ Rattle.std.proofs.Common.Ok (in_scope c.bind_parts-2.new.self, c.bind_parts-2.new.self.counts)) c.deref-2.ensures.value c.in_ok-bind_parts-2.ensures.read); types = c.bind_parts-2.ensures.types })) c.in_err-given.ensures.read)
+
+pub par_several-returns-clause-read : goal.par_several-returns-clause-read
+par_several-returns-clause-read t c =
+    walking.sides_is c.args.named.now c.args.variables.now c.args.at.standing c.args.at.span c.args.names.now.left.now (generic_tree c.args.named.now c.args.parts.left.0) c.args.names.now.right.now (generic_tree c.args.named.now c.args.parts.right.0) (generic_tree c.args.named.now c.args.parts.body.0) c.args.state.now c.one_more.new.self c.infer.new.state c.infer-2.new.state c.bind_parts.new.self c.bind_parts-2.new.self c.in_ok-left.left c.in_ok-right.right c.in_ok-left_types.left_types.items c.in_ok-right_types.right_types.items (record { read = c.in_ok-one_more.ensures.counts; kept = c.one_more.ensures.scope; types = c.one_more.ensures.types }) (record { read = (subst (λ st. infer (generic_globals c.args.named.now) (variable_numbers c.args.variables.now) opaque st (in_scope c.one_more.new.self) c.one_more.new.self.counts (generic_tree c.args.named.now c.args.parts.left.0) ≡ Rattle.std.proofs.Common.Ok (forms_given c.infer.new.state c.in_ok-left.left, c.infer.new.state.counts)) c.standing_for.ensures c.in_ok-left.ensures.read); kept = c.in_ok-left.ensures.kept; met = c.in_ok-left.ensures.met }) (record { read = (subst (λ st. infer (generic_globals c.args.named.now) (variable_numbers c.args.variables.now) opaque st (in_scope c.infer.new.state) c.infer.new.state.counts (generic_tree c.args.named.now c.args.parts.right.0) ≡ Rattle.std.proofs.Common.Ok (forms_given c.infer-2.new.state c.in_ok-right.right, c.infer-2.new.state.counts)) c.standing_for-2.ensures c.in_ok-right.ensures.read); kept = c.in_ok-right.ensures.kept; met = c.in_ok-right.ensures.met }) (record { left = (walking.seen (λ z. Rattle.gib_check.specs.Faults.types_bound c.args.names.now.left.now z ≡ Rattle.std.proofs.Common.Ok (listed (forms c.infer-2.new.state) c.in_ok-left_types.left_types.items)) c.infer-2.new.state c.part.result (record { ty = c.in_ok-left.left; place = Rattle.gib_check.specs.Faults.place (generic_tree c.args.named.now c.args.parts.left.0) }) c.part.ensures c.in_ok-left_types.ensures.types); right = (walking.seen (λ z. Rattle.gib_check.specs.Faults.types_bound c.args.names.now.right.now z ≡ Rattle.std.proofs.Common.Ok (listed (forms c.infer-2.new.state) c.in_ok-right_types.right_types.items)) c.infer-2.new.state c.part-2.result (record { ty = c.in_ok-right.right; place = Rattle.gib_check.specs.Faults.place (generic_tree c.args.named.now c.args.parts.right.0) }) c.part-2.ensures c.in_ok-right_types.ensures.types) }) (record { read = (subst (λ is. Rattle.gib_check.specs.Faults.bind_parts 0 (in_scope c.infer-2.new.state) c.infer-2.new.state.counts c.args.names.now.left.now (listed (forms c.infer-2.new.state) is) ≡ Rattle.std.proofs.Common.Ok (in_scope c.bind_parts.new.self, c.bind_parts.new.self.counts)) c.deref.ensures.value c.in_ok-bind_parts.ensures.read); types = c.bind_parts.ensures.types }) (record { read = (subst (λ is. Rattle.gib_check.specs.Faults.bind_parts 0 (in_scope c.bind_parts.new.self) c.bind_parts.new.self.counts c.args.names.now.right.now (listed (forms c.bind_parts.new.self) is) ≡ Rattle.std.proofs.Common.Ok (in_scope c.bind_parts-2.new.self, c.bind_parts-2.new.self.counts)) c.deref-2.ensures.value c.in_ok-bind_parts-2.ensures.read); types = c.bind_parts-2.ensures.types })
+    ∙ c.in_ok-given.ensures.read
+    ∙ walking.same_answer c.infer-3.new.state c.truncate.new.self c.in_ok-given.given (same_advance c.infer-3.new.state c.truncate.new.self c.truncate.ensures.types c.truncate.ensures.parts) c.in_ok-given.ensures.met.here c.truncate.ensures.counts
+
+pub par_several-returns-clause-kept : goal.par_several-returns-clause-kept
+par_several-returns-clause-kept t c =
+    walking.parts_dropped (in_scope c.infer-2.new.state) (in_scope c.infer-3.new.state) (in_scope c.truncate.new.self) _ c.len-len.result
+    (c.in_ok-given.ensures.kept ∙ walking.both_added (in_scope c.infer-2.new.state) (in_scope c.bind_parts.new.self) (in_scope c.bind_parts-2.new.self) c.in_ok-bind_parts.ensures.kept.0 c.in_ok-bind_parts-2.ensures.kept.0 c.in_ok-bind_parts.ensures.kept.1 c.in_ok-bind_parts-2.ensures.kept.1) c.len-len.ensures c.in_ok-truncate.ensures.scope
+    ∙ c.in_ok-right.ensures.kept ∙ c.in_ok-left.ensures.kept ∙ c.one_more.ensures.scope
+
+pub par_several-returns-clause-met : goal.par_several-returns-clause-met
+par_several-returns-clause-met t c =
+    record { advances = (advances_on c.args.state.now c.infer-3.new.state c.truncate.new.self (advances_on c.args.state.now c.bind_parts-2.new.self c.infer-3.new.state (advances_on c.args.state.now c.bind_parts.new.self c.bind_parts-2.new.self (advances_on c.args.state.now c.infer-2.new.state c.bind_parts.new.self (advances_on c.args.state.now c.infer.new.state c.infer-2.new.state (advances_on c.args.state.now c.one_more.new.self c.infer.new.state (same_advance c.args.state.now c.one_more.new.self c.one_more.ensures.types c.one_more.ensures.parts) c.in_ok-left.ensures.met.advances) c.in_ok-right.ensures.met.advances) (same_advance c.infer-2.new.state c.bind_parts.new.self c.bind_parts.ensures.types c.bind_parts.ensures.parts)) (same_advance c.bind_parts.new.self c.bind_parts-2.new.self c.bind_parts-2.ensures.types c.bind_parts-2.ensures.parts)) c.in_ok-given.ensures.met.advances) (same_advance c.infer-3.new.state c.truncate.new.self c.truncate.ensures.types c.truncate.ensures.parts)); here = met_stays c.infer-3.new.state c.truncate.new.self c.in_ok-given.given (same_advance c.infer-3.new.state c.truncate.new.self c.truncate.ensures.types c.truncate.ensures.parts) c.in_ok-given.ensures.met.here }
+
+pub par_several-types_bound-requires : goal.par_several-types_bound-requires
+par_several-types_bound-requires t c =
+    subst (λ (q : Part). AreMet c.infer-2.new.state q.ty) (sym c.part.ensures) (met_stays c.infer.new.state c.infer-2.new.state c.in_ok-left.left c.in_ok-right.ensures.met.advances c.in_ok-left.ensures.met.here)
+
+pub par_several-types_bound-requires-2 : goal.par_several-types_bound-requires-2
+par_several-types_bound-requires-2 t c =
+    subst (λ (q : Part). AreMet c.infer-2.new.state q.ty) (sym c.part-2.ensures) c.in_ok-right.ensures.met.here
+
+pub par_several-bind_parts-requires : goal.par_several-bind_parts-requires
+par_several-bind_parts-requires t c =
+    subst (AreBelow (length c.infer-2.new.state.types)) (sym c.deref.ensures.value) c.in_ok-left_types.ensures.below
+
+pub par_several-bind_parts-requires-2 : goal.par_several-bind_parts-requires-2
+par_several-bind_parts-requires-2 t c =
+    subst (λ ns. AreBelow (length ns) c.deref-2.result.now) (sym c.bind_parts.ensures.types) (subst (AreBelow (length c.infer-2.new.state.types)) (sym c.deref-2.ensures.value) c.in_ok-right_types.ensures.below)
+
+pub tuple-returns-in_err-may_stand-clause-read : goal.tuple-returns-in_err-may_stand-clause-read
+tuple-returns-in_err-may_stand-clause-read t c =
+    let p = err_from_is_err_and c.from_residual-in_err-may_stand.result c.from_residual-in_err-may_stand.ensures.1 in
+    rw (p.1, p.2) (walking.tuple_stands c.args.named.now c.args.variables.now c.args.at.standing c.args.at.span (length c.args.ids.now) (λ n. Rattle.gib_check.specs.Faults.infer_all (generic_globals c.args.named.now) (variable_numbers c.args.variables.now) opaque (in_scope c.args.state.now) n (Rattle.gib_syntax.specs.GenericArena.arguments_from (generic_tree c.args.named.now) c.args.ids.now)) c.in_err-may_stand.field-0.0 c.args.state.now c.one_more.new.self (record { read = c.in_ok-one_more.ensures.counts; kept = c.one_more.ensures.scope; types = c.one_more.ensures.types }) c.in_err-may_stand.ensures)
+
+pub tuple-returns-in_err-parts-clause-read : goal.tuple-returns-in_err-parts-clause-read
+tuple-returns-in_err-parts-clause-read t c =
+    let p = err_from_is_err_and c.from_residual-in_err-parts.result c.from_residual-in_err-parts.ensures.1 in
+    rw (p.1, p.2) (walking.tuple_parts c.args.named.now c.args.variables.now c.args.at.standing c.args.at.span (length c.args.ids.now) (λ n. Rattle.gib_check.specs.Faults.infer_all (generic_globals c.args.named.now) (variable_numbers c.args.variables.now) opaque (in_scope c.args.state.now) n (Rattle.gib_syntax.specs.GenericArena.arguments_from (generic_tree c.args.named.now) c.args.ids.now)) c.in_err-parts.field-0.0 c.args.state.now c.one_more.new.self (record { read = c.in_ok-one_more.ensures.counts; kept = c.one_more.ensures.scope; types = c.one_more.ensures.types }) c.in_ok-may_stand.ensures (along c.in_err-parts.field-0.0 _ _ (walking.results_same c.args.named.now c.args.variables.now c.args.state.now c.one_more.new.self c.args.ids.now c.one_more.ensures.scope) c.in_err-parts.ensures.read))
+
+pub tuple-returns-in_err-types-clause-read : goal.tuple-returns-in_err-types-clause-read
+tuple-returns-in_err-types-clause-read t c =
+    let p = err_from_is_err_and c.from_residual-in_err-types.result c.from_residual-in_err-types.ensures.1 in
+    rw (p.1, p.2) (walking.tuple_single c.args.named.now c.args.variables.now c.args.at.standing c.args.at.span (length c.args.ids.now) (λ n. Rattle.gib_check.specs.Faults.infer_all (generic_globals c.args.named.now) (variable_numbers c.args.variables.now) opaque (in_scope c.args.state.now) n (Rattle.gib_syntax.specs.GenericArena.arguments_from (generic_tree c.args.named.now) c.args.ids.now)) c.in_err-types.field-0.0 c.args.state.now c.one_more.new.self (parts_in c.arguments.new.state c.in_ok-parts.parts.items) c.arguments.new.state.counts (record { read = c.in_ok-one_more.ensures.counts; kept = c.one_more.ensures.scope; types = c.one_more.ensures.types }) c.in_ok-may_stand.ensures ((walking.results_same c.args.named.now c.args.variables.now c.args.state.now c.one_more.new.self c.args.ids.now c.one_more.ensures.scope) ∙ c.in_ok-parts.ensures.read) (subst (λ ps. Rattle.gib_check.specs.Answers.IsFaultOf c.in_err-types.field-0.0 (Rattle.gib_check.specs.Faults.all_single (parts_in c.arguments.new.state ps))) c.deref.ensures.value c.in_err-types.ensures.types))
+
+pub tuple-returns-clause-read : goal.tuple-returns-clause-read
+tuple-returns-clause-read t c =
+    walking.tuple_ok c.args.named.now c.args.variables.now c.args.at.standing c.args.at.span (length c.args.ids.now) (λ n. Rattle.gib_check.specs.Faults.infer_all (generic_globals c.args.named.now) (variable_numbers c.args.variables.now) opaque (in_scope c.args.state.now) n (Rattle.gib_syntax.specs.GenericArena.arguments_from (generic_tree c.args.named.now) c.args.ids.now)) c.args.state.now c.one_more.new.self (parts_in c.arguments.new.state c.in_ok-parts.parts.items) c.arguments.new.state.counts (listed (forms c.arguments.new.state) c.in_ok-types.types.items) (record { read = c.in_ok-one_more.ensures.counts; kept = c.one_more.ensures.scope; types = c.one_more.ensures.types }) c.in_ok-may_stand.ensures ((walking.results_same c.args.named.now c.args.variables.now c.args.state.now c.one_more.new.self c.args.ids.now c.one_more.ensures.scope) ∙ c.in_ok-parts.ensures.read) (subst (λ ps. Rattle.gib_check.specs.Faults.all_single (parts_in c.arguments.new.state ps) ≡ Rattle.std.proofs.Common.Ok (listed (forms c.arguments.new.state) c.in_ok-types.types.items)) c.deref.ensures.value c.in_ok-types.ensures.types)
+    ∙ ap₂ walking.answer_of (sym (c.in_ok-given.ensures.forms ∙ ap (λ is. Several (listed (forms c.arguments.new.state) is)) c.deref-2.ensures.value)) (sym c.put_parts.ensures.counts)
+
+pub tuple-returns-clause-kept : goal.tuple-returns-clause-kept
+tuple-returns-clause-kept t c =
+    c.put_parts.ensures.scope ∙ c.in_ok-parts.ensures.kept ∙ c.one_more.ensures.scope
+
+pub tuple-returns-clause-met : goal.tuple-returns-clause-met
+tuple-returns-clause-met t c =
+    record { advances = (advances_on c.args.state.now c.arguments.new.state c.put_parts.new.self (advances_on c.args.state.now c.one_more.new.self c.arguments.new.state (same_advance c.args.state.now c.one_more.new.self c.one_more.ensures.types c.one_more.ensures.parts) c.in_ok-parts.ensures.met.advances) c.in_ok-given.ensures.met.advances); here = c.in_ok-given.ensures.met.here }
+
+pub tuple-all_single-requires : goal.tuple-all_single-requires
+tuple-all_single-requires t c =
+    subst (ArePartsMet c.arguments.new.state) (sym c.deref.ensures.value) c.in_ok-parts.ensures.met.here
+
+pub tuple-put_parts-requires : goal.tuple-put_parts-requires
+tuple-put_parts-requires t c =
+    subst (AreBelow (length c.arguments.new.state.types)) (sym c.deref-2.ensures.value) c.in_ok-types.ensures.below
 
 pub call-returns-in_err-function-clause-read : goal.call-returns-in_err-function-clause-read
 call-returns-in_err-function-clause-read t c =
     let p = err_from_is_err_and c.from_residual-in_err-function.result c.from_residual-in_err-function.ensures.1 in
     rw (p.1, p.2) (walking.call_function c.args.named.now c.args.variables.now c.args.called.name (types_in c.args.named.now.exprs.words c.args.called.types) (length c.args.ids.now) (λ n. Rattle.gib_check.specs.Faults.infer_all (generic_globals c.args.named.now) (variable_numbers c.args.variables.now) Rattle.gib_syntax.specs.GenericTyping.opaque (in_scope c.args.state.now) n (Rattle.gib_syntax.specs.GenericArena.arguments_from (generic_tree c.args.named.now) c.args.ids.now)) c.in_err-function.field-0.0 c.args.state.now c.one_more.new.self (record { read = c.in_ok-one_more.ensures.counts; kept = c.one_more.ensures.scope; types = c.one_more.ensures.types }) c.in_err-function.ensures)
-
-pub arm_result-returns-in_err-bind_all-clause-read : goal.arm_result-returns-in_err-bind_all-clause-read
-arm_result-returns-in_err-bind_all-clause-read t c =
-    let p = err_from_is_err_and c.from_residual-in_err-bind_all.result c.from_residual-in_err-bind_all.ensures.1 in
-    rw (p.1, p.2) (walking.arm_fails c.args.named.now c.args.variables.now (Rattle.gib_types.specs.Types.forms_at (forms c.args.state.now) c.args.types.now) c.args.arm.now.constructor c.args.arm.now.variables.items (generic_tree c.args.named.now c.args.arm.now.body.0) c.in_err-bind_all.field-0.0 c.args.state.now c.fields_named.new.state c.deref.result.now (Rattle.gib_check.specs.Judging.listed (forms c.fields_named.new.state) c.deref-2.result.now) c.fields_named.ensures.keeps c.deref.ensures.value (ap (Rattle.gib_check.specs.Judging.listed (forms c.fields_named.new.state)) c.deref-2.ensures.value ∙ c.in_ok-fields.ensures.types) c.in_err-bind_all.ensures.read)
-
-pub arm_result-returns-in_err-ty-clause-read : goal.arm_result-returns-in_err-ty-clause-read
-arm_result-returns-in_err-ty-clause-read t c =
-    let p = err_from_is_err_and c.from_residual-in_err-ty.result c.from_residual-in_err-ty.ensures.1 in
-    rw (p.1, p.2) (Rattle.gib_check.proofs.Loops.along c.in_err-ty.field-0.0 _ _ (walking.arm_is c.args.named.now c.args.variables.now (Rattle.gib_types.specs.Types.forms_at (forms c.args.state.now) c.args.types.now) c.args.arm.now.constructor c.args.arm.now.variables.items (generic_tree c.args.named.now c.args.arm.now.body.0) c.args.state.now c.fields_named.new.state c.bind_all.new.self c.deref.result.now (Rattle.gib_check.specs.Judging.listed (forms c.fields_named.new.state) c.deref-2.result.now) c.fields_named.ensures.keeps c.deref.ensures.value (ap (Rattle.gib_check.specs.Judging.listed (forms c.fields_named.new.state)) c.deref-2.ensures.value ∙ c.in_ok-fields.ensures.types) c.in_ok-bind_all.ensures.read) c.in_err-ty.ensures.read)
-
-pub arm_result-returns-clause-read : goal.arm_result-returns-clause-read
-arm_result-returns-clause-read t c =
-    walking.arm_is c.args.named.now c.args.variables.now (Rattle.gib_types.specs.Types.forms_at (forms c.args.state.now) c.args.types.now) c.args.arm.now.constructor c.args.arm.now.variables.items (generic_tree c.args.named.now c.args.arm.now.body.0) c.args.state.now c.fields_named.new.state c.bind_all.new.self c.deref.result.now (Rattle.gib_check.specs.Judging.listed (forms c.fields_named.new.state) c.deref-2.result.now) c.fields_named.ensures.keeps c.deref.ensures.value (ap (Rattle.gib_check.specs.Judging.listed (forms c.fields_named.new.state)) c.deref-2.ensures.value ∙ c.in_ok-fields.ensures.types) c.in_ok-bind_all.ensures.read
-    ∙ c.in_ok-ty.ensures.read
-    ∙ walking.same_answer c.infer.new.state c.truncate.new.self c.in_ok-ty.ty c.truncate.ensures.types c.truncate.ensures.counts
-
-pub arm_result-returns-clause-kept : goal.arm_result-returns-clause-kept
-arm_result-returns-clause-kept t c =
-    walking.arm_dropped (in_scope c.fields_named.new.state) (in_scope c.infer.new.state) (in_scope c.truncate.new.self) c.len-len.result
-    (subst (λ s. Rattle.std.proofs.Common.drop (length s - length (in_scope c.fields_named.new.state)) s ≡ in_scope c.fields_named.new.state) (sym c.in_ok-ty.ensures.kept) c.in_ok-bind_all.ensures.kept) c.len-len.ensures c.in_ok-truncate.ensures.scope
-    ∙ c.fields_named.ensures.keeps.scope
 
 pub call-returns-in_err-types-clause-read : goal.call-returns-in_err-types-clause-read
 call-returns-in_err-types-clause-read t c =
@@ -222,30 +421,27 @@ call-returns-in_err-parts-clause-read t c =
 pub call-returns-in_err-all_wanted-clause-read : goal.call-returns-in_err-all_wanted-clause-read
 call-returns-in_err-all_wanted-clause-read t c =
     let p = err_from_is_err_and c.from_residual-in_err-all_wanted.result c.from_residual-in_err-all_wanted.ensures.1 in
-    rw (p.1, p.2) (walking.call_shape c.args.named.now c.args.variables.now c.args.called.name (types_in c.args.named.now.exprs.words c.args.called.types) (length c.args.ids.now) (λ n. Rattle.gib_check.specs.Faults.infer_all (generic_globals c.args.named.now) (variable_numbers c.args.variables.now) Rattle.gib_syntax.specs.GenericTyping.opaque (in_scope c.args.state.now) n (Rattle.gib_syntax.specs.GenericArena.arguments_from (generic_tree c.args.named.now) c.args.ids.now)) c.in_err-all_wanted.field-0.0 c.args.state.now c.one_more.new.self (Rattle.gib_syntax.specs.GenericParts.function_in c.args.named.now.exprs c.in_ok-function.function.now) (Rattle.gib_check.specs.Judging.parts_in (forms c.arguments.new.state) c.in_ok-parts.parts.items) (Rattle.gib_check.specs.Judging.parts_in (forms_of c.types.result.now) c.deref-4.result.now) (Rattle.gib_check.specs.Judging.listed (forms_of c.types.result.now) c.deref-5.result.now) c.arguments.new.state.counts (record { read = c.in_ok-one_more.ensures.counts; kept = c.one_more.ensures.scope; types = c.one_more.ensures.types }) c.in_ok-function.ensures (subst (λ n. walking.use_types c.args.named.now c.args.variables.now c.args.called.name (types_in c.args.named.now.exprs.words c.args.called.types) (length c.args.ids.now) (λ n. Rattle.gib_check.specs.Faults.infer_all (generic_globals c.args.named.now) (variable_numbers c.args.variables.now) Rattle.gib_syntax.specs.GenericTyping.opaque (in_scope c.args.state.now) n (Rattle.gib_syntax.specs.GenericArena.arguments_from (generic_tree c.args.named.now) c.args.ids.now)) n ≡ Rattle.std.proofs.Common.Ok (tt {0})) (omega (Rattle.std.proofs.Common.arith, c.len-due.ensures, c.in_ok-function.function.now.variables.ok)) c.in_ok-types.ensures.read) (walking.counted_as (λ z. z ≡ Rattle.std.proofs.Common.Ok (tt {0})) c.args.called.name (length c.args.ids.now) c.len.result (length c.args.ids.now) (length (Rattle.gib_syntax.specs.GenericParts.function_in c.args.named.now.exprs c.in_ok-function.function.now).parameters) refl (walking.mapped_length c.args.named.now.exprs.words c.len.result c.in_ok-function.function.now.parameters.items (omega (Rattle.std.proofs.Common.arith, c.len.ensures, c.in_ok-function.function.now.parameters.ok))) c.in_ok-as_many.ensures) ((walking.results_moved c.args.named.now c.args.variables.now c.args.state.now c.one_more.new.self c.type_arguments.new.state c.args.ids.now c.type_arguments.ensures.keeps c.one_more.ensures.scope) ∙ c.in_ok-parts.ensures.read) ((λ i. Rattle.gib_check.specs.Judging.parts_in (forms_of (c.types.ensures i)) (c.deref-4.ensures.value i)) ∙ Rattle.gib_check.proofs.Growing.parts_grow c.arguments.new.state.types c.parameter_types.new.state.types c.in_ok-parts.parts.items c.in_ok-wanted_types.ensures.keeps.grows c.in_ok-parts.ensures.met.below) ((λ i. Rattle.gib_check.specs.Judging.listed (forms_of (c.types.ensures i)) (c.deref-5.ensures.value i)) ∙ c.in_ok-wanted_types.ensures.types ∙ walking.parameters_are c.args.named.now.exprs.words c.in_ok-function.function.now.parameters.items c.deref-3.result.now (Rattle.gib_syntax.specs.GenericParts.function_in c.args.named.now.exprs c.in_ok-function.function.now).variables (Rattle.gib_check.specs.Judging.meant_by (forms c.arguments.new.state) c.in_ok-meaning.meaning) _ (Rattle.gib_syntax.specs.Forms.formed_all Rattle.gib_syntax.specs.GenericTyping.opaque (types_in c.args.named.now.exprs.words c.args.called.types)) c.deref-3.ensures.value (c.in_ok-meaning.ensures.meant ∙ ap (λ vs. Rattle.gib_syntax.specs.Forms.assign vs (Rattle.gib_types.specs.Types.forms_at (forms c.arguments.new.state) c.deref-2.result.now)) c.deref.ensures.value) (ap (Rattle.gib_types.specs.Types.forms_at (forms c.arguments.new.state)) c.deref-2.ensures.value ∙ (walking.given_types c.type_arguments.new.state c.arguments.new.state c.in_ok-types.types.items (types_in c.args.named.now.exprs.words c.args.called.types) c.in_ok-types.ensures.types c.in_ok-parts.ensures.met.grows c.in_ok-types.ensures.below))) c.in_err-all_wanted.ensures)
+    rw (p.1, p.2) (walking.call_shape c.args.named.now c.args.variables.now c.args.called.name (types_in c.args.named.now.exprs.words c.args.called.types) (length c.args.ids.now) (λ n. Rattle.gib_check.specs.Faults.infer_all (generic_globals c.args.named.now) (variable_numbers c.args.variables.now) Rattle.gib_syntax.specs.GenericTyping.opaque (in_scope c.args.state.now) n (Rattle.gib_syntax.specs.GenericArena.arguments_from (generic_tree c.args.named.now) c.args.ids.now)) c.in_err-all_wanted.field-0.0 c.args.state.now c.one_more.new.self (Rattle.gib_syntax.specs.GenericParts.function_in c.args.named.now.exprs c.in_ok-function.function.now) (parts_in c.arguments.new.state c.in_ok-parts.parts.items) (parts_in c.parameter_types.new.state c.deref-4.result.now) (listed (forms c.parameter_types.new.state) c.deref-5.result.now) c.arguments.new.state.counts (record { read = c.in_ok-one_more.ensures.counts; kept = c.one_more.ensures.scope; types = c.one_more.ensures.types }) c.in_ok-function.ensures (subst (λ n. walking.use_types c.args.named.now c.args.variables.now c.args.called.name (types_in c.args.named.now.exprs.words c.args.called.types) (length c.args.ids.now) (λ n. Rattle.gib_check.specs.Faults.infer_all (generic_globals c.args.named.now) (variable_numbers c.args.variables.now) Rattle.gib_syntax.specs.GenericTyping.opaque (in_scope c.args.state.now) n (Rattle.gib_syntax.specs.GenericArena.arguments_from (generic_tree c.args.named.now) c.args.ids.now)) n ≡ Rattle.std.proofs.Common.Ok (tt {0})) (omega (Rattle.std.proofs.Common.arith, c.len-due.ensures, c.in_ok-function.function.now.variables.ok)) c.in_ok-types.ensures.read) (walking.counted_as (λ z. z ≡ Rattle.std.proofs.Common.Ok (tt {0})) c.args.called.name (length c.args.ids.now) c.len.result (length c.args.ids.now) (length (Rattle.gib_syntax.specs.GenericParts.function_in c.args.named.now.exprs c.in_ok-function.function.now).parameters) refl (walking.mapped_length c.args.named.now.exprs.words c.len.result c.in_ok-function.function.now.parameters.items (omega (Rattle.std.proofs.Common.arith, c.len.ensures, c.in_ok-function.function.now.parameters.ok))) c.in_ok-as_many.ensures) ((walking.results_moved c.args.named.now c.args.variables.now c.args.state.now c.one_more.new.self c.type_arguments.new.state c.args.ids.now c.type_arguments.ensures.keeps c.one_more.ensures.scope) ∙ c.in_ok-parts.ensures.read) (ap (parts_in c.parameter_types.new.state) c.deref-4.ensures.value ∙ parts_grow c.arguments.new.state c.parameter_types.new.state c.in_ok-parts.parts.items (keeps_advance c.arguments.new.state c.parameter_types.new.state c.in_ok-wanted_types.ensures.keeps) c.in_ok-parts.ensures.met.here) (ap (listed (forms c.parameter_types.new.state)) c.deref-5.ensures.value ∙ c.in_ok-wanted_types.ensures.types ∙ walking.parameters_are c.args.named.now.exprs.words c.in_ok-function.function.now.parameters.items c.deref-3.result.now (Rattle.gib_syntax.specs.GenericParts.function_in c.args.named.now.exprs c.in_ok-function.function.now).variables (Rattle.gib_check.specs.Judging.meant_by (forms c.arguments.new.state) c.in_ok-meaning.meaning) _ (Rattle.gib_syntax.specs.Forms.formed_all Rattle.gib_syntax.specs.GenericTyping.opaque (types_in c.args.named.now.exprs.words c.args.called.types)) c.deref-3.ensures.value (c.in_ok-meaning.ensures.meant ∙ ap (λ vs. Rattle.gib_syntax.specs.Forms.assign vs (Rattle.gib_types.specs.Types.forms_at (forms c.arguments.new.state) c.deref-2.result.now)) c.deref.ensures.value) (ap (Rattle.gib_types.specs.Types.forms_at (forms c.arguments.new.state)) c.deref-2.ensures.value ∙ (walking.given_types c.type_arguments.new.state c.arguments.new.state c.in_ok-types.types.items (types_in c.args.named.now.exprs.words c.args.called.types) c.in_ok-types.ensures.types c.in_ok-parts.ensures.met.advances.types c.in_ok-types.ensures.below))) c.in_err-all_wanted.ensures)
 
 pub call-returns-clause-read : goal.call-returns-clause-read
 call-returns-clause-read t c =
-    walking.call_ok c.args.named.now c.args.variables.now c.args.called.name (types_in c.args.named.now.exprs.words c.args.called.types) (length c.args.ids.now) (λ n. Rattle.gib_check.specs.Faults.infer_all (generic_globals c.args.named.now) (variable_numbers c.args.variables.now) Rattle.gib_syntax.specs.GenericTyping.opaque (in_scope c.args.state.now) n (Rattle.gib_syntax.specs.GenericArena.arguments_from (generic_tree c.args.named.now) c.args.ids.now)) c.args.state.now c.one_more.new.self (Rattle.gib_syntax.specs.GenericParts.function_in c.args.named.now.exprs c.in_ok-function.function.now) (Rattle.gib_check.specs.Judging.parts_in (forms c.arguments.new.state) c.in_ok-parts.parts.items) (Rattle.gib_check.specs.Judging.parts_in (forms_of c.types.result.now) c.deref-4.result.now) (Rattle.gib_check.specs.Judging.listed (forms_of c.types.result.now) c.deref-5.result.now) c.arguments.new.state.counts (record { read = c.in_ok-one_more.ensures.counts; kept = c.one_more.ensures.scope; types = c.one_more.ensures.types }) c.in_ok-function.ensures (subst (λ n. walking.use_types c.args.named.now c.args.variables.now c.args.called.name (types_in c.args.named.now.exprs.words c.args.called.types) (length c.args.ids.now) (λ n. Rattle.gib_check.specs.Faults.infer_all (generic_globals c.args.named.now) (variable_numbers c.args.variables.now) Rattle.gib_syntax.specs.GenericTyping.opaque (in_scope c.args.state.now) n (Rattle.gib_syntax.specs.GenericArena.arguments_from (generic_tree c.args.named.now) c.args.ids.now)) n ≡ Rattle.std.proofs.Common.Ok (tt {0})) (omega (Rattle.std.proofs.Common.arith, c.len-due.ensures, c.in_ok-function.function.now.variables.ok)) c.in_ok-types.ensures.read) (walking.counted_as (λ z. z ≡ Rattle.std.proofs.Common.Ok (tt {0})) c.args.called.name (length c.args.ids.now) c.len.result (length c.args.ids.now) (length (Rattle.gib_syntax.specs.GenericParts.function_in c.args.named.now.exprs c.in_ok-function.function.now).parameters) refl (walking.mapped_length c.args.named.now.exprs.words c.len.result c.in_ok-function.function.now.parameters.items (omega (Rattle.std.proofs.Common.arith, c.len.ensures, c.in_ok-function.function.now.parameters.ok))) c.in_ok-as_many.ensures) ((walking.results_moved c.args.named.now c.args.variables.now c.args.state.now c.one_more.new.self c.type_arguments.new.state c.args.ids.now c.type_arguments.ensures.keeps c.one_more.ensures.scope) ∙ c.in_ok-parts.ensures.read)
-    ((λ i. Rattle.gib_check.specs.Judging.parts_in (forms_of (c.types.ensures i)) (c.deref-4.ensures.value i)) ∙ Rattle.gib_check.proofs.Growing.parts_grow c.arguments.new.state.types c.parameter_types.new.state.types c.in_ok-parts.parts.items c.in_ok-wanted_types.ensures.keeps.grows c.in_ok-parts.ensures.met.below)
-    ((λ i. Rattle.gib_check.specs.Judging.listed (forms_of (c.types.ensures i)) (c.deref-5.ensures.value i)) ∙ c.in_ok-wanted_types.ensures.types ∙ walking.parameters_are c.args.named.now.exprs.words c.in_ok-function.function.now.parameters.items c.deref-3.result.now (Rattle.gib_syntax.specs.GenericParts.function_in c.args.named.now.exprs c.in_ok-function.function.now).variables (Rattle.gib_check.specs.Judging.meant_by (forms c.arguments.new.state) c.in_ok-meaning.meaning) _ (Rattle.gib_syntax.specs.Forms.formed_all Rattle.gib_syntax.specs.GenericTyping.opaque (types_in c.args.named.now.exprs.words c.args.called.types)) c.deref-3.ensures.value (c.in_ok-meaning.ensures.meant ∙ ap (λ vs. Rattle.gib_syntax.specs.Forms.assign vs (Rattle.gib_types.specs.Types.forms_at (forms c.arguments.new.state) c.deref-2.result.now)) c.deref.ensures.value) (ap (Rattle.gib_types.specs.Types.forms_at (forms c.arguments.new.state)) c.deref-2.ensures.value ∙ (walking.given_types c.type_arguments.new.state c.arguments.new.state c.in_ok-types.types.items (types_in c.args.named.now.exprs.words c.args.called.types) c.in_ok-types.ensures.types c.in_ok-parts.ensures.met.grows c.in_ok-types.ensures.below)))
+    walking.call_ok c.args.named.now c.args.variables.now c.args.called.name (types_in c.args.named.now.exprs.words c.args.called.types) (length c.args.ids.now) (λ n. Rattle.gib_check.specs.Faults.infer_all (generic_globals c.args.named.now) (variable_numbers c.args.variables.now) Rattle.gib_syntax.specs.GenericTyping.opaque (in_scope c.args.state.now) n (Rattle.gib_syntax.specs.GenericArena.arguments_from (generic_tree c.args.named.now) c.args.ids.now)) c.args.state.now c.one_more.new.self (Rattle.gib_syntax.specs.GenericParts.function_in c.args.named.now.exprs c.in_ok-function.function.now) (parts_in c.arguments.new.state c.in_ok-parts.parts.items) (parts_in c.parameter_types.new.state c.deref-4.result.now) (listed (forms c.parameter_types.new.state) c.deref-5.result.now) c.arguments.new.state.counts (record { read = c.in_ok-one_more.ensures.counts; kept = c.one_more.ensures.scope; types = c.one_more.ensures.types }) c.in_ok-function.ensures (subst (λ n. walking.use_types c.args.named.now c.args.variables.now c.args.called.name (types_in c.args.named.now.exprs.words c.args.called.types) (length c.args.ids.now) (λ n. Rattle.gib_check.specs.Faults.infer_all (generic_globals c.args.named.now) (variable_numbers c.args.variables.now) Rattle.gib_syntax.specs.GenericTyping.opaque (in_scope c.args.state.now) n (Rattle.gib_syntax.specs.GenericArena.arguments_from (generic_tree c.args.named.now) c.args.ids.now)) n ≡ Rattle.std.proofs.Common.Ok (tt {0})) (omega (Rattle.std.proofs.Common.arith, c.len-due.ensures, c.in_ok-function.function.now.variables.ok)) c.in_ok-types.ensures.read) (walking.counted_as (λ z. z ≡ Rattle.std.proofs.Common.Ok (tt {0})) c.args.called.name (length c.args.ids.now) c.len.result (length c.args.ids.now) (length (Rattle.gib_syntax.specs.GenericParts.function_in c.args.named.now.exprs c.in_ok-function.function.now).parameters) refl (walking.mapped_length c.args.named.now.exprs.words c.len.result c.in_ok-function.function.now.parameters.items (omega (Rattle.std.proofs.Common.arith, c.len.ensures, c.in_ok-function.function.now.parameters.ok))) c.in_ok-as_many.ensures) ((walking.results_moved c.args.named.now c.args.variables.now c.args.state.now c.one_more.new.self c.type_arguments.new.state c.args.ids.now c.type_arguments.ensures.keeps c.one_more.ensures.scope) ∙ c.in_ok-parts.ensures.read)
+    (ap (parts_in c.parameter_types.new.state) c.deref-4.ensures.value ∙ parts_grow c.arguments.new.state c.parameter_types.new.state c.in_ok-parts.parts.items (keeps_advance c.arguments.new.state c.parameter_types.new.state c.in_ok-wanted_types.ensures.keeps) c.in_ok-parts.ensures.met.here)
+    (ap (listed (forms c.parameter_types.new.state)) c.deref-5.ensures.value ∙ c.in_ok-wanted_types.ensures.types ∙ walking.parameters_are c.args.named.now.exprs.words c.in_ok-function.function.now.parameters.items c.deref-3.result.now (Rattle.gib_syntax.specs.GenericParts.function_in c.args.named.now.exprs c.in_ok-function.function.now).variables (Rattle.gib_check.specs.Judging.meant_by (forms c.arguments.new.state) c.in_ok-meaning.meaning) _ (Rattle.gib_syntax.specs.Forms.formed_all Rattle.gib_syntax.specs.GenericTyping.opaque (types_in c.args.named.now.exprs.words c.args.called.types)) c.deref-3.ensures.value (c.in_ok-meaning.ensures.meant ∙ ap (λ vs. Rattle.gib_syntax.specs.Forms.assign vs (Rattle.gib_types.specs.Types.forms_at (forms c.arguments.new.state) c.deref-2.result.now)) c.deref.ensures.value) (ap (Rattle.gib_types.specs.Types.forms_at (forms c.arguments.new.state)) c.deref-2.ensures.value ∙ (walking.given_types c.type_arguments.new.state c.arguments.new.state c.in_ok-types.types.items (types_in c.args.named.now.exprs.words c.args.called.types) c.in_ok-types.ensures.types c.in_ok-parts.ensures.met.advances.types c.in_ok-types.ensures.below)))
     c.in_ok-all_wanted.ensures
-    ∙ walking.call_answer c.arguments.new.state c.parameter_types.new.state c.read_first.new.self c.in_ok-ty.ty _ _ _ (Rattle.gib_syntax.specs.Words.type_in c.args.named.now.exprs.words c.in_ok-function.function.now.result) c.in_ok-ty.ensures.met.form (walking.meant_later c.arguments.new.state c.parameter_types.new.state c.in_ok-meaning.meaning (Rattle.gib_syntax.specs.GenericParts.function_in c.args.named.now.exprs c.in_ok-function.function.now).variables c.deref.result.now c.in_ok-types.types.items c.deref-2.result.now (Rattle.gib_syntax.specs.Forms.formed_all Rattle.gib_syntax.specs.GenericTyping.opaque (types_in c.args.named.now.exprs.words c.args.called.types)) c.in_ok-meaning.ensures.meant c.deref.ensures.value c.deref-2.ensures.value (walking.given_types c.type_arguments.new.state c.arguments.new.state c.in_ok-types.types.items (types_in c.args.named.now.exprs.words c.args.called.types) c.in_ok-types.ensures.types c.in_ok-parts.ensures.met.grows c.in_ok-types.ensures.below) c.in_ok-wanted_types.ensures.keeps.grows c.in_ok-meaning.ensures.below)
-    (ap (λ ws. Rattle.gib_syntax.specs.Words.first_type (Rattle.gib_syntax.specs.Words.stack_of ws)) c.words.ensures) c.in_ok-wanted_types.ensures.keeps.counts c.read_first.ensures.keeps.counts
+    ∙ walking.call_answer c.arguments.new.state c.parameter_types.new.state c.result_types.new.state c.in_ok-given.given _ _ _ (Rattle.gib_syntax.specs.GenericParts.results_in c.args.named.now.exprs.words c.in_ok-function.function.now.result) c.in_ok-given.ensures.forms (walking.meant_later c.arguments.new.state c.parameter_types.new.state c.in_ok-meaning.meaning (Rattle.gib_syntax.specs.GenericParts.function_in c.args.named.now.exprs c.in_ok-function.function.now).variables c.deref.result.now c.in_ok-types.types.items c.deref-2.result.now (Rattle.gib_syntax.specs.Forms.formed_all Rattle.gib_syntax.specs.GenericTyping.opaque (types_in c.args.named.now.exprs.words c.args.called.types)) c.in_ok-meaning.ensures.meant c.deref.ensures.value c.deref-2.ensures.value (walking.given_types c.type_arguments.new.state c.arguments.new.state c.in_ok-types.types.items (types_in c.args.named.now.exprs.words c.args.called.types) c.in_ok-types.ensures.types c.in_ok-parts.ensures.met.advances.types c.in_ok-types.ensures.below) c.in_ok-wanted_types.ensures.keeps.grows c.in_ok-meaning.ensures.below)
+    refl c.in_ok-wanted_types.ensures.keeps.counts c.in_ok-given.ensures.counts
 
 pub call-given-requires : goal.call-given-requires
-call-given-requires t c = subst (Rattle.gib_types.specs.Types.AreBelow (length c.arguments.new.state.types)) (sym c.deref-2.ensures.value) (Rattle.gib_check.proofs.Growing.below_more (length c.type_arguments.new.state.types) (length c.arguments.new.state.types) c.in_ok-types.types.items c.in_ok-parts.ensures.met.grows.longer c.in_ok-types.ensures.below)
+call-given-requires t c = subst (Rattle.gib_types.specs.Types.AreBelow (length c.arguments.new.state.types)) (sym c.deref-2.ensures.value) (Rattle.gib_check.proofs.Growing.below_more (length c.type_arguments.new.state.types) (length c.arguments.new.state.types) c.in_ok-types.types.items c.in_ok-parts.ensures.met.advances.types.longer c.in_ok-types.ensures.below)
 
 pub call-all_wanted-requires-clause-parts : goal.call-all_wanted-requires-clause-parts
 call-all_wanted-requires-clause-parts t c =
-    subst (λ ns. Rattle.gib_check.specs.Judging.ArePartsBelow (length ns) c.deref-4.result.now) (sym c.types.ensures) (subst (Rattle.gib_check.specs.Judging.ArePartsBelow (length c.parameter_types.new.state.types)) (sym c.deref-4.ensures.value) (Rattle.gib_check.proofs.Growing.parts_more (length c.arguments.new.state.types) (length c.parameter_types.new.state.types) c.in_ok-parts.parts.items c.in_ok-wanted_types.ensures.keeps.grows.longer c.in_ok-parts.ensures.met.below))
+    subst (ArePartsMet c.parameter_types.new.state) (sym c.deref-4.ensures.value) (parts_stay c.arguments.new.state c.parameter_types.new.state c.in_ok-parts.parts.items (keeps_advance c.arguments.new.state c.parameter_types.new.state c.in_ok-wanted_types.ensures.keeps) c.in_ok-parts.ensures.met.here)
 
 pub call-all_wanted-requires-clause-due : goal.call-all_wanted-requires-clause-due
 call-all_wanted-requires-clause-due t c =
-    subst (λ ns. Rattle.gib_types.specs.Types.AreBelow (length ns) c.deref-5.result.now) (sym c.types.ensures) (subst (Rattle.gib_types.specs.Types.AreBelow (length c.parameter_types.new.state.types)) (sym c.deref-5.ensures.value) c.in_ok-wanted_types.ensures.below)
-
-pub call-read_first-requires : goal.call-read_first-requires
-call-read_first-requires t c = Rattle.gib_check.proofs.Loops.meaning_more (length c.arguments.new.state.types) (length c.parameter_types.new.state.types) c.in_ok-meaning.meaning c.in_ok-wanted_types.ensures.keeps.grows.longer c.in_ok-meaning.ensures.below
+    subst (AreBelow (length c.parameter_types.new.state.types)) (sym c.deref-5.ensures.value) c.in_ok-wanted_types.ensures.below
 
 pub make-returns-in_err-row-clause-read : goal.make-returns-in_err-row-clause-read
 make-returns-in_err-row-clause-read t c =
@@ -270,110 +466,136 @@ make-returns-in_err-parts-clause-read t c =
 pub make-returns-in_err-all_wanted-clause-read : goal.make-returns-in_err-all_wanted-clause-read
 make-returns-in_err-all_wanted-clause-read t c =
     let p = err_from_is_err_and c.from_residual-in_err-all_wanted.result c.from_residual-in_err-all_wanted.ensures.1 in
-    rw (p.1, p.2) (walking.make_shape c.args.named.now c.args.variables.now c.args.made.name (types_in c.args.named.now.exprs.words c.args.made.types) (length c.args.ids.now) (λ n. Rattle.gib_check.specs.Faults.infer_all (generic_globals c.args.named.now) (variable_numbers c.args.variables.now) Rattle.gib_syntax.specs.GenericTyping.opaque (in_scope c.args.state.now) n (Rattle.gib_syntax.specs.GenericArena.arguments_from (generic_tree c.args.named.now) c.args.ids.now)) c.in_err-all_wanted.field-0.0 c.args.state.now c.one_more.new.self (Rattle.gib_check.specs.NameViews.row_in c.args.named.now c.in_ok-row.row) (Rattle.gib_check.specs.Judging.parts_in (forms c.arguments.new.state) c.in_ok-parts.parts.items) (Rattle.gib_check.specs.Judging.parts_in (forms_of c.types.result.now) c.deref-2.result.now) (Rattle.gib_check.specs.Judging.listed (forms_of c.types.result.now) c.deref-3.result.now) c.arguments.new.state.counts (record { read = c.in_ok-one_more.ensures.counts; kept = c.one_more.ensures.scope; types = c.one_more.ensures.types }) c.in_ok-row.ensures.row (subst (λ n. walking.use_types c.args.named.now c.args.variables.now c.args.made.name (types_in c.args.named.now.exprs.words c.args.made.types) (length c.args.ids.now) (λ n. Rattle.gib_check.specs.Faults.infer_all (generic_globals c.args.named.now) (variable_numbers c.args.variables.now) Rattle.gib_syntax.specs.GenericTyping.opaque (in_scope c.args.state.now) n (Rattle.gib_syntax.specs.GenericArena.arguments_from (generic_tree c.args.named.now) c.args.ids.now)) n ≡ Rattle.std.proofs.Common.Ok (tt {0})) (ap length c.variables-due.ensures) c.in_ok-types.ensures.read) (walking.counted_as (λ z. z ≡ Rattle.std.proofs.Common.Ok (tt {0})) c.args.made.name (length c.args.ids.now) c.in_ok-row.row.count (length c.args.ids.now) (length (Rattle.gib_check.specs.NameViews.row_in c.args.named.now c.in_ok-row.row).fields) refl c.in_ok-row.ensures.count c.in_ok-as_many.ensures) ((walking.results_moved c.args.named.now c.args.variables.now c.args.state.now c.one_more.new.self c.type_arguments.new.state c.args.ids.now c.type_arguments.ensures.keeps c.one_more.ensures.scope) ∙ c.in_ok-parts.ensures.read) ((λ i. Rattle.gib_check.specs.Judging.parts_in (forms_of (c.types.ensures i)) (c.deref-2.ensures.value i)) ∙ Rattle.gib_check.proofs.Growing.parts_grow c.arguments.new.state.types c.row_fields.new.state.types c.in_ok-parts.parts.items c.row_fields.ensures.keeps.grows c.in_ok-parts.ensures.met.below) ((λ i. Rattle.gib_check.specs.Judging.listed (forms_of (c.types.ensures i)) (c.deref-3.ensures.value i)) ∙ c.in_ok-fields.ensures.types ∙ ap (Rattle.gib_syntax.specs.GenericTyping.field_forms (Rattle.gib_check.specs.NameViews.row_in c.args.named.now c.in_ok-row.row)) (ap (Rattle.gib_types.specs.Types.forms_at (forms c.arguments.new.state)) c.deref.ensures.value ∙ (walking.given_types c.type_arguments.new.state c.arguments.new.state c.in_ok-types.types.items (types_in c.args.named.now.exprs.words c.args.made.types) c.in_ok-types.ensures.types c.in_ok-parts.ensures.met.grows c.in_ok-types.ensures.below))) c.in_err-all_wanted.ensures)
+    rw (p.1, p.2) (walking.make_shape c.args.named.now c.args.variables.now c.args.made.name (types_in c.args.named.now.exprs.words c.args.made.types) (length c.args.ids.now) (λ n. Rattle.gib_check.specs.Faults.infer_all (generic_globals c.args.named.now) (variable_numbers c.args.variables.now) Rattle.gib_syntax.specs.GenericTyping.opaque (in_scope c.args.state.now) n (Rattle.gib_syntax.specs.GenericArena.arguments_from (generic_tree c.args.named.now) c.args.ids.now)) c.in_err-all_wanted.field-0.0 c.args.state.now c.one_more.new.self (Rattle.gib_check.specs.NameViews.row_in c.args.named.now c.in_ok-row.row) (parts_in c.arguments.new.state c.in_ok-parts.parts.items) (parts_in c.row_fields.new.state c.deref-2.result.now) (listed (forms c.row_fields.new.state) c.deref-3.result.now) c.arguments.new.state.counts (record { read = c.in_ok-one_more.ensures.counts; kept = c.one_more.ensures.scope; types = c.one_more.ensures.types }) c.in_ok-row.ensures.row (subst (λ n. walking.use_types c.args.named.now c.args.variables.now c.args.made.name (types_in c.args.named.now.exprs.words c.args.made.types) (length c.args.ids.now) (λ n. Rattle.gib_check.specs.Faults.infer_all (generic_globals c.args.named.now) (variable_numbers c.args.variables.now) Rattle.gib_syntax.specs.GenericTyping.opaque (in_scope c.args.state.now) n (Rattle.gib_syntax.specs.GenericArena.arguments_from (generic_tree c.args.named.now) c.args.ids.now)) n ≡ Rattle.std.proofs.Common.Ok (tt {0})) (ap length c.variables-due.ensures) c.in_ok-types.ensures.read) (walking.counted_as (λ z. z ≡ Rattle.std.proofs.Common.Ok (tt {0})) c.args.made.name (length c.args.ids.now) c.in_ok-row.row.count (length c.args.ids.now) (length (Rattle.gib_check.specs.NameViews.row_in c.args.named.now c.in_ok-row.row).fields) refl c.in_ok-row.ensures.count c.in_ok-as_many.ensures) ((walking.results_moved c.args.named.now c.args.variables.now c.args.state.now c.one_more.new.self c.type_arguments.new.state c.args.ids.now c.type_arguments.ensures.keeps c.one_more.ensures.scope) ∙ c.in_ok-parts.ensures.read) (ap (parts_in c.row_fields.new.state) c.deref-2.ensures.value ∙ parts_grow c.arguments.new.state c.row_fields.new.state c.in_ok-parts.parts.items (keeps_advance c.arguments.new.state c.row_fields.new.state c.row_fields.ensures.keeps) c.in_ok-parts.ensures.met.here) (ap (listed (forms c.row_fields.new.state)) c.deref-3.ensures.value ∙ c.in_ok-fields.ensures.types ∙ ap (Rattle.gib_syntax.specs.GenericTyping.field_forms (Rattle.gib_check.specs.NameViews.row_in c.args.named.now c.in_ok-row.row)) (ap (Rattle.gib_types.specs.Types.forms_at (forms c.arguments.new.state)) c.deref.ensures.value ∙ (walking.given_types c.type_arguments.new.state c.arguments.new.state c.in_ok-types.types.items (types_in c.args.named.now.exprs.words c.args.made.types) c.in_ok-types.ensures.types c.in_ok-parts.ensures.met.advances.types c.in_ok-types.ensures.below))) c.in_err-all_wanted.ensures)
 
 pub make-returns-clause-read : goal.make-returns-clause-read
 make-returns-clause-read t c =
-    walking.make_ok c.args.named.now c.args.variables.now c.args.made.name (types_in c.args.named.now.exprs.words c.args.made.types) (length c.args.ids.now) (λ n. Rattle.gib_check.specs.Faults.infer_all (generic_globals c.args.named.now) (variable_numbers c.args.variables.now) Rattle.gib_syntax.specs.GenericTyping.opaque (in_scope c.args.state.now) n (Rattle.gib_syntax.specs.GenericArena.arguments_from (generic_tree c.args.named.now) c.args.ids.now)) c.args.state.now c.one_more.new.self (Rattle.gib_check.specs.NameViews.row_in c.args.named.now c.in_ok-row.row) (Rattle.gib_check.specs.Judging.parts_in (forms c.arguments.new.state) c.in_ok-parts.parts.items) (Rattle.gib_check.specs.Judging.parts_in (forms_of c.types.result.now) c.deref-2.result.now) (Rattle.gib_check.specs.Judging.listed (forms_of c.types.result.now) c.deref-3.result.now) c.arguments.new.state.counts (record { read = c.in_ok-one_more.ensures.counts; kept = c.one_more.ensures.scope; types = c.one_more.ensures.types }) c.in_ok-row.ensures.row (subst (λ n. walking.use_types c.args.named.now c.args.variables.now c.args.made.name (types_in c.args.named.now.exprs.words c.args.made.types) (length c.args.ids.now) (λ n. Rattle.gib_check.specs.Faults.infer_all (generic_globals c.args.named.now) (variable_numbers c.args.variables.now) Rattle.gib_syntax.specs.GenericTyping.opaque (in_scope c.args.state.now) n (Rattle.gib_syntax.specs.GenericArena.arguments_from (generic_tree c.args.named.now) c.args.ids.now)) n ≡ Rattle.std.proofs.Common.Ok (tt {0})) (ap length c.variables-due.ensures) c.in_ok-types.ensures.read) (walking.counted_as (λ z. z ≡ Rattle.std.proofs.Common.Ok (tt {0})) c.args.made.name (length c.args.ids.now) c.in_ok-row.row.count (length c.args.ids.now) (length (Rattle.gib_check.specs.NameViews.row_in c.args.named.now c.in_ok-row.row).fields) refl c.in_ok-row.ensures.count c.in_ok-as_many.ensures) ((walking.results_moved c.args.named.now c.args.variables.now c.args.state.now c.one_more.new.self c.type_arguments.new.state c.args.ids.now c.type_arguments.ensures.keeps c.one_more.ensures.scope) ∙ c.in_ok-parts.ensures.read)
-    ((λ i. Rattle.gib_check.specs.Judging.parts_in (forms_of (c.types.ensures i)) (c.deref-2.ensures.value i)) ∙ Rattle.gib_check.proofs.Growing.parts_grow c.arguments.new.state.types c.row_fields.new.state.types c.in_ok-parts.parts.items c.row_fields.ensures.keeps.grows c.in_ok-parts.ensures.met.below)
-    ((λ i. Rattle.gib_check.specs.Judging.listed (forms_of (c.types.ensures i)) (c.deref-3.ensures.value i)) ∙ c.in_ok-fields.ensures.types ∙ ap (Rattle.gib_syntax.specs.GenericTyping.field_forms (Rattle.gib_check.specs.NameViews.row_in c.args.named.now c.in_ok-row.row)) (ap (Rattle.gib_types.specs.Types.forms_at (forms c.arguments.new.state)) c.deref.ensures.value ∙ (walking.given_types c.type_arguments.new.state c.arguments.new.state c.in_ok-types.types.items (types_in c.args.named.now.exprs.words c.args.made.types) c.in_ok-types.ensures.types c.in_ok-parts.ensures.met.grows c.in_ok-types.ensures.below)))
+    walking.make_ok c.args.named.now c.args.variables.now c.args.made.name (types_in c.args.named.now.exprs.words c.args.made.types) (length c.args.ids.now) (λ n. Rattle.gib_check.specs.Faults.infer_all (generic_globals c.args.named.now) (variable_numbers c.args.variables.now) Rattle.gib_syntax.specs.GenericTyping.opaque (in_scope c.args.state.now) n (Rattle.gib_syntax.specs.GenericArena.arguments_from (generic_tree c.args.named.now) c.args.ids.now)) c.args.state.now c.one_more.new.self (Rattle.gib_check.specs.NameViews.row_in c.args.named.now c.in_ok-row.row) (parts_in c.arguments.new.state c.in_ok-parts.parts.items) (parts_in c.row_fields.new.state c.deref-2.result.now) (listed (forms c.row_fields.new.state) c.deref-3.result.now) c.arguments.new.state.counts (record { read = c.in_ok-one_more.ensures.counts; kept = c.one_more.ensures.scope; types = c.one_more.ensures.types }) c.in_ok-row.ensures.row (subst (λ n. walking.use_types c.args.named.now c.args.variables.now c.args.made.name (types_in c.args.named.now.exprs.words c.args.made.types) (length c.args.ids.now) (λ n. Rattle.gib_check.specs.Faults.infer_all (generic_globals c.args.named.now) (variable_numbers c.args.variables.now) Rattle.gib_syntax.specs.GenericTyping.opaque (in_scope c.args.state.now) n (Rattle.gib_syntax.specs.GenericArena.arguments_from (generic_tree c.args.named.now) c.args.ids.now)) n ≡ Rattle.std.proofs.Common.Ok (tt {0})) (ap length c.variables-due.ensures) c.in_ok-types.ensures.read) (walking.counted_as (λ z. z ≡ Rattle.std.proofs.Common.Ok (tt {0})) c.args.made.name (length c.args.ids.now) c.in_ok-row.row.count (length c.args.ids.now) (length (Rattle.gib_check.specs.NameViews.row_in c.args.named.now c.in_ok-row.row).fields) refl c.in_ok-row.ensures.count c.in_ok-as_many.ensures) ((walking.results_moved c.args.named.now c.args.variables.now c.args.state.now c.one_more.new.self c.type_arguments.new.state c.args.ids.now c.type_arguments.ensures.keeps c.one_more.ensures.scope) ∙ c.in_ok-parts.ensures.read)
+    (ap (parts_in c.row_fields.new.state) c.deref-2.ensures.value ∙ parts_grow c.arguments.new.state c.row_fields.new.state c.in_ok-parts.parts.items (keeps_advance c.arguments.new.state c.row_fields.new.state c.row_fields.ensures.keeps) c.in_ok-parts.ensures.met.here)
+    (ap (listed (forms c.row_fields.new.state)) c.deref-3.ensures.value ∙ c.in_ok-fields.ensures.types ∙ ap (Rattle.gib_syntax.specs.GenericTyping.field_forms (Rattle.gib_check.specs.NameViews.row_in c.args.named.now c.in_ok-row.row)) (ap (Rattle.gib_types.specs.Types.forms_at (forms c.arguments.new.state)) c.deref.ensures.value ∙ (walking.given_types c.type_arguments.new.state c.arguments.new.state c.in_ok-types.types.items (types_in c.args.named.now.exprs.words c.args.made.types) c.in_ok-types.ensures.types c.in_ok-parts.ensures.met.advances.types c.in_ok-types.ensures.below)))
     c.in_ok-all_wanted.ensures
-    ∙ walking.make_answer c.arguments.new.state c.put.new.self c.in_ok-ty.ty _ c.arguments.new.state.counts (c.in_ok-ty.ensures.met.form ∙ ap (Rattle.gib_types.specs.Form.DataForm c.in_ok-row.row.owner.0) (Rattle.gib_check.proofs.Growing.forms_grow c.arguments.new.state.types c.row_fields.new.state.types c.in_ok-types.types.items c.row_fields.ensures.keeps.grows (Rattle.gib_check.proofs.Growing.below_more (length c.type_arguments.new.state.types) (length c.arguments.new.state.types) c.in_ok-types.types.items c.in_ok-parts.ensures.met.grows.longer c.in_ok-types.ensures.below) ∙ (walking.given_types c.type_arguments.new.state c.arguments.new.state c.in_ok-types.types.items (types_in c.args.named.now.exprs.words c.args.made.types) c.in_ok-types.ensures.types c.in_ok-parts.ensures.met.grows c.in_ok-types.ensures.below))) (c.put.ensures.keeps.counts ∙ c.row_fields.ensures.keeps.counts)
+    ∙ walking.make_answer c.arguments.new.state c.put.new.self c.in_ok-ty.ty _ c.arguments.new.state.counts (c.in_ok-ty.ensures.met.form ∙ ap (Rattle.gib_types.specs.Form.DataForm c.in_ok-row.row.owner.0) (Rattle.gib_check.proofs.Growing.forms_grow c.arguments.new.state.types c.row_fields.new.state.types c.in_ok-types.types.items c.row_fields.ensures.keeps.grows (Rattle.gib_check.proofs.Growing.below_more (length c.type_arguments.new.state.types) (length c.arguments.new.state.types) c.in_ok-types.types.items c.in_ok-parts.ensures.met.advances.types.longer c.in_ok-types.ensures.below) ∙ (walking.given_types c.type_arguments.new.state c.arguments.new.state c.in_ok-types.types.items (types_in c.args.named.now.exprs.words c.args.made.types) c.in_ok-types.ensures.types c.in_ok-parts.ensures.met.advances.types c.in_ok-types.ensures.below))) (c.put.ensures.keeps.counts ∙ c.row_fields.ensures.keeps.counts)
 
 pub make-row_fields-requires : goal.make-row_fields-requires
-make-row_fields-requires t c = subst (Rattle.gib_types.specs.Types.AreBelow (length c.arguments.new.state.types)) (sym c.deref.ensures.value) (Rattle.gib_check.proofs.Growing.below_more (length c.type_arguments.new.state.types) (length c.arguments.new.state.types) c.in_ok-types.types.items c.in_ok-parts.ensures.met.grows.longer c.in_ok-types.ensures.below)
+make-row_fields-requires t c = subst (Rattle.gib_types.specs.Types.AreBelow (length c.arguments.new.state.types)) (sym c.deref.ensures.value) (Rattle.gib_check.proofs.Growing.below_more (length c.type_arguments.new.state.types) (length c.arguments.new.state.types) c.in_ok-types.types.items c.in_ok-parts.ensures.met.advances.types.longer c.in_ok-types.ensures.below)
 
 pub make-all_wanted-requires-clause-parts : goal.make-all_wanted-requires-clause-parts
 make-all_wanted-requires-clause-parts t c =
-    subst (λ ns. Rattle.gib_check.specs.Judging.ArePartsBelow (length ns) c.deref-2.result.now) (sym c.types.ensures) (subst (Rattle.gib_check.specs.Judging.ArePartsBelow (length c.row_fields.new.state.types)) (sym c.deref-2.ensures.value) (Rattle.gib_check.proofs.Growing.parts_more (length c.arguments.new.state.types) (length c.row_fields.new.state.types) c.in_ok-parts.parts.items c.row_fields.ensures.keeps.grows.longer c.in_ok-parts.ensures.met.below))
+    subst (ArePartsMet c.row_fields.new.state) (sym c.deref-2.ensures.value) (parts_stay c.arguments.new.state c.row_fields.new.state c.in_ok-parts.parts.items (keeps_advance c.arguments.new.state c.row_fields.new.state c.row_fields.ensures.keeps) c.in_ok-parts.ensures.met.here)
 
 pub make-all_wanted-requires-clause-due : goal.make-all_wanted-requires-clause-due
 make-all_wanted-requires-clause-due t c =
-    subst (λ ns. Rattle.gib_types.specs.Types.AreBelow (length ns) c.deref-3.result.now) (sym c.types.ensures) (subst (Rattle.gib_types.specs.Types.AreBelow (length c.row_fields.new.state.types)) (sym c.deref-3.ensures.value) c.in_ok-fields.ensures.below)
+    subst (AreBelow (length c.row_fields.new.state.types)) (sym c.deref-3.ensures.value) c.in_ok-fields.ensures.below
 
 pub make-put-requires : goal.make-put-requires
-make-put-requires t c = Rattle.gib_check.proofs.Growing.below_more (length c.arguments.new.state.types) (length c.row_fields.new.state.types) c.in_ok-types.types.items c.row_fields.ensures.keeps.grows.longer (Rattle.gib_check.proofs.Growing.below_more (length c.type_arguments.new.state.types) (length c.arguments.new.state.types) c.in_ok-types.types.items c.in_ok-parts.ensures.met.grows.longer c.in_ok-types.ensures.below)
+make-put-requires t c = Rattle.gib_check.proofs.Growing.below_more (length c.arguments.new.state.types) (length c.row_fields.new.state.types) c.in_ok-types.types.items c.row_fields.ensures.keeps.grows.longer (Rattle.gib_check.proofs.Growing.below_more (length c.type_arguments.new.state.types) (length c.arguments.new.state.types) c.in_ok-types.types.items c.in_ok-parts.ensures.met.advances.types.longer c.in_ok-types.ensures.below)
+
+pub call-returns-clause-met : goal.call-returns-clause-met
+call-returns-clause-met t c =
+    record { advances = (advances_on c.args.state.now c.parameter_types.new.state c.result_types.new.state (advances_on c.args.state.now c.arguments.new.state c.parameter_types.new.state (advances_on c.args.state.now c.type_arguments.new.state c.arguments.new.state (advances_on c.args.state.now c.one_more.new.self c.type_arguments.new.state (same_advance c.args.state.now c.one_more.new.self c.one_more.ensures.types c.one_more.ensures.parts) (keeps_advance c.one_more.new.self c.type_arguments.new.state c.type_arguments.ensures.keeps)) c.in_ok-parts.ensures.met.advances) (keeps_advance c.arguments.new.state c.parameter_types.new.state c.in_ok-wanted_types.ensures.keeps)) c.in_ok-given.ensures.met.advances); here = c.in_ok-given.ensures.met.here }
+
+pub call-returns-clause-kept : goal.call-returns-clause-kept
+call-returns-clause-kept t c =
+    c.in_ok-given.ensures.scope ∙ c.in_ok-wanted_types.ensures.keeps.scope ∙ c.in_ok-parts.ensures.kept ∙ c.type_arguments.ensures.keeps.scope ∙ c.one_more.ensures.scope
+
+pub make-returns-clause-met : goal.make-returns-clause-met
+make-returns-clause-met t c =
+    record { advances = (advances_on c.args.state.now c.row_fields.new.state c.put.new.self (advances_on c.args.state.now c.arguments.new.state c.row_fields.new.state (advances_on c.args.state.now c.type_arguments.new.state c.arguments.new.state (advances_on c.args.state.now c.one_more.new.self c.type_arguments.new.state (same_advance c.args.state.now c.one_more.new.self c.one_more.ensures.types c.one_more.ensures.parts) (keeps_advance c.one_more.new.self c.type_arguments.new.state c.type_arguments.ensures.keeps)) c.in_ok-parts.ensures.met.advances) (keeps_advance c.arguments.new.state c.row_fields.new.state c.row_fields.ensures.keeps)) (keeps_advance c.row_fields.new.state c.put.new.self c.put.ensures.keeps)); here = c.in_ok-ty.ensures.met.below }
+
+pub make-returns-clause-kept : goal.make-returns-clause-kept
+make-returns-clause-kept t c = c.put.ensures.keeps.scope ∙ c.row_fields.ensures.keeps.scope ∙ c.in_ok-parts.ensures.kept ∙ c.type_arguments.ensures.keeps.scope ∙ c.one_more.ensures.scope
+
+pub call-result_types-requires : goal.call-result_types-requires
+call-result_types-requires t c = Rattle.gib_check.proofs.Loops.meaning_more (length c.arguments.new.state.types) (length c.parameter_types.new.state.types) c.in_ok-meaning.meaning c.in_ok-wanted_types.ensures.keeps.grows.longer c.in_ok-meaning.ensures.below
+
+pub arm_result-returns-in_err-bind_all-clause-read : goal.arm_result-returns-in_err-bind_all-clause-read
+arm_result-returns-in_err-bind_all-clause-read t c =
+    let p = err_from_is_err_and c.from_residual-in_err-bind_all.result c.from_residual-in_err-bind_all.ensures.1 in
+    rw (p.1, p.2) (walking.arm_fails c.args.named.now c.args.variables.now c.args.at.standing (Rattle.gib_types.specs.Types.forms_at (forms c.args.state.now) c.args.types.now) c.args.arm.now.constructor c.args.arm.now.variables.items (generic_tree c.args.named.now c.args.arm.now.body.0) c.in_err-bind_all.field-0.0 c.args.state.now c.fields_named.new.state c.deref.result.now (Rattle.gib_check.specs.Judging.listed (forms c.fields_named.new.state) c.deref-2.result.now) c.fields_named.ensures.keeps c.deref.ensures.value (ap (Rattle.gib_check.specs.Judging.listed (forms c.fields_named.new.state)) c.deref-2.ensures.value ∙ c.in_ok-fields.ensures.types) c.in_err-bind_all.ensures.read)
+
+pub arm_result-returns-in_err-given-clause-read : goal.arm_result-returns-in_err-given-clause-read
+arm_result-returns-in_err-given-clause-read t c =
+    let p = err_from_is_err_and c.from_residual-in_err-given.result c.from_residual-in_err-given.ensures.1 in
+    rw (p.1, p.2) (Rattle.gib_check.proofs.Loops.along c.in_err-given.field-0.0 _ _ (walking.arm_is c.args.named.now c.args.variables.now c.args.at.standing (Rattle.gib_types.specs.Types.forms_at (forms c.args.state.now) c.args.types.now) c.args.arm.now.constructor c.args.arm.now.variables.items (generic_tree c.args.named.now c.args.arm.now.body.0) c.args.state.now c.fields_named.new.state c.bind_all.new.self c.deref.result.now (Rattle.gib_check.specs.Judging.listed (forms c.fields_named.new.state) c.deref-2.result.now) c.fields_named.ensures.keeps c.deref.ensures.value (ap (Rattle.gib_check.specs.Judging.listed (forms c.fields_named.new.state)) c.deref-2.ensures.value ∙ c.in_ok-fields.ensures.types) c.in_ok-bind_all.ensures.read) c.in_err-given.ensures.read)
+
+pub arm_result-returns-clause-read : goal.arm_result-returns-clause-read
+arm_result-returns-clause-read t c =
+    walking.arm_is c.args.named.now c.args.variables.now c.args.at.standing (Rattle.gib_types.specs.Types.forms_at (forms c.args.state.now) c.args.types.now) c.args.arm.now.constructor c.args.arm.now.variables.items (generic_tree c.args.named.now c.args.arm.now.body.0) c.args.state.now c.fields_named.new.state c.bind_all.new.self c.deref.result.now (Rattle.gib_check.specs.Judging.listed (forms c.fields_named.new.state) c.deref-2.result.now) c.fields_named.ensures.keeps c.deref.ensures.value (ap (Rattle.gib_check.specs.Judging.listed (forms c.fields_named.new.state)) c.deref-2.ensures.value ∙ c.in_ok-fields.ensures.types) c.in_ok-bind_all.ensures.read
+    ∙ c.in_ok-given.ensures.read
+    ∙ walking.same_answer c.infer.new.state c.truncate.new.self c.in_ok-given.given (same_advance c.infer.new.state c.truncate.new.self c.truncate.ensures.types c.truncate.ensures.parts) c.in_ok-given.ensures.met.here c.truncate.ensures.counts
+
+pub arm_result-returns-clause-kept : goal.arm_result-returns-clause-kept
+arm_result-returns-clause-kept t c =
+    walking.arm_dropped (in_scope c.fields_named.new.state) (in_scope c.infer.new.state) (in_scope c.truncate.new.self) c.len-len.result
+    (subst (λ s. Rattle.std.proofs.Common.drop (length s - length (in_scope c.fields_named.new.state)) s ≡ in_scope c.fields_named.new.state) (sym c.in_ok-given.ensures.kept) c.in_ok-bind_all.ensures.kept) c.len-len.ensures c.in_ok-truncate.ensures.scope
+    ∙ c.fields_named.ensures.keeps.scope
 
 pub case-returns-in_err-ty-clause-read : goal.case-returns-in_err-ty-clause-read
 case-returns-in_err-ty-clause-read t c =
     let p = err_from_is_err_and c.from_residual-in_err-ty.result c.from_residual-in_err-ty.ensures.1 in
-    rw (p.1, p.2) (walking.case_unknown c.args.named.now c.args.variables.now (generic_globals c.args.named.now).rows c.args.at.span c.args.variable (Rattle.std.proofs.Common.map Rattle.gib_check.specs.Judging.arm_head c.args.arms.now) (λ ts n. Rattle.gib_check.specs.Judging.infer_each_arm (generic_globals c.args.named.now) (variable_numbers c.args.variables.now) ts (generic_tree c.args.named.now) (in_scope c.args.state.now) n c.args.arms.now) c.in_err-ty.field-0.0 c.args.state.now c.one_more.new.self (record { read = c.in_ok-one_more.ensures.counts; kept = c.one_more.ensures.scope; types = c.one_more.ensures.types }) c.in_err-ty.ensures.read)
+    rw (p.1, p.2) (walking.case_unknown c.args.named.now c.args.variables.now (generic_globals c.args.named.now).rows c.args.at.span c.args.variable (Rattle.std.proofs.Common.map Rattle.gib_check.specs.Judging.arm_head c.args.arms.now) (λ ts n. Rattle.gib_check.specs.Judging.infer_each_arm (generic_globals c.args.named.now) (variable_numbers c.args.variables.now) c.args.at.standing ts (generic_tree c.args.named.now) (in_scope c.args.state.now) n c.args.arms.now) c.in_err-ty.field-0.0 c.args.state.now c.one_more.new.self (record { read = c.in_ok-one_more.ensures.counts; kept = c.one_more.ensures.scope; types = c.one_more.ensures.types }) c.in_err-ty.ensures.read)
 
 pub case-returns-in_err-ty-2-clause-read : goal.case-returns-in_err-ty-2-clause-read
 case-returns-in_err-ty-2-clause-read t c =
     let p = err_from_is_err_and c.from_residual-in_err-ty-2.result c.from_residual-in_err-ty-2.ensures.1 in
-    rw (p.1, p.2) (walking.case_shape c.args.named.now c.args.variables.now (generic_globals c.args.named.now).rows c.args.at.span c.args.variable (Rattle.std.proofs.Common.map Rattle.gib_check.specs.Judging.arm_head c.args.arms.now) (λ ts n. Rattle.gib_check.specs.Judging.infer_each_arm (generic_globals c.args.named.now) (variable_numbers c.args.variables.now) ts (generic_tree c.args.named.now) (in_scope c.args.state.now) n c.args.arms.now) c.in_err-ty-2.field-0.0 c.args.state.now c.one_more.new.self (form_at (forms c.one_more.new.self) c.in_ok-ty.ty.0) (record { read = c.in_ok-one_more.ensures.counts; kept = c.one_more.ensures.scope; types = c.one_more.ensures.types }) c.in_ok-ty.ensures.read (subst (λ ns. Rattle.gib_check.specs.Answers.IsFaultOf c.in_err-ty-2.field-0.0 (Rattle.gib_check.specs.Faults.declared_type (form_at (forms_of ns) c.in_ok-ty.ty.0) c.args.variable)) c.types.ensures c.in_err-ty-2.ensures.read))
+    rw (p.1, p.2) (walking.case_shape c.args.named.now c.args.variables.now (generic_globals c.args.named.now).rows c.args.at.span c.args.variable (Rattle.std.proofs.Common.map Rattle.gib_check.specs.Judging.arm_head c.args.arms.now) (λ ts n. Rattle.gib_check.specs.Judging.infer_each_arm (generic_globals c.args.named.now) (variable_numbers c.args.variables.now) c.args.at.standing ts (generic_tree c.args.named.now) (in_scope c.args.state.now) n c.args.arms.now) c.in_err-ty-2.field-0.0 c.args.state.now c.one_more.new.self (form_at (forms c.one_more.new.self) c.in_ok-ty.ty.0) (record { read = c.in_ok-one_more.ensures.counts; kept = c.one_more.ensures.scope; types = c.one_more.ensures.types }) c.in_ok-ty.ensures.read (subst (λ ns. Rattle.gib_check.specs.Answers.IsFaultOf c.in_err-ty-2.field-0.0 (Rattle.gib_check.specs.Faults.declared_type (form_at (forms_of ns) c.in_ok-ty.ty.0) c.args.variable)) c.types.ensures c.in_err-ty-2.ensures.read))
 
 pub case-returns-in_err-all_declared-clause-read : goal.case-returns-in_err-all_declared-clause-read
 case-returns-in_err-all_declared-clause-read t c =
     let p = err_from_is_err_and c.from_residual-in_err-all_declared.result c.from_residual-in_err-all_declared.ensures.1 in
-    rw (p.1, p.2) (walking.case_missing c.args.named.now c.args.variables.now (generic_globals c.args.named.now).rows c.args.at.span c.args.variable (Rattle.std.proofs.Common.map Rattle.gib_check.specs.Judging.arm_head c.args.arms.now) (λ ts n. Rattle.gib_check.specs.Judging.infer_each_arm (generic_globals c.args.named.now) (variable_numbers c.args.variables.now) ts (generic_tree c.args.named.now) (in_scope c.args.state.now) n c.args.arms.now) c.in_err-all_declared.field-0.0 c.args.state.now c.one_more.new.self (form_at (forms c.one_more.new.self) c.in_ok-ty.ty.0) (c.in_ok-ty-2.ty.name, Rattle.gib_types.specs.Types.forms_at (forms c.one_more.new.self) c.in_ok-ty-2.ty.arguments.items) (record { read = c.in_ok-one_more.ensures.counts; kept = c.one_more.ensures.scope; types = c.one_more.ensures.types }) c.in_ok-ty.ensures.read (subst (λ ns. Rattle.gib_check.specs.Faults.declared_type (form_at (forms_of ns) c.in_ok-ty.ty.0) c.args.variable ≡ Rattle.std.proofs.Common.Ok (c.in_ok-ty-2.ty.name, Rattle.gib_types.specs.Types.forms_at (forms_of ns) c.in_ok-ty-2.ty.arguments.items)) c.types.ensures c.in_ok-ty-2.ensures.read) c.in_err-all_declared.ensures)
+    rw (p.1, p.2) (walking.case_missing c.args.named.now c.args.variables.now (generic_globals c.args.named.now).rows c.args.at.span c.args.variable (Rattle.std.proofs.Common.map Rattle.gib_check.specs.Judging.arm_head c.args.arms.now) (λ ts n. Rattle.gib_check.specs.Judging.infer_each_arm (generic_globals c.args.named.now) (variable_numbers c.args.variables.now) c.args.at.standing ts (generic_tree c.args.named.now) (in_scope c.args.state.now) n c.args.arms.now) c.in_err-all_declared.field-0.0 c.args.state.now c.one_more.new.self (form_at (forms c.one_more.new.self) c.in_ok-ty.ty.0) (c.in_ok-ty-2.ty.name, Rattle.gib_types.specs.Types.forms_at (forms c.one_more.new.self) c.in_ok-ty-2.ty.arguments.items) (record { read = c.in_ok-one_more.ensures.counts; kept = c.one_more.ensures.scope; types = c.one_more.ensures.types }) c.in_ok-ty.ensures.read (subst (λ ns. Rattle.gib_check.specs.Faults.declared_type (form_at (forms_of ns) c.in_ok-ty.ty.0) c.args.variable ≡ Rattle.std.proofs.Common.Ok (c.in_ok-ty-2.ty.name, Rattle.gib_types.specs.Types.forms_at (forms_of ns) c.in_ok-ty-2.ty.arguments.items)) c.types.ensures c.in_ok-ty-2.ensures.read) c.in_err-all_declared.ensures)
 
 pub case-returns-in_err-covered-clause-read : goal.case-returns-in_err-covered-clause-read
 case-returns-in_err-covered-clause-read t c =
     let p = err_from_is_err_and c.from_residual-in_err-covered.result c.from_residual-in_err-covered.ensures.1 in
-    rw (p.1, p.2) (walking.case_uncovered c.args.named.now c.args.variables.now (generic_globals c.args.named.now).rows c.args.at.span c.args.variable (Rattle.std.proofs.Common.map Rattle.gib_check.specs.Judging.arm_head c.args.arms.now) (λ ts n. Rattle.gib_check.specs.Judging.infer_each_arm (generic_globals c.args.named.now) (variable_numbers c.args.variables.now) ts (generic_tree c.args.named.now) (in_scope c.args.state.now) n c.args.arms.now) c.in_err-covered.field-0.0 c.args.state.now c.one_more.new.self (form_at (forms c.one_more.new.self) c.in_ok-ty.ty.0) (c.in_ok-ty-2.ty.name, Rattle.gib_types.specs.Types.forms_at (forms c.one_more.new.self) c.in_ok-ty-2.ty.arguments.items) (record { read = c.in_ok-one_more.ensures.counts; kept = c.one_more.ensures.scope; types = c.one_more.ensures.types }) c.in_ok-ty.ensures.read (subst (λ ns. Rattle.gib_check.specs.Faults.declared_type (form_at (forms_of ns) c.in_ok-ty.ty.0) c.args.variable ≡ Rattle.std.proofs.Common.Ok (c.in_ok-ty-2.ty.name, Rattle.gib_types.specs.Types.forms_at (forms_of ns) c.in_ok-ty-2.ty.arguments.items)) c.types.ensures c.in_ok-ty-2.ensures.read) c.in_ok-all_declared.ensures c.in_err-covered.ensures)
+    rw (p.1, p.2) (walking.case_uncovered c.args.named.now c.args.variables.now (generic_globals c.args.named.now).rows c.args.at.span c.args.variable (Rattle.std.proofs.Common.map Rattle.gib_check.specs.Judging.arm_head c.args.arms.now) (λ ts n. Rattle.gib_check.specs.Judging.infer_each_arm (generic_globals c.args.named.now) (variable_numbers c.args.variables.now) c.args.at.standing ts (generic_tree c.args.named.now) (in_scope c.args.state.now) n c.args.arms.now) c.in_err-covered.field-0.0 c.args.state.now c.one_more.new.self (form_at (forms c.one_more.new.self) c.in_ok-ty.ty.0) (c.in_ok-ty-2.ty.name, Rattle.gib_types.specs.Types.forms_at (forms c.one_more.new.self) c.in_ok-ty-2.ty.arguments.items) (record { read = c.in_ok-one_more.ensures.counts; kept = c.one_more.ensures.scope; types = c.one_more.ensures.types }) c.in_ok-ty.ensures.read (subst (λ ns. Rattle.gib_check.specs.Faults.declared_type (form_at (forms_of ns) c.in_ok-ty.ty.0) c.args.variable ≡ Rattle.std.proofs.Common.Ok (c.in_ok-ty-2.ty.name, Rattle.gib_types.specs.Types.forms_at (forms_of ns) c.in_ok-ty-2.ty.arguments.items)) c.types.ensures c.in_ok-ty-2.ensures.read) c.in_ok-all_declared.ensures c.in_err-covered.ensures)
 
 pub case-returns-in_err-all_counted-clause-read : goal.case-returns-in_err-all_counted-clause-read
 case-returns-in_err-all_counted-clause-read t c =
     let p = err_from_is_err_and c.from_residual-in_err-all_counted.result c.from_residual-in_err-all_counted.ensures.1 in
-    rw (p.1, p.2) (walking.case_count c.args.named.now c.args.variables.now (generic_globals c.args.named.now).rows c.args.at.span c.args.variable (Rattle.std.proofs.Common.map Rattle.gib_check.specs.Judging.arm_head c.args.arms.now) (λ ts n. Rattle.gib_check.specs.Judging.infer_each_arm (generic_globals c.args.named.now) (variable_numbers c.args.variables.now) ts (generic_tree c.args.named.now) (in_scope c.args.state.now) n c.args.arms.now) c.in_err-all_counted.field-0.0 c.args.state.now c.one_more.new.self (form_at (forms c.one_more.new.self) c.in_ok-ty.ty.0) (c.in_ok-ty-2.ty.name, Rattle.gib_types.specs.Types.forms_at (forms c.one_more.new.self) c.in_ok-ty-2.ty.arguments.items) (record { read = c.in_ok-one_more.ensures.counts; kept = c.one_more.ensures.scope; types = c.one_more.ensures.types }) c.in_ok-ty.ensures.read (subst (λ ns. Rattle.gib_check.specs.Faults.declared_type (form_at (forms_of ns) c.in_ok-ty.ty.0) c.args.variable ≡ Rattle.std.proofs.Common.Ok (c.in_ok-ty-2.ty.name, Rattle.gib_types.specs.Types.forms_at (forms_of ns) c.in_ok-ty-2.ty.arguments.items)) c.types.ensures c.in_ok-ty-2.ensures.read) c.in_ok-all_declared.ensures c.in_ok-covered.ensures c.in_err-all_counted.ensures)
+    rw (p.1, p.2) (walking.case_count c.args.named.now c.args.variables.now (generic_globals c.args.named.now).rows c.args.at.span c.args.variable (Rattle.std.proofs.Common.map Rattle.gib_check.specs.Judging.arm_head c.args.arms.now) (λ ts n. Rattle.gib_check.specs.Judging.infer_each_arm (generic_globals c.args.named.now) (variable_numbers c.args.variables.now) c.args.at.standing ts (generic_tree c.args.named.now) (in_scope c.args.state.now) n c.args.arms.now) c.in_err-all_counted.field-0.0 c.args.state.now c.one_more.new.self (form_at (forms c.one_more.new.self) c.in_ok-ty.ty.0) (c.in_ok-ty-2.ty.name, Rattle.gib_types.specs.Types.forms_at (forms c.one_more.new.self) c.in_ok-ty-2.ty.arguments.items) (record { read = c.in_ok-one_more.ensures.counts; kept = c.one_more.ensures.scope; types = c.one_more.ensures.types }) c.in_ok-ty.ensures.read (subst (λ ns. Rattle.gib_check.specs.Faults.declared_type (form_at (forms_of ns) c.in_ok-ty.ty.0) c.args.variable ≡ Rattle.std.proofs.Common.Ok (c.in_ok-ty-2.ty.name, Rattle.gib_types.specs.Types.forms_at (forms_of ns) c.in_ok-ty-2.ty.arguments.items)) c.types.ensures c.in_ok-ty-2.ensures.read) c.in_ok-all_declared.ensures c.in_ok-covered.ensures c.in_err-all_counted.ensures)
 
 pub case-returns-in_err-parts-clause-read : goal.case-returns-in_err-parts-clause-read
 case-returns-in_err-parts-clause-read t c =
     let p = err_from_is_err_and c.from_residual-in_err-parts.result c.from_residual-in_err-parts.ensures.1 in
-    rw (p.1, p.2) (walking.case_parts c.args.named.now c.args.variables.now (generic_globals c.args.named.now).rows c.args.at.span c.args.variable (Rattle.std.proofs.Common.map Rattle.gib_check.specs.Judging.arm_head c.args.arms.now) (λ ts n. Rattle.gib_check.specs.Judging.infer_each_arm (generic_globals c.args.named.now) (variable_numbers c.args.variables.now) ts (generic_tree c.args.named.now) (in_scope c.args.state.now) n c.args.arms.now) c.in_err-parts.field-0.0 c.args.state.now c.one_more.new.self (form_at (forms c.one_more.new.self) c.in_ok-ty.ty.0) (c.in_ok-ty-2.ty.name, Rattle.gib_types.specs.Types.forms_at (forms c.one_more.new.self) c.in_ok-ty-2.ty.arguments.items) (record { read = c.in_ok-one_more.ensures.counts; kept = c.one_more.ensures.scope; types = c.one_more.ensures.types }) c.in_ok-ty.ensures.read (subst (λ ns. Rattle.gib_check.specs.Faults.declared_type (form_at (forms_of ns) c.in_ok-ty.ty.0) c.args.variable ≡ Rattle.std.proofs.Common.Ok (c.in_ok-ty-2.ty.name, Rattle.gib_types.specs.Types.forms_at (forms_of ns) c.in_ok-ty-2.ty.arguments.items)) c.types.ensures c.in_ok-ty-2.ensures.read) c.in_ok-all_declared.ensures c.in_ok-covered.ensures c.in_ok-all_counted.ensures (Rattle.gib_check.proofs.Loops.along c.in_err-parts.field-0.0 _ _ (λ i. Rattle.gib_check.specs.Judging.infer_each_arm (generic_globals c.args.named.now) (variable_numbers c.args.variables.now) (Rattle.gib_types.specs.Types.forms_at (forms c.one_more.new.self) (sym c.deref.ensures.value i)) (generic_tree c.args.named.now) (sym c.one_more.ensures.scope i) c.one_more.new.self.counts c.args.arms.now) c.in_err-parts.ensures.read))
+    rw (p.1, p.2) (walking.case_parts c.args.named.now c.args.variables.now (generic_globals c.args.named.now).rows c.args.at.span c.args.variable (Rattle.std.proofs.Common.map Rattle.gib_check.specs.Judging.arm_head c.args.arms.now) (λ ts n. Rattle.gib_check.specs.Judging.infer_each_arm (generic_globals c.args.named.now) (variable_numbers c.args.variables.now) c.args.at.standing ts (generic_tree c.args.named.now) (in_scope c.args.state.now) n c.args.arms.now) c.in_err-parts.field-0.0 c.args.state.now c.one_more.new.self (form_at (forms c.one_more.new.self) c.in_ok-ty.ty.0) (c.in_ok-ty-2.ty.name, Rattle.gib_types.specs.Types.forms_at (forms c.one_more.new.self) c.in_ok-ty-2.ty.arguments.items) (record { read = c.in_ok-one_more.ensures.counts; kept = c.one_more.ensures.scope; types = c.one_more.ensures.types }) c.in_ok-ty.ensures.read (subst (λ ns. Rattle.gib_check.specs.Faults.declared_type (form_at (forms_of ns) c.in_ok-ty.ty.0) c.args.variable ≡ Rattle.std.proofs.Common.Ok (c.in_ok-ty-2.ty.name, Rattle.gib_types.specs.Types.forms_at (forms_of ns) c.in_ok-ty-2.ty.arguments.items)) c.types.ensures c.in_ok-ty-2.ensures.read) c.in_ok-all_declared.ensures c.in_ok-covered.ensures c.in_ok-all_counted.ensures (Rattle.gib_check.proofs.Loops.along c.in_err-parts.field-0.0 _ _ (λ i. Rattle.gib_check.specs.Judging.infer_each_arm (generic_globals c.args.named.now) (variable_numbers c.args.variables.now) c.args.at.standing (Rattle.gib_types.specs.Types.forms_at (forms c.one_more.new.self) (sym c.deref.ensures.value i)) (generic_tree c.args.named.now) (sym c.one_more.ensures.scope i) c.one_more.new.self.counts c.args.arms.now) c.in_err-parts.ensures.read))
 
 pub case-returns-in_err-common-clause-read : goal.case-returns-in_err-common-clause-read
 case-returns-in_err-common-clause-read t c =
     let p = err_from_is_err_and c.from_residual-in_err-common.result c.from_residual-in_err-common.ensures.1 in
-    rw (p.1, p.2) (Rattle.gib_check.proofs.Loops.along c.in_err-common.field-0.0 _ _ (walking.case_ends c.args.named.now c.args.variables.now (generic_globals c.args.named.now).rows c.args.at.span c.args.variable (Rattle.std.proofs.Common.map Rattle.gib_check.specs.Judging.arm_head c.args.arms.now) (λ ts n. Rattle.gib_check.specs.Judging.infer_each_arm (generic_globals c.args.named.now) (variable_numbers c.args.variables.now) ts (generic_tree c.args.named.now) (in_scope c.args.state.now) n c.args.arms.now) c.args.state.now c.one_more.new.self (form_at (forms c.one_more.new.self) c.in_ok-ty.ty.0) (c.in_ok-ty-2.ty.name, Rattle.gib_types.specs.Types.forms_at (forms c.one_more.new.self) c.in_ok-ty-2.ty.arguments.items) (Rattle.gib_check.specs.Judging.parts_in (forms c.arm_results.new.state) c.in_ok-parts.parts.items) c.arm_results.new.state.counts (record { read = c.in_ok-one_more.ensures.counts; kept = c.one_more.ensures.scope; types = c.one_more.ensures.types }) c.in_ok-ty.ensures.read (subst (λ ns. Rattle.gib_check.specs.Faults.declared_type (form_at (forms_of ns) c.in_ok-ty.ty.0) c.args.variable ≡ Rattle.std.proofs.Common.Ok (c.in_ok-ty-2.ty.name, Rattle.gib_types.specs.Types.forms_at (forms_of ns) c.in_ok-ty-2.ty.arguments.items)) c.types.ensures c.in_ok-ty-2.ensures.read) c.in_ok-all_declared.ensures c.in_ok-covered.ensures c.in_ok-all_counted.ensures ((λ i. Rattle.gib_check.specs.Judging.infer_each_arm (generic_globals c.args.named.now) (variable_numbers c.args.variables.now) (Rattle.gib_types.specs.Types.forms_at (forms c.one_more.new.self) (sym c.deref.ensures.value i)) (generic_tree c.args.named.now) (sym c.one_more.ensures.scope i) c.one_more.new.self.counts c.args.arms.now) ∙ c.in_ok-parts.ensures.read))
-    (subst (λ ps. Rattle.gib_check.specs.Answers.IsFaultOf {B = Form × Counts} c.in_err-common.field-0.0 (Rattle.gib_check.specs.Faults.and_then {B = Form × Counts} (Rattle.gib_check.specs.Faults.all_of (Rattle.gib_check.specs.Faults.first_type ps) ps) (λ _. Rattle.std.proofs.Common.Ok (Rattle.gib_check.specs.Faults.first_type ps, c.arm_results.new.state.counts)))) (ap (Rattle.gib_check.specs.Judging.parts_in (forms c.arm_results.new.state)) c.deref-2.ensures.value) (walking.fault_with c.in_err-common.field-0.0 (Rattle.gib_check.specs.Faults.all_of (Rattle.gib_check.specs.Faults.first_type (Rattle.gib_check.specs.Judging.parts_in (forms c.arm_results.new.state) c.deref-2.result.now)) (Rattle.gib_check.specs.Judging.parts_in (forms c.arm_results.new.state) c.deref-2.result.now)) (Rattle.gib_check.specs.Faults.first_type (Rattle.gib_check.specs.Judging.parts_in (forms c.arm_results.new.state) c.deref-2.result.now)) c.arm_results.new.state.counts c.in_err-common.ensures.read)))
+    rw (p.1, p.2) (Rattle.gib_check.proofs.Loops.along c.in_err-common.field-0.0 _ _ (walking.case_ends c.args.named.now c.args.variables.now (generic_globals c.args.named.now).rows c.args.at.span c.args.variable (Rattle.std.proofs.Common.map Rattle.gib_check.specs.Judging.arm_head c.args.arms.now) (λ ts n. Rattle.gib_check.specs.Judging.infer_each_arm (generic_globals c.args.named.now) (variable_numbers c.args.variables.now) c.args.at.standing ts (generic_tree c.args.named.now) (in_scope c.args.state.now) n c.args.arms.now) c.args.state.now c.one_more.new.self (form_at (forms c.one_more.new.self) c.in_ok-ty.ty.0) (c.in_ok-ty-2.ty.name, Rattle.gib_types.specs.Types.forms_at (forms c.one_more.new.self) c.in_ok-ty-2.ty.arguments.items) (parts_in c.arm_results.new.state c.in_ok-parts.parts.items) c.arm_results.new.state.counts (record { read = c.in_ok-one_more.ensures.counts; kept = c.one_more.ensures.scope; types = c.one_more.ensures.types }) c.in_ok-ty.ensures.read (subst (λ ns. Rattle.gib_check.specs.Faults.declared_type (form_at (forms_of ns) c.in_ok-ty.ty.0) c.args.variable ≡ Rattle.std.proofs.Common.Ok (c.in_ok-ty-2.ty.name, Rattle.gib_types.specs.Types.forms_at (forms_of ns) c.in_ok-ty-2.ty.arguments.items)) c.types.ensures c.in_ok-ty-2.ensures.read) c.in_ok-all_declared.ensures c.in_ok-covered.ensures c.in_ok-all_counted.ensures ((λ i. Rattle.gib_check.specs.Judging.infer_each_arm (generic_globals c.args.named.now) (variable_numbers c.args.variables.now) c.args.at.standing (Rattle.gib_types.specs.Types.forms_at (forms c.one_more.new.self) (sym c.deref.ensures.value i)) (generic_tree c.args.named.now) (sym c.one_more.ensures.scope i) c.one_more.new.self.counts c.args.arms.now) ∙ c.in_ok-parts.ensures.read))
+    (subst (λ ps. Rattle.gib_check.specs.Answers.IsFaultOf {B = Results Form × Counts} c.in_err-common.field-0.0 (Rattle.gib_check.specs.Faults.and_then {B = Results Form × Counts} (Rattle.gib_check.specs.Faults.all_of (Rattle.gib_check.specs.Faults.first_type ps) ps) (λ _. Rattle.std.proofs.Common.Ok (Rattle.gib_check.specs.Faults.first_type ps, c.arm_results.new.state.counts)))) (ap (parts_in c.arm_results.new.state) c.deref-2.ensures.value) (walking.fault_with c.in_err-common.field-0.0 (Rattle.gib_check.specs.Faults.all_of (Rattle.gib_check.specs.Faults.first_type (parts_in c.arm_results.new.state c.deref-2.result.now)) (parts_in c.arm_results.new.state c.deref-2.result.now)) (Rattle.gib_check.specs.Faults.first_type (parts_in c.arm_results.new.state c.deref-2.result.now)) c.arm_results.new.state.counts c.in_err-common.ensures.read)))
 
 pub case-returns-clause-read : goal.case-returns-clause-read
 case-returns-clause-read t c =
-    walking.case_ends c.args.named.now c.args.variables.now (generic_globals c.args.named.now).rows c.args.at.span c.args.variable (Rattle.std.proofs.Common.map Rattle.gib_check.specs.Judging.arm_head c.args.arms.now) (λ ts n. Rattle.gib_check.specs.Judging.infer_each_arm (generic_globals c.args.named.now) (variable_numbers c.args.variables.now) ts (generic_tree c.args.named.now) (in_scope c.args.state.now) n c.args.arms.now) c.args.state.now c.one_more.new.self (form_at (forms c.one_more.new.self) c.in_ok-ty.ty.0) (c.in_ok-ty-2.ty.name, Rattle.gib_types.specs.Types.forms_at (forms c.one_more.new.self) c.in_ok-ty-2.ty.arguments.items) (Rattle.gib_check.specs.Judging.parts_in (forms c.arm_results.new.state) c.in_ok-parts.parts.items) c.arm_results.new.state.counts (record { read = c.in_ok-one_more.ensures.counts; kept = c.one_more.ensures.scope; types = c.one_more.ensures.types }) c.in_ok-ty.ensures.read (subst (λ ns. Rattle.gib_check.specs.Faults.declared_type (form_at (forms_of ns) c.in_ok-ty.ty.0) c.args.variable ≡ Rattle.std.proofs.Common.Ok (c.in_ok-ty-2.ty.name, Rattle.gib_types.specs.Types.forms_at (forms_of ns) c.in_ok-ty-2.ty.arguments.items)) c.types.ensures c.in_ok-ty-2.ensures.read) c.in_ok-all_declared.ensures c.in_ok-covered.ensures c.in_ok-all_counted.ensures ((λ i. Rattle.gib_check.specs.Judging.infer_each_arm (generic_globals c.args.named.now) (variable_numbers c.args.variables.now) (Rattle.gib_types.specs.Types.forms_at (forms c.one_more.new.self) (sym c.deref.ensures.value i)) (generic_tree c.args.named.now) (sym c.one_more.ensures.scope i) c.one_more.new.self.counts c.args.arms.now) ∙ c.in_ok-parts.ensures.read)
-    ∙ subst (λ ps. Rattle.gib_check.specs.Faults.and_then {B = Form × Counts} (Rattle.gib_check.specs.Faults.all_of (Rattle.gib_check.specs.Faults.first_type ps) ps) (λ _. Rattle.std.proofs.Common.Ok (Rattle.gib_check.specs.Faults.first_type ps, c.arm_results.new.state.counts)) ≡ Rattle.std.proofs.Common.Ok (form_at (forms c.common_type.new.state) c.in_ok-common.common.0, c.arm_results.new.state.counts)) (ap (Rattle.gib_check.specs.Judging.parts_in (forms c.arm_results.new.state)) c.deref-2.ensures.value) (walking.ok_with (Rattle.gib_check.specs.Faults.all_of (Rattle.gib_check.specs.Faults.first_type (Rattle.gib_check.specs.Judging.parts_in (forms c.arm_results.new.state) c.deref-2.result.now)) (Rattle.gib_check.specs.Judging.parts_in (forms c.arm_results.new.state) c.deref-2.result.now)) (Rattle.gib_check.specs.Faults.first_type (Rattle.gib_check.specs.Judging.parts_in (forms c.arm_results.new.state) c.deref-2.result.now)) (form_at (forms c.common_type.new.state) c.in_ok-common.common.0) c.arm_results.new.state.counts c.in_ok-common.ensures.read)
-    ∙ ap (λ (n : Rattle.gib_check.specs.declared.counts.Counts.Counts). Rattle.std.proofs.Common.Ok (form_at (forms c.common_type.new.state) c.in_ok-common.common.0, n)) (sym c.common_type.ensures.counts)
+    walking.case_ends c.args.named.now c.args.variables.now (generic_globals c.args.named.now).rows c.args.at.span c.args.variable (Rattle.std.proofs.Common.map Rattle.gib_check.specs.Judging.arm_head c.args.arms.now) (λ ts n. Rattle.gib_check.specs.Judging.infer_each_arm (generic_globals c.args.named.now) (variable_numbers c.args.variables.now) c.args.at.standing ts (generic_tree c.args.named.now) (in_scope c.args.state.now) n c.args.arms.now) c.args.state.now c.one_more.new.self (form_at (forms c.one_more.new.self) c.in_ok-ty.ty.0) (c.in_ok-ty-2.ty.name, Rattle.gib_types.specs.Types.forms_at (forms c.one_more.new.self) c.in_ok-ty-2.ty.arguments.items) (parts_in c.arm_results.new.state c.in_ok-parts.parts.items) c.arm_results.new.state.counts (record { read = c.in_ok-one_more.ensures.counts; kept = c.one_more.ensures.scope; types = c.one_more.ensures.types }) c.in_ok-ty.ensures.read (subst (λ ns. Rattle.gib_check.specs.Faults.declared_type (form_at (forms_of ns) c.in_ok-ty.ty.0) c.args.variable ≡ Rattle.std.proofs.Common.Ok (c.in_ok-ty-2.ty.name, Rattle.gib_types.specs.Types.forms_at (forms_of ns) c.in_ok-ty-2.ty.arguments.items)) c.types.ensures c.in_ok-ty-2.ensures.read) c.in_ok-all_declared.ensures c.in_ok-covered.ensures c.in_ok-all_counted.ensures ((λ i. Rattle.gib_check.specs.Judging.infer_each_arm (generic_globals c.args.named.now) (variable_numbers c.args.variables.now) c.args.at.standing (Rattle.gib_types.specs.Types.forms_at (forms c.one_more.new.self) (sym c.deref.ensures.value i)) (generic_tree c.args.named.now) (sym c.one_more.ensures.scope i) c.one_more.new.self.counts c.args.arms.now) ∙ c.in_ok-parts.ensures.read)
+    ∙ subst (λ ps. Rattle.gib_check.specs.Faults.and_then {B = Results Form × Counts} (Rattle.gib_check.specs.Faults.all_of (Rattle.gib_check.specs.Faults.first_type ps) ps) (λ _. Rattle.std.proofs.Common.Ok (Rattle.gib_check.specs.Faults.first_type ps, c.arm_results.new.state.counts)) ≡ Rattle.std.proofs.Common.Ok (forms_given c.common_type.new.state c.in_ok-common.common, c.arm_results.new.state.counts)) (ap (parts_in c.arm_results.new.state) c.deref-2.ensures.value) (walking.ok_with (Rattle.gib_check.specs.Faults.all_of (Rattle.gib_check.specs.Faults.first_type (parts_in c.arm_results.new.state c.deref-2.result.now)) (parts_in c.arm_results.new.state c.deref-2.result.now)) (Rattle.gib_check.specs.Faults.first_type (parts_in c.arm_results.new.state c.deref-2.result.now)) (forms_given c.common_type.new.state c.in_ok-common.common) c.arm_results.new.state.counts c.in_ok-common.ensures.read)
+    ∙ ap (λ (n : Rattle.gib_check.specs.declared.counts.Counts.Counts). Rattle.std.proofs.Common.Ok (forms_given c.common_type.new.state c.in_ok-common.common, n)) (sym c.common_type.ensures.counts)
+
+pub arm_result-returns-clause-met : goal.arm_result-returns-clause-met
+arm_result-returns-clause-met t c =
+    record { advances = (advances_on c.args.state.now c.infer.new.state c.truncate.new.self (advances_on c.args.state.now c.bind_all.new.self c.infer.new.state (advances_on c.args.state.now c.fields_named.new.state c.bind_all.new.self (keeps_advance c.args.state.now c.fields_named.new.state c.fields_named.ensures.keeps) (same_advance c.fields_named.new.state c.bind_all.new.self c.bind_all.ensures.types c.bind_all.ensures.parts)) c.in_ok-given.ensures.met.advances) (same_advance c.infer.new.state c.truncate.new.self c.truncate.ensures.types c.truncate.ensures.parts)); here = met_stays c.infer.new.state c.truncate.new.self c.in_ok-given.given (same_advance c.infer.new.state c.truncate.new.self c.truncate.ensures.types c.truncate.ensures.parts) c.in_ok-given.ensures.met.here }
+
+pub case-returns-clause-met : goal.case-returns-clause-met
+case-returns-clause-met t c =
+    record { advances = (advances_on c.args.state.now c.arm_results.new.state c.common_type.new.state (advances_on c.args.state.now c.one_more.new.self c.arm_results.new.state (same_advance c.args.state.now c.one_more.new.self c.one_more.ensures.types c.one_more.ensures.parts) c.in_ok-parts.ensures.met.advances) c.in_ok-common.ensures.met.advances); here = c.in_ok-common.ensures.met.here }
+
+pub case-returns-clause-kept : goal.case-returns-clause-kept
+case-returns-clause-kept t c = c.common_type.ensures.scope ∙ c.in_ok-parts.ensures.kept ∙ c.one_more.ensures.scope
 
 pub operation-returns-clause-met : goal.operation-returns-clause-met
-operation-returns-clause-met t c = record { grows = (Rattle.gib_check.proofs.Growing.grows_on c.args.state.now.types c.infer-2.new.state.types c.put.new.self.types (Rattle.gib_check.proofs.Growing.grows_on c.args.state.now.types c.infer.new.state.types c.infer-2.new.state.types (Rattle.gib_check.proofs.Growing.grows_on c.args.state.now.types c.one_more.new.self.types c.infer.new.state.types (walking.same_grows c.args.state.now.types c.one_more.new.self.types c.one_more.ensures.types) c.in_ok-left_ty.ensures.met.grows) c.in_ok-right_ty.ensures.met.grows) c.in_ok-id.ensures.met.grows); below = c.in_ok-id.ensures.met.below }
+operation-returns-clause-met t c =
+    record { advances = (advances_on c.args.state.now c.infer-2.new.state c.put.new.self (advances_on c.args.state.now c.infer.new.state c.infer-2.new.state (advances_on c.args.state.now c.one_more.new.self c.infer.new.state (same_advance c.args.state.now c.one_more.new.self c.one_more.ensures.types c.one_more.ensures.parts) c.in_ok-left_ty.ensures.met.advances) c.in_ok-right_ty.ensures.met.advances) (keeps_advance c.infer-2.new.state c.put.new.self c.put.ensures.keeps)); here = c.in_ok-id.ensures.met.below }
 
 pub operation-returns-clause-kept : goal.operation-returns-clause-kept
 operation-returns-clause-kept t c = c.put.ensures.keeps.scope ∙ c.in_ok-right_ty.ensures.kept ∙ c.in_ok-left_ty.ensures.kept ∙ c.one_more.ensures.scope
 
 pub if_else-returns-clause-met : goal.if_else-returns-clause-met
-if_else-returns-clause-met t c = record { grows = (Rattle.gib_check.proofs.Growing.grows_on c.args.state.now.types c.infer-2.new.state.types c.infer-3.new.state.types (Rattle.gib_check.proofs.Growing.grows_on c.args.state.now.types c.infer.new.state.types c.infer-2.new.state.types (Rattle.gib_check.proofs.Growing.grows_on c.args.state.now.types c.one_more.new.self.types c.infer.new.state.types (walking.same_grows c.args.state.now.types c.one_more.new.self.types c.one_more.ensures.types) c.in_ok-condition_ty.ensures.met.grows) c.in_ok-then_ty.ensures.met.grows) c.in_ok-else_ty.ensures.met.grows); below = (let k = c.in_ok-then_ty.ensures.met.below in let l = (c.in_ok-else_ty.ensures.met.grows).longer in omega (Rattle.std.proofs.Common.arith, k, l)) }
+if_else-returns-clause-met t c =
+    record { advances = (advances_on c.args.state.now c.infer-2.new.state c.infer-3.new.state (advances_on c.args.state.now c.infer.new.state c.infer-2.new.state (advances_on c.args.state.now c.one_more.new.self c.infer.new.state (same_advance c.args.state.now c.one_more.new.self c.one_more.ensures.types c.one_more.ensures.parts) c.in_ok-condition_ty.ensures.met.advances) c.in_ok-then_ty.ensures.met.advances) c.in_ok-else_ty.ensures.met.advances); here = met_stays c.infer-2.new.state c.infer-3.new.state c.in_ok-then_ty.then_ty c.in_ok-else_ty.ensures.met.advances c.in_ok-then_ty.ensures.met.here }
 
 pub if_else-returns-clause-kept : goal.if_else-returns-clause-kept
 if_else-returns-clause-kept t c = c.in_ok-else_ty.ensures.kept ∙ c.in_ok-then_ty.ensures.kept ∙ c.in_ok-condition_ty.ensures.kept ∙ c.one_more.ensures.scope
-
-pub let_in-returns-clause-met : goal.let_in-returns-clause-met
-let_in-returns-clause-met t c = record { grows = (Rattle.gib_check.proofs.Growing.grows_on c.args.state.now.types c.infer-2.new.state.types c.truncate.new.self.types (Rattle.gib_check.proofs.Growing.grows_on c.args.state.now.types c.bind.new.self.types c.infer-2.new.state.types (Rattle.gib_check.proofs.Growing.grows_on c.args.state.now.types c.infer.new.state.types c.bind.new.self.types (Rattle.gib_check.proofs.Growing.grows_on c.args.state.now.types c.one_more.new.self.types c.infer.new.state.types (walking.same_grows c.args.state.now.types c.one_more.new.self.types c.one_more.ensures.types) c.in_ok-value_ty.ensures.met.grows) (walking.same_grows c.infer.new.state.types c.bind.new.self.types c.bind.ensures.types)) c.in_ok-ty.ensures.met.grows) (walking.same_grows c.infer-2.new.state.types c.truncate.new.self.types c.truncate.ensures.types)); below = (subst (λ ns. c.in_ok-ty.ty.0 < length ns) (sym c.truncate.ensures.types) c.in_ok-ty.ensures.met.below) }
-
-pub let_par-returns-clause-met : goal.let_par-returns-clause-met
-let_par-returns-clause-met t c = record { grows = (Rattle.gib_check.proofs.Growing.grows_on c.args.state.now.types c.infer-3.new.state.types c.truncate.new.self.types (Rattle.gib_check.proofs.Growing.grows_on c.args.state.now.types c.bind-2.new.self.types c.infer-3.new.state.types (Rattle.gib_check.proofs.Growing.grows_on c.args.state.now.types c.bind.new.self.types c.bind-2.new.self.types (Rattle.gib_check.proofs.Growing.grows_on c.args.state.now.types c.infer-2.new.state.types c.bind.new.self.types (Rattle.gib_check.proofs.Growing.grows_on c.args.state.now.types c.infer.new.state.types c.infer-2.new.state.types (Rattle.gib_check.proofs.Growing.grows_on c.args.state.now.types c.one_more.new.self.types c.infer.new.state.types (walking.same_grows c.args.state.now.types c.one_more.new.self.types c.one_more.ensures.types) c.in_ok-left_ty.ensures.met.grows) c.in_ok-right_ty.ensures.met.grows) (walking.same_grows c.infer-2.new.state.types c.bind.new.self.types c.bind.ensures.types)) (walking.same_grows c.bind.new.self.types c.bind-2.new.self.types c.bind-2.ensures.types)) c.in_ok-ty.ensures.met.grows) (walking.same_grows c.infer-3.new.state.types c.truncate.new.self.types c.truncate.ensures.types)); below = (subst (λ ns. c.in_ok-ty.ty.0 < length ns) (sym c.truncate.ensures.types) c.in_ok-ty.ensures.met.below) }
-
-pub arm_result-returns-clause-met : goal.arm_result-returns-clause-met
-arm_result-returns-clause-met t c = record { grows = (Rattle.gib_check.proofs.Growing.grows_on c.args.state.now.types c.infer.new.state.types c.truncate.new.self.types (Rattle.gib_check.proofs.Growing.grows_on c.args.state.now.types c.bind_all.new.self.types c.infer.new.state.types (Rattle.gib_check.proofs.Growing.grows_on c.args.state.now.types c.fields_named.new.state.types c.bind_all.new.self.types c.fields_named.ensures.keeps.grows (walking.same_grows c.fields_named.new.state.types c.bind_all.new.self.types c.bind_all.ensures.types)) c.in_ok-ty.ensures.met.grows) (walking.same_grows c.infer.new.state.types c.truncate.new.self.types c.truncate.ensures.types)); below = (subst (λ ns. c.in_ok-ty.ty.0 < length ns) (sym c.truncate.ensures.types) c.in_ok-ty.ensures.met.below) }
-
-pub call-returns-clause-met : goal.call-returns-clause-met
-call-returns-clause-met t c = record { grows = (Rattle.gib_check.proofs.Growing.grows_on c.args.state.now.types c.parameter_types.new.state.types c.read_first.new.self.types (Rattle.gib_check.proofs.Growing.grows_on c.args.state.now.types c.arguments.new.state.types c.parameter_types.new.state.types (Rattle.gib_check.proofs.Growing.grows_on c.args.state.now.types c.type_arguments.new.state.types c.arguments.new.state.types (Rattle.gib_check.proofs.Growing.grows_on c.args.state.now.types c.one_more.new.self.types c.type_arguments.new.state.types (walking.same_grows c.args.state.now.types c.one_more.new.self.types c.one_more.ensures.types) c.type_arguments.ensures.keeps.grows) c.in_ok-parts.ensures.met.grows) c.in_ok-wanted_types.ensures.keeps.grows) c.in_ok-ty.ensures.met.grows); below = c.in_ok-ty.ensures.met.below }
-
-pub call-returns-clause-kept : goal.call-returns-clause-kept
-call-returns-clause-kept t c = c.read_first.ensures.keeps.scope ∙ c.in_ok-wanted_types.ensures.keeps.scope ∙ c.in_ok-parts.ensures.kept ∙ c.type_arguments.ensures.keeps.scope ∙ c.one_more.ensures.scope
-
-pub make-returns-clause-met : goal.make-returns-clause-met
-make-returns-clause-met t c = record { grows = (Rattle.gib_check.proofs.Growing.grows_on c.args.state.now.types c.row_fields.new.state.types c.put.new.self.types (Rattle.gib_check.proofs.Growing.grows_on c.args.state.now.types c.arguments.new.state.types c.row_fields.new.state.types (Rattle.gib_check.proofs.Growing.grows_on c.args.state.now.types c.type_arguments.new.state.types c.arguments.new.state.types (Rattle.gib_check.proofs.Growing.grows_on c.args.state.now.types c.one_more.new.self.types c.type_arguments.new.state.types (walking.same_grows c.args.state.now.types c.one_more.new.self.types c.one_more.ensures.types) c.type_arguments.ensures.keeps.grows) c.in_ok-parts.ensures.met.grows) c.row_fields.ensures.keeps.grows) c.in_ok-ty.ensures.met.grows); below = c.in_ok-ty.ensures.met.below }
-
-pub make-returns-clause-kept : goal.make-returns-clause-kept
-make-returns-clause-kept t c = c.put.ensures.keeps.scope ∙ c.row_fields.ensures.keeps.scope ∙ c.in_ok-parts.ensures.kept ∙ c.type_arguments.ensures.keeps.scope ∙ c.one_more.ensures.scope
-
-pub case-returns-clause-met : goal.case-returns-clause-met
-case-returns-clause-met t c = record { grows = (Rattle.gib_check.proofs.Growing.grows_on c.args.state.now.types c.arm_results.new.state.types c.common_type.new.state.types (Rattle.gib_check.proofs.Growing.grows_on c.args.state.now.types c.one_more.new.self.types c.arm_results.new.state.types (walking.same_grows c.args.state.now.types c.one_more.new.self.types c.one_more.ensures.types) c.in_ok-parts.ensures.met.grows) c.in_ok-common.ensures.met.grows); below = c.in_ok-common.ensures.met.below }
-
-pub case-returns-clause-kept : goal.case-returns-clause-kept
-case-returns-clause-kept t c = c.common_type.ensures.scope ∙ c.in_ok-parts.ensures.kept ∙ c.one_more.ensures.scope
 
 pub arguments-returns-clause-met : goal.arguments-returns-clause-met
 arguments-returns-clause-met t c = c.arguments.invariant.met

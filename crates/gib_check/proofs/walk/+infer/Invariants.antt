@@ -8,6 +8,18 @@ decreases-infer l = 6 * l.id.0 + 5
 abbrev pub decreases-infer_worded : goal.decreases-infer_worded
 decreases-infer_worded l = 6 * l.id.0 + 4
 
+abbrev pub decreases-infer_several : goal.decreases-infer_several
+decreases-infer_several l = 6 * l.id.0 + 4
+
+abbrev pub decreases-tuple : goal.decreases-tuple
+decreases-tuple l = 6 * l.at.id.0 + 3
+
+abbrev pub decreases-let_several : goal.decreases-let_several
+decreases-let_several l = 6 * l.at.id.0 + 3
+
+abbrev pub decreases-par_several : goal.decreases-par_several
+decreases-par_several l = 6 * l.at.id.0 + 3
+
 abbrev pub decreases-operation : goal.decreases-operation
 decreases-operation l = 6 * l.at.id.0 + 3
 
@@ -33,10 +45,10 @@ abbrev pub decreases-arguments : goal.decreases-arguments
 decreases-arguments l = 6 * l.id.0 + 2
 
 abbrev pub decreases-arm_results : goal.decreases-arm_results
-decreases-arm_results l = 6 * l.id.0 + 2
+decreases-arm_results l = 6 * l.at.id.0 + 2
 
 abbrev pub decreases-arm_result : goal.decreases-arm_result
-decreases-arm_result l = 6 * l.id.0 + 1
+decreases-arm_result l = 6 * l.at.id.0 + 1
 
 abbrev pub invariant-arguments-arguments : goal.invariant-arguments-arguments
 invariant-arguments-arguments l = ArgumentsSoFar l.named l.variables l.fn.id.0 l.fn.state l.state l.ids l.rest l.parts.items
@@ -45,7 +57,7 @@ abbrev pub decreases-arguments-arguments : goal.decreases-arguments-arguments
 decreases-arguments-arguments l = length l.rest
 
 abbrev pub invariant-arm_results-arms : goal.invariant-arm_results-arms
-invariant-arm_results-arms l = ArmsSoFar l.named l.variables l.id.0 l.fn.state l.state l.types l.arms l.rest l.parts.items
+invariant-arm_results-arms l = ArmsSoFar l.named l.variables l.at.standing l.at.id.0 l.fn.state l.state l.types l.arms l.rest l.parts.items
 
 abbrev pub decreases-arm_results-arms : goal.decreases-arm_results-arms
 decreases-arm_results-arms l = length l.rest

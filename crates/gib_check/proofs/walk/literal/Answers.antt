@@ -1,5 +1,5 @@
-use Rattle.gib_check.proofs.Growing.{grows_on}
-use Rattle.gib_check.proofs.Walking.{literal_ok, same_grows}
+use Rattle.gib_check.proofs.Growing.{advances_on, same_advance, keeps_advance}
+use Rattle.gib_check.proofs.Walking.{literal_ok}
 use Rattle.gib_check.proofs.walk.literal.Goals as goal
 
 pub returns-clause-read : goal.returns-clause-read
@@ -7,6 +7,6 @@ returns-clause-read c = λ fs. literal_ok c.args.state.now c.one_more.new.self c
 
 pub returns-clause-met : goal.returns-clause-met
 returns-clause-met c = record {
-  grows = grows_on c.args.state.now.types c.one_more.new.self.types c.put.new.self.types (same_grows c.args.state.now.types c.one_more.new.self.types c.one_more.ensures.types) c.in_ok-id.ensures.met.grows;
-  below = c.in_ok-id.ensures.met.below;
+  advances = advances_on c.args.state.now c.one_more.new.self c.put.new.self (same_advance c.args.state.now c.one_more.new.self c.one_more.ensures.types c.one_more.ensures.parts) (keeps_advance c.one_more.new.self c.put.new.self c.put.ensures.keeps);
+  here = c.in_ok-id.ensures.met.below;
 }

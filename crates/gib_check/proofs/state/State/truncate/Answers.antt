@@ -8,4 +8,4 @@ invariant_of-self c = c.truncate.ensures.below (length c.self.inside.types) c.se
 pub returns-clause-scope : goal.returns-clause-scope
 returns-clause-scope c =
     on_ok c.truncate.result c.truncate.ensures.rest
-    (λ q. cut_scope c.args.self.now c.self.inside.types c.self.inside.scope c.truncate.new.self c.self.inside.counts c.args.len c.self.view_is q)
+    (λ q. cut_scope c.args.self.now c.self.inside.types c.self.inside.parts.items c.self.inside.scope c.truncate.new.self c.self.inside.counts c.args.len c.self.view_is q)
