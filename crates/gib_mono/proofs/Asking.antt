@@ -6,13 +6,14 @@ use Rattle.std.proofs.lemmas.Bool.{eqb-true}
 use Rattle.gib_syntax.specs.declared.tree.Ident.{Ident}
 use Rattle.gib_syntax.specs.Declarations.{number_of}
 use Rattle.gib_syntax.specs.Typing.{Globals}
+use Rattle.gib_syntax.specs.Results.{Results, One, Several, map_results, as_results, list_results}
 use Rattle.gib_syntax.specs.Forms.{WrittenType, WrittenTypes, WholeAt, TruthAt, VariableAt, DataAt, NoType, MoreTypes, Form, Forms, WholeForm, TruthForm, NoForm, MoreForms, Meant, formed, formed_all, assign}
-use Rattle.gib_syntax.specs.GenericTree.{GenericExpression, GenericArguments, GenericArms, GenericVar, GenericNum, GenericBit, GenericParen, GenericOp, GenericCall, GenericMake, GenericLet, GenericPar, GenericIf, GenericCase, GenericNoArgument, GenericArgument, GenericLastArm, GenericNextArm, GenericConstructorTree, GenericDataTree, GenericParameterTree, GenericFunctionTree, GenericRow, GenericGlobals, place_named, generic_named, data_named}
-use Rattle.gib_syntax.specs.GenericTyping.{FormScope, form_bound, IsKnownType, AreKnownTypes, HasForm, HaveForms, ArmsHaveForm, field_forms, parameter_forms, HasKnownForm, HasKnownGenericFields}
+use Rattle.gib_syntax.specs.GenericTree.{GenericExpression, GenericArguments, GenericArms, GenericVar, GenericNum, GenericBit, GenericParen, GenericOp, GenericCall, GenericMake, GenericLet, GenericPar, GenericIf, GenericCase, GenericTuple, GenericLetSeveral, GenericParSeveral, GenericNoArgument, GenericArgument, GenericLastArm, GenericNextArm, GenericConstructorTree, GenericDataTree, GenericParameterTree, GenericFunctionTree, GenericRow, GenericGlobals, place_named, generic_named, data_named}
+use Rattle.gib_syntax.specs.GenericTyping.{FormScope, form_bound, IsKnownType, AreKnownTypes, AreKnownResults, HasForm, HaveForms, ArmsHaveForm, field_forms, parameter_forms, HasKnownForm, HasKnownGenericFields}
 use Rattle.gib_mono.specs.Copying.{Naming, owner_named}
 use Rattle.gib_mono.specs.Copied.{Item, IsItem, IsHere, AreHere, Setting, IsAsked, AreAsked, ArmsAsked}
 use Rattle.gib_types.specs.SameForm.{same_forms}
-use Rattle.gib_mono.specs.Walk.{Ask, Copy, DataOf, FunctionOf, is_found, written_asks, writtens_asks, types_asks, asks, all_asks, arm_asks, constructor_asks, data_asked, function_asked, type_items, function_items}
+use Rattle.gib_mono.specs.Walk.{Ask, Copy, DataOf, FunctionOf, is_found, written_asks, results_asks, writtens_asks, types_asks, asks, all_asks, arm_asks, constructor_asks, data_asked, function_asked, type_items, function_items}
 use Rattle.gib_mono.specs.Closed.{IsThere, AreAnswered}
 use Rattle.gib_mono.proofs.Scopes.{owner_is}
 use Rattle.gib_types.proofs.SameForms.{same_forms_are}
@@ -118,7 +119,7 @@ abbrev pub RowsDeclared : GenericGlobals → Type 0
 RowsDeclared g = (c : ℕ) (row : GenericRow) → slice_get g.rows c ≡ Some row → (d : GenericDataTree) × (data_named g.datas row.owner ≡ Some d)
 
 mutual
-  pub uses_asked : (g : GenericGlobals) (nm : Naming) (to : Globals) (base : ℕ → ℕ) (found : List Copy) → RowsDeclared g → (vars : List ℕ) (m : Meant) → MeantHere (type_items found) m → (e : GenericExpression) (ty : Form) (scope : FormScope) →
+  pub uses_asked : (g : GenericGlobals) (nm : Naming) (to : Globals) (base : ℕ → ℕ) (found : List Copy) → RowsDeclared g → (vars : List ℕ) (m : Meant) → MeantHere (type_items found) m → (e : GenericExpression) (ty : Results Form) (scope : FormScope) →
       HasForm g vars m scope e ty → AreAnswered g found (asks g.rows m e) → IsAsked (found_setting g nm to base found) m e × AllAskHere (type_items found) (asks g.rows m e)
   uses_asked g nm to base found rows vars m here (GenericVar x) ty scope h k = (tt {0}, tt {0})
   uses_asked g nm to base found rows vars m here (GenericNum p n) ty scope h k = (tt {0}, tt {0})
@@ -126,8 +127,8 @@ mutual
   uses_asked g nm to base found rows vars m here (GenericParen p e) ty scope h k = uses_asked g nm to base found rows vars m here e ty scope h k
   uses_asked g nm to base found rows vars m here (GenericOp p f a b) ty scope h k =
       let both = answered_split g found (asks g.rows m a) (asks g.rows m b) k in
-      let x = uses_asked g nm to base found rows vars m here a WholeForm scope h.1 both.0 in
-      let y = uses_asked g nm to base found rows vars m here b WholeForm scope h.2 both.1 in
+      let x = uses_asked g nm to base found rows vars m here a (One WholeForm) scope h.1 both.0 in
+      let y = uses_asked g nm to base found rows vars m here b (One WholeForm) scope h.2 both.1 in
       ((x.0, y.0), here_both (type_items found) (asks g.rows m a) (asks g.rows m b) x.1 y.1)
   uses_asked g nm to base found rows vars m here (GenericCall f ws xs) ty scope h k =
       let both = answered_split g found (writtens_asks m ws) (all_asks g.rows m xs) k.1 in
@@ -153,24 +154,37 @@ mutual
       )
   uses_asked g nm to base found rows vars m here (GenericLet p x a b) ty scope h k =
       let both = answered_split g found (asks g.rows m a) (asks g.rows m b) k in
-      let u = uses_asked g nm to base found rows vars m here a h.0 scope h.1 both.0 in
+      let u = uses_asked g nm to base found rows vars m here a (One h.0) scope h.1 both.0 in
       let v = uses_asked g nm to base found rows vars m here b ty (form_bound x h.0 scope) h.3 both.1 in
       ((u.0, v.0), here_both (type_items found) (asks g.rows m a) (asks g.rows m b) u.1 v.1)
   uses_asked g nm to base found rows vars m here (GenericPar p x a y b c) ty scope h k =
       let both = answered_split g found (asks g.rows m a) (asks g.rows m b ++ asks g.rows m c) k in
       let last = answered_split g found (asks g.rows m b) (asks g.rows m c) both.1 in
-      let u = uses_asked g nm to base found rows vars m here a h.0 scope h.2 both.0 in
-      let v = uses_asked g nm to base found rows vars m here b h.1 scope h.3 last.0 in
+      let u = uses_asked g nm to base found rows vars m here a (One h.0) scope h.2 both.0 in
+      let v = uses_asked g nm to base found rows vars m here b (One h.1) scope h.3 last.0 in
       let w = uses_asked g nm to base found rows vars m here c ty (form_bound y h.1 (form_bound x h.0 scope)) h.6 last.1 in
       ((u.0, v.0, w.0), here_both (type_items found) (asks g.rows m a) (asks g.rows m b ++ asks g.rows m c) u.1 (here_both (type_items found) (asks g.rows m b) (asks g.rows m c) v.1 w.1))
   uses_asked g nm to base found rows vars m here (GenericIf p a b c) ty scope h k =
       let both = answered_split g found (asks g.rows m a) (asks g.rows m b ++ asks g.rows m c) k in
       let last = answered_split g found (asks g.rows m b) (asks g.rows m c) both.1 in
-      let u = uses_asked g nm to base found rows vars m here a TruthForm scope h.0 both.0 in
+      let u = uses_asked g nm to base found rows vars m here a (One TruthForm) scope h.0 both.0 in
       let v = uses_asked g nm to base found rows vars m here b ty scope h.1 last.0 in
       let w = uses_asked g nm to base found rows vars m here c ty scope h.2 last.1 in
       ((u.0, v.0, w.0), here_both (type_items found) (asks g.rows m a) (asks g.rows m b ++ asks g.rows m c) u.1 (here_both (type_items found) (asks g.rows m b) (asks g.rows m c) v.1 w.1))
   uses_asked g nm to base found rows vars m here (GenericCase p x arms) ty scope h k = arms_uses_asked g nm to base found rows vars m here arms ty scope h.0 h.1 h.4 k
+  uses_asked g nm to base found rows vars m here (GenericTuple p xs) ty scope h k = all_uses_asked g nm to base found rows vars m here xs h.0 scope h.2 k
+  uses_asked g nm to base found rows vars m here (GenericLetSeveral p xs a b) ty scope h k =
+      let both = answered_split g found (asks g.rows m a) (asks g.rows m b) k in
+      let u = uses_asked g nm to base found rows vars m here a (as_results h.0) scope h.3 both.0 in
+      let v = uses_asked g nm to base found rows vars m here b ty h.1 h.5 both.1 in
+      ((u.0, v.0), here_both (type_items found) (asks g.rows m a) (asks g.rows m b) u.1 v.1)
+  uses_asked g nm to base found rows vars m here (GenericParSeveral p xs a ys b c) ty scope h k =
+      let both = answered_split g found (asks g.rows m a) (asks g.rows m b ++ asks g.rows m c) k in
+      let last = answered_split g found (asks g.rows m b) (asks g.rows m c) both.1 in
+      let u = uses_asked g nm to base found rows vars m here a (as_results h.0) scope h.6 both.0 in
+      let v = uses_asked g nm to base found rows vars m here b (as_results h.1) scope h.7 last.0 in
+      let w = uses_asked g nm to base found rows vars m here c ty h.3 h.10 last.1 in
+      ((u.0, v.0, w.0), here_both (type_items found) (asks g.rows m a) (asks g.rows m b ++ asks g.rows m c) u.1 (here_both (type_items found) (asks g.rows m b) (asks g.rows m c) v.1 w.1))
 
   all_uses_asked : (g : GenericGlobals) (nm : Naming) (to : Globals) (base : ℕ → ℕ) (found : List Copy) → RowsDeclared g → (vars : List ℕ) (m : Meant) → MeantHere (type_items found) m → (xs : GenericArguments) (fs : List Form) (scope : FormScope) →
       HaveForms g vars m scope xs fs → AreAnswered g found (all_asks g.rows m xs) → AreAsked (found_setting g nm to base found) m xs × AllAskHere (type_items found) (all_asks g.rows m xs)
@@ -178,11 +192,11 @@ mutual
   all_uses_asked g nm to base found rows vars m here (GenericArgument a xs) [] scope h k = absurd h
   all_uses_asked g nm to base found rows vars m here (GenericArgument a xs) (f ∷ fs) scope h k =
       let both = answered_split g found (asks g.rows m a) (all_asks g.rows m xs) k in
-      let u = uses_asked g nm to base found rows vars m here a f scope h.0 both.0 in
+      let u = uses_asked g nm to base found rows vars m here a (One f) scope h.0 both.0 in
       let v = all_uses_asked g nm to base found rows vars m here xs fs scope h.1 both.1 in
       ((u.0, v.0), here_both (type_items found) (asks g.rows m a) (all_asks g.rows m xs) u.1 v.1)
 
-  arms_uses_asked : (g : GenericGlobals) (nm : Naming) (to : Globals) (base : ℕ → ℕ) (found : List Copy) → RowsDeclared g → (vars : List ℕ) (m : Meant) → MeantHere (type_items found) m → (arms : GenericArms) (ty : Form) (scope : FormScope) (t : ℕ) (ts : Forms) →
+  arms_uses_asked : (g : GenericGlobals) (nm : Naming) (to : Globals) (base : ℕ → ℕ) (found : List Copy) → RowsDeclared g → (vars : List ℕ) (m : Meant) → MeantHere (type_items found) m → (arms : GenericArms) (ty : Results Form) (scope : FormScope) (t : ℕ) (ts : Forms) →
       ArmsHaveForm g vars m scope t ts arms ty → AreAnswered g found (arm_asks g.rows m arms) → ArmsAsked (found_setting g nm to base found) m arms × AllAskHere (type_items found) (arm_asks g.rows m arms)
   arms_uses_asked g nm to base found rows vars m here (GenericLastArm c xs e) ty scope t ts h k = uses_asked g nm to base found rows vars m here e ty h.2 h.7 k
   arms_uses_asked g nm to base found rows vars m here (GenericNextArm c xs e arms) ty scope t ts h k =
@@ -200,6 +214,11 @@ types_here g found vars m here (w ∷ ws) known h =
     let both = answered_split g found (written_asks m w) (types_asks m ws) h in
     let rest = types_here g found vars m here ws known.1 both.1 in
     ((written_here g found vars m here w known.0 both.0, rest.0), here_both (type_items found) (written_asks m w) (types_asks m ws) (written_uses g found vars m here w known.0 both.0) rest.1)
+
+pub results_types_here : (g : GenericGlobals) (found : List Copy) (vars : List ℕ) (m : Meant) → MeantHere (type_items found) m → (r : Results WrittenType) → AreKnownResults g.datas vars r → AreAnswered g found (results_asks m r) →
+    AllByRecursion (IsHere (type_items found)) (list_results (map_results (formed m) r)) × AllAskHere (type_items found) (results_asks m r)
+results_types_here g found vars m here (One w) known h = ((written_here g found vars m here w known h, tt {0}), written_uses g found vars m here w known h)
+results_types_here g found vars m here (Several ws) known h = types_here g found vars m here ws known.1 h
 
 pub constructors_here : (g : GenericGlobals) (found : List Copy) (vars : List ℕ) (m : Meant) → MeantHere (type_items found) m → (cs : List GenericConstructorTree) → AllByRecursion (HasKnownGenericFields g.datas vars) cs → AreAnswered g found (constructor_asks m cs) →
     AllByRecursion (λ (c : GenericConstructorTree). AllByRecursion (IsHere (type_items found)) (map (formed m) c.fields)) cs × AllAskHere (type_items found) (constructor_asks m cs)

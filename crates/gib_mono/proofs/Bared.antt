@@ -12,13 +12,14 @@ use Rattle.gib_syntax.specs.declared.tree.Parameter.{Parameter}
 use Rattle.gib_syntax.specs.Declarations.{number_of, place_of}
 use Rattle.gib_syntax.specs.Tree.{Expression, Arguments, ConstructorTree, DataTree, FunctionTree, MainTree, ProgramTree}
 use Rattle.gib_syntax.specs.Plain.{as_generic, all_as_generic, arms_as_generic}
+use Rattle.gib_syntax.specs.Results.{Results, One, Several, map_results, list_results}
 use Rattle.gib_syntax.specs.Forms.{WrittenType, WrittenTypes, WholeAt, TruthAt, VariableAt, DataAt, NoType, MoreTypes, Form, Forms, WholeForm, TruthForm, DataForm, NoForm, Meant, formed, formed_all, assign, count_written}
-use Rattle.gib_syntax.specs.GenericTree.{GenericExpression, GenericArguments, GenericArms, GenericVar, GenericNum, GenericBit, GenericParen, GenericOp, GenericCall, GenericMake, GenericLet, GenericPar, GenericIf, GenericCase, GenericNoArgument, GenericArgument, GenericLastArm, GenericNextArm, GenericConstructorTree, GenericDataTree, GenericParameterTree, GenericFunctionTree, GenericMainTree, GenericProgramTree, GenericRow, row_of, rows_of, GenericGlobals, globals_of_generic, generic_named, data_named}
-use Rattle.gib_syntax.specs.GenericTyping.{FormScope, form_bound, HasForm, HaveForms, ArmsHaveForm, IsKnownType, HasKnownForm, HasKnownGenericFields, IsKnownData, IsTypedGenericFunction, IsTypedGenericHere, IsTypedGeneric, field_forms, parameter_forms, variable_numbers}
+use Rattle.gib_syntax.specs.GenericTree.{GenericExpression, GenericArguments, GenericArms, GenericVar, GenericNum, GenericBit, GenericParen, GenericOp, GenericCall, GenericMake, GenericLet, GenericPar, GenericIf, GenericCase, GenericTuple, GenericLetSeveral, GenericParSeveral, GenericNoArgument, GenericArgument, GenericLastArm, GenericNextArm, GenericConstructorTree, GenericDataTree, GenericParameterTree, GenericFunctionTree, GenericMainTree, GenericProgramTree, GenericRow, row_of, rows_of, GenericGlobals, globals_of_generic, generic_named, data_named}
+use Rattle.gib_syntax.specs.GenericTyping.{FormScope, form_bound, HasForm, HaveForms, ArmsHaveForm, IsKnownType, AreKnownResults, HasKnownForm, HasKnownGenericFields, IsKnownData, IsTypedGenericFunction, IsTypedGenericHere, IsTypedGeneric, field_forms, parameter_forms, variable_numbers}
 use Rattle.gib_mono.specs.Copying.{Naming, IsPlainNaming, renamed, copy_written, name_of_form, copy_constructor, copy_data, copy_parameter, copy_function, copy_main, parameter_scope, copy, bind_forms}
-use Rattle.gib_mono.specs.Walk.{Ask, Copy, DataOf, FunctionOf, DataCopy, FunctionCopy, data_asked, function_asked, asked, same_copy, is_found, add_short, add_ask, with_found, add_asks, walk_one, walk, written_asks, types_asks, asks, constructor_asks, function_asks, copy_asks, copies_asks, main_asks, plain_data, plain_datas, plain_function, plain_functions, plain_copies, copies_of, datas_in, function_copies, copied_program}
+use Rattle.gib_mono.specs.Walk.{Ask, Copy, DataOf, FunctionOf, DataCopy, FunctionCopy, data_asked, function_asked, asked, same_copy, is_found, add_short, add_ask, with_found, add_asks, walk_one, walk, written_asks, results_asks, types_asks, asks, constructor_asks, function_asks, copy_asks, copies_asks, main_asks, plain_data, plain_datas, plain_function, plain_functions, plain_copies, copies_of, datas_in, function_copies, copied_program}
 use Rattle.gib_types.specs.Form.{has_long}
-use Rattle.gib_mono.specs.Bare.{IsPlainData, IsPlainFunction, IsPlainProgram, bare_written, bare, all_bare, arms_bare, bare_constructor, bare_data, bare_parameter, bare_function, bare_main, bare_program}
+use Rattle.gib_mono.specs.Bare.{IsPlainData, IsPlainFunction, IsPlainProgram, IsSingle, AreSingle, HasSingle, IsSingleFunction, bare_written, bare, all_bare, arms_bare, bare_constructor, bare_data, bare_parameter, bare_function, bare_main, bare_program}
 use Rattle.gib_mono.proofs.Closing.{data_found, parts_same}
 use Rattle.gib_mono.proofs.Here.{get_split, map_found}
 use Rattle.gib_mono.proofs.OwnCopy.{IsBare, BareScope, BareGlobals, bare_binds, bare_nothing, copy_own}
@@ -58,33 +59,36 @@ no_types NoType e = refl
 no_types (MoreTypes w ws) e = absurd cc
 
 mutual
-  own_tree : (g : GenericGlobals) → PlainGlobals g → (vars : List ℕ) (m : Meant) (e : GenericExpression) (scope : FormScope) (t : Form) → HasForm g vars m scope e t → as_generic (bare e) ≡ e
-  own_tree g plain vars m (GenericVar x) scope t h = refl
-  own_tree g plain vars m (GenericNum p n) scope t h = refl
-  own_tree g plain vars m (GenericBit p b) scope t h = refl
-  own_tree g plain vars m (GenericParen p e) scope t h = ap (GenericParen p) (own_tree g plain vars m e scope t h)
-  own_tree g plain vars m (GenericOp p f a b) scope t h = ap₂ (GenericOp p f) (own_tree g plain vars m a scope WholeForm h.1) (own_tree g plain vars m b scope WholeForm h.2)
-  own_tree g plain vars m (GenericCall f ws xs) scope t h =
-      ap₂ (GenericCall f) (sym (no_types ws (h.2 ∙ ap length (function_plain g.functions (number_of f) h.0 plain.functions h.1)))) (own_trees g plain vars m xs scope (parameter_forms h.0 (formed_all m ws)) h.5)
-  own_tree g plain vars m (GenericMake k ws xs) scope t h =
-      ap₂ (GenericMake k) (sym (no_types ws (h.4 ∙ ap length (plain.rows h.0 h.1 h.3)))) (own_trees g plain vars m xs scope (field_forms h.1 (formed_all m ws)) h.7)
-  own_tree g plain vars m (GenericLet p x a b) scope t h = ap₂ (GenericLet p x) (own_tree g plain vars m a scope h.0 h.1) (own_tree g plain vars m b (form_bound x h.0 scope) t h.3)
-  own_tree g plain vars m (GenericPar p x a y b c) scope t h =
-      ap (λ (u : GenericExpression). GenericPar p x u y (as_generic (bare b)) (as_generic (bare c))) (own_tree g plain vars m a scope h.0 h.2)
-      ∙ ap₂ (λ (u v : GenericExpression). GenericPar p x a y u v) (own_tree g plain vars m b scope h.1 h.3) (own_tree g plain vars m c (form_bound y h.1 (form_bound x h.0 scope)) t h.6)
-  own_tree g plain vars m (GenericIf p a b c) scope t h =
-      ap (λ (u : GenericExpression). GenericIf p u (as_generic (bare b)) (as_generic (bare c))) (own_tree g plain vars m a scope TruthForm h.0)
-      ∙ ap₂ (λ (u v : GenericExpression). GenericIf p a u v) (own_tree g plain vars m b scope t h.1) (own_tree g plain vars m c scope t h.2)
-  own_tree g plain vars m (GenericCase p x arms) scope t h = ap (GenericCase p x) (own_arms g plain vars m arms scope h.0 h.1 t h.4)
+  own_tree : (g : GenericGlobals) → PlainGlobals g → (vars : List ℕ) (m : Meant) (e : GenericExpression) (scope : FormScope) (t : Results Form) → IsSingle e → HasForm g vars m scope e t → as_generic (bare e) ≡ e
+  own_tree g plain vars m (GenericVar x) scope t single h = refl
+  own_tree g plain vars m (GenericNum p n) scope t single h = refl
+  own_tree g plain vars m (GenericBit p b) scope t single h = refl
+  own_tree g plain vars m (GenericParen p e) scope t single h = ap (GenericParen p) (own_tree g plain vars m e scope t single h)
+  own_tree g plain vars m (GenericOp p f a b) scope t single h = ap₂ (GenericOp p f) (own_tree g plain vars m a scope (One WholeForm) single.0 h.1) (own_tree g plain vars m b scope (One WholeForm) single.1 h.2)
+  own_tree g plain vars m (GenericCall f ws xs) scope t single h =
+      ap₂ (GenericCall f) (sym (no_types ws (h.2 ∙ ap length (function_plain g.functions (number_of f) h.0 plain.functions h.1)))) (own_trees g plain vars m xs scope (parameter_forms h.0 (formed_all m ws)) single h.5)
+  own_tree g plain vars m (GenericMake k ws xs) scope t single h =
+      ap₂ (GenericMake k) (sym (no_types ws (h.4 ∙ ap length (plain.rows h.0 h.1 h.3)))) (own_trees g plain vars m xs scope (field_forms h.1 (formed_all m ws)) single h.7)
+  own_tree g plain vars m (GenericLet p x a b) scope t single h = ap₂ (GenericLet p x) (own_tree g plain vars m a scope (One h.0) single.0 h.1) (own_tree g plain vars m b (form_bound x h.0 scope) t single.1 h.3)
+  own_tree g plain vars m (GenericPar p x a y b c) scope t single h =
+      ap (λ (u : GenericExpression). GenericPar p x u y (as_generic (bare b)) (as_generic (bare c))) (own_tree g plain vars m a scope (One h.0) single.0 h.2)
+      ∙ ap₂ (λ (u v : GenericExpression). GenericPar p x a y u v) (own_tree g plain vars m b scope (One h.1) single.1 h.3) (own_tree g plain vars m c (form_bound y h.1 (form_bound x h.0 scope)) t single.2 h.6)
+  own_tree g plain vars m (GenericIf p a b c) scope t single h =
+      ap (λ (u : GenericExpression). GenericIf p u (as_generic (bare b)) (as_generic (bare c))) (own_tree g plain vars m a scope (One TruthForm) single.0 h.0)
+      ∙ ap₂ (λ (u v : GenericExpression). GenericIf p a u v) (own_tree g plain vars m b scope t single.1 h.1) (own_tree g plain vars m c scope t single.2 h.2)
+  own_tree g plain vars m (GenericCase p x arms) scope t single h = ap (GenericCase p x) (own_arms g plain vars m arms scope h.0 h.1 t single h.4)
+  own_tree g plain vars m (GenericTuple p xs) scope t single h = absurd single
+  own_tree g plain vars m (GenericLetSeveral p xs a b) scope t single h = absurd single
+  own_tree g plain vars m (GenericParSeveral p xs a ys b c) scope t single h = absurd single
 
-  own_trees : (g : GenericGlobals) → PlainGlobals g → (vars : List ℕ) (m : Meant) (xs : GenericArguments) (scope : FormScope) (ts : List Form) → HaveForms g vars m scope xs ts → all_as_generic (all_bare xs) ≡ xs
-  own_trees g plain vars m GenericNoArgument scope ts h = refl
-  own_trees g plain vars m (GenericArgument a xs) scope [] h = absurd h
-  own_trees g plain vars m (GenericArgument a xs) scope (t ∷ ts) h = ap₂ GenericArgument (own_tree g plain vars m a scope t h.0) (own_trees g plain vars m xs scope ts h.1)
+  own_trees : (g : GenericGlobals) → PlainGlobals g → (vars : List ℕ) (m : Meant) (xs : GenericArguments) (scope : FormScope) (ts : List Form) → AreSingle xs → HaveForms g vars m scope xs ts → all_as_generic (all_bare xs) ≡ xs
+  own_trees g plain vars m GenericNoArgument scope ts single h = refl
+  own_trees g plain vars m (GenericArgument a xs) scope [] single h = absurd h
+  own_trees g plain vars m (GenericArgument a xs) scope (t ∷ ts) single h = ap₂ GenericArgument (own_tree g plain vars m a scope (One t) single.0 h.0) (own_trees g plain vars m xs scope ts single.1 h.1)
 
-  own_arms : (g : GenericGlobals) → PlainGlobals g → (vars : List ℕ) (m : Meant) (arms : GenericArms) (scope : FormScope) (n : ℕ) (ts : Forms) (t : Form) → ArmsHaveForm g vars m scope n ts arms t → arms_as_generic (arms_bare arms) ≡ arms
-  own_arms g plain vars m (GenericLastArm k xs e) scope n ts t h = ap (GenericLastArm k xs) (own_tree g plain vars m e h.2 t h.7)
-  own_arms g plain vars m (GenericNextArm k xs e arms) scope n ts t h = ap₂ (GenericNextArm k xs) (own_tree g plain vars m e h.0.2 t h.0.7) (own_arms g plain vars m arms scope n ts t h.1)
+  own_arms : (g : GenericGlobals) → PlainGlobals g → (vars : List ℕ) (m : Meant) (arms : GenericArms) (scope : FormScope) (n : ℕ) (ts : Forms) (t : Results Form) → HasSingle arms → ArmsHaveForm g vars m scope n ts arms t → arms_as_generic (arms_bare arms) ≡ arms
+  own_arms g plain vars m (GenericLastArm k xs e) scope n ts t single h = ap (GenericLastArm k xs) (own_tree g plain vars m e h.2 t single h.7)
+  own_arms g plain vars m (GenericNextArm k xs e arms) scope n ts t single h = ap₂ (GenericNextArm k xs) (own_tree g plain vars m e h.0.2 t single.0 h.0.7) (own_arms g plain vars m arms scope n ts t single.1 h.1)
 
 -- A known type has no arguments
 
@@ -118,17 +122,26 @@ constructors_bare : (ds : List GenericDataTree) → AllByRecursion IsPlainData d
 constructors_bare ds plain vars none [] h = tt {0}
 constructors_bare ds plain vars none (c ∷ cs) h = (all_known_bare ds plain vars none c.fields h.0.1, constructors_bare ds plain vars none cs h.1)
 
--- What is left of the types in a declaration, and of its body
-record FunctionBare (qs : List GenericParameterTree) (w : WrittenType) (e : GenericExpression) : Type 0 where
-  parameters : AllByRecursion ParameterBare qs
-  result : IsBareWritten w
-  body : as_generic (bare e) ≡ e
+abbrev ResultsBare : Results WrittenType → Type 0
+ResultsBare r = AllByRecursion IsBareWritten (list_results r)
 
-function_is_bare : (g : GenericGlobals) → PlainGlobals g → (vs : List Ident) (qs : List GenericParameterTree) (w : WrittenType) (e : GenericExpression) → vs ≡ [] → IsTypedGenericFunction g vs qs w e → FunctionBare qs w e
-function_is_bare g plain vs qs w e none h = record {
+results_known_bare : (ds : List GenericDataTree) → AllByRecursion IsPlainData ds → (vars : List Ident) → vars ≡ [] → (r : Results WrittenType) → AreKnownResults ds (variable_numbers vars) r → ResultsBare r
+results_known_bare ds plain vars none (One w) h = (known_bare ds plain vars none w h, tt {0})
+results_known_bare ds plain vars none (Several ws) h = all_known_bare ds plain vars none ws h.1
+
+-- What is left of the types in a declaration, and of its body
+record FunctionBare (qs : List GenericParameterTree) (r : Results WrittenType) (e : GenericExpression) : Type 0 where
+  parameters : AllByRecursion ParameterBare qs
+  result : ResultsBare r
+  body : as_generic (bare e) ≡ e
+  single : IsSingle e
+
+function_is_bare : (g : GenericGlobals) → PlainGlobals g → (vs : List Ident) (qs : List GenericParameterTree) (r : Results WrittenType) (e : GenericExpression) → vs ≡ [] → IsSingle e → IsTypedGenericFunction g vs qs r e → FunctionBare qs r e
+function_is_bare g plain vs qs r e none single h = record {
   parameters = parameters_bare g.datas plain.datas vs none qs h.known;
-  result = known_bare g.datas plain.datas vs none w h.known_result;
-  body = own_tree g plain (variable_numbers vs) Rattle.gib_syntax.specs.GenericTyping.opaque e h.scope (formed Rattle.gib_syntax.specs.GenericTyping.opaque w) h.typed;
+  result = results_known_bare g.datas plain.datas vs none r h.known_result;
+  body = own_tree g plain (variable_numbers vs) Rattle.gib_syntax.specs.GenericTyping.opaque e h.scope (map_results (formed Rattle.gib_syntax.specs.GenericTyping.opaque) r) single h.typed;
+  single = single;
 }
 
 abbrev DataBare : GenericDataTree → Type 0
@@ -141,14 +154,14 @@ datas_bare : (all ds : List GenericDataTree) → AllByRecursion IsPlainData all 
 datas_bare all [] plain h k = tt {0}
 datas_bare all (d ∷ ds) plain h k = ((h.0, constructors_bare all plain d.variables h.0 d.constructors k.0.1), datas_bare all ds plain h.1 k.1)
 
-functions_bare : (g : GenericGlobals) → PlainGlobals g → (fs : List GenericFunctionTree) → AllByRecursion IsPlainFunction fs → AllByRecursion (IsTypedGenericHere g) fs → AllByRecursion HereBare fs
-functions_bare g plain [] h k = tt {0}
-functions_bare g plain (f ∷ fs) h k = ((h.0, function_is_bare g plain f.variables f.parameters f.result f.body h.0 k.0), functions_bare g plain fs h.1 k.1)
+functions_bare : (g : GenericGlobals) → PlainGlobals g → (fs : List GenericFunctionTree) → AllByRecursion IsPlainFunction fs → AllByRecursion IsSingleFunction fs → AllByRecursion (IsTypedGenericHere g) fs → AllByRecursion HereBare fs
+functions_bare g plain [] h single k = tt {0}
+functions_bare g plain (f ∷ fs) h single k = ((h.0, function_is_bare g plain f.variables f.parameters f.result f.body h.0 single.0.1 k.0), functions_bare g plain fs h.1 single.1 k.1)
 
 pub record ProgramBare (p : GenericProgramTree) : Type 0 where
   datas : AllByRecursion DataBare p.datas
   functions : AllByRecursion HereBare p.functions
-  main : FunctionBare (p.main.parameter ∷ []) p.main.result p.main.body
+  main : FunctionBare (p.main.parameter ∷ []) (One p.main.result) p.main.body
 
 pub program_bare : (p : GenericProgramTree) → IsPlainProgram p → IsTypedGeneric p → ProgramBare p
 program_bare p h typed =
@@ -156,8 +169,8 @@ program_bare p h typed =
     let plain = plain_globals p h in
     record {
       datas = datas_bare p.datas p.datas h.datas h.datas typed.datas;
-      functions = functions_bare g plain p.functions h.functions typed.functions;
-      main = function_is_bare g plain [] (p.main.parameter ∷ []) p.main.result p.main.body refl typed.main;
+      functions = functions_bare g plain p.functions h.functions h.singles typed.functions;
+      main = function_is_bare g plain [] (p.main.parameter ∷ []) (One p.main.result) p.main.body refl h.main typed.main;
     }
 
 -- Uses have no types
@@ -180,10 +193,14 @@ uses_parameters : (m : Meant) (qs : List GenericParameterTree) → AllByRecursio
 uses_parameters m [] h = tt {0}
 uses_parameters m (q ∷ qs) h = bare_both (written_asks m q.ty) (types_asks m (map (λ (q : GenericParameterTree). q.ty) qs)) (uses_written m q.ty h.0) (uses_parameters m qs h.1)
 
-uses_function : (rows : List GenericRow) (m : Meant) (qs : List GenericParameterTree) (w : WrittenType) (e : GenericExpression) → FunctionBare qs w e → Bare (function_asks rows m qs w e)
-uses_function rows m qs w e h =
-    bare_both (types_asks m (map (λ (q : GenericParameterTree). q.ty) qs)) (written_asks m w ++ asks rows m e) (uses_parameters m qs h.parameters)
-    (bare_both (written_asks m w) (asks rows m e) (uses_written m w h.result) (subst (λ (u : GenericExpression). Bare (asks rows m u)) h.body (bare_asks rows m (bare e))))
+uses_results : (m : Meant) (r : Results WrittenType) → ResultsBare r → Bare (results_asks m r)
+uses_results m (One w) h = uses_written m w h.0
+uses_results m (Several ws) h = uses_types m ws h
+
+uses_function : (rows : List GenericRow) (m : Meant) (qs : List GenericParameterTree) (r : Results WrittenType) (e : GenericExpression) → FunctionBare qs r e → Bare (function_asks rows m qs r e)
+uses_function rows m qs r e h =
+    bare_both (types_asks m (map (λ (q : GenericParameterTree). q.ty) qs)) (results_asks m r ++ asks rows m e) (uses_parameters m qs h.parameters)
+    (bare_both (results_asks m r) (asks rows m e) (uses_results m r h.result) (subst (λ (u : GenericExpression). Bare (asks rows m u)) h.body (bare_asks rows m (bare e))))
 
 uses_copies : (rows : List GenericRow) (ds : List GenericDataTree) (fs : List GenericFunctionTree) → AllByRecursion DataBare ds → AllByRecursion HereBare fs → Bare (copies_asks rows (plain_datas ds ++ plain_functions fs))
 uses_copies rows [] [] h k = tt {0}
@@ -249,7 +266,7 @@ bare_walk p typed plain =
     let bared = program_bare p plain typed in
     ap (λ (r : Result (List Copy) Span). with_found r (λ u. walk 1201 g u (length found)))
     (asks_own p plain (copies_asks g.rows found ++ main_asks p)
-    (bare_both (copies_asks g.rows found) (main_asks p) (uses_copies g.rows p.datas p.functions bared.datas bared.functions) (uses_function g.rows (assign [] NoForm) (p.main.parameter ∷ []) p.main.result p.main.body bared.main)))
+    (bare_both (copies_asks g.rows found) (main_asks p) (uses_copies g.rows p.datas p.functions bared.datas bared.functions) (uses_function g.rows (assign [] NoForm) (p.main.parameter ∷ []) (One p.main.result) p.main.body bared.main)))
     ∙ ap (λ (o : Option Copy). walk_one g found o (λ u. walk 1200 g u (suc (length found)))) (past found)
 
 -- The copy
@@ -283,17 +300,21 @@ row_bare (d ∷ ds) c row h e =
     (λ (b : (j : ℕ) × (slice_get (rows_of ds) j ≡ Some row) × (c ≡ length (map (row_of d) d.constructors) + j)). row_bare ds b.0 row h.1 b.1)
     (get_split GenericRow (map (row_of d) d.constructors) (rows_of ds) c row e)
 
-result_bare : (fs : List GenericFunctionTree) (x : ℕ) (f : GenericFunctionTree) → AllByRecursion HereBare fs → generic_named fs x ≡ Some f → IsBareWritten f.result
+results_bare : (m : Meant) (r : Results WrittenType) → ResultsBare r → AllByRecursion IsBare (list_results (map_results (formed m) r))
+results_bare m (One w) h = (form_bare m w h.0, tt {0})
+results_bare m (Several ws) h = forms_bare m ws h
+
+result_bare : (fs : List GenericFunctionTree) (x : ℕ) (f : GenericFunctionTree) → AllByRecursion HereBare fs → generic_named fs x ≡ Some f → ResultsBare f.result
 result_bare [] x f h e = absurd cc
 result_bare (b ∷ fs) x f h e = step (number_of b.name == x) e (result_bare fs x f h.1) where
-  step : (t : Bool) → (if t then Some b else generic_named fs x) ≡ Some f → (generic_named fs x ≡ Some f → IsBareWritten f.result) → IsBareWritten f.result
-  step true k go = subst (λ (u : GenericFunctionTree). IsBareWritten u.result) (same_Some b f k) h.0.1.result
+  step : (t : Bool) → (if t then Some b else generic_named fs x) ≡ Some f → (generic_named fs x ≡ Some f → ResultsBare f.result) → ResultsBare f.result
+  step true k go = subst (λ (u : GenericFunctionTree). ResultsBare u.result) (same_Some b f k) h.0.1.result
   step false k go = go k
 
 globals_bare : (p : GenericProgramTree) → ProgramBare p → BareGlobals (globals_of_generic p)
 globals_bare p h = record {
   rows = λ c row e ts. forms_bare (assign row.variables ts) row.fields (row_bare p.datas c row h.datas e);
-  functions = λ x f e ts. form_bare (assign f.variables ts) f.result (result_bare p.functions x f h.functions e);
+  functions = λ x f e ts. results_bare (assign f.variables ts) f.result (result_bare p.functions x f h.functions e);
 }
 
 written_own : (nm : Naming) → IsPlainNaming nm → (m : Meant) (w : WrittenType) → IsBareWritten w → copy_written nm m w ≡ bare_written w
@@ -307,6 +328,10 @@ written_own nm plain m (DataAt p x ws) h =
 all_written_own : (nm : Naming) → IsPlainNaming nm → (m : Meant) (ws : List WrittenType) → AllByRecursion IsBareWritten ws → map (copy_written nm m) ws ≡ map bare_written ws
 all_written_own nm plain m [] h = refl
 all_written_own nm plain m (w ∷ ws) h = ap₂ (λ (u : TypeName) (us : List TypeName). u ∷ us) (written_own nm plain m w h.0) (all_written_own nm plain m ws h.1)
+
+results_own : (nm : Naming) → IsPlainNaming nm → (m : Meant) (r : Results WrittenType) → ResultsBare r → map_results (copy_written nm m) r ≡ map_results bare_written r
+results_own nm plain m (One w) h = ap One (written_own nm plain m w h.0)
+results_own nm plain m (Several ws) h = ap Several (all_written_own nm plain m ws h)
 
 constructors_own : (nm : Naming) → IsPlainNaming nm → (m : Meant) (cs : List GenericConstructorTree) → AllByRecursion ConstructorBare cs → map (copy_constructor nm m NoForm) cs ≡ map bare_constructor cs
 constructors_own nm plain m [] h = refl
@@ -324,23 +349,23 @@ parameters_own nm plain m [] h = refl
 parameters_own nm plain m (q ∷ qs) h =
     ap₂ (λ (u : Parameter) (us : List Parameter). u ∷ us) (ap (λ (a : TypeName). let t : Parameter = record { name = q.name; ty = a } in t) (written_own nm plain m q.ty h.0)) (parameters_own nm plain m qs h.1)
 
-body_own : (g : GenericGlobals) → BareGlobals g → (nm : Naming) → IsPlainNaming nm → (m : Meant) (qs : List GenericParameterTree) (e : GenericExpression) → AllByRecursion ParameterBare qs → as_generic (bare e) ≡ e → copy g nm m (parameter_scope m qs) e ≡ bare e
-body_own g bared nm plain m qs e h k =
+body_own : (g : GenericGlobals) → BareGlobals g → (nm : Naming) → IsPlainNaming nm → (m : Meant) (qs : List GenericParameterTree) (e : GenericExpression) → AllByRecursion ParameterBare qs → as_generic (bare e) ≡ e → IsSingle e → copy g nm m (parameter_scope m qs) e ≡ bare e
+body_own g bared nm plain m qs e h k single =
     ap (copy g nm m (parameter_scope m qs)) (sym k)
-    ∙ copy_own g bared nm plain m (bare e) (parameter_scope m qs) (bare_binds (map (λ (q : GenericParameterTree). q.name) qs) (map (λ (q : GenericParameterTree). formed m q.ty) qs) [] bare_nothing (parameter_forms_bare m qs h))
+    ∙ copy_own g bared nm plain m (bare e) (parameter_scope m qs) (bare_binds (map (λ (q : GenericParameterTree). q.name) qs) (map (λ (q : GenericParameterTree). formed m q.ty) qs) [] bare_nothing (parameter_forms_bare m qs h)) (subst IsSingle (sym k) single)
 
 function_own : (g : GenericGlobals) → BareGlobals g → (nm : Naming) → IsPlainNaming nm → (f : GenericFunctionTree) → FunctionBare f.parameters f.result f.body → copy_function g nm f NoForm ≡ bare_function f
 function_own g bared nm plain f h =
     let m = assign f.variables NoForm in
-    ap (λ (n : ℕ). let t : FunctionTree = record { name = renamed f.name n; parameters = map (copy_parameter nm m) f.parameters; result = copy_written nm m f.result; body = copy g nm m (parameter_scope m f.parameters) f.body } in t) (plain.functions (number_of f.name))
-    ∙ ap (λ (qs : List Parameter). let t : FunctionTree = record { name = f.name; parameters = qs; result = copy_written nm m f.result; body = copy g nm m (parameter_scope m f.parameters) f.body } in t) (parameters_own nm plain m f.parameters h.parameters)
-    ∙ ap₂ (λ (a : TypeName) (e : Expression). let t : FunctionTree = record { name = f.name; parameters = map bare_parameter f.parameters; result = a; body = e } in t) (written_own nm plain m f.result h.result) (body_own g bared nm plain m f.parameters f.body h.parameters h.body)
+    ap (λ (n : ℕ). let t : FunctionTree = record { name = renamed f.name n; parameters = map (copy_parameter nm m) f.parameters; result = map_results (copy_written nm m) f.result; body = copy g nm m (parameter_scope m f.parameters) f.body } in t) (plain.functions (number_of f.name))
+    ∙ ap (λ (qs : List Parameter). let t : FunctionTree = record { name = f.name; parameters = qs; result = map_results (copy_written nm m) f.result; body = copy g nm m (parameter_scope m f.parameters) f.body } in t) (parameters_own nm plain m f.parameters h.parameters)
+    ∙ ap₂ (λ (a : Results TypeName) (e : Expression). let t : FunctionTree = record { name = f.name; parameters = map bare_parameter f.parameters; result = a; body = e } in t) (results_own nm plain m f.result h.result) (body_own g bared nm plain m f.parameters f.body h.parameters h.body h.single)
 
-main_own : (g : GenericGlobals) → BareGlobals g → (nm : Naming) → IsPlainNaming nm → (f : GenericMainTree) → FunctionBare (f.parameter ∷ []) f.result f.body → copy_main g nm f ≡ bare_main f
+main_own : (g : GenericGlobals) → BareGlobals g → (nm : Naming) → IsPlainNaming nm → (f : GenericMainTree) → FunctionBare (f.parameter ∷ []) (One f.result) f.body → copy_main g nm f ≡ bare_main f
 main_own g bared nm plain f h =
     let m = assign [] NoForm in
     ap (λ (a : TypeName). let t : MainTree = record { parameter = record { name = f.parameter.name; ty = a }; result = copy_written nm m f.result; body = copy g nm m (parameter_scope m (f.parameter ∷ [])) f.body } in t) (written_own nm plain m f.parameter.ty h.parameters.0)
-    ∙ ap₂ (λ (a : TypeName) (e : Expression). let t : MainTree = record { parameter = bare_parameter f.parameter; result = a; body = e } in t) (written_own nm plain m f.result h.result) (body_own g bared nm plain m (f.parameter ∷ []) f.body h.parameters h.body)
+    ∙ ap₂ (λ (a : TypeName) (e : Expression). let t : MainTree = record { parameter = bare_parameter f.parameter; result = a; body = e } in t) (written_own nm plain m f.result h.result.0) (body_own g bared nm plain m (f.parameter ∷ []) f.body h.parameters h.body h.single)
 
 datas_own : (nm : Naming) → IsPlainNaming nm → (ds : List GenericDataTree) (fs : List GenericFunctionTree) → AllByRecursion DataBare ds → AllByRecursion HereBare fs
     → map (λ (c : DataCopy). copy_data nm c.decl c.types) (datas_in (plain_datas ds ++ plain_functions fs)) ≡ map bare_data ds

@@ -22,13 +22,16 @@ use Rattle.gib_syntax.specs.Arena.{PartsBelow, ArmsBelow, IsArmBelow, arguments_
 use Rattle.gib_syntax.specs.Declarations.{number_of}
 use Rattle.gib_syntax.specs.Forms.{WrittenType, NoForm}
 use Rattle.gib_syntax.specs.GenericArena.{Arena, IsArena, PartsBelow as GenericBelow, ArmsBelow as GenericArmsBelow, IsArmBelow as GenericArmBelow, arguments_from as generic_arguments, arms_from as generic_arms, case_from as generic_case, layer as generic_layer, tree_of as generic_of}
-use Rattle.gib_syntax.specs.GenericParts.{AreInside as GenericInside, GenericParts, constructor_in, data_in, function_in, generic_program_of, main_in}
-use Rattle.gib_syntax.specs.GenericTree.{GenericExpression, GenericCase, GenericConstructorTree, GenericDataTree}
-use Rattle.gib_syntax.specs.Parts.{AreInside, IsFunctionInside, Parts, data_tree, function_tree, main_tree, program_of}
+use Rattle.gib_syntax.specs.GenericParts.{AreInside as GenericInside, IsFunctionInside as GenericFunctionInside, GenericParts, constructor_in, data_in, function_in, results_in, generic_program_of, main_in}
+use Rattle.gib_syntax.specs.GenericTree.{GenericExpression, GenericArguments, GenericArms, GenericCase, GenericConstructorTree, GenericDataTree}
+use Rattle.gib_syntax.specs.Parts.{AreInside, IsFunctionInside, Parts, data_tree, results_tree, function_tree, main_tree, program_of}
 use Rattle.gib_syntax.specs.Tree.{DataTree, FunctionTree, MainTree, ProgramTree, Expression, Op, Call, Make, Let, Par, If, Case, Paren, Argument, LastArm, NextArm}
-use Rattle.gib_syntax.specs.Words.{left, read_word, stack_of}
+use Rattle.gib_syntax.specs.declared.written.ResultRuns.{ResultRuns}
+use Rattle.gib_syntax.specs.declared.written.ResultRuns.TheVariants as result
+use Rattle.gib_syntax.specs.Results.{One}
+use Rattle.gib_syntax.specs.Words.{left, read_word, stack_of, type_in}
 use Rattle.gib_syntax.proofs.GenericLayers.{tree_of-node}
-use Rattle.gib_mono.specs.Bare.{AreBare, IsPlainData, IsPlainFunction, IsPlainHere, IsPlainKept, IsPlainProgram, all_bare, arms_bare, bare, bare_constructor, bare_data, bare_function, bare_main, bare_node, bare_program, bare_tree, bare_written, data_names, datas_names, function_names}
+use Rattle.gib_mono.specs.Bare.{AreBare, AreSingleTrees, IsSingleNode, GivesOne, IsSingle, AreSingle, HasSingle, IsSingleFunction, IsPlainData, IsPlainFunction, IsPlainHere, IsPlainKept, IsPlainProgram, all_bare, arms_bare, bare, bare_constructor, bare_data, bare_function, bare_main, bare_node, bare_program, bare_tree, bare_written, data_names, datas_names, function_names}
 use Rattle.gib_mono.specs.Copied.{Item}
 use Rattle.gib_mono.specs.Declaring.{own_entry}
 use Rattle.gib_mono.specs.Naming.{copy_entries, entries, entry, listed_entries, with_entries, with_entry}
@@ -52,18 +55,21 @@ case_plain : (f : ℕ → GenericExpression) (h : ℕ → Expression) (b : ℕ) 
 case_plain f h b [] p x e l = absurd l
 case_plain f h b (arm ∷ arms) p x e l = ap (Case p x) (arms_plain f h b arm arms e l.0 l.1)
 
-layer_bare : (f : ℕ → GenericExpression) (h : ℕ → Expression) (words : List Word) (b : ℕ) (node : GenericNode) → Plain f h b → GenericBelow node b → layer h (Some (bare_node node)) ≡ bare (generic_layer words f (Some node))
-layer_bare f h words b (g.Variable x) e l = refl
-layer_bare f h words b (g.Whole p v) e l = refl
-layer_bare f h words b (g.Truth p t) e l = refl
-layer_bare f h words b (g.Paren p a) e l = ap (Paren p) (e a.0 l)
-layer_bare f h words b (g.Operation p o a c) e l = ap₂ (Op p o) (e a.0 l.0) (e c.0 l.1)
-layer_bare f h words b (g.Call x ws ids) e l = ap (Call x) (arguments_bare f h b ids.items e l)
-layer_bare f h words b (g.Make x ws ids) e l = ap (Make x) (arguments_bare f h b ids.items e l)
-layer_bare f h words b (g.Let p x a c) e l = ap₂ (Let p x) (e a.0 l.0) (e c.0 l.1)
-layer_bare f h words b (g.LetPar p x a y c d) e l = ap (λ (u : Expression). Par p x u y (h c.0) (h d.0)) (e a.0 l.0) ∙ ap₂ (Par p x (bare (f a.0)) y) (e c.0 l.1) (e d.0 l.2)
-layer_bare f h words b (g.If p a c d) e l = ap (λ (u : Expression). If p u (h c.0) (h d.0)) (e a.0 l.0) ∙ ap₂ (If p (bare (f a.0))) (e c.0 l.1) (e d.0 l.2)
-layer_bare f h words b (g.Case p x arms) e l = case_plain f h b arms.items p x e l
+layer_bare : (f : ℕ → GenericExpression) (h : ℕ → Expression) (words : List Word) (b : ℕ) (node : GenericNode) → Plain f h b → GenericBelow node b → IsSingleNode node → layer h (Some (bare_node node)) ≡ bare (generic_layer words f (Some node))
+layer_bare f h words b (g.Variable x) e l one = refl
+layer_bare f h words b (g.Whole p v) e l one = refl
+layer_bare f h words b (g.Truth p t) e l one = refl
+layer_bare f h words b (g.Paren p a) e l one = ap (Paren p) (e a.0 l)
+layer_bare f h words b (g.Operation p o a c) e l one = ap₂ (Op p o) (e a.0 l.0) (e c.0 l.1)
+layer_bare f h words b (g.Call x ws ids) e l one = ap (Call x) (arguments_bare f h b ids.items e l)
+layer_bare f h words b (g.Make x ws ids) e l one = ap (Make x) (arguments_bare f h b ids.items e l)
+layer_bare f h words b (g.Let p x a c) e l one = ap₂ (Let p x) (e a.0 l.0) (e c.0 l.1)
+layer_bare f h words b (g.LetPar p x a y c d) e l one = ap (λ (u : Expression). Par p x u y (h c.0) (h d.0)) (e a.0 l.0) ∙ ap₂ (Par p x (bare (f a.0)) y) (e c.0 l.1) (e d.0 l.2)
+layer_bare f h words b (g.If p a c d) e l one = ap (λ (u : Expression). If p u (h c.0) (h d.0)) (e a.0 l.0) ∙ ap₂ (If p (bare (f a.0))) (e c.0 l.1) (e d.0 l.2)
+layer_bare f h words b (g.Case p x arms) e l one = case_plain f h b arms.items p x e l
+layer_bare f h words b (g.Tuple p xs) e l one = absurd one
+layer_bare f h words b (g.LetSeveral p xs a c) e l one = absurd one
+layer_bare f h words b (g.ParSeveral p xs a ys c d) e l one = absurd one
 
 ids_below : (b c : ℕ) (ids : List ExprId) → b ≤ c → AllByRecursion (λ (a : ExprId). a.0 < b) ids → AllByRecursion (λ (a : ExprId). a.0 < c) ids
 ids_below b c [] le h = tt {0}
@@ -77,18 +83,21 @@ case_below : (b c : ℕ) (arms : List Arm) → b ≤ c → GenericArmsBelow arms
 case_below b c [] le h = absurd h
 case_below b c (arm ∷ arms) le h = ((let l = h.0 in omega (arith, l, le)), arms_below b c arms le h.1)
 
-parts_below : (b c : ℕ) (node : GenericNode) → b ≤ c → GenericBelow node b → PartsBelow (bare_node node) c
-parts_below b c (g.Variable x) le h = tt {0}
-parts_below b c (g.Whole p v) le h = h
-parts_below b c (g.Truth p t) le h = tt {0}
-parts_below b c (g.Paren p a) le h = omega (arith, h, le)
-parts_below b c (g.Operation p o x y) le h = let (l, k) = h in (omega (arith, l, le), omega (arith, k, le))
-parts_below b c (g.Call x ws ids) le h = ids_below b c ids.items le h
-parts_below b c (g.Make x ws ids) le h = ids_below b c ids.items le h
-parts_below b c (g.Let p x y z) le h = let l = h.0 in let k = h.1 in (omega (arith, l, le), omega (arith, k, le))
-parts_below b c (g.LetPar p x a y d e) le h = let l = h.0 in let k = h.1 in let m = h.2 in (omega (arith, l, le), omega (arith, k, le), omega (arith, m, le))
-parts_below b c (g.If p x y z) le h = let l = h.0 in let k = h.1 in let m = h.2 in (omega (arith, l, le), omega (arith, k, le), omega (arith, m, le))
-parts_below b c (g.Case p x arms) le h = case_below b c arms.items le h
+parts_below : (b c : ℕ) (node : GenericNode) → b ≤ c → GenericBelow node b → IsSingleNode node → PartsBelow (bare_node node) c
+parts_below b c (g.Variable x) le h one = tt {0}
+parts_below b c (g.Whole p v) le h one = h
+parts_below b c (g.Truth p t) le h one = tt {0}
+parts_below b c (g.Paren p a) le h one = omega (arith, h, le)
+parts_below b c (g.Operation p o x y) le h one = let (l, k) = h in (omega (arith, l, le), omega (arith, k, le))
+parts_below b c (g.Call x ws ids) le h one = ids_below b c ids.items le h
+parts_below b c (g.Make x ws ids) le h one = ids_below b c ids.items le h
+parts_below b c (g.Let p x y z) le h one = let l = h.0 in let k = h.1 in (omega (arith, l, le), omega (arith, k, le))
+parts_below b c (g.LetPar p x a y d e) le h one = let l = h.0 in let k = h.1 in let m = h.2 in (omega (arith, l, le), omega (arith, k, le), omega (arith, m, le))
+parts_below b c (g.If p x y z) le h one = let l = h.0 in let k = h.1 in let m = h.2 in (omega (arith, l, le), omega (arith, k, le), omega (arith, m, le))
+parts_below b c (g.Case p x arms) le h one = case_below b c arms.items le h
+parts_below b c (g.Tuple p xs) le h one = absurd one
+parts_below b c (g.LetSeveral p xs x y) le h one = absurd one
+parts_below b c (g.ParSeveral p xs x ys y z) le h one = absurd one
 
 -- All expressions, in their order
 
@@ -117,14 +126,43 @@ over [] n e = omega arith
 over (y ∷ xs) zero e = absurd cc
 over (y ∷ xs) (suc n) e = let l = over xs n e in omega (arith, l)
 
-pub next_below : (a : Arena) (next : ℕ) (nodes : List Node) (left after : List GenericNode) (node : GenericNode) → IsArena a → BareSoFar a next nodes left → left ≡ node ∷ after → PartsBelow (bare_node node) (length nodes)
-next_below a next nodes left after node arena h e = parts_below next (length nodes) node h.are.many (arena.below next node (here a.nodes next node after (sym e ∙ h.left_is)))
+node_single : (words : List Word) (f : ℕ → GenericExpression) (node : GenericNode) → IsSingle (generic_layer words f (Some node)) → IsSingleNode node
+node_single words f (g.Variable x) h = tt {0}
+node_single words f (g.Whole p v) h = tt {0}
+node_single words f (g.Truth p t) h = tt {0}
+node_single words f (g.Paren p a) h = tt {0}
+node_single words f (g.Operation p o x y) h = tt {0}
+node_single words f (g.Call x ws ids) h = tt {0}
+node_single words f (g.Make x ws ids) h = tt {0}
+node_single words f (g.Let p x y z) h = tt {0}
+node_single words f (g.LetPar p x a y d e) h = tt {0}
+node_single words f (g.If p x y z) h = tt {0}
+node_single words f (g.Case p x arms) h = tt {0}
+node_single words f (g.Tuple p xs) h = absurd h
+node_single words f (g.LetSeveral p xs x y) h = absurd h
+node_single words f (g.ParSeveral p xs x ys y z) h = absurd h
 
-pub bare_more : (a : Arena) (next : ℕ) (old new : List Node) (left after : List GenericNode) (node : GenericNode) → IsArena a → BareSoFar a next old left → left ≡ node ∷ after → Makes old new next (bare_node node) → BareSoFar a (suc next) new after
-bare_more a next old new left after node arena h e makes =
+inside : {X : Type 0} (xs : List X) (n : ℕ) (x : X) → slice_get xs n ≡ Some x → n < length xs
+inside [] n x e = absurd cc
+inside (y ∷ xs) zero x e = omega arith
+inside (y ∷ xs) (suc n) x e = let l = inside xs n x e in omega (arith, l)
+
+single_at : (a : Arena) (i : ℕ) (node : GenericNode) → IsArena a → AreSingleTrees a → slice_get a.nodes i ≡ Some node → IsSingleNode node
+single_at a i node arena h e = node_single a.words (generic_of a) node (subst IsSingle (tree_of-node a i node arena e) (h i (inside a.nodes i node e)))
+
+pub next_below : (a : Arena) (next : ℕ) (nodes : List Node) (left after : List GenericNode) (node : GenericNode) → IsArena a → AreSingleTrees a → BareSoFar a next nodes left → left ≡ node ∷ after → PartsBelow (bare_node node) (length nodes)
+next_below a next nodes left after node arena single h e =
+    let at = here a.nodes next node after (sym e ∙ h.left_is) in
+    parts_below next (length nodes) node h.are.many (arena.below next node at) (single_at a next node arena single at)
+
+pub next_single : (a : Arena) (next : ℕ) (nodes : List Node) (left after : List GenericNode) (node : GenericNode) → IsArena a → AreSingleTrees a → BareSoFar a next nodes left → left ≡ node ∷ after → IsSingleNode node
+next_single a next nodes left after node arena single h e = single_at a next node arena single (here a.nodes next node after (sym e ∙ h.left_is))
+
+pub bare_more : (a : Arena) (next : ℕ) (old new : List Node) (left after : List GenericNode) (node : GenericNode) → IsArena a → AreSingleTrees a → BareSoFar a next old left → left ≡ node ∷ after → Makes old new next (bare_node node) → BareSoFar a (suc next) new after
+bare_more a next old new left after node arena single h e makes =
     let at = here a.nodes next node after (sym e ∙ h.left_is) in
     let made : tree_of new next ≡ bare_tree a next =
-    makes.tree ∙ layer_bare (generic_of a) (tree_of old) a.words next node h.are.trees (arena.below next node at) ∙ ap bare (sym (tree_of-node a next node arena at)) in
+    makes.tree ∙ layer_bare (generic_of a) (tree_of old) a.words next node h.are.trees (arena.below next node at) (single_at a next node arena single at) ∙ ap bare (sym (tree_of-node a next node arena at)) in
     record {
       are = record {
         many = (let l = makes.inside in omega (arith, l));
@@ -203,10 +241,82 @@ datas_plain words (d ∷ ds) h = (h.0, datas_plain words ds h.1)
 
 functions_plain : (a : Arena) (fs : List GenericFunction) → AllByRecursion IsPlainHere fs → AllByRecursion IsPlainFunction (map (function_in a) fs)
 functions_plain a [] h = tt {0}
-functions_plain a (f ∷ fs) h = (h.0, functions_plain a fs h.1)
+functions_plain a (f ∷ fs) h = (h.0.0, functions_plain a fs h.1)
 
-pub program_plain : (p : GenericParts) → AllByRecursion IsPlainKept p.datas → AllByRecursion IsPlainHere p.functions → IsPlainProgram (generic_program_of p)
-program_plain p h k = record { datas = datas_plain p.exprs.words p.datas h; functions = functions_plain p.exprs p.functions k }
+-- Expressions over single nodes are single
+
+arguments_single : (f : ℕ → GenericExpression) (b : ℕ) (ids : List ExprId) → ((i : ℕ) → i < b → IsSingle (f i)) → AllByRecursion (λ (a : ExprId). a.0 < b) ids → AreSingle (generic_arguments f ids)
+arguments_single f b [] k h = tt {0}
+arguments_single f b (i ∷ ids) k h = (k i.0 h.0, arguments_single f b ids k h.1)
+
+arms_single : (f : ℕ → GenericExpression) (b : ℕ) (arm : Arm) (arms : List Arm) → ((i : ℕ) → i < b → IsSingle (f i)) → arm.body.0 < b → AllByRecursion (GenericArmBelow b) arms → HasSingle (generic_arms f arm arms)
+arms_single f b arm [] k h r = k arm.body.0 h
+arms_single f b arm (next ∷ arms) k h r = (k arm.body.0 h, arms_single f b next arms k r.0 r.1)
+
+case_single : (f : ℕ → GenericExpression) (b : ℕ) (arms : List Arm) (p : Span) (x : Ident) → ((i : ℕ) → i < b → IsSingle (f i)) → GenericArmsBelow arms b → IsSingle (generic_case f arms (GenericCase p x))
+case_single f b [] p x k h = absurd h
+case_single f b (arm ∷ arms) p x k h = arms_single f b arm arms k h.0 h.1
+
+layer_single : (words : List Word) (f : ℕ → GenericExpression) (b : ℕ) (node : GenericNode) → ((i : ℕ) → i < b → IsSingle (f i)) → GenericBelow node b → IsSingleNode node → IsSingle (generic_layer words f (Some node))
+layer_single words f b (g.Variable x) k h one = tt {0}
+layer_single words f b (g.Whole p v) k h one = tt {0}
+layer_single words f b (g.Truth p t) k h one = tt {0}
+layer_single words f b (g.Paren p a) k h one = k a.0 h
+layer_single words f b (g.Operation p o x y) k h one = (k x.0 h.0, k y.0 h.1)
+layer_single words f b (g.Call x ws ids) k h one = arguments_single f b ids.items k h
+layer_single words f b (g.Make x ws ids) k h one = arguments_single f b ids.items k h
+layer_single words f b (g.Let p x y z) k h one = (k y.0 h.0, k z.0 h.1)
+layer_single words f b (g.LetPar p x a y d e) k h one = (k a.0 h.0, k d.0 h.1, k e.0 h.2)
+layer_single words f b (g.If p x y z) k h one = (k x.0 h.0, k y.0 h.1, k z.0 h.2)
+layer_single words f b (g.Case p x arms) k h one = case_single f b arms.items p x k h
+layer_single words f b (g.Tuple p xs) k h one = absurd one
+layer_single words f b (g.LetSeveral p xs x y) k h one = absurd one
+layer_single words f b (g.ParSeveral p xs x ys y z) k h one = absurd one
+
+-- those before a number are
+abbrev pub SingleBefore : Arena → ℕ → Type 0
+SingleBefore a n = (i : ℕ) → i < n → IsSingle (generic_of a i)
+
+pub single_none : (a : Arena) → SingleBefore a 0
+single_none a i l = absurd (omega (arith, l))
+
+pub single_next : (a : Arena) (n m : ℕ) (node : GenericNode) → SingleBefore a n → m ≡ suc n → generic_of a n ≡ generic_layer a.words (generic_of a) (Some node) → GenericBelow node n → IsSingleNode node → SingleBefore a m
+single_next a n m node h s tree below one i l =
+    ⊎_elim (λ (b : i < n). h i b) (λ (q : i ≡ n). subst (λ (j : ℕ). IsSingle (generic_of a j)) (sym q) (subst IsSingle (sym tree) (layer_single a.words (generic_of a) n node h below one))) (before i n (omega (arith, l, s))) where
+      before : (j k : ℕ) → j < suc k → (j < k) ⊎ (j ≡ k)
+      before zero zero l = inr refl
+      before zero (suc k) l = inl (omega arith)
+      before (suc j) zero l = absurd (omega (arith, l))
+      before (suc j) (suc k) l = ⊎_elim (λ (b : j < k). inl (omega (arith, b))) (λ (q : j ≡ k). inr (ap suc q)) (before j k (omega (arith, l)))
+
+pub single_all : (a : Arena) (n : ℕ) → SingleBefore a n → length a.nodes ≤ n → AreSingleTrees a
+single_all a n h l i k = h i (omega (arith, l, k))
+
+gives_single : (words : List Word) (r : ResultRuns) → GivesOne r → (w : WrittenType) × (results_in words r ≡ One w)
+gives_single words (result.One run) h = (type_in words run, refl)
+gives_single words (result.Several runs) h = absurd h
+
+functions_single : (a : Arena) (fs : List GenericFunction) → AreSingleTrees a → AllByRecursion (GenericFunctionInside a) fs → AllByRecursion IsPlainHere fs → AllByRecursion IsSingleFunction (map (function_in a) fs)
+functions_single a [] single inside h = tt {0}
+functions_single a (f ∷ fs) single inside h =
+    ((gives_single a.words f.result h.0.1, single f.body.0 inside.0.2), functions_single a fs single inside.1 h.1)
+
+-- a function of one thing whose type variables are none is so where it is kept
+one_given : (words : List Word) (r : ResultRuns) (t : WrittenType) → results_in words r ≡ One t → GivesOne r
+one_given words (result.One run) t e = tt {0}
+one_given words (result.Several runs) t e = absurd cc
+
+pub functions_here : (a : Arena) (fs : List GenericFunction) → AllByRecursion IsPlainFunction (map (function_in a) fs) → AllByRecursion IsSingleFunction (map (function_in a) fs) → AllByRecursion IsPlainHere fs
+functions_here a [] h s = tt {0}
+functions_here a (f ∷ fs) h s = ((h.0, one_given a.words f.result s.0.0.0 s.0.0.1), functions_here a fs h.1 s.1)
+
+pub program_plain : (p : GenericParts) → GenericInside p → AllByRecursion IsPlainKept p.datas → AllByRecursion IsPlainHere p.functions → AreSingleTrees p.exprs → IsPlainProgram (generic_program_of p)
+program_plain p inside h k single = record {
+  datas = datas_plain p.exprs.words p.datas h;
+  functions = functions_plain p.exprs p.functions k;
+  singles = functions_single p.exprs p.functions single inside.functions k;
+  main = single p.main.body.0 inside.main;
+}
 
 -- Each copied type has a constructor
 
@@ -225,7 +335,7 @@ have_constructors (d ∷ ds) h = (have_some d h.0, have_constructors ds h.1)
 functions_there : (a : Arena) (nodes : List Node) (fs : List FunctionDecl) → AreBare a (length a.nodes) nodes → AllByRecursion (IsFunctionInside (length a.nodes)) fs → map (function_tree (tree_of nodes)) fs ≡ map (function_tree (bare_tree a)) fs
 functions_there a nodes [] h k = refl
 functions_there a nodes (f ∷ fs) h k =
-    ap₂ (λ (x : FunctionTree) (l : List FunctionTree). x ∷ l) (ap (λ (b : Expression). let t : FunctionTree = record { name = f.name; parameters = f.parameters.items; result = f.result; body = b } in t) (h.trees f.body.0 k.0)) (functions_there a nodes fs h k.1)
+    ap₂ (λ (x : FunctionTree) (l : List FunctionTree). x ∷ l) (ap (λ (b : Expression). let t : FunctionTree = record { name = f.name; parameters = f.parameters.items; result = results_tree f.result; body = b } in t) (h.trees f.body.0 k.0)) (functions_there a nodes fs h k.1)
 
 functions_inside : (a : Arena) (nodes : List Node) (fs : List FunctionDecl) → AreBare a (length a.nodes) nodes → AllByRecursion (IsFunctionInside (length a.nodes)) fs → AllByRecursion (IsFunctionInside (length nodes)) fs
 functions_inside a nodes [] h k = tt {0}

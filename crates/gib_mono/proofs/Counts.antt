@@ -1,12 +1,18 @@
 -- A copy has as many expressions and variables.
-use Rattle.std.proofs.Common.{◌≡◌, refl, arith}
+use Rattle.std.proofs.Common.{◌≡◌, List, [], ◌∷◌, length, refl, arith}
+use Rattle.gib_syntax.specs.declared.tree.Ident.{Ident}
 use Rattle.gib_syntax.specs.Declarations.{number_of}
 use Rattle.gib_syntax.specs.Typing.{expressions, all_expressions, arm_expressions, bindings, all_bindings, arm_bindings}
-use Rattle.gib_syntax.specs.Forms.{Forms, Meant}
-use Rattle.gib_syntax.specs.GenericTree.{GenericExpression, GenericArguments, GenericArms, GenericVar, GenericNum, GenericBit, GenericParen, GenericOp, GenericCall, GenericMake, GenericLet, GenericPar, GenericIf, GenericCase, GenericNoArgument, GenericArgument, GenericLastArm, GenericNextArm, GenericGlobals, place_named}
+use Rattle.gib_syntax.specs.Forms.{Form, Forms, Meant}
+use Rattle.gib_syntax.specs.GenericTree.{GenericExpression, GenericArguments, GenericArms, GenericVar, GenericNum, GenericBit, GenericParen, GenericOp, GenericCall, GenericMake, GenericLet, GenericPar, GenericIf, GenericCase, GenericTuple, GenericLetSeveral, GenericParSeveral, GenericNoArgument, GenericArgument, GenericLastArm, GenericNextArm, GenericGlobals, place_named}
 use Rattle.gib_syntax.specs.GenericTyping.{FormScope, form_in, form_bound, generic_expressions, all_generic_expressions, arm_generic_expressions, generic_bindings, all_generic_bindings, arm_generic_bindings}
-use Rattle.gib_mono.specs.Copying.{Naming, copy, copy_all, copy_arms, form_of, arguments_of, forms_named, bind_forms}
+use Rattle.gib_mono.specs.Copying.{Naming, copy, copy_all, copy_arms, copy_variables, bound_forms, form_of, arguments_of, forms_named, bind_forms}
 use Rattle.gib_types.specs.Form.{form_or}
+
+pub variables_long : (nm : Naming) (xs : List Ident) (ts : List Form) → length (copy_variables nm xs ts) ≡ length xs
+variables_long nm [] ts = refl
+variables_long nm (x ∷ xs) [] = let e = variables_long nm xs [] in omega (arith, e)
+variables_long nm (x ∷ xs) (t ∷ ts) = let e = variables_long nm xs ts in omega (arith, e)
 
 mutual
   pub same_expressions : (g : GenericGlobals) (nm : Naming) (m : Meant) (scope : FormScope) (e : GenericExpression) → expressions (copy g nm m scope e) ≡ generic_expressions e
@@ -25,6 +31,12 @@ mutual
   same_expressions g nm m scope (GenericIf p a b c) =
       let u = same_expressions g nm m scope a in let v = same_expressions g nm m scope b in let w = same_expressions g nm m scope c in omega (arith, u, v, w)
   same_expressions g nm m scope (GenericCase p x arms) = let u = arms_same_expressions g nm m scope (arguments_of (form_or (form_in scope (number_of x)))) arms in omega (arith, u)
+  same_expressions g nm m scope (GenericTuple p xs) = let x = all_same_expressions g nm m scope xs in omega (arith, x)
+  same_expressions g nm m scope (GenericLetSeveral p xs a b) =
+      let u = same_expressions g nm m scope a in let v = same_expressions g nm m (bind_forms xs (bound_forms g m scope a) scope) b in omega (arith, u, v)
+  same_expressions g nm m scope (GenericParSeveral p xs a ys b c) =
+      let u = same_expressions g nm m scope a in let v = same_expressions g nm m scope b in
+      let w = same_expressions g nm m (bind_forms ys (bound_forms g m scope b) (bind_forms xs (bound_forms g m scope a) scope)) c in omega (arith, u, v, w)
 
   all_same_expressions : (g : GenericGlobals) (nm : Naming) (m : Meant) (scope : FormScope) (xs : GenericArguments) → all_expressions (copy_all g nm m scope xs) ≡ all_generic_expressions xs
   all_same_expressions g nm m scope GenericNoArgument = refl
@@ -52,6 +64,12 @@ mutual
   same_bindings g nm m scope (GenericIf p a b c) =
       let u = same_bindings g nm m scope a in let v = same_bindings g nm m scope b in let w = same_bindings g nm m scope c in omega (arith, u, v, w)
   same_bindings g nm m scope (GenericCase p x arms) = arms_same_bindings g nm m scope (arguments_of (form_or (form_in scope (number_of x)))) arms
+  same_bindings g nm m scope (GenericTuple p xs) = all_same_bindings g nm m scope xs
+  same_bindings g nm m scope (GenericLetSeveral p xs a b) =
+      let u = same_bindings g nm m scope a in let v = same_bindings g nm m (bind_forms xs (bound_forms g m scope a) scope) b in let q = variables_long nm xs (bound_forms g m scope a) in omega (arith, u, v, q)
+  same_bindings g nm m scope (GenericParSeveral p xs a ys b c) =
+      let u = same_bindings g nm m scope a in let v = same_bindings g nm m scope b in
+      let w = same_bindings g nm m (bind_forms ys (bound_forms g m scope b) (bind_forms xs (bound_forms g m scope a) scope)) c in let q = variables_long nm xs (bound_forms g m scope a) in let o = variables_long nm ys (bound_forms g m scope b) in omega (arith, u, v, w, q, o)
 
   all_same_bindings : (g : GenericGlobals) (nm : Naming) (m : Meant) (scope : FormScope) (xs : GenericArguments) → all_bindings (copy_all g nm m scope xs) ≡ all_generic_bindings xs
   all_same_bindings g nm m scope GenericNoArgument = refl

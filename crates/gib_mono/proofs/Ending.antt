@@ -11,7 +11,7 @@ use Rattle.gib_syntax.specs.declared.exprs.Node.{Node}
 use Rattle.gib_syntax.specs.Tree.{DataTree, FunctionTree, MainTree, ProgramTree, Expression}
 use Rattle.gib_syntax.specs.Arena.{tree_of, Grows}
 use Rattle.gib_syntax.specs.Fine.{HasConstructor}
-use Rattle.gib_syntax.specs.Parts.{AreInside, program_of, data_tree, function_tree, IsFunctionInside}
+use Rattle.gib_syntax.specs.Parts.{AreInside, program_of, data_tree, results_tree, function_tree, IsFunctionInside}
 use Rattle.gib_syntax.specs.Typing.{IsTypedProgram}
 use Rattle.gib_syntax.specs.GenericFine.{HasGenericConstructor}
 use Rattle.gib_syntax.specs.GenericParts.{GenericParts, generic_program_of}
@@ -66,7 +66,7 @@ functions_stay xs ys (f ∷ fs) g h = ((let l = h.0 in let m = g.longer in omega
 functions_same : (xs ys : List Node) (fs : List FunctionDecl) → Grows xs ys → AllByRecursion (IsFunctionInside (length xs)) fs → map (function_tree (tree_of ys)) fs ≡ map (function_tree (tree_of xs)) fs
 functions_same xs ys [] g h = refl
 functions_same xs ys (f ∷ fs) g h =
-    ap₂ (λ (x : FunctionTree) (l : List FunctionTree). x ∷ l) (ap (λ (b : Expression). record { name = f.name; parameters = f.parameters.items; result = f.result; body = b }) (g.same f.body.0 h.0)) (functions_same xs ys fs g h.1)
+    ap₂ (λ (x : FunctionTree) (l : List FunctionTree). x ∷ l) (ap (λ (b : Expression). record { name = f.name; parameters = f.parameters.items; result = results_tree f.result; body = b }) (g.same f.body.0 h.0)) (functions_same xs ys fs g h.1)
 
 -- all that the end needs
 pub record Ends (p : GenericParts) (base : ℕ) (s : Copier) (ds : List DataDecl) (fs : List FunctionDecl) (main : MainDecl) : Type 0 where

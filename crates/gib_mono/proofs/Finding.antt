@@ -2,6 +2,9 @@
 use Rattle.std.proofs.Common.{◌≡◌, ℕ, zero, suc, ◌+◌, ◌-◌, ◌<◌, ◌≤◌, true, List, [], ◌∷◌, ◌++◌, length, map, take, drop, get_or, Option, Some, None, slice_get, refl, sym, ap, ap₂, ◌∙◌, arith, subst}
 use Rattle.std.specs.Prelude.{Result, Ok, Err}
 use Rattle.std.specs.List.{AllByRecursion}
+use Rattle.std.specs.Global.{Vec}
+use Rattle.std.proofs.lemmas.Option.{same_Some}
+use Rattle.gib_mono.proofs.Sourcing.{get_map}
 use Rattle.gib_base.specs.declared.Span.{Span}
 use Rattle.gib_types.specs.declared.types.TypeId.{TypeId}
 use Rattle.gib_types.specs.Form.{Form, Forms, NoForm, Meant}
@@ -11,7 +14,7 @@ use Rattle.gib_syntax.specs.GenericFine.{HasGenericConstructor}
 use Rattle.gib_mono.specs.declared.found.CopyKey.{CopyKey}
 use Rattle.gib_mono.specs.declared.found.CopyKey.TheVariants as k
 use Rattle.gib_mono.specs.declared.search.Search.{Search}
-use Rattle.gib_mono.specs.Walk.{Ask, Copy, DataOf, FunctionOf, data_asked, function_asked, constructors_in, functions_in, with_found, add_asks, copy_asks, constructor_asks, function_asks, main_asks, types_asks, written_asks, walk, walk_one, copies_of}
+use Rattle.gib_mono.specs.Walk.{Ask, Copy, DataOf, FunctionOf, data_asked, function_asked, constructors_in, functions_in, with_found, add_asks, copy_asks, constructor_asks, function_asks, main_asks, types_asks, results_asks, written_asks, walk, walk_one, copies_of}
 use Rattle.gib_mono.specs.Found.{Kept, copy_from, KeyBelow, AreCopies, IsFound, AreAlike}
 use Rattle.gib_mono.specs.Contexts.{forms, meaning}
 use Rattle.gib_mono.specs.Searching.{Reached, IsAt, IsOpen, Walked, Asks, AsksAll}
@@ -24,8 +27,11 @@ use Rattle.gib_syntax.specs.Forms.{assign}
 use Rattle.gib_syntax.specs.declared.program.GenericParameter.{GenericParameter}
 use Rattle.gib_syntax.specs.declared.written.Word.{Word}
 use Rattle.gib_syntax.specs.declared.written.Run.{Run}
+use Rattle.gib_syntax.specs.declared.written.ResultRuns.{ResultRuns}
+use Rattle.gib_syntax.specs.declared.written.ResultRuns.TheVariants as result
+use Rattle.gib_syntax.specs.Results.{One}
 use Rattle.gib_syntax.specs.GenericArena.{tree_of}
-use Rattle.gib_syntax.specs.GenericParts.{GenericParts, constructor_in, data_in, parameter_in, function_in, generic_program_of, IsParameterInside}
+use Rattle.gib_syntax.specs.GenericParts.{GenericParts, constructor_in, data_in, parameter_in, function_in, results_in, generic_program_of, IsParameterInside, AreResultsInside}
 use Rattle.gib_syntax.specs.Words.{stack_of, run_words, first_type, type_in, IsTypeRun}
 use Rattle.gib_syntax.proofs.Reading.{read_stack}
 use Rattle.gib_mono.specs.Sources.{globals_in, asks_in}
@@ -65,12 +71,9 @@ all_both g old mid new xs ys a b = record { on = λ r at. subst (IsAt g new) (as
 
 -- at most 1,200 copies
 
-some_is : {A : Type 0} (x y : A) → Some x ≡ Some y → x ≡ y
-some_is x y e = cc
-
 all_at : {A : Type 0} (P : A → Type 0) (xs : List A) (i : ℕ) (x : A) → AllByRecursion P xs → slice_get xs i ≡ Some x → P x
 all_at P [] i x h e = absurd cc
-all_at P (y ∷ xs) zero x h e = subst P (some_is y x e) h.0
+all_at P (y ∷ xs) zero x h e = subst P (same_Some y x e) h.0
 all_at P (y ∷ xs) (suc i) x h e = all_at P xs i x h.1 e
 
 one_there : (d : GenericDataTree) → HasGenericConstructor d → 1 ≤ length d.constructors
@@ -85,13 +88,13 @@ of_key g fs (k.Data i is) c fine e = by (slice_get g.datas i) refl e where
   by None f q = absurd cc
   by (Some d) f q =
       let l = one_there d (all_at HasGenericConstructor g.datas i d fine f) in
-      let n : constructors_in (c ∷ []) ≡ length d.constructors + 0 = ap (λ x. constructors_in (x ∷ [])) (sym (some_is (DataOf d (forms_at fs is.items)) c q)) in
+      let n : constructors_in (c ∷ []) ≡ length d.constructors + 0 = ap (λ x. constructors_in (x ∷ [])) (sym (same_Some (DataOf d (forms_at fs is.items)) c q)) in
       omega (arith, l, n)
 of_key g fs (k.Function i is) c fine e = by (slice_get g.functions i) e where
   by : (o : Option GenericFunctionTree) → function_asked o (forms_at fs is.items) ≡ Some c → 1 ≤ constructors_in (c ∷ []) + functions_in (c ∷ [])
   by None q = absurd cc
   by (Some f) q =
-      let n : functions_in (c ∷ []) ≡ 1 = ap (λ x. functions_in (x ∷ [])) (sym (some_is (FunctionOf f (forms_at fs is.items)) c q)) in
+      let n : functions_in (c ∷ []) ≡ 1 = ap (λ x. functions_in (x ∷ [])) (sym (same_Some (FunctionOf f (forms_at fs is.items)) c q)) in
       omega (arith, n)
 
 one_more : (c : Copy) (cs : List Copy) → constructors_in (c ∷ cs) + functions_in (c ∷ cs) ≡ (constructors_in (c ∷ []) + functions_in (c ∷ [])) + (constructors_in cs + functions_in cs)
@@ -116,7 +119,7 @@ opened g fs kept (Some s) r e h = absurd cc
 
 pub closed : (g : GenericGlobals) (fs : List Form) (kept : Kept) (limit : Option Span) (r : Result (List Copy) Span) (s : Span) → limit ≡ Some s → Reached g fs kept limit r → r ≡ Err s
 closed g fs kept None r s e h = absurd cc
-closed g fs kept (Some t) r s e h = h ∙ ap Err (some_is t s e)
+closed g fs kept (Some t) r s e h = h ∙ ap Err (same_Some t s e)
 
 less_one : (n : ℕ) → 0 < n → (m : ℕ) × (n ≡ suc m)
 less_one zero l = absurd (omega (arith, l))
@@ -246,19 +249,51 @@ parameters_next p old now new qs rest d words l f h a =
 pub parameters_end : (p : GenericParts) (old now : Search) (qs rest : List GenericParameter) → length rest < 1 → ParametersAsked p old now qs rest → Asks (globals_in p) old now (parameters_asks p qs)
 parameters_end p old now qs rest l h = asked_end (globals_in p) old now (parameters_asks p qs) (parameters_asks p rest) h.asked (λ m. ap (λ r. parameters_asks p r m) (empty_is rest l))
 
-pub function_all : (p : GenericParts) (old first second new : Search) (qs : List GenericParameter) (result : Run) (body : ℕ) (words : List Word) → IsTypeRun p.exprs.words result → words ≡ run_words p.exprs.words result
-    → Asks (globals_in p) old first (parameters_asks p qs) → Asks (globals_in p) first second (λ m. types_asks m (stack_of words)) → Asks (globals_in p) second new (asks_in p body)
-    → Asks (globals_in p) old new (λ m. function_asks (globals_in p).rows m (map (parameter_in p.exprs.words) qs) (type_in p.exprs.words result) (tree_of p.exprs body))
-function_all p old first second new qs result body words h e a b c =
-    asks_both (globals_in p) old first new (parameters_asks p qs) (λ m. written_asks m (type_in p.exprs.words result) ++ asks_in p body m) a
-    (asks_both (globals_in p) first second new (λ m. written_asks m (type_in p.exprs.words result)) (asks_in p body) (asks_same (globals_in p) first second (λ m. types_asks m (stack_of words)) (λ m. written_asks m (type_in p.exprs.words result)) (λ m. type_asks m p.exprs.words result words h e) b) c)
+abbrev pub runs_asks : GenericParts → List Run → Meant → List Ask
+runs_asks p runs m = types_asks m (map (type_in p.exprs.words) runs)
+
+pub record RunsAsked (p : GenericParts) (old now : Search) (runs rest : List Run) : Type 0 where
+  pub asked : AskedSoFar (globals_in p) old now (runs_asks p runs) (runs_asks p rest)
+  pub inside : AllByRecursion (IsTypeRun p.exprs.words) rest
+
+pub runs_start : (p : GenericParts) (old : Search) (runs : List Run) → AllByRecursion (IsTypeRun p.exprs.words) runs → RunsAsked p old old runs runs
+runs_start p old runs h = record { asked = asked_start (globals_in p) old (runs_asks p runs); inside = h }
+
+pub runs_next : (p : GenericParts) (old now new : Search) (runs rest : List Run) (d : Run) (words : List Word) → 1 ≤ length rest → words ≡ run_words p.exprs.words (get_or rest 0 d)
+    → RunsAsked p old now runs rest → Asks (globals_in p) now new (λ m. types_asks m (stack_of words)) → RunsAsked p old new runs (take (length rest - 1) (drop 1 rest))
+runs_next p old now new runs rest d words l f h a =
+    let run = get_or rest 0 d in
+    let is : rest ≡ get_or rest 0 d ∷ take (length rest - 1) (drop 1 rest) = split_is rest d l in
+    let here = subst (AllByRecursion (IsTypeRun p.exprs.words)) is h.inside in
+    record {
+      asked = asked_next (globals_in p) old now new (runs_asks p runs) (runs_asks p rest) (runs_asks p (take (length rest - 1) (drop 1 rest))) (λ m. types_asks m (stack_of words)) h.asked
+          (λ m. ap (λ r. runs_asks p r m) is ∙ ap (λ as'. as' ++ runs_asks p (take (length rest - 1) (drop 1 rest)) m) (sym (type_asks m p.exprs.words run words here.0 f))) a;
+      inside = here.1;
+    }
+
+pub runs_end : (p : GenericParts) (old now : Search) (runs rest : List Run) → length rest < 1 → RunsAsked p old now runs rest → Asks (globals_in p) old now (runs_asks p runs)
+runs_end p old now runs rest l h = asked_end (globals_in p) old now (runs_asks p runs) (runs_asks p rest) h.asked (λ m. ap (λ r. runs_asks p r m) (empty_is rest l))
+
+pub one_asked : (p : GenericParts) (old new : Search) (r : ResultRuns) (run : Run) (words : List Word) → r ≡ result.One run → AreResultsInside p.exprs.words r → words ≡ run_words p.exprs.words run → Asks (globals_in p) old new (λ m. types_asks m (stack_of words))
+    → Asks (globals_in p) old new (λ m. results_asks m (results_in p.exprs.words r))
+one_asked p old new r run words is inside e a =
+    let h : IsTypeRun p.exprs.words run = subst (AreResultsInside p.exprs.words) is inside in
+    asks_same (globals_in p) old new (λ m. types_asks m (stack_of words)) (λ m. results_asks m (results_in p.exprs.words r))
+    (λ m. type_asks m p.exprs.words run words h e ∙ ap (λ q. results_asks m (results_in p.exprs.words q)) (sym is)) a
+
+pub parts_asked : (p : GenericParts) (old new : Search) (r : ResultRuns) (runs : Vec Run) (rs : List Run) → r ≡ result.Several runs → rs ≡ runs.items → Asks (globals_in p) old new (λ m. types_asks m (map (type_in p.exprs.words) rs))
+    → Asks (globals_in p) old new (λ m. results_asks m (results_in p.exprs.words r))
+parts_asked p old new r runs rs is e a =
+    asks_same (globals_in p) old new (λ m. types_asks m (map (type_in p.exprs.words) rs)) (λ m. results_asks m (results_in p.exprs.words r))
+    (λ m. ap (λ l. types_asks m (map (type_in p.exprs.words) l)) e ∙ ap (λ q. results_asks m (results_in p.exprs.words q)) (sym is)) a
+
+pub function_all : (p : GenericParts) (old first second new : Search) (qs : List GenericParameter) (gives : ResultRuns) (body : ℕ) → Asks (globals_in p) old first (parameters_asks p qs) → Asks (globals_in p) first second (λ m. results_asks m (results_in p.exprs.words gives)) → Asks (globals_in p) second new (asks_in p body)
+    → Asks (globals_in p) old new (λ m. function_asks (globals_in p).rows m (map (parameter_in p.exprs.words) qs) (results_in p.exprs.words gives) (tree_of p.exprs body))
+function_all p old first second new qs gives body a b c =
+    asks_both (globals_in p) old first new (parameters_asks p qs) (λ m. results_asks m (results_in p.exprs.words gives) ++ asks_in p body m) a
+    (asks_both (globals_in p) first second new (λ m. results_asks m (results_in p.exprs.words gives)) (asks_in p body) b c)
 
 -- copies of declarations
-
-get_mapped : {A B : Type 0} (f : A → B) (xs : List A) (i : ℕ) (x : A) → slice_get xs i ≡ Some x → slice_get (map f xs) i ≡ Some (f x)
-get_mapped f [] i x e = absurd cc
-get_mapped f (y ∷ xs) zero x e = let g : y ≡ x = some_is y x e in ap (λ z. Some (f z)) g
-get_mapped f (y ∷ xs) (suc i) x e = get_mapped f xs i x e
 
 -- with other type variables
 abbrev pub entered : Search → List Ident → List TypeId → Search
@@ -268,20 +303,20 @@ pub data_copied : (p : GenericParts) (old new : Search) (place : ℕ) (decl : Ge
     → slice_get p.datas place ≡ Some decl → variables ≡ decl.variables.items → constructors ≡ decl.constructors.items → Asks (globals_in p) (entered old variables types) new (fields_asks p constructors)
     → AsksAll (globals_in p) old new (copy_asks (globals_in p).rows (DataOf d (forms_at (forms old.context) types)))
 data_copied p old new place decl d variables constructors types there at vs cs a =
-    let is : data_in p.exprs.words decl ≡ d = some_is (data_in p.exprs.words decl) d (sym (get_mapped (data_in p.exprs.words) p.datas place decl at) ∙ there) in
+    let is : data_in p.exprs.words decl ≡ d = same_Some (data_in p.exprs.words decl) d (sym (get_map (data_in p.exprs.words) p.datas place decl at) ∙ there) in
     subst (λ x. AsksAll (globals_in p) old new (copy_asks (globals_in p).rows (DataOf x (forms_at (forms old.context) types)))) is
     (subst (λ q. AsksAll (globals_in p) old new (constructor_asks (assign q (forms_at (forms old.context) types)) (map (constructor_in p.exprs.words) decl.constructors.items))) vs
     (subst (λ q. AsksAll (globals_in p) old new (constructor_asks (assign variables (forms_at (forms old.context) types)) (map (constructor_in p.exprs.words) q))) cs
     (all_from (globals_in p) old (entered old variables types) new (assign variables (forms_at (forms old.context) types)) (fields_asks p constructors) refl refl refl refl a)))
 
-abbrev pub function_body : GenericParts → List GenericParameter → Run → ℕ → Meant → List Ask
-function_body p qs result body m = function_asks (globals_in p).rows m (map (parameter_in p.exprs.words) qs) (type_in p.exprs.words result) (tree_of p.exprs body)
+abbrev pub function_body : GenericParts → List GenericParameter → ResultRuns → ℕ → Meant → List Ask
+function_body p qs gives body m = function_asks (globals_in p).rows m (map (parameter_in p.exprs.words) qs) (results_in p.exprs.words gives) (tree_of p.exprs body)
 
 pub function_copied : (p : GenericParts) (old new : Search) (place : ℕ) (decl : GenericFunction) (f : GenericFunctionTree) (variables : List Ident) (parameters : List GenericParameter) (types : List TypeId) → slice_get (globals_in p).functions place ≡ Some f
     → slice_get p.functions place ≡ Some decl → variables ≡ decl.variables.items → parameters ≡ decl.parameters.items → Asks (globals_in p) (entered old variables types) new (function_body p parameters decl.result decl.body.0)
     → AsksAll (globals_in p) old new (copy_asks (globals_in p).rows (FunctionOf f (forms_at (forms old.context) types)))
 function_copied p old new place decl f variables parameters types there at vs qs a =
-    let is : function_in p.exprs decl ≡ f = some_is (function_in p.exprs decl) f (sym (get_mapped (function_in p.exprs) p.functions place decl at) ∙ there) in
+    let is : function_in p.exprs decl ≡ f = same_Some (function_in p.exprs decl) f (sym (get_map (function_in p.exprs) p.functions place decl at) ∙ there) in
     subst (λ x. AsksAll (globals_in p) old new (copy_asks (globals_in p).rows (FunctionOf x (forms_at (forms old.context) types)))) is
     (subst (λ q. AsksAll (globals_in p) old new (function_body p decl.parameters.items decl.result decl.body.0 (assign q (forms_at (forms old.context) types)))) vs
     (subst (λ q. AsksAll (globals_in p) old new (function_body p q decl.result decl.body.0 (assign variables (forms_at (forms old.context) types)))) qs
@@ -324,23 +359,23 @@ declared_below (y ∷ xs) (suc i) o e x f = let l = declared_below xs i o e x f 
 
 pub data_there : (g : GenericGlobals) (fs : List Form) (i : ℕ) (o : Option GenericDataTree) (ts : Forms) (c : Copy) → slice_get g.datas i ≡ o → data_asked o ts ≡ Some c → (d : GenericDataTree) × (slice_get g.datas i ≡ Some d) × (c ≡ DataOf d ts) × (i < length g.datas)
 data_there g fs i None ts c e f = absurd cc
-data_there g fs i (Some d) ts c e f = (d, e, sym (some_is (DataOf d ts) c f), declared_below g.datas i (Some d) e d refl)
+data_there g fs i (Some d) ts c e f = (d, e, sym (same_Some (DataOf d ts) c f), declared_below g.datas i (Some d) e d refl)
 
 pub function_there : (g : GenericGlobals) (fs : List Form) (i : ℕ) (o : Option GenericFunctionTree) (ts : Forms) (c : Copy) → slice_get g.functions i ≡ o → function_asked o ts ≡ Some c → (f : GenericFunctionTree) × (slice_get g.functions i ≡ Some f) × (c ≡ FunctionOf f ts) × (i < length g.functions)
 function_there g fs i None ts c e f = absurd cc
-function_there g fs i (Some h) ts c e f = (h, e, sym (some_is (FunctionOf h ts) c f), declared_below g.functions i (Some h) e h refl)
+function_there g fs i (Some h) ts c e f = (h, e, sym (same_Some (FunctionOf h ts) c f), declared_below g.functions i (Some h) e h refl)
 
 pub copy_all : (g : GenericGlobals) (old new : Search) (place : ℕ) (found : List Copy) (c d : Copy) → slice_get found place ≡ Some c → slice_get found place ≡ Some d → AsksAll g old new (copy_asks g.rows d) → AsksAll g old new (copy_asks g.rows c)
-copy_all g old new place found c d e f a = subst (λ x. AsksAll g old new (copy_asks g.rows x)) (some_is d c (sym f ∙ e)) a
+copy_all g old new place found c d e f a = subst (λ x. AsksAll g old new (copy_asks g.rows x)) (same_Some d c (sym f ∙ e)) a
 
 pub main_copied : (p : GenericParts) (old new : Search) (variables : List Ident) (meant : List TypeId) (main : GenericMain) (parameters : List GenericParameter) → variables ≡ [] → meant ≡ [] → main ≡ p.main → parameters ≡ main.parameter ∷ []
-    → Asks (globals_in p) (entered old variables meant) new (function_body p parameters main.result main.body.0) → AsksAll (globals_in p) old new (main_asks (generic_program_of p))
+    → Asks (globals_in p) (entered old variables meant) new (function_body p parameters (result.One main.result) main.body.0) → AsksAll (globals_in p) old new (main_asks (generic_program_of p))
 main_copied p old new variables meant main parameters e f h q a =
-    all_from (globals_in p) old (entered old [] []) new (assign [] NoForm) (function_body p (p.main.parameter ∷ []) p.main.result p.main.body.0) refl refl refl refl
-    (subst (λ x. Asks (globals_in p) (entered old [] []) new (function_body p (x.parameter ∷ []) x.result x.body.0)) h
-    (subst (λ x. Asks (globals_in p) (entered old [] []) new (function_body p x main.result main.body.0)) q
-    (subst (λ x. Asks (globals_in p) (entered old [] x) new (function_body p parameters main.result main.body.0)) f
-    (subst (λ x. Asks (globals_in p) (entered old x meant) new (function_body p parameters main.result main.body.0)) e a))))
+    all_from (globals_in p) old (entered old [] []) new (assign [] NoForm) (function_body p (p.main.parameter ∷ []) (result.One p.main.result) p.main.body.0) refl refl refl refl
+    (subst (λ x. Asks (globals_in p) (entered old [] []) new (function_body p (x.parameter ∷ []) (result.One x.result) x.body.0)) h
+    (subst (λ x. Asks (globals_in p) (entered old [] []) new (function_body p x (result.One main.result) main.body.0)) q
+    (subst (λ x. Asks (globals_in p) (entered old [] x) new (function_body p parameters (result.One main.result) main.body.0)) f
+    (subst (λ x. Asks (globals_in p) (entered old x meant) new (function_body p parameters (result.One main.result) main.body.0)) e a))))
 
 pub start_at : (g : GenericGlobals) (fs : List Form) (kept : Kept) → kept ≡ record { keys = []; constructors = 0; functions = 0 } → Reached g fs kept None (Ok [])
 start_at g fs kept e = subst (λ q. Reached g fs q None (Ok [])) (sym e) ([], refl, record { copies = tt; constructors = refl; functions = refl })

@@ -7,19 +7,20 @@ use Rattle.gib_base.specs.declared.Span.{Span}
 use Rattle.gib_syntax.specs.declared.tree.Ident.{Ident}
 use Rattle.gib_syntax.specs.Declarations.{number_of}
 use Rattle.gib_syntax.specs.Typing.{Globals}
+use Rattle.gib_syntax.specs.Results.{Results, One, map_results}
 use Rattle.gib_syntax.specs.Forms.{WrittenType, Form, Forms, WholeForm, TruthForm, VariableForm, DataForm, NoForm, MoreForms, Meant, formed, assign}
 use Rattle.gib_syntax.specs.GenericTree.{GenericExpression, GenericConstructorTree, GenericDataTree, GenericParameterTree, GenericFunctionTree, GenericProgramTree, GenericRow, row_of, rows_of, GenericGlobals, globals_of_generic, generic_named, data_named}
 use Rattle.gib_syntax.specs.GenericFine.{HasGenericConstructor}
 use Rattle.gib_syntax.specs.GenericTyping.{variable_numbers, IsTypedGenericFunction, IsKnownData, IsTypedGeneric}
 use Rattle.gib_mono.specs.Copying.{Naming, parameter_scope}
 use Rattle.gib_mono.specs.Copied.{Item, IsItem, IsHere, AreHere}
-use Rattle.gib_mono.specs.Walk.{Ask, Copy, DataOf, FunctionOf, is_found, are_few, add_few, add_new, add_short, add_ask, with_found, add_asks, walk_one, walk, written_asks, types_asks, asks, function_asks, copy_asks, copies_asks, main_asks, data_asked, function_asked, asked, plain_data, plain_datas, plain_function, plain_functions, plain_copies, copies_of, type_items}
+use Rattle.gib_mono.specs.Walk.{Ask, Copy, DataOf, FunctionOf, is_found, are_few, add_few, add_new, add_short, add_ask, with_found, add_asks, walk_one, walk, written_asks, results_asks, types_asks, asks, function_asks, copy_asks, copies_asks, main_asks, data_asked, function_asked, asked, plain_data, plain_datas, plain_function, plain_functions, plain_copies, copies_of, type_items}
 use Rattle.gib_types.specs.Form.{has_long}
 use Rattle.gib_mono.specs.Closed.{AreAnswered, types_of, IsDeclared, IsGood}
 use Rattle.gib_mono.proofs.Closing.{asks_go, AreWalked, one_more, same_ok, data_found, data_own}
 use Rattle.gib_mono.proofs.Copies.{answered_split, plain_good, plain_walked}
 use Rattle.gib_mono.proofs.Running.{generic_found, body_put}
-use Rattle.gib_mono.proofs.Asking.{MeantHere, assign_here, written_uses, AllAskHere, here_both, RowsDeclared, uses_asked, types_here, constructors_here, parameters_known}
+use Rattle.gib_mono.proofs.Asking.{MeantHere, assign_here, results_types_here, AllAskHere, here_both, RowsDeclared, uses_asked, types_here, constructors_here, parameters_known}
 
 -- Lists
 
@@ -119,18 +120,18 @@ no_naming = record { types = λ x ts. x; constructors = λ x ts. x; functions = 
 no_globals : Globals
 no_globals = record { table = record { types = []; rows = [] }; functions = [] }
 
-function_uses : (p : GenericProgramTree) (found : List Copy) (variables : List Ident) (parameters : List GenericParameterTree) (result : WrittenType) (body : GenericExpression) (m : Meant) → IsTypedGeneric p → IsTypedGenericFunction (globals_of_generic p) variables parameters result body →
+function_uses : (p : GenericProgramTree) (found : List Copy) (variables : List Ident) (parameters : List GenericParameterTree) (result : Results WrittenType) (body : GenericExpression) (m : Meant) → IsTypedGeneric p → IsTypedGenericFunction (globals_of_generic p) variables parameters result body →
     MeantHere (type_items found) m → AreAnswered (globals_of_generic p) found (function_asks (rows_of p.datas) m parameters result body) → AllAskHere (type_items found) (function_asks (rows_of p.datas) m parameters result body)
 function_uses p found variables parameters result body m typed own here h =
     let g = globals_of_generic p in
-    let first = answered_split g found (types_asks m (map (λ (q : GenericParameterTree). q.ty) parameters)) (written_asks m result ++ asks g.rows m body) h in
-    let second = answered_split g found (written_asks m result) (asks g.rows m body) first.1 in
+    let first = answered_split g found (types_asks m (map (λ (q : GenericParameterTree). q.ty) parameters)) (results_asks m result ++ asks g.rows m body) h in
+    let second = answered_split g found (results_asks m result) (asks g.rows m body) first.1 in
     let is = body_put g variables parameters result body m own in
-    here_both (type_items found) (types_asks m (map (λ (q : GenericParameterTree). q.ty) parameters)) (written_asks m result ++ asks g.rows m body)
+    here_both (type_items found) (types_asks m (map (λ (q : GenericParameterTree). q.ty) parameters)) (results_asks m result ++ asks g.rows m body)
     (types_here g found (variable_numbers variables) m here (map (λ (q : GenericParameterTree). q.ty) parameters) (parameters_known p.datas (variable_numbers variables) parameters own.known) first.0).1
-    (here_both (type_items found) (written_asks m result) (asks g.rows m body)
-    (written_uses g found (variable_numbers variables) m here result own.known_result second.0)
-    (uses_asked g no_naming no_globals (λ n. n) found (rows_declared p typed) (variable_numbers variables) m here body (formed m result) (parameter_scope m parameters) is.typed second.1).1)
+    (here_both (type_items found) (results_asks m result) (asks g.rows m body)
+    (results_types_here g found (variable_numbers variables) m here result own.known_result second.0).1
+    (uses_asked g no_naming no_globals (λ n. n) found (rows_declared p typed) (variable_numbers variables) m here body (map_results (formed m) result) (parameter_scope m parameters) is.typed second.1).1)
 
 copy_uses : (p : GenericProgramTree) (found : List Copy) (c : Copy) → IsTypedGeneric p → IsDeclared (globals_of_generic p) c → AreHere (type_items found) (types_of c) →
     AreAnswered (globals_of_generic p) found (copy_asks (rows_of p.datas) c) → AllAskHere (type_items found) (copy_asks (rows_of p.datas) c)
@@ -245,7 +246,7 @@ whole_here p found (Ok middle) fine typed is e =
     let both = answered_split g middle (copies_asks (rows_of p.datas) (plain_copies p)) (main_asks p) first.1 in
     let plain : TypesHere (type_items middle) (plain_copies p) = plain_datas_here (type_items middle) p.datas (plain_functions p.functions) (plain_functions_here (type_items middle) p.functions) in
     let uses = here_both (type_items middle) (copies_asks (rows_of p.datas) (plain_copies p)) (main_asks p) (copies_uses p middle (plain_copies p) typed good.declared plain both.0)
-    (function_uses p middle [] (p.main.parameter ∷ []) p.main.result p.main.body (assign [] NoForm) typed typed.main (nothing_meant (type_items middle)) both.1) in
+    (function_uses p middle [] (p.main.parameter ∷ []) (One p.main.result) p.main.body (assign [] NoForm) typed typed.main (nothing_meant (type_items middle)) both.1) in
     walk_here 1201 p middle found (length (plain_copies p)) fine typed (first.0).good (plain_walked p middle (first.0).extra (first.0).is both.0)
     (asks_here (type_items middle) g (copies_asks (rows_of p.datas) (plain_copies p) ++ main_asks p) (plain_copies p) middle plain uses is) e
 

@@ -1,10 +1,10 @@
 -- Keys are equal where the copies that they stand for are the same.
-use Rattle.std.proofs.Common.{◌≡◌, ℕ, zero, suc, ◌+◌, ◌<◌, ◌≤◌, ◌==◌, ◌&&◌, ◌||◌, nat_lt, Bool, true, false, cond, List, [], ◌∷◌, ◌++◌, length, Option, Some, None, slice_get, refl, sym, ap, ap₂, ◌∙◌, arith, subst, true≢false, get_or, position, length-append}
+use Rattle.std.proofs.Common.{◌≡◌, ℕ, zero, suc, ◌+◌, ◌<◌, ◌≤◌, ◌==◌, ◌&&◌, ◌||◌, nat_lt, Bool, true, false, List, [], ◌∷◌, ◌++◌, length, Option, Some, None, slice_get, refl, sym, ap, ap₂, ◌∙◌, arith, subst, true≢false, get_or, position, length-append}
 use borrow.Author.Tests.{lt-ltb}
 use Rattle.std.specs.List.{list_any, position_or_len}
 use Rattle.std.proofs.lemmas.Bool.{eqb-true, eq-eqb}
 use Rattle.std.proofs.lemmas.List.Quantifiers.{position-Some}
-use Rattle.std.proofs.lemmas.Option.{slice_get-get_or}
+use Rattle.std.proofs.lemmas.Option.{slice_get-get_or, same_Some}
 use Rattle.indexmap.specs.IndexSet.{insert_key}
 use Rattle.gib_syntax.specs.Declarations.{number_of}
 use Rattle.gib_types.specs.declared.types.TypeId.{TypeId}
@@ -63,18 +63,15 @@ of_function : (o : Option GenericFunctionTree) (ts : Forms) (c : Copy) → funct
 of_function None ts c e = absurd cc
 of_function (Some d) ts c e = record { decl = d; is = refl; copy = (let f = e in cc) }
 
-some_is : {A : Type 0} (x y : A) → Some x ≡ Some y → x ≡ y
-some_is x y e = cc
-
 module _ (g : GenericGlobals) (decls : AreDeclarations g) where
   data_names : (i j : ℕ) (d e : GenericDataTree) → slice_get g.datas i ≡ Some d → slice_get g.datas j ≡ Some e → (i == j) ≡ (number_of e.name == number_of d.name)
   data_names i j d e p q = same_bool (i == j) (number_of e.name == number_of d.name)
-      (λ h. eq-eqb (number_of e.name) (number_of d.name) (ap (λ (x : GenericDataTree). number_of x.name) (sym (some_is d e (sym p ∙ ap (slice_get g.datas) (eqb-true i j h) ∙ q)))))
+      (λ h. eq-eqb (number_of e.name) (number_of d.name) (ap (λ (x : GenericDataTree). number_of x.name) (sym (same_Some d e (sym p ∙ ap (slice_get g.datas) (eqb-true i j h) ∙ q)))))
       (λ h. eq-eqb i j (decls.datas i j d e p q (sym (eqb-true (number_of e.name) (number_of d.name) h))))
 
   function_names : (i j : ℕ) (d e : GenericFunctionTree) → slice_get g.functions i ≡ Some d → slice_get g.functions j ≡ Some e → (i == j) ≡ (number_of e.name == number_of d.name)
   function_names i j d e p q = same_bool (i == j) (number_of e.name == number_of d.name)
-      (λ h. eq-eqb (number_of e.name) (number_of d.name) (ap (λ (x : GenericFunctionTree). number_of x.name) (sym (some_is d e (sym p ∙ ap (slice_get g.functions) (eqb-true i j h) ∙ q)))))
+      (λ h. eq-eqb (number_of e.name) (number_of d.name) (ap (λ (x : GenericFunctionTree). number_of x.name) (sym (same_Some d e (sym p ∙ ap (slice_get g.functions) (eqb-true i j h) ∙ q)))))
       (λ h. eq-eqb i j (decls.functions i j d e p q (sym (eqb-true (number_of e.name) (number_of d.name) h))))
 
   module _ (fs : List Form) (once : AreOnce fs) where
@@ -114,7 +111,7 @@ or_right false b e = e
 
 any_at : (p : CopyKey → Bool) (ks : List CopyKey) (i : ℕ) (b : CopyKey) → slice_get ks i ≡ Some b → p b ≡ true → list_any p ks ≡ true
 any_at p [] i b e h = absurd cc
-any_at p (x ∷ ks) zero b e h = let f : p x ≡ true = (ap p (some_is x b e) ∙ h) in rw f refl
+any_at p (x ∷ ks) zero b e h = let f : p x ≡ true = (ap p (same_Some x b e) ∙ h) in rw f refl
 any_at p (x ∷ ks) (suc i) b e h = or_right (p x) (list_any p ks) (any_at p ks i b e h)
 
 pub known_any : (ks : List CopyKey) (a : CopyKey) (i : ℕ) → position (key_eq a) ks ≡ Some i → list_any (same_key a) ks ≡ true

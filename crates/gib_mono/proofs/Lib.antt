@@ -19,6 +19,8 @@ pub mod Showing
 pub mod OwnCopy
 pub mod OwnWalk
 pub mod OwnMeaning
+pub mod OwnTyped
+pub mod OwnPlaced
 pub mod Bared
 pub mod OwnValues
 mod Keys
@@ -41,3 +43,4 @@ mod Baring
 pub mod TextsApart
 pub mod Below
 pub mod Called
+pub mod Written

@@ -1,5 +1,6 @@
 -- Copied expressions, from their copied parts.
-use Rattle.std.proofs.Common.{◌≡◌, ℕ, suc, ◌+◌, ◌-◌, ◌<◌, ◌≤◌, List, [], ◌∷◌, ◌++◌, length, map, take, drop, Option, Some, None, refl, sym, ap, ap₂, ◌∙◌, arith, subst}
+use Rattle.std.proofs.Common.{◌≡◌, ℕ, zero, suc, ◌+◌, ◌-◌, append_assoc, ◌<◌, ◌≤◌, List, [], ◌∷◌, ◌++◌, length, map, take, drop, Some, refl, sym, ap, ap₂, ◌∙◌, arith, subst}
+use Rattle.std.proofs.lemmas.List.{append-nil, length-append}
 use Rattle.std.specs.List.{AllByRecursion}
 use Rattle.std.specs.Global.{Vec}
 use Rattle.gib_base.specs.declared.Span.{Span}
@@ -12,7 +13,12 @@ use Rattle.gib_syntax.specs.declared.exprs.Node.{Node}
 use Rattle.gib_syntax.specs.declared.exprs.Node.TheVariants as n
 use Rattle.gib_syntax.specs.declared.tree.Ident.{Ident}
 use Rattle.gib_syntax.specs.declared.tree.Operator.{Operator}
-use Rattle.gib_syntax.specs.Tree.{Expression, Arguments, NoArgument, Argument, LastArm, NextArm, Paren, Op, Call, Make, Let, Par, If, Case}
+use Rattle.gib_syntax.specs.declared.tree.Parameter.{Parameter}
+use Rattle.gib_syntax.specs.declared.tree.TypeName.{TypeName}
+use Rattle.gib_syntax.specs.Results.{One, Several, list_results}
+use Rattle.gib_check.specs.declared.rules.ResultIds.{ResultIds}
+use Rattle.gib_check.specs.declared.rules.ResultIds.TheVariants as ids
+use Rattle.gib_syntax.specs.Tree.{Expression, Arguments, NoArgument, Argument, LastArm, NextArm, Paren, Op, Call, Make, Let, Par, If, Case, Tuple, LetSeveral, ParSeveral}
 use Rattle.gib_syntax.specs.Arena.{tree_of, layer, Grows, arguments_from, arms_from, case_from, ArmsBelow, IsArmBelow}
 use Rattle.gib_syntax.specs.GenericArena.{arguments_from as generic_from, arms_from as generic_arms, case_from as generic_case, ArmsBelow as GenericArmsBelow, IsArmBelow as IsGenericArmBelow}
 use Rattle.gib_syntax.specs.Declarations.{number_of}
@@ -20,18 +26,18 @@ use Rattle.gib_syntax.specs.Forms.{WrittenType, WrittenTypes, formed, formed_all
 use Rattle.gib_syntax.specs.declared.written.Word.{Word}
 use Rattle.gib_syntax.specs.declared.written.Run.{Run}
 use Rattle.gib_syntax.specs.Words.{all_types, stack_of, run_words, types_in}
-use Rattle.gib_syntax.specs.GenericTree.{GenericExpression, GenericArguments, GenericNoArgument, GenericArgument, GenericGlobals, GenericVar, GenericNum, GenericBit, GenericParen, GenericOp, GenericCall, GenericMake, GenericLet, GenericPar, GenericIf, GenericCase, generic_named, place_named}
+use Rattle.gib_syntax.specs.GenericTree.{GenericExpression, GenericArguments, GenericNoArgument, GenericArgument, GenericGlobals, GenericVar, GenericNum, GenericBit, GenericParen, GenericOp, GenericCall, GenericMake, GenericLet, GenericPar, GenericIf, GenericCase, GenericTuple, GenericLetSeveral, GenericParSeveral, generic_named, place_named}
 use Rattle.gib_syntax.specs.GenericTyping.{FormScope, form_in, form_bound, operator_form}
 use Rattle.gib_mono.specs.declared.copier.Copier.{Copier}
 use Rattle.gib_mono.specs.declared.copier.Copied.{Copied}
-use Rattle.gib_mono.specs.Copying.{Naming, renamed, copy, copy_all, copy_arms, form_of, form_of_arms, result_at, owner_named, forms_named, bind_forms, arguments_of}
+use Rattle.gib_mono.specs.Copying.{Naming, renamed, name_of_form, copy, copy_all, copy_arms, copy_variables, form_of, one_form, results_of, results_of_arms, forms_of_all, bound_forms, results_at, owner_named, forms_named, bind_forms, arguments_of}
 use Rattle.gib_mono.specs.Naming.{naming_of, number_with}
 use Rattle.gib_mono.specs.declared.scene.InScope.{InScope}
 use Rattle.gib_mono.specs.Scenes.{Scenery, IsScenery, forms, meaning, scope_onto, scope_in, names_in, Keeps}
 use Rattle.gib_mono.specs.Reading.{listed}
-use Rattle.gib_mono.specs.Made.{naming, Stays, Meets, MeetsAll, Puts, Copies, CopiesAll, CopiesArm, CopiesArms, ArmIs, ArmsAre, arm_scope, Binds, Leaves}
+use Rattle.gib_mono.specs.Made.{naming, run_of, forms_given, AreMet, MoreParts, Stays, Meets, Gives, MeetsAll, Puts, Copies, CopiesAll, CopiesTuple, CopiesArm, CopiesArms, ArmIs, ArmsAre, arm_scope, Binds, Leaves}
 use Rattle.gib_mono.proofs.InScene.{keeps_same, keeps_on, scope_grows}
-use Rattle.gib_mono.proofs.Read.{form_grows, forms_grow, below_more, grows_on as types_grow_on}
+use Rattle.gib_mono.proofs.Read.{form_grows, forms_grow, listed_grow, below_more, grows_on as types_grow_on}
 
 pub grows_same : (xs : List Node) → Grows xs xs
 grows_same xs = record { longer = omega arith; same = λ i l. refl }
@@ -42,11 +48,31 @@ grows_on xs ys zs a b = record {
   same = λ i l. b.same i (let m = a.longer in omega (arith, l, m)) ∙ a.same i l;
 }
 
+-- parts of results
+pub parts_same : (a b : Copier) → b.parts ≡ a.parts → MoreParts a b
+parts_same a b e = record { more = []; is = ap (λ (v : Vec TypeId). v.items) e ∙ sym (append-nil a.parts.items) }
+
+pub parts_on : (a b c : Copier) → MoreParts a b → MoreParts b c → MoreParts a c
+parts_on a b c h k = record { more = h.more ++ k.more; is = k.is ∙ ap (λ l. l ++ k.more) h.is ∙ append_assoc a.parts.items h.more k.more }
+
+take_more : (n : ℕ) (xs ys : List TypeId) → n ≤ length xs → take n (xs ++ ys) ≡ take n xs
+take_more zero xs ys l = refl
+take_more (suc n) [] ys l = absurd (omega (arith, l))
+take_more (suc n) (x ∷ xs) ys l = ap (λ z. x ∷ z) (take_more n xs ys (omega (arith, l)))
+
+run_more : (start count : ℕ) (xs ys : List TypeId) → start + count ≤ length xs → take count (drop start (xs ++ ys)) ≡ take count (drop start xs)
+run_more zero count xs ys l = take_more count xs ys (omega (arith, l))
+run_more (suc start) count [] ys l = absurd (omega (arith, l))
+run_more (suc start) count (x ∷ xs) ys l = run_more start count xs ys (omega (arith, l))
+
+run_stays : (a b : Copier) (start count : ℕ) → MoreParts a b → start + count ≤ length a.parts.items → run_of b start count ≡ run_of a start count
+run_stays a b start count m l = ap (λ (ps : List TypeId). take count (drop start ps)) m.is ∙ run_more start count a.parts.items m.more l
+
 pub stays_same : (s : Copier) → Stays s s
-stays_same s = record { keeps = keeps_same s.scene; base = refl; grows = grows_same s.exprs }
+stays_same s = record { keeps = keeps_same s.scene; parts = parts_same s s refl; base = refl; grows = grows_same s.exprs }
 
 pub stays_on : (a b c : Copier) → Stays a b → Stays b c → Stays a c
-stays_on a b c h k = record { keeps = keeps_on a.scene b.scene c.scene h.keeps k.keeps; base = k.base ∙ h.base; grows = grows_on a.exprs b.exprs c.exprs h.grows k.grows }
+stays_on a b c h k = record { keeps = keeps_on a.scene b.scene c.scene h.keeps k.keeps; parts = parts_on a b c h.parts k.parts; base = k.base ∙ h.base; grows = grows_on a.exprs b.exprs c.exprs h.grows k.grows }
 
 pub naming_stays : (a b : Copier) → Stays a b → naming b ≡ naming a
 naming_stays a b h = ap₂ naming_of h.base h.keeps.names
@@ -54,14 +80,40 @@ naming_stays a b h = ap₂ naming_of h.base h.keeps.names
 pub same₃ : {A B C D : Type 0} (f : A → B → C → D) {x y : A} {u v : B} {s t : C} → x ≡ y → u ≡ v → s ≡ t → f x u s ≡ f y v t
 same₃ f {x} {y} {u} {v} {s} {t} e g h = ap (λ a. f a u s) e ∙ ap (λ b. f y b s) g ∙ ap (f y v) h
 
+-- what was given stays
+pub given_stays : (a b : Copier) (r : ResultIds) → Stays a b → AreMet a r → forms_given b r ≡ forms_given a r
+given_stays a b (ids.One id) s h = ap One (form_grows a.scene.types b.scene.types id s.keeps.grows h)
+given_stays a b (ids.Several start count) s h =
+    ap Several (ap (listed (forms b.scene)) (run_stays a b start count s.parts h.0) ∙ listed_grow a.scene.types b.scene.types (run_of a start count) s.keeps.grows h.1)
+
+pub met_stays : (a b : Copier) (r : ResultIds) → Stays a b → AreMet a r → AreMet b r
+met_stays a b (ids.One id) s h = let l = s.keeps.longer in omega (arith, h, l)
+met_stays a b (ids.Several start count) s h = (
+  (let k = h.0 in let e = ap (λ (l : List TypeId). length l) s.parts.is in let f = length-append a.parts.items s.parts.more in omega (arith, k, e, f)),
+  subst (AreBelow (length b.scene.types)) (sym (run_stays a b start count s.parts h.0)) (below_more (length a.scene.types) (length b.scene.types) (run_of a start count) s.keeps.longer h.1),
+)
+
+-- and is the same where types and parts are
+pub given_same : (a b : Copier) (r : ResultIds) → b.scene.types ≡ a.scene.types → b.parts ≡ a.parts → forms_given b r ≡ forms_given a r
+given_same a b (ids.One id) e p = ap (λ ns. One (form_at (forms_of ns) id.0)) e
+given_same a b (ids.Several start count) e p =
+    ap (λ (v : Vec TypeId). Several (listed (forms b.scene) (take count (drop start v.items)))) p ∙ ap (λ ns. Several (listed (forms_of ns) (take count (drop start a.parts.items)))) e
+
+pub met_same : (a b : Copier) (r : ResultIds) → b.scene.types ≡ a.scene.types → b.parts ≡ a.parts → AreMet a r → AreMet b r
+met_same a b (ids.One id) e p h = subst (λ ns. id.0 < length ns) (sym e) h
+met_same a b (ids.Several start count) e p h = (
+  subst (λ (v : Vec TypeId). start + count ≤ length v.items) (sym p) h.0,
+  subst (λ ns. AreBelow (length ns) (run_of b start count)) (sym e) (subst (λ (v : Vec TypeId). AreBelow (length a.scene.types) (take count (drop start v.items))) (sym p) h.1),
+)
+
 -- what is copied later is the copy that it would have been before
 pub copied_from : (g : GenericGlobals) (old mid new : Copier) (c : Copied) (e : GenericExpression) → Stays old mid → Copies g mid new c e → Copies g old new c e
 copied_from g old mid new c e s h = record {
   stays = stays_on old mid new s h.stays;
   inside = h.inside;
-  below = h.below;
+  met = h.met;
   expr = h.expr ∙ same₃ (λ nm m sc. copy g nm m sc e) (naming_stays old mid s) s.keeps.meaning s.keeps.scope;
-  form = h.form ∙ ap₂ (λ m sc. form_of g m sc e) s.keeps.meaning s.keeps.scope;
+  forms = h.forms ∙ ap₂ (λ m sc. results_of g m sc e) s.keeps.meaning s.keeps.scope;
 }
 
 -- what was copied stays
@@ -69,45 +121,45 @@ pub copied_stays : (g : GenericGlobals) (old mid new : Copier) (c : Copied) (e :
 copied_stays g old mid new c e h s = record {
   stays = stays_on old mid new h.stays s;
   inside = (let l = h.inside in let m = s.grows.longer in omega (arith, l, m));
-  below = (let l = h.below in let m = s.keeps.longer in omega (arith, l, m));
+  met = met_stays mid new c.given s h.met;
   expr = s.grows.same c.expr.0 h.inside ∙ h.expr;
-  form = form_grows mid.scene.types new.scene.types c.ty s.keeps.grows h.below ∙ h.form;
+  forms = given_stays mid new c.given s h.met ∙ h.forms;
 }
 
 -- one more expression
 put_stays : (s t : Copier) (id : ExprId) (node : Node) → Puts s t id node → Stays s t
-put_stays s t id node w = record { keeps = subst (λ k. Keeps s.scene k) (sym w.scene) (keeps_same s.scene); base = w.base; grows = w.makes.grows }
+put_stays s t id node w = record { keeps = subst (λ k. Keeps s.scene k) (sym w.scene) (keeps_same s.scene); parts = parts_same s t w.parts; base = w.base; grows = w.makes.grows }
 
 -- a node over copied parts
-pub node_made : (g : GenericGlobals) (old s new : Copier) (id : ExprId) (node : Node) (ty : TypeId) (e : GenericExpression) → Stays old s → Puts s new id node
-    → layer (tree_of s.exprs) (Some node) ≡ copy g (naming old) (meaning old.scene) (scope_in old.scene) e → ty.0 < length s.scene.types → form_at (forms s.scene) ty.0 ≡ form_of g (meaning old.scene) (scope_in old.scene) e
-    → Copies g old new (record { expr = id; ty = ty }) e
-node_made g old s new id node ty e stays w tree below form = record {
+pub node_made : (g : GenericGlobals) (old s new : Copier) (id : ExprId) (node : Node) (given : ResultIds) (e : GenericExpression) → Stays old s → Puts s new id node
+    → layer (tree_of s.exprs) (Some node) ≡ copy g (naming old) (meaning old.scene) (scope_in old.scene) e → AreMet s given → forms_given s given ≡ results_of g (meaning old.scene) (scope_in old.scene) e
+    → Copies g old new (record { expr = id; given = given }) e
+node_made g old s new id node given e stays w tree met forms_are = record {
   stays = stays_on old s new stays (put_stays s new id node w);
   inside = w.makes.inside;
-  below = subst (λ (k : Scenery). ty.0 < length k.types) (sym w.scene) below;
+  met = met_stays s new given (put_stays s new id node w) met;
   expr = w.makes.tree ∙ tree;
-  form = ap (λ (k : Scenery). form_at (forms k) ty.0) w.scene ∙ form;
+  forms = given_stays s new given (put_stays s new id node w) met ∙ forms_are;
 }
 
-pub variable_made : (s0 s1 s2 : Copier) (id : ExprId) (ty : TypeId) (x : Ident) → Meets s0 s1 ty (form_or (form_in (scope_in s0.scene) (number_of x))) → Puts s1 s2 id (n.Variable x) → (g : GenericGlobals) → Copies g s0 s2 (record { expr = id; ty = ty }) (GenericVar x)
-variable_made s0 s1 s2 id ty x m w = λ g. node_made g s0 s1 s2 id (n.Variable x) ty (GenericVar x) m.stays w refl m.below m.form
+pub variable_made : (s0 s1 s2 : Copier) (id : ExprId) (ty : TypeId) (x : Ident) → Meets s0 s1 ty (form_or (form_in (scope_in s0.scene) (number_of x))) → Puts s1 s2 id (n.Variable x) → (g : GenericGlobals) → Copies g s0 s2 (record { expr = id; given = ids.One ty }) (GenericVar x)
+variable_made s0 s1 s2 id ty x m w = λ g. node_made g s0 s1 s2 id (n.Variable x) (ids.One ty) (GenericVar x) m.stays w refl m.below (ap One m.form)
 
-pub whole_made : (s0 s1 s2 : Copier) (id : ExprId) (ty : TypeId) (p : Span) (v : ℕ) → Meets s0 s1 ty WholeForm → Puts s1 s2 id (n.Whole p v) → (g : GenericGlobals) → Copies g s0 s2 (record { expr = id; ty = ty }) (GenericNum p v)
-whole_made s0 s1 s2 id ty p v m w = λ g. node_made g s0 s1 s2 id (n.Whole p v) ty (GenericNum p v) m.stays w refl m.below m.form
+pub whole_made : (s0 s1 s2 : Copier) (id : ExprId) (ty : TypeId) (p : Span) (v : ℕ) → Meets s0 s1 ty WholeForm → Puts s1 s2 id (n.Whole p v) → (g : GenericGlobals) → Copies g s0 s2 (record { expr = id; given = ids.One ty }) (GenericNum p v)
+whole_made s0 s1 s2 id ty p v m w = λ g. node_made g s0 s1 s2 id (n.Whole p v) (ids.One ty) (GenericNum p v) m.stays w refl m.below (ap One m.form)
 
-pub truth_made : (s0 s1 s2 : Copier) (id : ExprId) (ty : TypeId) (p : Span) (b : Rattle.std.proofs.Common.Bool) → Meets s0 s1 ty TruthForm → Puts s1 s2 id (n.Truth p b) → (g : GenericGlobals) → Copies g s0 s2 (record { expr = id; ty = ty }) (GenericBit p b)
-truth_made s0 s1 s2 id ty p b m w = λ g. node_made g s0 s1 s2 id (n.Truth p b) ty (GenericBit p b) m.stays w refl m.below m.form
+pub truth_made : (s0 s1 s2 : Copier) (id : ExprId) (ty : TypeId) (p : Span) (b : Rattle.std.proofs.Common.Bool) → Meets s0 s1 ty TruthForm → Puts s1 s2 id (n.Truth p b) → (g : GenericGlobals) → Copies g s0 s2 (record { expr = id; given = ids.One ty }) (GenericBit p b)
+truth_made s0 s1 s2 id ty p b m w = λ g. node_made g s0 s1 s2 id (n.Truth p b) (ids.One ty) (GenericBit p b) m.stays w refl m.below (ap One m.form)
 
-pub paren_made : (g : GenericGlobals) (s0 s1 s2 : Copier) (id : ExprId) (c : Copied) (p : Span) (e : GenericExpression) → Copies g s0 s1 c e → Puts s1 s2 id (n.Paren p c.expr) → Copies g s0 s2 (record { expr = id; ty = c.ty }) (GenericParen p e)
-paren_made g s0 s1 s2 id c p e h w = node_made g s0 s1 s2 id (n.Paren p c.expr) c.ty (GenericParen p e) h.stays w (ap (Paren p) h.expr) h.below h.form
+pub paren_made : (g : GenericGlobals) (s0 s1 s2 : Copier) (id : ExprId) (c : Copied) (p : Span) (e : GenericExpression) → Copies g s0 s1 c e → Puts s1 s2 id (n.Paren p c.expr) → Copies g s0 s2 (record { expr = id; given = c.given }) (GenericParen p e)
+paren_made g s0 s1 s2 id c p e h w = node_made g s0 s1 s2 id (n.Paren p c.expr) c.given (GenericParen p e) h.stays w (ap (Paren p) h.expr) h.met h.forms
 
 pub operation_made : (g : GenericGlobals) (s0 s1 s2 s3 s4 : Copier) (id : ExprId) (l r : Copied) (ty : TypeId) (p : Span) (f : Operator) (a b : GenericExpression) → Copies g s0 s1 l a → Copies g s1 s2 r b → Meets s2 s3 ty (operator_form f) → Puts s3 s4 id (n.Operation p f l.expr r.expr)
-    → Copies g s0 s4 (record { expr = id; ty = ty }) (GenericOp p f a b)
+    → Copies g s0 s4 (record { expr = id; given = ids.One ty }) (GenericOp p f a b)
 operation_made g s0 s1 s2 s3 s4 id l r ty p f a b h i m w =
     let first = copied_stays g s0 s1 s3 l a h (stays_on s1 s2 s3 i.stays m.stays) in
     let second = copied_stays g s0 s2 s3 r b (copied_from g s0 s1 s2 r b h.stays i) m.stays in
-    node_made g s0 s3 s4 id (n.Operation p f l.expr r.expr) ty (GenericOp p f a b) first.stays w (ap₂ (Op p f) first.expr second.expr) m.below m.form
+    node_made g s0 s3 s4 id (n.Operation p f l.expr r.expr) (ids.One ty) (GenericOp p f a b) first.stays w (ap₂ (Op p f) first.expr second.expr) m.below (ap One m.form)
 
 -- both are there when the third is
 pub parts_below : (g : GenericGlobals) (s0 s1 s2 s3 : Copier) (l r : Copied) (a b : GenericExpression) → Copies g s0 s1 l a → Copies g s1 s2 r b → Stays s2 s3 → (l.expr.0 < length s3.exprs) × (r.expr.0 < length s3.exprs)
@@ -117,12 +169,12 @@ parts_below g s0 s1 s2 s3 l r a b h i s = (
 )
 
 pub if_made : (g : GenericGlobals) (s0 s1 s2 s3 s4 : Copier) (id : ExprId) (c t o : Copied) (p : Span) (a b d : GenericExpression) → Copies g s0 s1 c a → Copies g s1 s2 t b → Copies g s2 s3 o d → Puts s3 s4 id (n.If p c.expr t.expr o.expr)
-    → Copies g s0 s4 (record { expr = id; ty = t.ty }) (GenericIf p a b d)
+    → Copies g s0 s4 (record { expr = id; given = t.given }) (GenericIf p a b d)
 if_made g s0 s1 s2 s3 s4 id c t o p a b d h i j w =
     let first = copied_stays g s0 s1 s3 c a h (stays_on s1 s2 s3 i.stays j.stays) in
     let second = copied_stays g s0 s2 s3 t b (copied_from g s0 s1 s2 t b h.stays i) j.stays in
     let third = copied_from g s0 s2 s3 o d (stays_on s0 s1 s2 h.stays i.stays) j in
-    node_made g s0 s3 s4 id (n.If p c.expr t.expr o.expr) t.ty (GenericIf p a b d) third.stays w (same₃ (If p) first.expr second.expr third.expr) second.below second.form
+    node_made g s0 s3 s4 id (n.If p c.expr t.expr o.expr) t.given (GenericIf p a b d) third.stays w (same₃ (If p) first.expr second.expr third.expr) second.met second.forms
 
 -- variables in scope, and out of it again
 
@@ -143,6 +195,7 @@ left_scope s1 s2 s3 s4 len inner known is b h e =
         names = h.keeps.names ∙ b.names;
         kept = raw;
       });
+      parts = parts_on s1 s3 s4 (parts_on s1 s2 s3 b.parts h.parts) (parts_same s3 s4 e.parts);
       base = e.base ∙ h.base ∙ b.base;
       grows = subst (λ xs. Grows s1.exprs xs) (sym e.exprs) (grows_on s1.exprs s2.exprs s3.exprs b.puts h.grows);
     }
@@ -154,11 +207,14 @@ naming_binds a b inner h = ap₂ naming_of h.base h.names
 left_inside : (s3 s4 : Copier) (len : ℕ) (i : ExprId) → Leaves s3 s4 len → i.0 < length s3.exprs → i.0 < length s4.exprs
 left_inside s3 s4 len i e l = subst (λ (xs : List Node). i.0 < length xs) (sym e.exprs) l
 
-left_below : (s3 s4 : Copier) (len : ℕ) (ty : TypeId) → Leaves s3 s4 len → ty.0 < length s3.scene.types → ty.0 < length s4.scene.types
-left_below s3 s4 len ty e l = subst (λ (k : Scenery). ty.0 < length k.types) (sym e.scene) l
+left_types : (s3 s4 : Copier) (len : ℕ) → Leaves s3 s4 len → s4.scene.types ≡ s3.scene.types
+left_types s3 s4 len e = ap (λ (k : Scenery). k.types) e.scene
 
-left_form : (s3 s4 : Copier) (len : ℕ) (ty : TypeId) → Leaves s3 s4 len → form_at (forms s4.scene) ty.0 ≡ form_at (forms s3.scene) ty.0
-left_form s3 s4 len ty e = ap (λ (k : Scenery). form_at (forms k) ty.0) e.scene
+left_met : (s3 s4 : Copier) (len : ℕ) (r : ResultIds) → Leaves s3 s4 len → AreMet s3 r → AreMet s4 r
+left_met s3 s4 len r e h = met_same s3 s4 r (left_types s3 s4 len e) e.parts h
+
+left_given : (s3 s4 : Copier) (len : ℕ) (r : ResultIds) → Leaves s3 s4 len → forms_given s4 r ≡ forms_given s3 r
+left_given s3 s4 len r e = given_same s3 s4 r (left_types s3 s4 len e) e.parts
 
 left_tree : (s3 s4 : Copier) (len : ℕ) (i : ExprId) → Leaves s3 s4 len → tree_of s4.exprs i.0 ≡ tree_of s3.exprs i.0
 left_tree s3 s4 len i e = ap (λ (xs : List Node). tree_of xs i.0) e.exprs
@@ -169,24 +225,30 @@ let_below g s0 s1 s2 s3 s4 len inner v c a b h known is binds i e =
     let back = left_scope s1 s2 s3 s4 len inner known is binds i.stays e in
     ((copied_stays g s0 s1 s4 v a h back).inside, left_inside s3 s4 len c.expr e i.inside)
 
-pub let_made : (g : GenericGlobals) (s0 s1 s2 s3 s4 s5 : Copier) (len : ℕ) (id : ExprId) (v c : Copied) (p : Span) (x : Ident) (a b : GenericExpression) → Copies g s0 s1 v a → IsScenery s1.scene → len ≡ length s1.scene.scope → Binds s1 s2 (form_bound x (form_at (forms s1.scene) v.ty.0) (scope_in s1.scene))
-    → Copies g s2 s3 c b → Leaves s3 s4 len → Puts s4 s5 id (n.Let p x v.expr c.expr) → Copies g s0 s5 (record { expr = id; ty = c.ty }) (GenericLet p x a b)
-let_made g s0 s1 s2 s3 s4 s5 len id v c p x a b h known is binds i e w =
-    let inner = form_bound x (form_at (forms s1.scene) v.ty.0) (scope_in s1.scene) in
-    let back = left_scope s1 s2 s3 s4 len inner known is binds i.stays e in
-    let first = copied_stays g s0 s1 s4 v a h back in
-    let nm = naming_binds s1 s2 inner binds ∙ naming_stays s0 s1 h.stays in
-    let m = binds.meaning ∙ h.stays.keeps.meaning in
-    let sc = binds.scope ∙ ap₂ (λ f sc. form_bound x f sc) h.form h.stays.keeps.scope in
-    node_made g s0 s4 s5 id (n.Let p x v.expr c.expr) c.ty (GenericLet p x a b) first.stays w
-    (ap₂ (Let p x) first.expr (left_tree s3 s4 len c.expr e ∙ i.expr ∙ same₃ (λ k q r. copy g k q r b) nm m sc))
-    (left_below s3 s4 len c.ty e i.below) (left_form s3 s4 len c.ty e ∙ i.form ∙ ap₂ (λ q r. form_of g q r b) m sc)
+-- the one type of what a bound expression gives
+pub one_met : (g : GenericGlobals) (s0 s1 s2 : Copier) (v : Copied) (a : GenericExpression) (t : TypeId) → Copies g s0 s1 v a → Meets s1 s2 t (one_form (forms_given s1 v.given)) → form_at (forms s2.scene) t.0 ≡ form_of g (meaning s0.scene) (scope_in s0.scene) a
+one_met g s0 s1 s2 v a t h m = m.form ∙ ap one_form h.forms
+
+pub let_made : (g : GenericGlobals) (s0 s1 s2 s3 s4 s5 s6 : Copier) (len : ℕ) (id : ExprId) (v c : Copied) (t : TypeId) (p : Span) (x : Ident) (a b : GenericExpression) → Copies g s0 s1 v a → Meets s1 s2 t (one_form (forms_given s1 v.given)) → IsScenery s2.scene → len ≡ length s2.scene.scope
+    → Binds s2 s3 (form_bound x (form_at (forms s2.scene) t.0) (scope_in s2.scene)) → Copies g s3 s4 c b → Leaves s4 s5 len → Puts s5 s6 id (n.Let p x v.expr c.expr) → Copies g s0 s6 (record { expr = id; given = c.given }) (GenericLet p x a b)
+let_made g s0 s1 s2 s3 s4 s5 s6 len id v c t p x a b h one known is binds i e w =
+    let inner = form_bound x (form_at (forms s2.scene) t.0) (scope_in s2.scene) in
+    let there = stays_on s0 s1 s2 h.stays one.stays in
+    let back = left_scope s2 s3 s4 s5 len inner known is binds i.stays e in
+    let first = copied_stays g s0 s1 s5 v a h (stays_on s1 s2 s5 one.stays back) in
+    let nm = naming_binds s2 s3 inner binds ∙ naming_stays s0 s2 there in
+    let m = binds.meaning ∙ there.keeps.meaning in
+    let sc = binds.scope ∙ ap₂ (λ f sc. form_bound x f sc) (one_met g s0 s1 s2 v a t h one) there.keeps.scope in
+    node_made g s0 s5 s6 id (n.Let p x v.expr c.expr) c.given (GenericLet p x a b) first.stays w
+    (ap₂ (Let p x) first.expr (left_tree s4 s5 len c.expr e ∙ i.expr ∙ same₃ (λ k q r. copy g k q r b) nm m sc))
+    (left_met s4 s5 len c.given e i.met) (left_given s4 s5 len c.given e ∙ i.forms ∙ ap₂ (λ q r. results_of g q r b) m sc)
 
 -- two variables, one after the other
 pub bound_both : (s2 s3 s4 : Copier) (x y : Ident) (v w : TypeId) → Binds s2 s3 (form_bound x (form_at (forms s2.scene) v.0) (scope_in s2.scene)) → s3.scene.types ≡ s2.scene.types → Binds s3 s4 (form_bound y (form_at (forms s3.scene) w.0) (scope_in s3.scene))
     → Binds s2 s4 (form_bound y (form_at (forms s2.scene) w.0) (form_bound x (form_at (forms s2.scene) v.0) (scope_in s2.scene)))
 bound_both s2 s3 s4 x y v w a same b = record {
   puts = grows_on s2.exprs s3.exprs s4.exprs a.puts b.puts;
+  parts = parts_on s2 s3 s4 a.parts b.parts;
   base = b.base ∙ a.base;
   grows = types_grow_on s2.scene.types s3.scene.types s4.scene.types a.grows b.grows;
   longer = (let l = a.longer in let m = b.longer in omega (arith, l, m));
@@ -194,35 +256,98 @@ bound_both s2 s3 s4 x y v w a same b = record {
   names = b.names ∙ a.names;
   scope = b.scope ∙ ap₂ (λ f sc. form_bound y f sc) (ap (λ ns. form_at (forms_of ns) w.0) same) a.scope;
   more = a.more ++ b.more;
-  kept = b.kept ∙ ap (λ l. l ++ b.more) a.kept ∙ append_append s2.scene.scope a.more b.more;
+  kept = b.kept ∙ ap (λ l. l ++ b.more) a.kept ∙ append_assoc s2.scene.scope a.more b.more;
 } where
-  append_append : (xs ys zs : List InScope) → (xs ++ ys) ++ zs ≡ xs ++ (ys ++ zs)
-  append_append [] ys zs = refl
-  append_append (x ∷ xs) ys zs = ap (λ l. x ∷ l) (append_append xs ys zs)
+  append_assoc : (xs ys zs : List InScope) → (xs ++ ys) ++ zs ≡ xs ++ (ys ++ zs)
+  append_assoc [] ys zs = refl
+  append_assoc (x ∷ xs) ys zs = ap (λ l. x ∷ l) (append_assoc xs ys zs)
 
-pub let_par_below : (g : GenericGlobals) (s0 s1 s2 s3 s4 s5 : Copier) (len : ℕ) (inner : FormScope) (v w c : Copied) (a b q : GenericExpression) → Copies g s0 s1 v a → Copies g s1 s2 w b → IsScenery s2.scene → len ≡ length s2.scene.scope → Binds s2 s3 inner → Copies g s3 s4 c q → Leaves s4 s5 len
-    → (v.expr.0 < length s5.exprs) × (w.expr.0 < length s5.exprs) × (c.expr.0 < length s5.exprs)
-let_par_below g s0 s1 s2 s3 s4 s5 len inner v w c a b q h i known is binds j e =
-    let back = left_scope s2 s3 s4 s5 len inner known is binds j.stays e in
-    let two = parts_below g s0 s1 s2 s5 v w a b h i back in
-    (two.0, two.1, left_inside s4 s5 len c.expr e j.inside)
+pub bound_again : (s2 s3 s4 : Copier) (middle inner : FormScope) → Binds s2 s3 middle → Binds s3 s4 inner → Binds s2 s4 inner
+bound_again s2 s3 s4 middle inner a b = record {
+  puts = grows_on s2.exprs s3.exprs s4.exprs a.puts b.puts;
+  parts = parts_on s2 s3 s4 a.parts b.parts;
+  base = b.base ∙ a.base;
+  grows = types_grow_on s2.scene.types s3.scene.types s4.scene.types a.grows b.grows;
+  longer = (let l = a.longer in let m = b.longer in omega (arith, l, m));
+  meaning = b.meaning ∙ a.meaning;
+  names = b.names ∙ a.names;
+  scope = b.scope;
+  more = a.more ++ b.more;
+  kept = b.kept ∙ ap (λ l. l ++ b.more) a.kept ∙ append_assoc s2.scene.scope a.more b.more;
+}
 
-pub let_par_made : (g : GenericGlobals) (s0 s1 s2 s3 s4 s5 s6 : Copier) (len : ℕ) (id : ExprId) (v w c : Copied) (p : Span) (x y : Ident) (a b q : GenericExpression) → Copies g s0 s1 v a → Copies g s1 s2 w b → IsScenery s2.scene → len ≡ length s2.scene.scope
-    → Binds s2 s3 (form_bound y (form_at (forms s2.scene) w.ty.0) (form_bound x (form_at (forms s2.scene) v.ty.0) (scope_in s2.scene))) → Copies g s3 s4 c q → Leaves s4 s5 len → Puts s5 s6 id (n.LetPar p x v.expr y w.expr c.expr)
-    → Copies g s0 s6 (record { expr = id; ty = c.ty }) (GenericPar p x a y b q)
-let_par_made g s0 s1 s2 s3 s4 s5 s6 len id v w c p x y a b q h i known is binds j e makes =
-    let inner = form_bound y (form_at (forms s2.scene) w.ty.0) (form_bound x (form_at (forms s2.scene) v.ty.0) (scope_in s2.scene)) in
-    let back = left_scope s2 s3 s4 s5 len inner known is binds j.stays e in
+pub let_par_below : (g : GenericGlobals) (s0 s1 s2 s3 s4 s5 s6 : Copier) (len : ℕ) (inner : FormScope) (v w c : Copied) (a b q : GenericExpression) → Copies g s0 s1 v a → Copies g s1 s2 w b → Stays s2 s3 → IsScenery s3.scene → len ≡ length s3.scene.scope → Binds s3 s4 inner → Copies g s4 s5 c q → Leaves s5 s6 len
+    → (v.expr.0 < length s6.exprs) × (w.expr.0 < length s6.exprs) × (c.expr.0 < length s6.exprs)
+let_par_below g s0 s1 s2 s3 s4 s5 s6 len inner v w c a b q h i more known is binds j e =
+    let back = stays_on s2 s3 s6 more (left_scope s3 s4 s5 s6 len inner known is binds j.stays e) in
+    let two = parts_below g s0 s1 s2 s6 v w a b h i back in
+    (two.0, two.1, left_inside s5 s6 len c.expr e j.inside)
+
+pub let_par_made : (g : GenericGlobals) (s0 s1 s2 s3 s4 s5 s6 s7 s8 : Copier) (len : ℕ) (id : ExprId) (v w c : Copied) (t u : TypeId) (p : Span) (x y : Ident) (a b q : GenericExpression) → Copies g s0 s1 v a → Copies g s1 s2 w b
+    → Meets s2 s3 t (one_form (forms_given s2 v.given)) → Meets s3 s4 u (one_form (forms_given s3 w.given)) → IsScenery s4.scene → len ≡ length s4.scene.scope
+    → Binds s4 s5 (form_bound y (form_at (forms s4.scene) u.0) (form_bound x (form_at (forms s4.scene) t.0) (scope_in s4.scene))) → Copies g s5 s6 c q → Leaves s6 s7 len → Puts s7 s8 id (n.LetPar p x v.expr y w.expr c.expr)
+    → Copies g s0 s8 (record { expr = id; given = c.given }) (GenericPar p x a y b q)
+let_par_made g s0 s1 s2 s3 s4 s5 s6 s7 s8 len id v w c t u p x y a b q h i one two known is binds j e makes =
+    let inner = form_bound y (form_at (forms s4.scene) u.0) (form_bound x (form_at (forms s4.scene) t.0) (scope_in s4.scene)) in
+    let back = left_scope s4 s5 s6 s7 len inner known is binds j.stays e in
+    let met = stays_on s2 s3 s4 one.stays two.stays in
     let left = copied_stays g s0 s1 s2 v a h i.stays in
     let right = copied_from g s0 s1 s2 w b h.stays i in
-    let first = copied_stays g s0 s2 s5 v a left back in
-    let second = copied_stays g s0 s2 s5 w b right back in
-    let nm = naming_binds s2 s3 inner binds ∙ naming_stays s0 s2 left.stays in
+    let there = stays_on s0 s2 s4 left.stays met in
+    let first = copied_stays g s0 s2 s7 v a left (stays_on s2 s4 s7 met back) in
+    let second = copied_stays g s0 s2 s7 w b right (stays_on s2 s4 s7 met back) in
+    let right_there = copied_stays g s0 s2 s3 w b right one.stays in
+    let left_form : form_at (forms s4.scene) t.0 ≡ form_of g (meaning s0.scene) (scope_in s0.scene) a = form_grows s3.scene.types s4.scene.types t two.stays.keeps.grows one.below ∙ one_met g s0 s2 s3 v a t left one in
+    let right_form : form_at (forms s4.scene) u.0 ≡ form_of g (meaning s0.scene) (scope_in s0.scene) b = one_met g s0 s3 s4 w b u right_there two in
+    let nm = naming_binds s4 s5 inner binds ∙ naming_stays s0 s4 there in
+    let m = binds.meaning ∙ there.keeps.meaning in
+    let sc = binds.scope ∙ same₃ (λ f k r. form_bound y f (form_bound x k r)) right_form left_form there.keeps.scope in
+    node_made g s0 s7 s8 id (n.LetPar p x v.expr y w.expr c.expr) c.given (GenericPar p x a y b q) first.stays makes
+    (same₃ (λ k l r. Par p x k y l r) first.expr second.expr (left_tree s6 s7 len c.expr e ∙ j.expr ∙ same₃ (λ k l r. copy g k l r q) nm m sc))
+    (left_met s6 s7 len c.given e j.met) (left_given s6 s7 len c.given e ∙ j.forms ∙ ap₂ (λ l r. results_of g l r q) m sc)
+
+-- bindings of parts
+
+pub let_several_made : (g : GenericGlobals) (s0 s1 s2 s3 s4 s5 : Copier) (len : ℕ) (id : ExprId) (v c : Copied) (ts : List TypeId) (qs : Vec Parameter) (p : Span) (xs : List Ident) (a b : GenericExpression) → Copies g s0 s1 v a → listed (forms s1.scene) ts ≡ list_results (forms_given s1 v.given)
+    → qs.items ≡ copy_variables (naming s1) xs (listed (forms s1.scene) ts) → IsScenery s1.scene → len ≡ length s1.scene.scope → Binds s1 s2 (bind_forms xs (listed (forms s1.scene) ts) (scope_in s1.scene)) → Copies g s2 s3 c b → Leaves s3 s4 len
+    → Puts s4 s5 id (n.LetSeveral p qs v.expr c.expr) → Copies g s0 s5 (record { expr = id; given = c.given }) (GenericLetSeveral p xs a b)
+let_several_made g s0 s1 s2 s3 s4 s5 len id v c ts qs p xs a b h types names known is binds i e w =
+    let inner = bind_forms xs (listed (forms s1.scene) ts) (scope_in s1.scene) in
+    let back = left_scope s1 s2 s3 s4 len inner known is binds i.stays e in
+    let first = copied_stays g s0 s1 s4 v a h back in
+    let bound : listed (forms s1.scene) ts ≡ bound_forms g (meaning s0.scene) (scope_in s0.scene) a = types ∙ ap list_results h.forms in
+    let nm = naming_binds s1 s2 inner binds ∙ naming_stays s0 s1 h.stays in
+    let m = binds.meaning ∙ h.stays.keeps.meaning in
+    let sc = binds.scope ∙ ap₂ (bind_forms xs) bound h.stays.keeps.scope in
+    node_made g s0 s4 s5 id (n.LetSeveral p qs v.expr c.expr) c.given (GenericLetSeveral p xs a b) first.stays w
+    (same₃ (LetSeveral p) (names ∙ ap₂ (λ k l. copy_variables k xs l) (naming_stays s0 s1 h.stays) bound) first.expr (left_tree s3 s4 len c.expr e ∙ i.expr ∙ same₃ (λ k q r. copy g k q r b) nm m sc))
+    (left_met s3 s4 len c.given e i.met) (left_given s3 s4 len c.given e ∙ i.forms ∙ ap₂ (λ q r. results_of g q r b) m sc)
+
+pub par_several_made : (g : GenericGlobals) (s0 s1 s2 s3 s4 s5 s6 s7 : Copier) (len : ℕ) (id : ExprId) (v w c : Copied) (ts us : List TypeId) (qs rs : Vec Parameter) (p : Span) (xs ys : List Ident) (a b q : GenericExpression) → Copies g s0 s1 v a → Copies g s1 s2 w b
+    → listed (forms s2.scene) ts ≡ list_results (forms_given s2 v.given) → listed (forms s2.scene) us ≡ list_results (forms_given s2 w.given) → qs.items ≡ copy_variables (naming s2) xs (listed (forms s2.scene) ts) → rs.items ≡ copy_variables (naming s2) ys (listed (forms s2.scene) us)
+    → AreBelow (length s2.scene.types) us → IsScenery s2.scene → len ≡ length s2.scene.scope → Binds s2 s3 (bind_forms xs (listed (forms s2.scene) ts) (scope_in s2.scene)) → Binds s3 s4 (bind_forms ys (listed (forms s3.scene) us) (scope_in s3.scene)) → Copies g s4 s5 c q → Leaves s5 s6 len
+    → Puts s6 s7 id (n.ParSeveral p qs v.expr rs w.expr c.expr) → Copies g s0 s7 (record { expr = id; given = c.given }) (GenericParSeveral p xs a ys b q)
+par_several_made g s0 s1 s2 s3 s4 s5 s6 s7 len id v w c ts us qs rs p xs ys a b q h i left_types right_types lefts rights low known is first_binds second_binds j e makes =
+    let there : listed (forms s3.scene) us ≡ listed (forms s2.scene) us = listed_grow s2.scene.types s3.scene.types us first_binds.grows low in
+    let inner = bind_forms ys (listed (forms s2.scene) us) (bind_forms xs (listed (forms s2.scene) ts) (scope_in s2.scene)) in
+    let binds : Binds s2 s4 inner = bound_again s2 s3 s4 (bind_forms xs (listed (forms s2.scene) ts) (scope_in s2.scene)) inner first_binds
+    (subst (Binds s3 s4) (ap₂ (bind_forms ys) there first_binds.scope) second_binds) in
+    let back = left_scope s2 s4 s5 s6 len inner known is binds j.stays e in
+    let left = copied_stays g s0 s1 s2 v a h i.stays in
+    let right = copied_from g s0 s1 s2 w b h.stays i in
+    let first = copied_stays g s0 s2 s6 v a left back in
+    let second = copied_stays g s0 s2 s6 w b right back in
+    let left_bound : listed (forms s2.scene) ts ≡ bound_forms g (meaning s0.scene) (scope_in s0.scene) a = left_types ∙ ap list_results left.forms in
+    let right_bound : listed (forms s2.scene) us ≡ bound_forms g (meaning s0.scene) (scope_in s0.scene) b = right_types ∙ ap list_results right.forms in
+    let nm = naming_binds s2 s4 inner binds ∙ naming_stays s0 s2 left.stays in
     let m = binds.meaning ∙ left.stays.keeps.meaning in
-    let sc = binds.scope ∙ same₃ (λ f k r. form_bound y f (form_bound x k r)) right.form left.form left.stays.keeps.scope in
-    node_made g s0 s5 s6 id (n.LetPar p x v.expr y w.expr c.expr) c.ty (GenericPar p x a y b q) first.stays makes
-    (same₃ (λ k l r. Par p x k y l r) first.expr second.expr (left_tree s4 s5 len c.expr e ∙ j.expr ∙ same₃ (λ k l r. copy g k l r q) nm m sc))
-    (left_below s4 s5 len c.ty e j.below) (left_form s4 s5 len c.ty e ∙ j.form ∙ ap₂ (λ l r. form_of g l r q) m sc)
+    let sc = binds.scope ∙ same₃ (λ f k r. bind_forms ys f (bind_forms xs k r)) right_bound left_bound left.stays.keeps.scope in
+    let near = naming_stays s0 s2 left.stays in
+    node_made g s0 s6 s7 id (n.ParSeveral p qs v.expr rs w.expr c.expr) c.given (GenericParSeveral p xs a ys b q) first.stays makes
+    (ap₂ (λ k l. ParSeveral p k (tree_of s6.exprs v.expr.0) l (tree_of s6.exprs w.expr.0) (tree_of s6.exprs c.expr.0)) (lefts ∙ ap₂ (λ k l. copy_variables k xs l) near left_bound) (rights ∙ ap₂ (λ k l. copy_variables k ys l) near right_bound)
+    ∙ same₃ (λ k l r. ParSeveral p (copy_variables (naming s0) xs (bound_forms g (meaning s0.scene) (scope_in s0.scene) a)) k (copy_variables (naming s0) ys (bound_forms g (meaning s0.scene) (scope_in s0.scene) b)) l r)
+    first.expr second.expr (left_tree s5 s6 len c.expr e ∙ j.expr ∙ same₃ (λ k l r. copy g k l r q) nm m sc))
+    (left_met s5 s6 len c.given e j.met) (left_given s5 s6 len c.given e ∙ j.forms ∙ ap₂ (λ l r. results_of g l r q) m sc)
 
 -- arguments
 
@@ -278,14 +403,6 @@ pub record ArgumentsCopied (g : GenericGlobals) (f : ℕ → GenericExpression) 
 pub arguments_begin : (g : GenericGlobals) (f : ℕ → GenericExpression) (id : ℕ) (old : Copier) (ids copied : List ExprId) → copied ≡ [] → AllByRecursion (λ (i : ExprId). i.0 < id) ids → ArgumentsCopied g f id old old ids ids copied
 arguments_begin g f id old ids copied e h = rw e (record { front = []; whole = refl; below = h; copies = record { stays = stays_same old; inside = tt; args = refl } })
 
-append_append : {A : Type 0} (xs ys zs : List A) → (xs ++ ys) ++ zs ≡ xs ++ (ys ++ zs)
-append_append [] ys zs = refl
-append_append (x ∷ xs) ys zs = ap (λ l. x ∷ l) (append_append xs ys zs)
-
-append_nil : {A : Type 0} (xs : List A) → xs ++ [] ≡ xs
-append_nil [] = refl
-append_nil (x ∷ xs) = ap (λ l. x ∷ l) (append_nil xs)
-
 pub arguments_go : (g : GenericGlobals) (f : ℕ → GenericExpression) (id : ℕ) (old now new : Copier) (ids rest after copied more : List ExprId) (i : ExprId) (c : Copied) → rest ≡ i ∷ after → ArgumentsCopied g f id old now ids rest copied → Copies g now new c (f i.0) → more ≡ copied ++ c.expr ∷ []
     → ArgumentsCopied g f id old new ids after more
 arguments_go g f id old now new ids rest after copied more i c e h one m =
@@ -293,7 +410,7 @@ arguments_go g f id old now new ids rest after copied more i c e h one m =
     let kept = all_inside (length now.exprs) (length new.exprs) copied one.stays.grows.longer h.copies.inside in
     record {
       front = h.front ++ i ∷ [];
-      whole = append_append h.front (i ∷ []) after ∙ ap (λ l. h.front ++ l) (sym e) ∙ h.whole;
+      whole = append_assoc h.front (i ∷ []) after ∙ ap (λ l. h.front ++ l) (sym e) ∙ h.whole;
       below = (subst (AllByRecursion (λ (j : ExprId). j.0 < id)) e h.below).1;
       copies = record {
         stays = whole.stays;
@@ -308,7 +425,61 @@ arguments_go g f id old now new ids rest after copied more i c e h one m =
       both_inside (y ∷ xs) x q l = (q.0, both_inside xs x q.1 l)
 
 pub arguments_over : (g : GenericGlobals) (f : ℕ → GenericExpression) (id : ℕ) (old now : Copier) (ids rest copied : List ExprId) → rest ≡ [] → ArgumentsCopied g f id old now ids rest copied → CopiesAll g old now copied (generic_from f ids)
-arguments_over g f id old now ids rest copied e h = subst (λ l. CopiesAll g old now copied (generic_from f l)) (sym (append_nil h.front) ∙ ap (λ l. h.front ++ l) (sym e) ∙ h.whole) h.copies
+arguments_over g f id old now ids rest copied e h = subst (λ l. CopiesAll g old now copied (generic_from f l)) (sym (append-nil h.front) ∙ ap (λ l. h.front ++ l) (sym e) ∙ h.whole) h.copies
+
+-- the parts of a tuple, with their types
+
+pub record TupleCopied (g : GenericGlobals) (f : ℕ → GenericExpression) (id : ℕ) (old now : Copier) (parts rest copied : List ExprId) (types : List TypeId) : Type 0 where
+  pub all : ArgumentsCopied g f id old now parts rest copied
+  pub below : AreBelow (length now.scene.types) types
+  pub forms : listed (forms now.scene) types ≡ forms_of_all g (meaning old.scene) (scope_in old.scene) (generic_from f all.front)
+
+pub tuple_begin : (g : GenericGlobals) (f : ℕ → GenericExpression) (id : ℕ) (old : Copier) (parts copied : List ExprId) (types : List TypeId) → copied ≡ [] → types ≡ [] → AllByRecursion (λ (i : ExprId). i.0 < id) parts → TupleCopied g f id old old parts parts copied types
+tuple_begin g f id old parts copied types e k h = rw e (rw k (record {
+  all = record { front = []; whole = refl; below = h; copies = record { stays = stays_same old; inside = tt; args = refl } };
+  below = tt;
+  forms = refl;
+}))
+
+listed_last : (fs : List Form) (types : List TypeId) (t : TypeId) → listed fs (types ++ t ∷ []) ≡ listed fs types ++ form_at fs t.0 ∷ []
+listed_last fs [] t = refl
+listed_last fs (u ∷ types) t = ap (λ l. form_at fs u.0 ∷ l) (listed_last fs types t)
+
+below_last : (b : ℕ) (types : List TypeId) (t : TypeId) → AreBelow b types → t.0 < b → AreBelow b (types ++ t ∷ [])
+below_last b [] t h l = (l, tt)
+below_last b (u ∷ types) t h l = (h.0, below_last b types t h.1 l)
+
+forms_last : (g : GenericGlobals) (m : Meant) (sc : FormScope) (es : GenericArguments) (e : GenericExpression) → forms_of_all g m sc (with_generic es e) ≡ forms_of_all g m sc es ++ form_of g m sc e ∷ []
+forms_last g m sc GenericNoArgument e = refl
+forms_last g m sc (GenericArgument a es) e = ap (λ l. form_of g m sc a ∷ l) (forms_last g m sc es e)
+
+pub tuple_go : (g : GenericGlobals) (f : ℕ → GenericExpression) (id : ℕ) (old now mid new : Copier) (parts rest after copied more : List ExprId) (types further : List TypeId) (i : ExprId) (c : Copied) (t : TypeId) → rest ≡ i ∷ after → TupleCopied g f id old now parts rest copied types
+    → Copies g now mid c (f i.0) → Meets mid new t (one_form (forms_given mid c.given)) → more ≡ copied ++ c.expr ∷ [] → further ≡ types ++ t ∷ [] → TupleCopied g f id old new parts after more further
+unfolding arguments_go
+tuple_go g f id old now mid new parts rest after copied more types further i c t e h one met m n' =
+    let whole = copied_from g old now mid c (f i.0) h.all.copies.stays one in
+    let wider : length now.scene.types ≤ length new.scene.types = (let l = one.stays.keeps.longer in let k = met.stays.keeps.longer in omega (arith, l, k)) in
+    let grown = types_grow_on now.scene.types mid.scene.types new.scene.types one.stays.keeps.grows met.stays.keeps.grows in
+    record {
+      all = arguments_go g f id old now new parts rest after copied more i c e h.all (copied_stays g now mid new c (f i.0) one met.stays) m;
+      below = subst (AreBelow (length new.scene.types)) (sym n') (below_last (length new.scene.types) types t (below_more (length now.scene.types) (length new.scene.types) types wider h.below) met.below);
+      forms = ap (listed (forms new.scene)) n' ∙ listed_last (forms new.scene) types t
+          ∙ ap₂ (λ (l : List Form) (u : Form). l ++ u ∷ []) (listed_grow now.scene.types new.scene.types types grown h.below ∙ h.forms) (one_met g old mid new c (f i.0) t whole met)
+          ∙ sym (ap (forms_of_all g (meaning old.scene) (scope_in old.scene)) (generic_last f h.all.front i) ∙ forms_last g (meaning old.scene) (scope_in old.scene) (generic_from f h.all.front) (f i.0));
+    }
+
+pub tuple_over : (g : GenericGlobals) (f : ℕ → GenericExpression) (id : ℕ) (old now : Copier) (parts rest copied : List ExprId) (types : List TypeId) → rest ≡ [] → TupleCopied g f id old now parts rest copied types → CopiesTuple g old now copied types (generic_from f parts)
+tuple_over g f id old now parts rest copied types e h =
+    subst (λ l. CopiesTuple g old now copied types (generic_from f l)) (sym (append-nil h.all.front) ∙ ap (λ l. h.all.front ++ l) (sym e) ∙ h.all.whole)
+    (record { all = h.all.copies; below = h.below; forms = h.forms })
+
+pub tuple_made : (g : GenericGlobals) (s0 s1 s2 s3 : Copier) (id : ExprId) (given : ResultIds) (copied : Vec ExprId) (types us vs : List TypeId) (names : Vec TypeName) (p : Span) (es : GenericArguments) → CopiesTuple g s0 s1 copied.items types es
+    → us ≡ types → names.items ≡ map (name_of_form (naming s1) p) (listed (forms s1.scene) us) → vs ≡ types → Gives s1 s2 given (Several (listed (forms s1.scene) vs)) → Puts s2 s3 id (n.Tuple p names copied) → Copies g s0 s3 (record { expr = id; given = given }) (GenericTuple p es)
+tuple_made g s0 s1 s2 s3 id given copied types us vs names p es h e is e' r w =
+    let args_are = arguments_stay g s0 s1 s2 copied.items es h.all r.stays in
+    node_made g s0 s2 s3 id (n.Tuple p names copied) given (GenericTuple p es) args_are.stays w
+    (ap₂ (Tuple p) (is ∙ ap₂ (λ k l. map (name_of_form k p) l) (naming_stays s0 s1 h.all.stays) (ap (listed (forms s1.scene)) e ∙ h.forms)) args_are.args)
+    r.met (r.forms ∙ ap Several (ap (listed (forms s1.scene)) e' ∙ h.forms))
 
 -- calls and constructors
 
@@ -335,27 +506,27 @@ use_named : (s0 s1 : Copier) (ts us : List TypeId) (f x : Ident) (ws : WrittenTy
     → x ≡ renamed f (number_with s0.base (names_in s0.scene) (number_of f) (formed_all (meaning s0.scene) ws))
 use_named s0 s1 ts us f x ws s types e is = is ∙ same₃ (λ b ns t. renamed f (number_with b ns (number_of f) t)) s.base s.keeps.names (ap (forms_at (forms s1.scene)) e ∙ types)
 
-pub call_made : (g : GenericGlobals) (all words : List Word) (run : Run) (s0 s1 s2 s3 s4 : Copier) (ts us vs : List TypeId) (f x : Ident) (args : Vec ExprId) (id : ExprId) (ty : TypeId) (es : GenericArguments) → words ≡ run_words all run
+pub call_made : (g : GenericGlobals) (all words : List Word) (run : Run) (s0 s1 s2 s3 s4 : Copier) (ts us vs : List TypeId) (f x : Ident) (args : Vec ExprId) (id : ExprId) (given : ResultIds) (es : GenericArguments) → words ≡ run_words all run
     → MeetsAll s0 s1 ts (map (formed (meaning s0.scene)) (stack_of words)) → us ≡ ts → x ≡ renamed f (number_with s1.base (names_in s1.scene) (number_of f) (forms_at (forms s1.scene) us)) → CopiesAll g s1 s2 args.items es
-    → vs ≡ ts → Meets s2 s3 ty (result_at (generic_named g.functions (number_of f)) (forms_at (forms s2.scene) vs)) → Puts s3 s4 id (n.Call x args) → Copies g s0 s4 (record { expr = id; ty = ty }) (GenericCall f (types_in all run) es)
-call_made g all words run s0 s1 s2 s3 s4 ts us vs f x args id ty es w m e is h e' r p =
+    → vs ≡ ts → Gives s2 s3 given (results_at (generic_named g.functions (number_of f)) (forms_at (forms s2.scene) vs)) → Puts s3 s4 id (n.Call x args) → Copies g s0 s4 (record { expr = id; given = given }) (GenericCall f (types_in all run) es)
+call_made g all words run s0 s1 s2 s3 s4 ts us vs f x args id given es w m e is h e' r p =
     let ws = types_in all run in
     let types : forms_at (forms s1.scene) ts ≡ formed_all (meaning s0.scene) ws = types_formed (forms s1.scene) ts (meaning s0.scene) (stack_of words) m.forms ∙ ap (λ l. formed_all (meaning s0.scene) (all_types (stack_of l))) w in
     let args_are = arguments_stay g s0 s2 s3 args.items es (arguments_as g s0 s1 s2 args.items es m.stays h) r.stays in
     let same : forms_at (forms s2.scene) vs ≡ formed_all (meaning s0.scene) ws = ap (forms_at (forms s2.scene)) e' ∙ forms_grow s1.scene.types s2.scene.types ts h.stays.keeps.grows m.below ∙ types in
-    node_made g s0 s3 s4 id (n.Call x args) ty (GenericCall f ws es) args_are.stays p
-    (ap₂ (λ k l. Call k l) (use_named s0 s1 ts us f x ws m.stays types e is) args_are.args) r.below (r.form ∙ ap (result_at (generic_named g.functions (number_of f))) same)
+    node_made g s0 s3 s4 id (n.Call x args) given (GenericCall f ws es) args_are.stays p
+    (ap₂ (λ k l. Call k l) (use_named s0 s1 ts us f x ws m.stays types e is) args_are.args) r.met (r.forms ∙ ap (results_at (generic_named g.functions (number_of f))) same)
 
 pub make_made : (g : GenericGlobals) (all words : List Word) (run : Run) (s0 s1 s2 s3 s4 : Copier) (ts us : List TypeId) (f x : Ident) (owner : ℕ) (args : Vec ExprId) (id : ExprId) (ty : TypeId) (es : GenericArguments) → words ≡ run_words all run
     → MeetsAll s0 s1 ts (map (formed (meaning s0.scene)) (stack_of words)) → us ≡ ts → x ≡ renamed f (number_with s1.base (names_in s1.scene) (number_of f) (forms_at (forms s1.scene) us)) → CopiesAll g s1 s2 args.items es
-    → owner ≡ owner_named g.rows (place_named g.rows (number_of f)) → Meets s2 s3 ty (DataForm owner (forms_at (forms s2.scene) ts)) → Puts s3 s4 id (n.Make x args) → Copies g s0 s4 (record { expr = id; ty = ty }) (GenericMake f (types_in all run) es)
+    → owner ≡ owner_named g.rows (place_named g.rows (number_of f)) → Meets s2 s3 ty (DataForm owner (forms_at (forms s2.scene) ts)) → Puts s3 s4 id (n.Make x args) → Copies g s0 s4 (record { expr = id; given = ids.One ty }) (GenericMake f (types_in all run) es)
 make_made g all words run s0 s1 s2 s3 s4 ts us f x owner args id ty es w m e is h o r p =
     let ws = types_in all run in
     let types : forms_at (forms s1.scene) ts ≡ formed_all (meaning s0.scene) ws = types_formed (forms s1.scene) ts (meaning s0.scene) (stack_of words) m.forms ∙ ap (λ l. formed_all (meaning s0.scene) (all_types (stack_of l))) w in
     let args_are = arguments_stay g s0 s2 s3 args.items es (arguments_as g s0 s1 s2 args.items es m.stays h) r.stays in
     let same : forms_at (forms s2.scene) ts ≡ formed_all (meaning s0.scene) ws = forms_grow s1.scene.types s2.scene.types ts h.stays.keeps.grows m.below ∙ types in
-    node_made g s0 s3 s4 id (n.Make x args) ty (GenericMake f ws es) args_are.stays p
-    (ap₂ (λ k l. Make k l) (use_named s0 s1 ts us f x ws m.stays types e is) args_are.args) r.below (r.form ∙ ap₂ DataForm o same)
+    node_made g s0 s3 s4 id (n.Make x args) (ids.One ty) (GenericMake f ws es) args_are.stays p
+    (ap₂ (λ k l. Make k l) (use_named s0 s1 ts us f x ws m.stays types e is) args_are.args) r.below (ap One (r.form ∙ ap₂ DataForm o same))
 
 pub arguments_below : (g : GenericGlobals) (s1 s2 s3 : Copier) (ids : List ExprId) (es : GenericArguments) → CopiesAll g s1 s2 ids es → Stays s2 s3 → AllByRecursion (λ (i : ExprId). i.0 < length s3.exprs) ids
 arguments_below g s1 s2 s3 ids es h s = all_inside (length s2.exprs) (length s3.exprs) ids s.grows.longer h.inside
@@ -364,7 +535,7 @@ arguments_below g s1 s2 s3 ids es h s = all_inside (length s2.exprs) (length s3.
 
 pub arm_made : (g : GenericGlobals) (s0 s1 s2 s3 : Copier) (len : ℕ) (arm from : Arm) (c : Copied) (e : GenericExpression) (variables : List Ident) (ts : Forms) → IsScenery s0.scene → len ≡ length s0.scene.scope → variables ≡ from.variables.items
     → Binds s0 s1 (bind_forms variables (forms_named g.rows (place_named g.rows (number_of from.constructor)) ts) (scope_in s0.scene)) → Copies g s1 s2 c e → Leaves s2 s3 len
-    → arm.constructor ≡ renamed from.constructor (number_with s0.base (names_in s0.scene) (number_of from.constructor) ts) → arm.variables.items ≡ from.variables.items → arm.body ≡ c.expr → CopiesArm g s0 s3 arm c.ty from e ts
+    → arm.constructor ≡ renamed from.constructor (number_with s0.base (names_in s0.scene) (number_of from.constructor) ts) → arm.variables.items ≡ from.variables.items → arm.body ≡ c.expr → CopiesArm g s0 s3 arm c.given from e ts
 arm_made g s0 s1 s2 s3 len arm from c e variables ts known is vs bound h back k v b =
     let inner = arm_scope g (scope_in s0.scene) from ts in
     let binds : Binds s0 s1 inner = subst (λ l. Binds s0 s1 (bind_forms l (forms_named g.rows (place_named g.rows (number_of from.constructor)) ts) (scope_in s0.scene))) vs bound in
@@ -376,8 +547,8 @@ arm_made g s0 s1 s2 s3 len arm from c e variables ts known is vs bound h back k 
         variables = v;
         expr = ap (λ (i : ExprId). tree_of s3.exprs i.0) b ∙ left_tree s2 s3 len c.expr back ∙ h.expr ∙ same₃ (λ nm m sc. copy g nm m sc e) (naming_binds s0 s1 inner binds) binds.meaning binds.scope;
       };
-      below = left_below s2 s3 len c.ty back h.below;
-      form = left_form s2 s3 len c.ty back ∙ h.form ∙ ap₂ (λ m sc. form_of g m sc e) binds.meaning binds.scope;
+      met = left_met s2 s3 len c.given back h.met;
+      forms = left_given s2 s3 len c.given back ∙ h.forms ∙ ap₂ (λ m sc. results_of g m sc e) binds.meaning binds.scope;
     }
 
 arm_from : (g : GenericGlobals) (old mid : Copier) (xs : List Node) (arm from : Arm) (e : GenericExpression) (ts : Forms) → Stays old mid → ArmIs g mid xs arm from e ts → ArmIs g old xs arm from e ts
@@ -426,21 +597,21 @@ pub record ArmsCopied (g : GenericGlobals) (f : ℕ → GenericExpression) (id :
   pub each : ArmsAre g f old now.exprs ts made front
 
 pub arms_begin : (g : GenericGlobals) (f : ℕ → GenericExpression) (id : ℕ) (old : Copier) (ts : Forms) (before arms : List Arm) → AllByRecursion (IsGenericArmBelow id) arms → ArmsCopied g f id old old ts before before arms arms
-arms_begin g f id old ts before arms h = record { stays = stays_same old; front = []; whole = refl; below = h; made = []; behind = sym (append_nil before); each = tt }
+arms_begin g f id old ts before arms h = record { stays = stays_same old; front = []; whole = refl; below = h; made = []; behind = sym (append-nil before); each = tt }
 
-pub arms_go : (g : GenericGlobals) (f : ℕ → GenericExpression) (id : ℕ) (old now new : Copier) (ids : List TypeId) (before copied more arms rest after : List Arm) (arm from : Arm) (ty : TypeId) → rest ≡ from ∷ after → AreBelow (length old.scene.types) ids
-    → ArmsCopied g f id old now (forms_at (forms old.scene) ids) before copied arms rest → CopiesArm g now new arm ty from (f from.body.0) (forms_at (forms now.scene) ids) → more ≡ copied ++ arm ∷ [] → ArmsCopied g f id old new (forms_at (forms old.scene) ids) before more arms after
-arms_go g f id old now new ids before copied more arms rest after arm from ty e low h one m =
+pub arms_go : (g : GenericGlobals) (f : ℕ → GenericExpression) (id : ℕ) (old now new : Copier) (ids : List TypeId) (before copied more arms rest after : List Arm) (arm from : Arm) (given : ResultIds) → rest ≡ from ∷ after → AreBelow (length old.scene.types) ids
+    → ArmsCopied g f id old now (forms_at (forms old.scene) ids) before copied arms rest → CopiesArm g now new arm given from (f from.body.0) (forms_at (forms now.scene) ids) → more ≡ copied ++ arm ∷ [] → ArmsCopied g f id old new (forms_at (forms old.scene) ids) before more arms after
+arms_go g f id old now new ids before copied more arms rest after arm from given e low h one m =
     let ts = forms_at (forms old.scene) ids in
     let same : forms_at (forms now.scene) ids ≡ ts = forms_grow old.scene.types now.scene.types ids h.stays.keeps.grows low in
     let here : ArmIs g old new.exprs arm from (f from.body.0) ts = arm_from g old now new.exprs arm from (f from.body.0) ts h.stays (subst (λ t. ArmIs g now new.exprs arm from (f from.body.0) t) same one.is) in
     record {
       stays = stays_on old now new h.stays one.stays;
       front = h.front ++ from ∷ [];
-      whole = append_append h.front (from ∷ []) after ∙ ap (λ l. h.front ++ l) (sym e) ∙ h.whole;
+      whole = append_assoc h.front (from ∷ []) after ∙ ap (λ l. h.front ++ l) (sym e) ∙ h.whole;
       below = (subst (AllByRecursion (IsGenericArmBelow id)) e h.below).1;
       made = h.made ++ arm ∷ [];
-      behind = m ∙ ap (λ l. l ++ arm ∷ []) h.behind ∙ append_append before h.made (arm ∷ []);
+      behind = m ∙ ap (λ l. l ++ arm ∷ []) h.behind ∙ append_assoc before h.made (arm ∷ []);
       each = arms_last g f old new.exprs ts h.made h.front arm from (arms_keep g f old now.exprs new.exprs ts h.made h.front one.stays.grows h.each) here;
     }
 
@@ -449,7 +620,7 @@ arms_over g f id old now ts before copied arms rest e h = record {
   stays = h.stays;
   more = h.made;
   whole = h.behind;
-  each = subst (ArmsAre g f old now.exprs ts h.made) (sym (append_nil h.front) ∙ ap (λ l. h.front ++ l) (sym e) ∙ h.whole) h.each;
+  each = subst (ArmsAre g f old now.exprs ts h.made) (sym (append-nil h.front) ∙ ap (λ l. h.front ++ l) (sym e) ∙ h.whole) h.each;
 }
 
 -- the arms as a tree are the copies of arms
@@ -468,7 +639,7 @@ arms_inside g f old xs ts (a ∷ as') [] h = absurd h
 arms_inside g f old xs ts (a ∷ as') (b ∷ bs) h = (h.0.inside, arms_inside g f old xs ts as' bs h.1)
 
 -- the type of a case is that of its first arm
-case_form : (g : GenericGlobals) (m : Meant) (sc : FormScope) (ts : Forms) (f : ℕ → GenericExpression) (b : Arm) (bs : List Arm) → form_of g m (arm_scope g sc b ts) (f b.body.0) ≡ form_of_arms g m sc ts (generic_arms f b bs)
+case_form : (g : GenericGlobals) (m : Meant) (sc : FormScope) (ts : Forms) (f : ℕ → GenericExpression) (b : Arm) (bs : List Arm) → results_of g m (arm_scope g sc b ts) (f b.body.0) ≡ results_of_arms g m sc ts (generic_arms f b bs)
 case_form g m sc ts f b [] = refl
 case_form g m sc ts f b (y ∷ bs) = refl
 
@@ -480,10 +651,10 @@ pub record CaseArms (g : GenericGlobals) (f : ℕ → GenericExpression) (s0 s3 
   pub whole : arms ≡ arm ∷ more
   pub each : ArmsAre g f s0 s3.exprs (arguments_of (form_or (form_in (scope_in s0.scene) (number_of x)))) (arm ∷ more) (b ∷ bs)
 
-pub case_arms : (g : GenericGlobals) (f : ℕ → GenericExpression) (s0 s1 s2 s3 : Copier) (x : Ident) (of : TypeId) (ids us vs : List TypeId) (first b : Arm) (ty : TypeId) (one arms bs : List Arm) → Meets s0 s1 of (form_or (form_in (scope_in s0.scene) (number_of x)))
-    → forms_at (forms s1.scene) ids ≡ arguments_of (form_at (forms s1.scene) of.0) → AreBelow (length s1.scene.types) ids → us ≡ ids → CopiesArm g s1 s2 first ty b (f b.body.0) (forms_at (forms s1.scene) us) → one ≡ first ∷ []
+pub case_arms : (g : GenericGlobals) (f : ℕ → GenericExpression) (s0 s1 s2 s3 : Copier) (x : Ident) (of : TypeId) (ids us vs : List TypeId) (first b : Arm) (given : ResultIds) (one arms bs : List Arm) → Meets s0 s1 of (form_or (form_in (scope_in s0.scene) (number_of x)))
+    → forms_at (forms s1.scene) ids ≡ arguments_of (form_at (forms s1.scene) of.0) → AreBelow (length s1.scene.types) ids → us ≡ ids → CopiesArm g s1 s2 first given b (f b.body.0) (forms_at (forms s1.scene) us) → one ≡ first ∷ []
     → vs ≡ ids → CopiesArms g f s2 s3 (forms_at (forms s2.scene) vs) one arms bs → CaseArms g f s0 s3 x arms b bs
-case_arms g f s0 s1 s2 s3 x of ids us vs first b ty one arms bs m types low e a o e' h =
+case_arms g f s0 s1 s2 s3 x of ids us vs first b given one arms bs m types low e a o e' h =
     let ts = arguments_of (form_or (form_in (scope_in s0.scene) (number_of x))) in
     let at1 : forms_at (forms s1.scene) ids ≡ ts = types ∙ ap arguments_of m.form in
     let at2 : forms_at (forms s2.scene) vs ≡ ts = ap (forms_at (forms s2.scene)) e' ∙ forms_grow s1.scene.types s2.scene.types ids a.stays.keeps.grows low ∙ at1 in
@@ -501,23 +672,23 @@ pub case_below : (g : GenericGlobals) (f : ℕ → GenericExpression) (s0 s3 : C
 case_below g f s0 s3 x arms b bs h =
     subst (λ l. ArmsBelow l (length s3.exprs)) (sym h.whole) (arms_inside g f s0 s3.exprs (arguments_of (form_or (form_in (scope_in s0.scene) (number_of x)))) (h.arm ∷ h.more) (b ∷ bs) h.each)
 
-pub case_made : (g : GenericGlobals) (f : ℕ → GenericExpression) (s0 s3 s4 : Copier) (p : Span) (x : Ident) (id : ExprId) (ty : TypeId) (arms : Vec Arm) (from : List Arm) (b : Arm) (bs : List Arm) → CaseArms g f s0 s3 x arms.items b bs → from ≡ b ∷ bs → ty.0 < length s3.scene.types
-    → form_at (forms s3.scene) ty.0 ≡ form_of g (meaning s0.scene) (arm_scope g (scope_in s0.scene) b (arguments_of (form_or (form_in (scope_in s0.scene) (number_of x))))) (f b.body.0) → Puts s3 s4 id (n.Case p x arms)
-    → Copies g s0 s4 (record { expr = id; ty = ty }) (generic_case f from (GenericCase p x))
-case_made g f s0 s3 s4 p x id ty arms from b bs h e low form w =
+pub case_made : (g : GenericGlobals) (f : ℕ → GenericExpression) (s0 s3 s4 : Copier) (p : Span) (x : Ident) (id : ExprId) (given : ResultIds) (arms : Vec Arm) (from : List Arm) (b : Arm) (bs : List Arm) → CaseArms g f s0 s3 x arms.items b bs → from ≡ b ∷ bs → AreMet s3 given
+    → forms_given s3 given ≡ results_of g (meaning s0.scene) (arm_scope g (scope_in s0.scene) b (arguments_of (form_or (form_in (scope_in s0.scene) (number_of x))))) (f b.body.0) → Puts s3 s4 id (n.Case p x arms)
+    → Copies g s0 s4 (record { expr = id; given = given }) (generic_case f from (GenericCase p x))
+case_made g f s0 s3 s4 p x id given arms from b bs h e met forms_are w =
     let ts = arguments_of (form_or (form_in (scope_in s0.scene) (number_of x))) in
-    subst (λ l. Copies g s0 s4 (record { expr = id; ty = ty }) (generic_case f l (GenericCase p x))) (sym e)
-    (node_made g s0 s3 s4 id (n.Case p x arms) ty (GenericCase p x (generic_arms f b bs)) h.stays w
-    (ap (λ l. case_from (tree_of s3.exprs) l (Case p x)) h.whole ∙ ap (Case p x) (arms_are g f s0 s3.exprs ts h.arm b h.more bs h.each)) low (form ∙ case_form g (meaning s0.scene) (scope_in s0.scene) ts f b bs))
+    subst (λ l. Copies g s0 s4 (record { expr = id; given = given }) (generic_case f l (GenericCase p x))) (sym e)
+    (node_made g s0 s3 s4 id (n.Case p x arms) given (GenericCase p x (generic_arms f b bs)) h.stays w
+    (ap (λ l. case_from (tree_of s3.exprs) l (Case p x)) h.whole ∙ ap (Case p x) (arms_are g f s0 s3.exprs ts h.arm b h.more bs h.each)) met (forms_are ∙ case_form g (meaning s0.scene) (scope_in s0.scene) ts f b bs))
 
--- the type of the first arm, when all are copied
-pub case_type : (g : GenericGlobals) (f : ℕ → GenericExpression) (s0 s1 s2 s3 : Copier) (x : Ident) (of : TypeId) (ids us : List TypeId) (first b : Arm) (ty : TypeId) → Meets s0 s1 of (form_or (form_in (scope_in s0.scene) (number_of x)))
-    → forms_at (forms s1.scene) ids ≡ arguments_of (form_at (forms s1.scene) of.0) → us ≡ ids → CopiesArm g s1 s2 first ty b (f b.body.0) (forms_at (forms s1.scene) us) → Stays s2 s3
-    → (ty.0 < length s3.scene.types) × (form_at (forms s3.scene) ty.0 ≡ form_of g (meaning s0.scene) (arm_scope g (scope_in s0.scene) b (arguments_of (form_or (form_in (scope_in s0.scene) (number_of x))))) (f b.body.0))
-case_type g f s0 s1 s2 s3 x of ids us first b ty m types e a s =
+-- what the first arm gives, when all are copied
+pub case_type : (g : GenericGlobals) (f : ℕ → GenericExpression) (s0 s1 s2 s3 : Copier) (x : Ident) (of : TypeId) (ids us : List TypeId) (first b : Arm) (given : ResultIds) → Meets s0 s1 of (form_or (form_in (scope_in s0.scene) (number_of x)))
+    → forms_at (forms s1.scene) ids ≡ arguments_of (form_at (forms s1.scene) of.0) → us ≡ ids → CopiesArm g s1 s2 first given b (f b.body.0) (forms_at (forms s1.scene) us) → Stays s2 s3
+    → AreMet s3 given × (forms_given s3 given ≡ results_of g (meaning s0.scene) (arm_scope g (scope_in s0.scene) b (arguments_of (form_or (form_in (scope_in s0.scene) (number_of x))))) (f b.body.0))
+case_type g f s0 s1 s2 s3 x of ids us first b given m types e a s =
     let at1 : forms_at (forms s1.scene) us ≡ arguments_of (form_or (form_in (scope_in s0.scene) (number_of x))) = ap (forms_at (forms s1.scene)) e ∙ types ∙ ap arguments_of m.form in (
-      (let l = a.below in let k = s.keeps.longer in omega (arith, l, k)),
-      form_grows s2.scene.types s3.scene.types ty s.keeps.grows a.below ∙ a.form ∙ same₃ (λ q sc ts. form_of g q (arm_scope g sc b ts) (f b.body.0)) m.stays.keeps.meaning m.stays.keeps.scope at1,
+      met_stays s2 s3 given s a.met,
+      given_stays s2 s3 given s a.met ∙ a.forms ∙ same₃ (λ q sc ts. results_of g q (arm_scope g sc b ts) (f b.body.0)) m.stays.keeps.meaning m.stays.keeps.scope at1,
     )
 
 pub further_below : (id : ℕ) (arms rest : List Arm) (b : Arm) → arms ≡ b ∷ rest → GenericArmsBelow arms id → AllByRecursion (IsGenericArmBelow id) rest

@@ -1,45 +1,46 @@
 -- Types that are met and variables that come into scope.
-use Rattle.std.proofs.Common.{◌≡◌, ℕ, zero, suc, ◌<◌, List, [], ◌∷◌, ◌++◌, length, map, slice_get, get_or, Some, None, refl, sym, ap, ap₂, ◌∙◌, arith, subst}
+use Rattle.std.proofs.Common.{◌≡◌, ℕ, zero, suc, ◌<◌, List, [], ◌∷◌, ◌++◌, length, map, slice_get, get_or, Some, None, refl, sym, ap, ap₂, ◌∙◌, arith, subst, append_assoc}
+use Rattle.std.specs.Global.{Vec}
+use Rattle.std.proofs.lemmas.List.{append-nil, length-map}
+use Rattle.std.proofs.lemmas.Option.{same_Some}
 use Rattle.gib_types.specs.declared.types.TypeId.{TypeId}
-use Rattle.gib_types.specs.Form.{Form, Forms, Meant}
+use Rattle.gib_types.specs.Form.{Form, Forms, Meant, WholeForm}
 use Rattle.gib_types.specs.Types.{form_at, forms_of, AreBelow, GrowsTo}
 use Rattle.gib_syntax.specs.declared.tree.Ident.{Ident}
 use Rattle.gib_syntax.specs.declared.written.Word.{Word}
+use Rattle.gib_syntax.specs.declared.written.Run.{Run}
+use Rattle.gib_syntax.specs.declared.written.ResultRuns.TheVariants as result
+use Rattle.gib_syntax.specs.Results.{One, Several, map_results}
+use Rattle.gib_check.specs.declared.rules.ResultIds.{ResultIds}
+use Rattle.gib_check.specs.declared.rules.ResultIds.TheVariants as ids
 use Rattle.gib_syntax.specs.declared.program.GenericConstructor.{GenericConstructor}
 use Rattle.gib_syntax.specs.declared.program.GenericData.{GenericData}
 use Rattle.gib_syntax.specs.declared.program.GenericFunction.{GenericFunction}
 use Rattle.gib_syntax.specs.Declarations.{number_of, place_of}
 use Rattle.gib_syntax.specs.Forms.{WrittenType, formed, assign}
-use Rattle.gib_syntax.specs.Words.{stack_of, first_type, run_words}
-use Rattle.gib_syntax.specs.GenericParts.{GenericParts, function_in, data_in, constructor_in}
+use Rattle.gib_syntax.specs.Words.{stack_of, first_type, run_words, type_in}
+use Rattle.gib_syntax.specs.GenericParts.{GenericParts, function_in, results_in, data_in, constructor_in}
 use Rattle.gib_syntax.specs.GenericTree.{GenericFunctionTree, GenericDataTree, GenericConstructorTree, GenericRow, generic_named, place_named}
 use Rattle.gib_syntax.specs.GenericTyping.{FormScope, form_bound}
+use Rattle.gib_syntax.specs.declared.written.ResultRuns.{ResultRuns}
 use Rattle.gib_mono.specs.declared.copier.Copier.{Copier}
 use Rattle.gib_mono.specs.declared.source.RowPlace.{RowPlace}
 use Rattle.gib_mono.specs.declared.reading.Reading.{Reading}
-use Rattle.gib_mono.specs.Copying.{result_at, forms_named, bind_forms, forms_at as row_forms}
-use Rattle.gib_mono.specs.Made.{Stays, Meets, MeetsAll, Binds, IsRowOf, first_form}
+use Rattle.gib_mono.specs.Copying.{results_at, forms_named, bind_forms, forms_at as row_forms}
+use Rattle.gib_mono.specs.Made.{Stays, Meets, MeetsAll, Gives, Binds, IsRowOf, first_form}
 use Rattle.gib_mono.specs.Reading.{listed}
 use Rattle.gib_mono.specs.Scenes.{Scenery, forms, scope_in, Keeps, ReadsIn}
 use Rattle.gib_mono.specs.Sources.{globals_in}
 use Rattle.gib_mono.proofs.InScene.{scope_last}
-use Rattle.gib_mono.proofs.Making.{stays_same, stays_on, grows_same, grows_on as nodes_grow_on}
-use Rattle.gib_mono.proofs.Read.{grows_none, below_more}
-use Rattle.gib_mono.proofs.Sourcing.{RowThere}
+use Rattle.gib_mono.proofs.Making.{stays_same, stays_on, parts_same, parts_on, grows_same, grows_on as nodes_grow_on}
+use Rattle.gib_mono.proofs.Read.{grows_none, below_more, listed_grow}
+use Rattle.gib_mono.proofs.Sourcing.{RowThere, get_map, there_is}
 
 abbrev pub with_scene : Copier → Scenery → Copier
-with_scene s k = record { alloc = s.alloc; scene = k; base = s.base; exprs = s.exprs }
+with_scene s k = record { alloc = s.alloc; scene = k; parts = s.parts; base = s.base; exprs = s.exprs }
 
 pub scene_stays : (s : Copier) (k : Scenery) → Keeps s.scene k → Stays s (with_scene s k)
-scene_stays s k h = record { keeps = h; base = refl; grows = (stays_same s).grows }
-
-some_is : {A : Type 0} (x y : A) → Some x ≡ Some y → x ≡ y
-some_is x y e = cc
-
-get_mapped : {A B : Type 0} (f : A → B) (xs : List A) (i : ℕ) (x : A) → slice_get xs i ≡ Some x → slice_get (map f xs) i ≡ Some (f x)
-get_mapped f [] i x e = absurd cc
-get_mapped f (y ∷ xs) zero x e = let g : y ≡ x = some_is y x e in ap (λ z. Some (f z)) g
-get_mapped f (y ∷ xs) (suc i) x e = get_mapped f xs i x e
+scene_stays s k h = record { keeps = h; parts = parts_same s (with_scene s k) refl; base = refl; grows = (stays_same s).grows }
 
 -- results
 
@@ -47,24 +48,98 @@ first_formed : (m : Meant) (st : List WrittenType) → first_form (map (formed m
 first_formed m [] = refl
 first_formed m (w ∷ st) = refl
 
-pub result_met : (p : GenericParts) (s0 s2 : Copier) (k : Scenery) (id : TypeId) (place f : ℕ) (h : GenericFunctionTree) (decl : GenericFunction) (vs : List Ident) (ts : Forms) (words : List Word) (r : Reading) → slice_get (globals_in p).functions place ≡ Some h → generic_named (globals_in p).functions f ≡ Some h
-    → slice_get p.functions place ≡ Some decl → vs ≡ decl.variables.items → words ≡ run_words p.exprs.words decl.result → ReadsIn s0.scene k (assign vs ts) words r → Meets (with_scene s0 k) s2 id (first_form (listed (forms k) r.types)) → Meets s0 s2 id (result_at (generic_named (globals_in p).functions f) ts)
-result_met p s0 s2 k id place f h decl vs ts words r there named at v w read m =
-    let is : function_in p.exprs decl ≡ h = some_is (function_in p.exprs decl) h (sym (get_mapped (function_in p.exprs) p.functions place decl at) ∙ there) in
-    record {
-      stays = stays_on s0 (with_scene s0 k) s2 (scene_stays s0 k read.keeps) m.stays;
-      below = m.below;
-      form = m.form ∙ ap first_form read.types ∙ first_formed (assign vs ts) (stack_of words) ∙ ap₂ (λ l ws. formed (assign l ts) (first_type (stack_of ws))) v w
-          ∙ ap (λ o. result_at o ts) (ap Some is ∙ sym named);
-    }
+pub at_met : (s0 s2 : Copier) (k : Scenery) (id : TypeId) (vs : List Ident) (ts : Forms) (words : List Word) (r : Reading) → ReadsIn s0.scene k (assign vs ts) words r → Meets (with_scene s0 k) s2 id (first_form (listed (forms k) r.types)) → Meets s0 s2 id (formed (assign vs ts) (first_type (stack_of words)))
+at_met s0 s2 k id vs ts words r read m = record {
+  stays = stays_on s0 (with_scene s0 k) s2 (scene_stays s0 k read.keeps) m.stays;
+  below = m.below;
+  form = m.form ∙ ap first_form read.types ∙ first_formed (assign vs ts) (stack_of words);
+}
+
+found_result : (p : GenericParts) (place f : ℕ) (h : GenericFunctionTree) (decl : GenericFunction) (ts : Forms) → slice_get (globals_in p).functions place ≡ Some h → generic_named (globals_in p).functions f ≡ Some h → slice_get p.functions place ≡ Some decl
+    → map_results (formed (assign decl.variables.items ts)) (results_in p.exprs.words decl.result) ≡ results_at (generic_named (globals_in p).functions f) ts
+found_result p place f h decl ts there named at =
+    let is : function_in p.exprs decl ≡ h = same_Some (function_in p.exprs decl) h (sym (get_map (function_in p.exprs) p.functions place decl at) ∙ there) in
+    ap (λ o. results_at o ts) (ap Some is ∙ sym named)
+
+pub one_given : (words : List Word) (m : Meant) (s0 s2 : Copier) (id : TypeId) (r : ResultRuns) (run : Run) (text : List Word) → r ≡ result.One run → text ≡ run_words words run → Meets s0 s2 id (formed m (first_type (stack_of text)))
+    → Gives s0 s2 (ids.One id) (map_results (formed m) (results_in words r))
+one_given words m s0 s2 id r run text e w h = record {
+  stays = h.stays;
+  met = h.below;
+  forms = ap One (h.form ∙ ap (λ ws. formed m (first_type (stack_of ws))) w) ∙ ap (λ q. map_results (formed m) (results_in words q)) (sym e);
+}
+
+pub parts_put : (m : Meant) (s0 s1 s2 : Copier) (given : ResultIds) (types us : List TypeId) (ws : List WrittenType) → MeetsAll s0 s1 types (map (formed m) ws) → us ≡ types → Gives s1 s2 given (Several (listed (forms s1.scene) us))
+    → Gives s0 s2 given (Several (map (formed m) ws))
+parts_put m s0 s1 s2 given types us ws h u o = record {
+  stays = stays_on s0 s1 s2 h.stays o.stays;
+  met = o.met;
+  forms = o.forms ∙ ap Several (ap (listed (forms s1.scene)) u ∙ h.forms);
+}
+
+pub parts_given : (words : List Word) (m : Meant) (s0 s2 : Copier) (given : ResultIds) (r : ResultRuns) (runs : Vec Run) (rs : List Run) → r ≡ result.Several runs → rs ≡ runs.items → Gives s0 s2 given (Several (map (formed m) (map (type_in words) rs)))
+    → Gives s0 s2 given (map_results (formed m) (results_in words r))
+parts_given words m s0 s2 given r runs rs e w h = record {
+  stays = h.stays;
+  met = h.met;
+  forms = h.forms ∙ ap (λ q. Several (map (formed m) (map (type_in words) q))) w ∙ ap (λ q. map_results (formed m) (results_in words q)) (sym e);
+}
+
+pub result_met : (p : GenericParts) (s0 s2 : Copier) (given : ResultIds) (place f : ℕ) (h : GenericFunctionTree) (decl : GenericFunction) (vs : List Ident) (ts : Forms) (r : ResultRuns) → slice_get (globals_in p).functions place ≡ Some h
+    → generic_named (globals_in p).functions f ≡ Some h → slice_get p.functions place ≡ Some decl → vs ≡ decl.variables.items → r ≡ decl.result → Gives s0 s2 given (map_results (formed (assign vs ts)) (results_in p.exprs.words r))
+    → Gives s0 s2 given (results_at (generic_named (globals_in p).functions f) ts)
+result_met p s0 s2 given place f h decl vs ts r there named at v e g = record {
+  stays = g.stays;
+  met = g.met;
+  forms = g.forms ∙ ap₂ (λ l q. map_results (formed (assign l ts)) (results_in p.exprs.words q)) v e ∙ found_result p place f h decl ts there named at;
+}
+
+pub no_result : (p : GenericParts) (s0 s1 : Copier) (id : TypeId) (f : ℕ) (ts : Forms) → generic_named (globals_in p).functions f ≡ None → Meets s0 s1 id WholeForm → Gives s0 s1 (ids.One id) (results_at (generic_named (globals_in p).functions f) ts)
+no_result p s0 s1 id f ts e m = record { stays = m.stays; met = m.below; forms = ap One m.form ∙ ap (λ o. results_at o ts) (sym e) }
+
+-- types of parts, one after the other
+pub record PartsMet (words : List Word) (m : Meant) (old now : Copier) (ids : List TypeId) (rest all : List Run) : Type 0 where
+  pub stays : Stays old now
+  pub below : AreBelow (length now.scene.types) ids
+  pub forms : listed (forms now.scene) ids ++ map (formed m) (map (type_in words) rest) ≡ map (formed m) (map (type_in words) all)
+
+pub parts_start : (words : List Word) (m : Meant) (s : Copier) (ids : List TypeId) (all : List Run) → ids ≡ [] → PartsMet words m s s ids all all
+parts_start words m s ids all e = rw e (record { stays = stays_same s; below = tt; forms = refl })
+
+listed_last : (fs : List Form) (types : List TypeId) (t : TypeId) → listed fs (types ++ t ∷ []) ≡ listed fs types ++ form_at fs t.0 ∷ []
+listed_last fs [] t = refl
+listed_last fs (u ∷ types) t = ap (λ l. form_at fs u.0 ∷ l) (listed_last fs types t)
+
+below_last : (b : ℕ) (types : List TypeId) (t : TypeId) → AreBelow b types → t.0 < b → AreBelow b (types ++ t ∷ [])
+below_last b [] t h l = (l, tt)
+below_last b (u ∷ types) t h l = (h.0, below_last b types t h.1 l)
+
+pub parts_next : (words : List Word) (m : Meant) (old now new : Copier) (ids more : List TypeId) (rest after all : List Run) (run : Run) (text : List Word) (t : TypeId) → rest ≡ run ∷ after → text ≡ run_words words run → PartsMet words m old now ids rest all
+    → Meets now new t (formed m (first_type (stack_of text))) → more ≡ ids ++ t ∷ [] → PartsMet words m old new more after all
+parts_next words m old now new ids more rest after all run text t e f h one p = record {
+  stays = stays_on old now new h.stays one.stays;
+  below = subst (AreBelow (length new.scene.types)) (sym p) (below_last (length new.scene.types) ids t (below_more (length now.scene.types) (length new.scene.types) ids one.stays.keeps.longer h.below) one.below);
+  forms = ap (λ l. l ++ map (formed m) (map (type_in words) after))
+      (ap (listed (forms new.scene)) p ∙ listed_last (forms new.scene) ids t
+      ∙ ap₂ (λ (l : List Form) (u : Form). l ++ u ∷ []) (listed_grow now.scene.types new.scene.types ids one.stays.keeps.grows h.below) (one.form ∙ ap (λ ws. formed m (first_type (stack_of ws))) f))
+      ∙ append_assoc (listed (forms now.scene) ids) (formed m (type_in words run) ∷ []) (map (formed m) (map (type_in words) after))
+      ∙ ap (λ l. listed (forms now.scene) ids ++ map (formed m) (map (type_in words) l)) (sym e) ∙ h.forms;
+}
+
+pub parts_end : (words : List Word) (m : Meant) (old now : Copier) (ids : List TypeId) (rest all : List Run) → rest ≡ [] → PartsMet words m old now ids rest all → MeetsAll old now ids (map (formed m) (map (type_in words) all))
+parts_end words m old now ids rest all e h = record {
+  stays = h.stays;
+  below = h.below;
+  forms = sym (append-nil (listed (forms now.scene) ids)) ∙ ap (λ l. listed (forms now.scene) ids ++ map (formed m) (map (type_in words) l)) (sym e) ∙ h.forms;
+}
 
 -- fields
 
 pub fields_met : (p : GenericParts) (s0 : Copier) (k : Scenery) (q : RowPlace) (x : ℕ) (decl' : GenericData) (con : GenericConstructor) (vs : List Ident) (ts : Forms) (words : List Word) (r : Reading) (row : IsRowOf p q x) → slice_get p.datas q.owner ≡ Some decl' → slice_get decl'.constructors.items q.constructor ≡ Some con
     → vs ≡ decl'.variables.items → words ≡ run_words p.exprs.words con.fields → ReadsIn s0.scene k (assign vs ts) words r → MeetsAll s0 (with_scene s0 k) r.types (forms_named (globals_in p).rows (place_named (globals_in p).rows x) ts)
 fields_met p s0 k q x decl con vs ts words r row at in_it v w read =
-    let same : decl ≡ row.decl = some_is decl row.decl (sym at ∙ row.there) in
-    let one : con ≡ row.con = some_is con row.con (sym in_it ∙ ap (λ (d : GenericData). slice_get d.constructors.items q.constructor) same ∙ row.at) in
+    let same : decl ≡ row.decl = same_Some decl row.decl (sym at ∙ row.there) in
+    let one : con ≡ row.con = same_Some con row.con (sym in_it ∙ ap (λ (d : GenericData). slice_get d.constructors.items q.constructor) same ∙ row.at) in
     record {
       stays = scene_stays s0 k read.keeps;
       below = read.below.0;
@@ -79,15 +154,21 @@ get_below [] i x e = absurd cc
 get_below (y ∷ xs) zero x e = omega arith
 get_below (y ∷ xs) (suc i) x e = let l = get_below xs i x e in omega (arith, l)
 
-length_map : {A B : Type 0} (f : A → B) (xs : List A) → length (map f xs) ≡ length xs
-length_map f [] = refl
-length_map f (x ∷ xs) = let e = length_map f xs in omega (arith, e)
+-- so where the constructor was looked up, and the types were taken out of a stack
+pub row_met : (p : GenericParts) (s0 : Copier) (k : Scenery) (q : RowPlace) (x : ℕ) (decl : GenericData) (con : GenericConstructor) (vs : List Ident) (ts : Forms) (words : List Word) (r : Reading) (ids : List TypeId) → IsRowOf p q x → slice_get p.datas q.owner ≡ Some decl
+    → con ≡ get_or decl.constructors.items q.constructor con → vs ≡ decl.variables.items → words ≡ run_words p.exprs.words con.fields → ReadsIn s0.scene k (assign vs ts) words r → ids ≡ r.types
+    → MeetsAll s0 (with_scene s0 k) ids (forms_named (globals_in p).rows (place_named (globals_in p).rows x) ts)
+row_met p s0 k q x decl con vs ts words r ids row at is v w read out =
+    let same : decl ≡ row.decl = same_Some decl row.decl (sym at ∙ row.there) in
+    let inside : q.constructor < length decl.constructors.items = subst (λ (d : GenericData). q.constructor < length d.constructors.items) (sym same) (get_below row.decl.constructors.items q.constructor row.con row.at) in
+    subst (λ l. MeetsAll s0 (with_scene s0 k) l (forms_named (globals_in p).rows (place_named (globals_in p).rows x) ts)) (sym out)
+    (fields_met p s0 k q x decl con vs ts words r row at (there_is decl.constructors.items q.constructor con inside is) v w read)
 
 pub owner_inside : (p : GenericParts) (q : RowPlace) (x : ℕ) → IsRowOf p q x → q.owner < length (globals_in p).datas
-owner_inside p q x h = let l = get_below p.datas q.owner h.decl h.there in let e = length_map (data_in p.exprs.words) p.datas in omega (arith, l, e)
+owner_inside p q x h = let l = get_below p.datas q.owner h.decl h.there in let e = length-map p.datas (data_in p.exprs.words) in omega (arith, l, e)
 
 pub con_inside : (p : GenericParts) (q : RowPlace) (x : ℕ) (decl : GenericData) → IsRowOf p q x → slice_get p.datas q.owner ≡ Some decl → q.constructor < length decl.constructors.items
-con_inside p q x decl h at = subst (λ (d : GenericData). q.constructor < length d.constructors.items) (some_is h.decl decl (sym h.there ∙ at)) (get_below h.decl.constructors.items q.constructor h.con h.at)
+con_inside p q x decl h at = subst (λ (d : GenericData). q.constructor < length d.constructors.items) (same_Some h.decl decl (sym h.there ∙ at)) (get_below h.decl.constructors.items q.constructor h.con h.at)
 
 pub get_there : {A : Type 0} (xs : List A) (i : ℕ) (x : A) → i < length xs → x ≡ get_or xs i x → slice_get xs i ≡ Some x
 get_there [] i x l e = absurd (omega (arith, l))
@@ -103,7 +184,7 @@ record DataFrom (words : List Word) (ds : List GenericData) (i : ℕ) (d : Gener
 
 data_from : (words : List Word) (ds : List GenericData) (i : ℕ) (d : GenericDataTree) → slice_get (map (data_in words) ds) i ≡ Some d → DataFrom words ds i d
 data_from words [] i d e = absurd cc
-data_from words (x ∷ ds) zero d e = record { decl = x; there = refl; is = some_is (data_in words x) d e }
+data_from words (x ∷ ds) zero d e = record { decl = x; there = refl; is = same_Some (data_in words x) d e }
 data_from words (x ∷ ds) (suc i) d e = let h = data_from words ds i d e in record { decl = h.decl; there = h.there; is = h.is }
 
 record ConFrom (words : List Word) (cs : List GenericConstructor) (i : ℕ) (c : GenericConstructorTree) : Type 0 where
@@ -113,7 +194,7 @@ record ConFrom (words : List Word) (cs : List GenericConstructor) (i : ℕ) (c :
 
 con_from : (words : List Word) (cs : List GenericConstructor) (i : ℕ) (c : GenericConstructorTree) → slice_get (map (constructor_in words) cs) i ≡ Some c → ConFrom words cs i c
 con_from words [] i c e = absurd cc
-con_from words (x ∷ cs) zero c e = record { con = x; there = refl; is = some_is (constructor_in words x) c e }
+con_from words (x ∷ cs) zero c e = record { con = x; there = refl; is = same_Some (constructor_in words x) c e }
 con_from words (x ∷ cs) (suc i) c e = let h = con_from words cs i c e in record { con = h.con; there = h.there; is = h.is }
 
 pub row_is : (p : GenericParts) (q : RowPlace) (place x : ℕ) → RowThere (globals_in p).datas (globals_in p).rows q place → Some place ≡ place_named (globals_in p).rows x → IsRowOf p q x
@@ -137,6 +218,7 @@ no_row p names x e h = ap (λ l. place_of l x) (sym e) ∙ sym h
 pub bound : (s : Copier) (x : Ident) (ty : TypeId) (k : Scenery) → k ≡ record s.scene { scope = s.scene.scope ++ record { name = number_of x; ty = ty } ∷ [] } → Binds s (with_scene s k) (form_bound x (form_at (forms s.scene) ty.0) (scope_in s.scene))
 bound s x ty k e = rw e (record {
   puts = grows_same s.exprs;
+  parts = record { more = []; is = sym (append-nil s.parts.items) };
   base = refl;
   grows = grows_none (forms s.scene);
   longer = omega arith;
@@ -154,18 +236,10 @@ pub record BoundSoFar (old now : Copier) (names : List Ident) (left : List TypeI
   pub below : AreBelow (length old.scene.types) left
   pub is : bind_forms names (listed (forms old.scene) left) scope ≡ whole
 
-append_nil : {A : Type 0} (xs : List A) → xs ++ [] ≡ xs
-append_nil [] = refl
-append_nil (x ∷ xs) = ap (λ l. x ∷ l) (append_nil xs)
-
-append_append : {A : Type 0} (xs ys zs : List A) → (xs ++ ys) ++ zs ≡ xs ++ (ys ++ zs)
-append_append [] ys zs = refl
-append_append (x ∷ xs) ys zs = ap (λ l. x ∷ l) (append_append xs ys zs)
-
 pub bound_start : (s : Copier) (names : List Ident) (left : List TypeId) → AreBelow (length s.scene.types) left → BoundSoFar s s names left (bind_forms names (listed (forms s.scene) left) (scope_in s.scene))
 bound_start s names left h = record {
   scope = scope_in s.scene;
-  binds = record { puts = grows_same s.exprs; base = refl; grows = grows_none (forms s.scene); longer = omega arith; meaning = refl; names = refl; scope = refl; more = []; kept = sym (append_nil s.scene.scope) };
+  binds = record { puts = grows_same s.exprs; parts = parts_same s s refl; base = refl; grows = grows_none (forms s.scene); longer = omega arith; meaning = refl; names = refl; scope = refl; more = []; kept = sym (append-nil s.scene.scope) };
   same = refl;
   below = h;
   is = refl;
@@ -177,6 +251,7 @@ bound_next old now new names after left rest whole x t e f h one same = record {
   scope = form_bound x (form_at (forms old.scene) t.0) h.scope;
   binds = record {
     puts = nodes_grow_on old.exprs now.exprs new.exprs h.binds.puts one.puts;
+    parts = parts_on old now new h.binds.parts one.parts;
     base = one.base ∙ h.binds.base;
     grows = subst (λ ns. GrowsTo (forms old.scene) (forms_of ns)) (sym (same ∙ h.same)) (grows_none (forms old.scene));
     longer = (let l = h.binds.longer in let m = one.longer in omega (arith, l, m));
@@ -184,7 +259,7 @@ bound_next old now new names after left rest whole x t e f h one same = record {
     names = one.names ∙ h.binds.names;
     scope = one.scope ∙ ap₂ (λ g sc. form_bound x g sc) (ap (λ ns. form_at (forms_of ns) t.0) h.same) h.binds.scope;
     more = h.binds.more ++ one.more;
-    kept = one.kept ∙ ap (λ l. l ++ one.more) h.binds.kept ∙ append_append old.scene.scope h.binds.more one.more;
+    kept = one.kept ∙ ap (λ l. l ++ one.more) h.binds.kept ∙ append_assoc old.scene.scope h.binds.more one.more;
   };
   same = same ∙ h.same;
   below = (subst (AreBelow (length old.scene.types)) f h.below).1;
@@ -208,6 +283,7 @@ pub fields_bound : (s0 s1 s2 : Copier) (variables : List Ident) (ids us : List T
     → Binds s0 s2 (bind_forms variables fields (scope_in s0.scene))
 fields_bound s0 s1 s2 variables ids us fields m e b = record {
   puts = nodes_grow_on s0.exprs s1.exprs s2.exprs m.stays.grows b.puts;
+  parts = parts_on s0 s1 s2 m.stays.parts b.parts;
   base = b.base ∙ m.stays.base;
   grows = Rattle.gib_mono.proofs.Read.grows_on s0.scene.types s1.scene.types s2.scene.types m.stays.keeps.grows b.grows;
   longer = (let l = b.longer in let k = m.stays.keeps.longer in omega (arith, l, k));

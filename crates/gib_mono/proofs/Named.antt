@@ -1,6 +1,8 @@
 -- Names of copies, in their order.
-use Rattle.std.proofs.Common.{◌≡◌, ℕ, zero, suc, ◌<◌, List, [], ◌∷◌, ◌++◌, length, map, slice_get, Option, Some, None, refl, sym, ap, ap₂, ◌∙◌, arith, subst}
+use Rattle.std.proofs.Common.{◌≡◌, ℕ, zero, suc, ◌<◌, List, [], ◌∷◌, ◌++◌, length, map, slice_get, Option, Some, None, refl, sym, ap, ap₂, ◌∙◌, arith, subst, append-nil, append_assoc}
 use Rattle.std.specs.Global.{Vec}
+use Rattle.std.proofs.lemmas.Option.{same_Some}
+use Rattle.gib_mono.proofs.Sourcing.{get_map}
 use Rattle.gib_types.specs.declared.types.TypeId.{TypeId}
 use Rattle.gib_types.specs.Form.{Form, Forms}
 use Rattle.gib_types.specs.Types.{forms_at, forms_of, AreBelow}
@@ -22,18 +24,10 @@ use Rattle.gib_mono.specs.Scenes.{Scenery, forms, names_in, NamesIn}
 use Rattle.gib_mono.specs.Sources.{globals_in}
 use Rattle.gib_mono.specs.Walk.{Copy, DataOf, FunctionOf, data_asked, function_asked}
 
-some_is : {A : Type 0} (x y : A) → Some x ≡ Some y → x ≡ y
-some_is x y e = cc
-
-get_mapped : {A B : Type 0} (f : A → B) (xs : List A) (i : ℕ) (x : A) → slice_get xs i ≡ Some x → slice_get (map f xs) i ≡ Some (f x)
-get_mapped f [] i x e = absurd cc
-get_mapped f (y ∷ xs) zero x e = let g : y ≡ x = some_is y x e in ap (λ z. Some (f z)) g
-get_mapped f (y ∷ xs) (suc i) x e = get_mapped f xs i x e
-
 -- one name
 
 abbrev pub with_scene : Copier → Scenery → Copier
-with_scene s k = record { alloc = s.alloc; scene = k; base = s.base; exprs = s.exprs }
+with_scene s k = record { alloc = s.alloc; scene = k; parts = s.parts; base = s.base; exprs = s.exprs }
 
 pub name_put : (s : Copier) (k : Scenery) (x : ℕ) (ids us : List TypeId) → us ≡ ids → NamesIn s.scene k x (forms_at (forms s.scene) us) → Enters s (with_scene s k) (with_entry (names_in s.scene) (entry x (forms_at (forms s.scene) ids)))
 name_put s k x ids us e h = record { types = h.types_same; names = h.names ∙ ap (λ l. with_entry (names_in s.scene) (entry x (forms_at (forms s.scene) l))) e; base = refl; exprs = refl }
@@ -92,7 +86,7 @@ pub data_named : (p : GenericParts) (s0 s1 s2 : Copier) (place : ℕ) (decl : Ge
     → Enters s0 s2 (with_entries (names_in s0.scene) (copy_entries (DataOf d (forms_at (forms s0.scene) ids))))
 data_named p s0 s1 s2 place decl d cs ids there at e h k =
     let ts = forms_at (forms s0.scene) ids in
-    let is : data_in p.exprs.words decl ≡ d = some_is (data_in p.exprs.words decl) d (sym (get_mapped (data_in p.exprs.words) p.datas place decl at) ∙ there) in
+    let is : data_in p.exprs.words decl ≡ d = same_Some (data_in p.exprs.words decl) d (sym (get_map (data_in p.exprs.words) p.datas place decl at) ∙ there) in
     let all = enters_on s0 s1 s2 (with_entry (names_in s0.scene) (entry (number_of decl.name) ts)) (λ l fs. with_entries l (map (own_entry (forms_at fs ids)) cs)) h k in
     record {
       types = all.types;
@@ -105,7 +99,7 @@ data_named p s0 s1 s2 place decl d cs ids there at e h k =
 pub function_named : (p : GenericParts) (s0 s1 : Copier) (place : ℕ) (decl : GenericFunction) (f : GenericFunctionTree) (ids : List TypeId) → slice_get (globals_in p).functions place ≡ Some f → slice_get p.functions place ≡ Some decl
     → Enters s0 s1 (with_entry (names_in s0.scene) (entry (number_of decl.name) (forms_at (forms s0.scene) ids))) → Enters s0 s1 (with_entries (names_in s0.scene) (copy_entries (FunctionOf f (forms_at (forms s0.scene) ids))))
 function_named p s0 s1 place decl f ids there at h =
-    let is : function_in p.exprs decl ≡ f = some_is (function_in p.exprs decl) f (sym (get_mapped (function_in p.exprs) p.functions place decl at) ∙ there) in
+    let is : function_in p.exprs decl ≡ f = same_Some (function_in p.exprs decl) f (sym (get_map (function_in p.exprs) p.functions place decl at) ∙ there) in
     subst (λ (x : GenericFunctionTree). Enters s0 s1 (with_entries (names_in s0.scene) (copy_entries (FunctionOf x (forms_at (forms s0.scene) ids))))) is h
 
 -- keys
@@ -115,10 +109,6 @@ get_inside [] i l = absurd (omega (arith, l))
 get_inside (x ∷ xs) zero l = (x, refl)
 get_inside (x ∷ xs) (suc i) l = get_inside xs i (omega (arith, l))
 
-append_nil : {A : Type 0} (xs : List A) → xs ++ [] ≡ xs
-append_nil [] = refl
-append_nil (x ∷ xs) = ap (λ l. x ∷ l) (append_nil xs)
-
 pub data_key : (g : GenericGlobals) (fs : List Form) (i : ℕ) (ids : List TypeId) (key : CopyKey) (d : GenericDataTree) → slice_get g.datas i ≡ Some d → copy_from g fs key ≡ data_asked (slice_get g.datas i) (forms_at fs ids) → copies_from g fs (key ∷ []) ≡ DataOf d (forms_at fs ids) ∷ []
 data_key g fs i ids key d e h = ap (λ o. copies_with o []) (h ∙ ap (λ o. data_asked o (forms_at fs ids)) e)
 
@@ -127,21 +117,17 @@ pub function_key : (g : GenericGlobals) (fs : List Form) (i : ℕ) (ids : List T
 function_key g fs i ids key f e h = ap (λ o. copies_with o []) (h ∙ ap (λ o. function_asked o (forms_at fs ids)) e)
 
 pub one_listed : (items : List Item) (c : Copy) → with_entries items (copy_entries c) ≡ with_entries items (listed_entries (c ∷ []))
-one_listed items c = ap (with_entries items) (sym (append_nil (copy_entries c)))
+one_listed items c = ap (with_entries items) (sym (append-nil (copy_entries c)))
 
 entries_both : (items xs ys : List Item) → with_entries items (xs ++ ys) ≡ with_entries (with_entries items xs) ys
 entries_both items [] ys = refl
 entries_both items (x ∷ xs) ys = entries_both (with_entry items x) xs ys
 
-append_append : {A : Type 0} (xs ys zs : List A) → (xs ++ ys) ++ zs ≡ xs ++ (ys ++ zs)
-append_append [] ys zs = refl
-append_append (x ∷ xs) ys zs = ap (λ l. x ∷ l) (append_append xs ys zs)
-
 listed_first : (g : GenericGlobals) (fs : List Form) (key : CopyKey) (keys : List CopyKey) → listed_entries (copies_from g fs (key ∷ [])) ++ listed_entries (copies_from g fs keys) ≡ listed_entries (copies_from g fs (key ∷ keys))
 listed_first g fs key keys = by (copy_from g fs key) where
   by : (o : Option Copy) → listed_entries (copies_with o []) ++ listed_entries (copies_from g fs keys) ≡ listed_entries (copies_with o (copies_from g fs keys))
   by None = refl
-  by (Some c) = append_append (copy_entries c) [] (listed_entries (copies_from g fs keys))
+  by (Some c) = append_assoc (copy_entries c) [] (listed_entries (copies_from g fs keys))
 
 pub record KeysNamed (g : GenericGlobals) (old now : Copier) (rest : List CopyKey) (whole : List Item) : Type 0 where
   pub inside : AreKeysInside g (length old.scene.types) rest

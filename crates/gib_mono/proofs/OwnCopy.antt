@@ -8,11 +8,14 @@ use Rattle.gib_syntax.specs.declared.tree.TypeName.{TypeName}
 use Rattle.gib_syntax.specs.declared.tree.TypeName.TheVariants as ty
 use Rattle.gib_syntax.specs.declared.tree.Parameter.{Parameter}
 use Rattle.gib_syntax.specs.Declarations.{number_of}
-use Rattle.gib_syntax.specs.Tree.{Expression, Arguments, Arms, Var, Num, Bit, Paren, Op, Call, Make, Let, Par, If, Case, NoArgument, Argument, LastArm, NextArm, ConstructorTree, DataTree, FunctionTree, MainTree, ProgramTree}
-use Rattle.gib_syntax.specs.Forms.{Form, Forms, WholeForm, DataForm, NoForm, Meant, formed, assign}
+use Rattle.gib_syntax.specs.Tree.{Expression, Arguments, Arms, Var, Num, Bit, Paren, Op, Call, Make, Let, Par, If, Case, Tuple, LetSeveral, ParSeveral, NoArgument, Argument, LastArm, NextArm, ConstructorTree, DataTree, FunctionTree, MainTree, ProgramTree}
+use Rattle.gib_syntax.specs.Forms.{WrittenType, Form, Forms, WholeForm, DataForm, NoForm, Meant, formed, assign}
 use Rattle.gib_syntax.specs.GenericTree.{GenericConstructorTree, GenericParameterTree, GenericFunctionTree, GenericRow, row_of, rows_of, GenericGlobals, globals_of_generic, place_named, generic_named}
 use Rattle.gib_syntax.specs.GenericTyping.{FormScope, form_in, form_bound, operator_form}
-use Rattle.gib_mono.specs.Copying.{Naming, renamed, copy_written, copy_constructor, copy_data, copy_parameter, copy_function, copy_main, arguments_of, forms_at, forms_named, result_at, bind_forms, form_of, form_of_arms, parameter_scope, copy, copy_all, copy_arms}
+use Rattle.gib_syntax.specs.Results.{Results, One, Several, map_results, list_results}
+use Rattle.gib_syntax.specs.Single.{IsSingle, AreSingle, HasSingle, IsSingleFunction, IsSingleProgram}
+use Rattle.gib_syntax.specs.Typing.{names_of}
+use Rattle.gib_mono.specs.Copying.{Naming, renamed, copy_written, copy_constructor, copy_data, copy_parameter, copy_function, copy_main, arguments_of, forms_at, forms_named, results_at, one_form, results_of, forms_of_all, results_of_arms, bind_forms, form_of, bound_forms, parameter_scope, copy, copy_all, copy_arms}
 use Rattle.gib_types.specs.Form.{form_or}
 use Rattle.gib_mono.specs.Walk.{DataCopy, FunctionCopy, datas_in, function_copies, plain_datas, plain_functions, plain_copies, copied_program}
 use Rattle.gib_syntax.specs.Plain.{written_of, as_generic, all_as_generic, arms_as_generic, generic_constructor, generic_data, generic_parameter, generic_function, generic_main, generic_of}
@@ -47,10 +50,17 @@ bare_binds [] fs scope h k = h
 bare_binds (x ∷ xs) [] scope h k = h
 bare_binds (x ∷ xs) (f ∷ fs) scope h k = bare_binds xs fs (form_bound x f scope) (bare_bound scope x f h k.0) k.1
 
+abbrev pub AreBareResults : Results Form → Type 0
+AreBareResults r = AllByRecursion IsBare (list_results r)
+
+bare_one : (r : Results Form) → AreBareResults r → IsBare (one_form r)
+bare_one (One f) h = h.0
+bare_one (Several fs) h = refl
+
 -- what bodies may name has no type parameters
 pub record BareGlobals (g : GenericGlobals) : Type 0 where
   pub rows : (c : ℕ) (row : GenericRow) → slice_get g.rows c ≡ Some row → (ts : Forms) → AllByRecursion IsBare (forms_at (Some row) ts)
-  pub functions : (x : ℕ) (h : GenericFunctionTree) → generic_named g.functions x ≡ Some h → (ts : Forms) → IsBare (result_at (Some h) ts)
+  pub functions : (x : ℕ) (h : GenericFunctionTree) → generic_named g.functions x ≡ Some h → (ts : Forms) → AreBareResults (results_at (Some h) ts)
 
 bare_fields : (g : GenericGlobals) → BareGlobals g → (p : Option ℕ) (ts : Forms) → AllByRecursion IsBare (forms_named g.rows p ts)
 bare_fields g bare None ts = tt {0}
@@ -59,10 +69,10 @@ bare_fields g bare (Some c) ts = step (slice_get g.rows c) refl where
   step None e = tt {0}
   step (Some row) e = bare.rows c row e ts
 
-bare_result : (g : GenericGlobals) → BareGlobals g → (x : ℕ) (ts : Forms) → IsBare (result_at (generic_named g.functions x) ts)
+bare_result : (g : GenericGlobals) → BareGlobals g → (x : ℕ) (ts : Forms) → AreBareResults (results_at (generic_named g.functions x) ts)
 bare_result g bare x ts = step (generic_named g.functions x) refl where
-  step : (o : Option GenericFunctionTree) → generic_named g.functions x ≡ o → IsBare (result_at o ts)
-  step None e = refl
+  step : (o : Option GenericFunctionTree) → generic_named g.functions x ≡ o → AreBareResults (results_at o ts)
+  step None e = (refl, tt {0})
   step (Some h) e = bare.functions x h e ts
 
 bare_operator : (f : Rattle.gib_syntax.specs.declared.tree.Operator.Operator) → IsBare (operator_form f)
@@ -81,87 +91,106 @@ bare_found scope x h = step (form_in scope x) refl where
   step (Some f) e = h x f e
 
 mutual
-  bare_of : (g : GenericGlobals) → BareGlobals g → (m : Meant) (e : Expression) (scope : FormScope) → BareScope scope → IsBare (form_of g m scope (as_generic e))
-  bare_of g bare m (Var x) scope h = bare_found scope (number_of x) h
-  bare_of g bare m (Num p n) scope h = refl
-  bare_of g bare m (Bit p b) scope h = refl
+  bare_of : (g : GenericGlobals) → BareGlobals g → (m : Meant) (e : Expression) (scope : FormScope) → BareScope scope → AreBareResults (results_of g m scope (as_generic e))
+  bare_of g bare m (Var x) scope h = (bare_found scope (number_of x) h, tt {0})
+  bare_of g bare m (Num p n) scope h = (refl, tt {0})
+  bare_of g bare m (Bit p b) scope h = (refl, tt {0})
   bare_of g bare m (Paren p e) scope h = bare_of g bare m e scope h
-  bare_of g bare m (Op p f a b) scope h = bare_operator f
+  bare_of g bare m (Op p f a b) scope h = (bare_operator f, tt {0})
   bare_of g bare m (Call f xs) scope h = bare_result g bare (number_of f) NoForm
-  bare_of g bare m (Make k xs) scope h = refl
-  bare_of g bare m (Let p x a b) scope h = bare_of g bare m b (form_bound x (form_of g m scope (as_generic a)) scope) (bare_bound scope x (form_of g m scope (as_generic a)) h (bare_of g bare m a scope h))
+  bare_of g bare m (Make k xs) scope h = (refl, tt {0})
+  bare_of g bare m (Let p x a b) scope h =
+      bare_of g bare m b (form_bound x (form_of g m scope (as_generic a)) scope)
+      (bare_bound scope x (form_of g m scope (as_generic a)) h (bare_one (results_of g m scope (as_generic a)) (bare_of g bare m a scope h)))
   bare_of g bare m (Par p x a y b c) scope h =
       bare_of g bare m c (form_bound y (form_of g m scope (as_generic b)) (form_bound x (form_of g m scope (as_generic a)) scope))
-      (bare_bound (form_bound x (form_of g m scope (as_generic a)) scope) y (form_of g m scope (as_generic b)) (bare_bound scope x (form_of g m scope (as_generic a)) h (bare_of g bare m a scope h)) (bare_of g bare m b scope h))
+      (bare_bound (form_bound x (form_of g m scope (as_generic a)) scope) y (form_of g m scope (as_generic b)) (bare_bound scope x (form_of g m scope (as_generic a)) h (bare_one (results_of g m scope (as_generic a)) (bare_of g bare m a scope h))) (bare_one (results_of g m scope (as_generic b)) (bare_of g bare m b scope h)))
   bare_of g bare m (If p a b c) scope h = bare_of g bare m b scope h
   bare_of g bare m (Case p x arms) scope h = bare_of_arms g bare m arms scope (arguments_of (form_or (form_in scope (number_of x)))) h
+  bare_of g bare m (Tuple p as' xs) scope h = bare_of_all g bare m xs scope h
+  bare_of g bare m (LetSeveral p qs a b) scope h =
+      bare_of g bare m b (bind_forms (names_of qs) (bound_forms g m scope (as_generic a)) scope) (bare_binds (names_of qs) (bound_forms g m scope (as_generic a)) scope h (bare_of g bare m a scope h))
+  bare_of g bare m (ParSeveral p qs a rs b c) scope h =
+      bare_of g bare m c (bind_forms (names_of rs) (bound_forms g m scope (as_generic b)) (bind_forms (names_of qs) (bound_forms g m scope (as_generic a)) scope))
+      (bare_binds (names_of rs) (bound_forms g m scope (as_generic b)) (bind_forms (names_of qs) (bound_forms g m scope (as_generic a)) scope)
+      (bare_binds (names_of qs) (bound_forms g m scope (as_generic a)) scope h (bare_of g bare m a scope h)) (bare_of g bare m b scope h))
 
-  bare_of_arms : (g : GenericGlobals) → BareGlobals g → (m : Meant) (arms : Arms) (scope : FormScope) (ts : Forms) → BareScope scope → IsBare (form_of_arms g m scope ts (arms_as_generic arms))
+  bare_of_all : (g : GenericGlobals) → BareGlobals g → (m : Meant) (xs : Arguments) (scope : FormScope) → BareScope scope → AllByRecursion IsBare (forms_of_all g m scope (all_as_generic xs))
+  bare_of_all g bare m NoArgument scope h = tt {0}
+  bare_of_all g bare m (Argument a xs) scope h = (bare_one (results_of g m scope (as_generic a)) (bare_of g bare m a scope h), bare_of_all g bare m xs scope h)
+
+  bare_of_arms : (g : GenericGlobals) → BareGlobals g → (m : Meant) (arms : Arms) (scope : FormScope) (ts : Forms) → BareScope scope → AreBareResults (results_of_arms g m scope ts (arms_as_generic arms))
   bare_of_arms g bare m (LastArm k xs e) scope ts h =
       bare_of g bare m e (bind_forms xs (forms_named g.rows (place_named g.rows (number_of k)) ts) scope) (bare_binds xs (forms_named g.rows (place_named g.rows (number_of k)) ts) scope h (bare_fields g bare (place_named g.rows (number_of k)) ts))
   bare_of_arms g bare m (NextArm k xs e arms) scope ts h =
       bare_of g bare m e (bind_forms xs (forms_named g.rows (place_named g.rows (number_of k)) ts) scope) (bare_binds xs (forms_named g.rows (place_named g.rows (number_of k)) ts) scope h (bare_fields g bare (place_named g.rows (number_of k)) ts))
 
+bare_form : (g : GenericGlobals) → BareGlobals g → (m : Meant) (e : Expression) (scope : FormScope) → BareScope scope → IsBare (form_of g m scope (as_generic e))
+bare_form g bare m e scope h = bare_one (results_of g m scope (as_generic e)) (bare_of g bare m e scope h)
+
 -- The copy of an expression is the expression
 
 mutual
-  pub copy_own : (g : GenericGlobals) → BareGlobals g → (nm : Naming) → IsPlainNaming nm → (m : Meant) (e : Expression) (scope : FormScope) → BareScope scope → copy g nm m scope (as_generic e) ≡ e
-  copy_own g bare nm plain m (Var x) scope h = refl
-  copy_own g bare nm plain m (Num p n) scope h = refl
-  copy_own g bare nm plain m (Bit p b) scope h = refl
-  copy_own g bare nm plain m (Paren p e) scope h = ap (Paren p) (copy_own g bare nm plain m e scope h)
-  copy_own g bare nm plain m (Op p f a b) scope h =
-      ap (λ (u : Expression). Op p f u (copy g nm m scope (as_generic b))) (copy_own g bare nm plain m a scope h) ∙ ap (Op p f a) (copy_own g bare nm plain m b scope h)
-  copy_own g bare nm plain m (Call f xs) scope h =
-      ap (λ (n : ℕ). Call (renamed f n) (copy_all g nm m scope (all_as_generic xs))) (plain.functions (number_of f)) ∙ ap (Call f) (all_copy_own g bare nm plain m xs scope h)
-  copy_own g bare nm plain m (Make k xs) scope h =
-      ap (λ (n : ℕ). Make (renamed k n) (copy_all g nm m scope (all_as_generic xs))) (plain.constructors (number_of k)) ∙ ap (Make k) (all_copy_own g bare nm plain m xs scope h)
-  copy_own g bare nm plain m (Let p x a b) scope h =
-      ap (λ (u : Expression). Let p x u (copy g nm m (form_bound x (form_of g m scope (as_generic a)) scope) (as_generic b))) (copy_own g bare nm plain m a scope h)
-      ∙ ap (Let p x a) (copy_own g bare nm plain m b (form_bound x (form_of g m scope (as_generic a)) scope) (bare_bound scope x (form_of g m scope (as_generic a)) h (bare_of g bare m a scope h)))
-  copy_own g bare nm plain m (Par p x a y b c) scope h =
+  pub copy_own : (g : GenericGlobals) → BareGlobals g → (nm : Naming) → IsPlainNaming nm → (m : Meant) (e : Expression) (scope : FormScope) → BareScope scope → IsSingle (as_generic e) → copy g nm m scope (as_generic e) ≡ e
+  copy_own g bare nm plain m (Var x) scope h single = refl
+  copy_own g bare nm plain m (Num p n) scope h single = refl
+  copy_own g bare nm plain m (Bit p b) scope h single = refl
+  copy_own g bare nm plain m (Paren p e) scope h single = ap (Paren p) (copy_own g bare nm plain m e scope h single)
+  copy_own g bare nm plain m (Op p f a b) scope h single =
+      ap (λ (u : Expression). Op p f u (copy g nm m scope (as_generic b))) (copy_own g bare nm plain m a scope h single.0) ∙ ap (Op p f a) (copy_own g bare nm plain m b scope h single.1)
+  copy_own g bare nm plain m (Call f xs) scope h single =
+      ap (λ (n : ℕ). Call (renamed f n) (copy_all g nm m scope (all_as_generic xs))) (plain.functions (number_of f)) ∙ ap (Call f) (all_copy_own g bare nm plain m xs scope h single)
+  copy_own g bare nm plain m (Make k xs) scope h single =
+      ap (λ (n : ℕ). Make (renamed k n) (copy_all g nm m scope (all_as_generic xs))) (plain.constructors (number_of k)) ∙ ap (Make k) (all_copy_own g bare nm plain m xs scope h single)
+  copy_own g bare nm plain m (Let p x a b) scope h single =
+      ap (λ (u : Expression). Let p x u (copy g nm m (form_bound x (form_of g m scope (as_generic a)) scope) (as_generic b))) (copy_own g bare nm plain m a scope h single.0)
+      ∙ ap (Let p x a) (copy_own g bare nm plain m b (form_bound x (form_of g m scope (as_generic a)) scope) (bare_bound scope x (form_of g m scope (as_generic a)) h (bare_form g bare m a scope h)) single.1)
+  copy_own g bare nm plain m (Par p x a y b c) scope h single =
       let inner = form_bound y (form_of g m scope (as_generic b)) (form_bound x (form_of g m scope (as_generic a)) scope) in
-      ap (λ (u : Expression). Par p x u y (copy g nm m scope (as_generic b)) (copy g nm m inner (as_generic c))) (copy_own g bare nm plain m a scope h)
-      ∙ ap (λ (u : Expression). Par p x a y u (copy g nm m inner (as_generic c))) (copy_own g bare nm plain m b scope h)
+      ap (λ (u : Expression). Par p x u y (copy g nm m scope (as_generic b)) (copy g nm m inner (as_generic c))) (copy_own g bare nm plain m a scope h single.0)
+      ∙ ap (λ (u : Expression). Par p x a y u (copy g nm m inner (as_generic c))) (copy_own g bare nm plain m b scope h single.1)
       ∙ ap (Par p x a y b) (copy_own g bare nm plain m c inner
-      (bare_bound (form_bound x (form_of g m scope (as_generic a)) scope) y (form_of g m scope (as_generic b)) (bare_bound scope x (form_of g m scope (as_generic a)) h (bare_of g bare m a scope h)) (bare_of g bare m b scope h)))
-  copy_own g bare nm plain m (If p a b c) scope h =
-      ap (λ (u : Expression). If p u (copy g nm m scope (as_generic b)) (copy g nm m scope (as_generic c))) (copy_own g bare nm plain m a scope h)
-      ∙ ap (λ (u : Expression). If p a u (copy g nm m scope (as_generic c))) (copy_own g bare nm plain m b scope h) ∙ ap (If p a b) (copy_own g bare nm plain m c scope h)
-  copy_own g bare nm plain m (Case p x arms) scope h =
-      ap (λ (ts : Forms). Case p x (copy_arms g nm m scope ts (arms_as_generic arms))) (bare_found scope (number_of x) h) ∙ ap (Case p x) (arms_copy_own g bare nm plain m arms scope h)
+      (bare_bound (form_bound x (form_of g m scope (as_generic a)) scope) y (form_of g m scope (as_generic b)) (bare_bound scope x (form_of g m scope (as_generic a)) h (bare_form g bare m a scope h)) (bare_form g bare m b scope h)) single.2)
+  copy_own g bare nm plain m (If p a b c) scope h single =
+      ap (λ (u : Expression). If p u (copy g nm m scope (as_generic b)) (copy g nm m scope (as_generic c))) (copy_own g bare nm plain m a scope h single.0)
+      ∙ ap (λ (u : Expression). If p a u (copy g nm m scope (as_generic c))) (copy_own g bare nm plain m b scope h single.1) ∙ ap (If p a b) (copy_own g bare nm plain m c scope h single.2)
+  copy_own g bare nm plain m (Case p x arms) scope h single =
+      ap (λ (ts : Forms). Case p x (copy_arms g nm m scope ts (arms_as_generic arms))) (bare_found scope (number_of x) h) ∙ ap (Case p x) (arms_copy_own g bare nm plain m arms scope h single)
+  copy_own g bare nm plain m (Tuple p as' xs) scope h single = absurd single
+  copy_own g bare nm plain m (LetSeveral p qs a b) scope h single = absurd single
+  copy_own g bare nm plain m (ParSeveral p qs a rs b c) scope h single = absurd single
 
-  all_copy_own : (g : GenericGlobals) → BareGlobals g → (nm : Naming) → IsPlainNaming nm → (m : Meant) (xs : Arguments) (scope : FormScope) → BareScope scope → copy_all g nm m scope (all_as_generic xs) ≡ xs
-  all_copy_own g bare nm plain m NoArgument scope h = refl
-  all_copy_own g bare nm plain m (Argument a xs) scope h =
-      ap (λ (u : Expression). Argument u (copy_all g nm m scope (all_as_generic xs))) (copy_own g bare nm plain m a scope h) ∙ ap (Argument a) (all_copy_own g bare nm plain m xs scope h)
+  all_copy_own : (g : GenericGlobals) → BareGlobals g → (nm : Naming) → IsPlainNaming nm → (m : Meant) (xs : Arguments) (scope : FormScope) → BareScope scope → AreSingle (all_as_generic xs) → copy_all g nm m scope (all_as_generic xs) ≡ xs
+  all_copy_own g bare nm plain m NoArgument scope h single = refl
+  all_copy_own g bare nm plain m (Argument a xs) scope h single =
+      ap (λ (u : Expression). Argument u (copy_all g nm m scope (all_as_generic xs))) (copy_own g bare nm plain m a scope h single.0) ∙ ap (Argument a) (all_copy_own g bare nm plain m xs scope h single.1)
 
-  arms_copy_own : (g : GenericGlobals) → BareGlobals g → (nm : Naming) → IsPlainNaming nm → (m : Meant) (arms : Arms) (scope : FormScope) → BareScope scope → copy_arms g nm m scope NoForm (arms_as_generic arms) ≡ arms
-  arms_copy_own g bare nm plain m (LastArm k xs e) scope h =
+  arms_copy_own : (g : GenericGlobals) → BareGlobals g → (nm : Naming) → IsPlainNaming nm → (m : Meant) (arms : Arms) (scope : FormScope) → BareScope scope → HasSingle (arms_as_generic arms) → copy_arms g nm m scope NoForm (arms_as_generic arms) ≡ arms
+  arms_copy_own g bare nm plain m (LastArm k xs e) scope h single =
       let inner = bind_forms xs (forms_named g.rows (place_named g.rows (number_of k)) NoForm) scope in
       ap (λ (n : ℕ). LastArm (renamed k n) xs (copy g nm m inner (as_generic e))) (plain.constructors (number_of k))
-      ∙ ap (LastArm k xs) (copy_own g bare nm plain m e inner (bare_binds xs (forms_named g.rows (place_named g.rows (number_of k)) NoForm) scope h (bare_fields g bare (place_named g.rows (number_of k)) NoForm)))
-  arms_copy_own g bare nm plain m (NextArm k xs e arms) scope h =
+      ∙ ap (LastArm k xs) (copy_own g bare nm plain m e inner (bare_binds xs (forms_named g.rows (place_named g.rows (number_of k)) NoForm) scope h (bare_fields g bare (place_named g.rows (number_of k)) NoForm)) single)
+  arms_copy_own g bare nm plain m (NextArm k xs e arms) scope h single =
       let inner = bind_forms xs (forms_named g.rows (place_named g.rows (number_of k)) NoForm) scope in
       ap (λ (n : ℕ). NextArm (renamed k n) xs (copy g nm m inner (as_generic e)) (copy_arms g nm m scope NoForm (arms_as_generic arms))) (plain.constructors (number_of k))
-      ∙ ap (λ (u : Expression). NextArm k xs u (copy_arms g nm m scope NoForm (arms_as_generic arms))) (copy_own g bare nm plain m e inner (bare_binds xs (forms_named g.rows (place_named g.rows (number_of k)) NoForm) scope h (bare_fields g bare (place_named g.rows (number_of k)) NoForm)))
-      ∙ ap (NextArm k xs e) (arms_copy_own g bare nm plain m arms scope h)
+      ∙ ap (λ (u : Expression). NextArm k xs u (copy_arms g nm m scope NoForm (arms_as_generic arms))) (copy_own g bare nm plain m e inner (bare_binds xs (forms_named g.rows (place_named g.rows (number_of k)) NoForm) scope h (bare_fields g bare (place_named g.rows (number_of k)) NoForm)) single.0)
+      ∙ ap (NextArm k xs e) (arms_copy_own g bare nm plain m arms scope h single.1)
 
 -- Declarations
 
-written_own : (nm : Naming) → IsPlainNaming nm → (m : Meant) (a : TypeName) → copy_written nm m (written_of a) ≡ a
+pub written_own : (nm : Naming) → IsPlainNaming nm → (m : Meant) (a : TypeName) → copy_written nm m (written_of a) ≡ a
 written_own nm plain m (ty.Whole p) = refl
 written_own nm plain m (ty.Truth p) = refl
 written_own nm plain m (ty.Declared x) = ap (λ (n : ℕ). ty.Declared (renamed x n)) (plain.types (number_of x))
 
-map_own : (A B : Type 0) (f : A → B) (back : B → A) → ((x : A) → back (f x) ≡ x) → (xs : List A) → map back (map f xs) ≡ xs
+pub map_own : (A B : Type 0) (f : A → B) (back : B → A) → ((x : A) → back (f x) ≡ x) → (xs : List A) → map back (map f xs) ≡ xs
 map_own A B f back h [] = refl
 map_own A B f back h (x ∷ xs) = ap (λ (y : A). y ∷ map back (map f xs)) (h x) ∙ ap (λ (ys : List A). x ∷ ys) (map_own A B f back h xs)
 
 constructor_own : (nm : Naming) → IsPlainNaming nm → (m : Meant) (c : ConstructorTree) → copy_constructor nm m NoForm (generic_constructor c) ≡ c
 constructor_own nm plain m c =
     ap (λ (n : ℕ). let t : ConstructorTree = record { name = renamed c.name n; fields = map (copy_written nm m) (map written_of c.fields) } in t) (plain.constructors (number_of c.name))
-    ∙ ap (λ (ws : List TypeName). let t : ConstructorTree = record { name = c.name; fields = ws } in t) (map_own TypeName Rattle.gib_syntax.specs.Forms.WrittenType written_of (copy_written nm m) (written_own nm plain m) c.fields)
+    ∙ ap (λ (ws : List TypeName). let t : ConstructorTree = record { name = c.name; fields = ws } in t) (map_own TypeName WrittenType written_of (copy_written nm m) (written_own nm plain m) c.fields)
 
 data_own_copy : (nm : Naming) → IsPlainNaming nm → (d : DataTree) → copy_data nm (generic_data d) NoForm ≡ d
 data_own_copy nm plain d =
@@ -169,7 +198,7 @@ data_own_copy nm plain d =
     ∙ ap (λ (cs : List ConstructorTree). let t : DataTree = record { name = d.name; constructors = cs } in t)
     (map_own ConstructorTree GenericConstructorTree generic_constructor (copy_constructor nm (assign [] NoForm) NoForm) (constructor_own nm plain (assign [] NoForm)) d.constructors)
 
-parameter_own : (nm : Naming) → IsPlainNaming nm → (m : Meant) (q : Parameter) → copy_parameter nm m (generic_parameter q) ≡ q
+pub parameter_own : (nm : Naming) → IsPlainNaming nm → (m : Meant) (q : Parameter) → copy_parameter nm m (generic_parameter q) ≡ q
 parameter_own nm plain m q = ap (λ (a : TypeName). let t : Parameter = record { name = q.name; ty = a } in t) (written_own nm plain m q.ty)
 
 pub bare_nothing : BareScope []
@@ -182,23 +211,27 @@ bare_parameters m (q ∷ qs) = (bare_written m q.ty, bare_parameters m qs)
 bare_scope : (m : Meant) (qs : List Parameter) → BareScope (parameter_scope m (map generic_parameter qs))
 bare_scope m qs = bare_binds (map (λ (q : GenericParameterTree). q.name) (map generic_parameter qs)) (map (λ (q : GenericParameterTree). formed m q.ty) (map generic_parameter qs)) [] bare_nothing (bare_parameters m qs)
 
-function_own_copy : (g : GenericGlobals) → BareGlobals g → (nm : Naming) → IsPlainNaming nm → (f : FunctionTree) → copy_function g nm (generic_function f) NoForm ≡ f
-function_own_copy g bare nm plain f =
+pub results_own : (nm : Naming) → IsPlainNaming nm → (m : Meant) (r : Results TypeName) → map_results (copy_written nm m) (map_results written_of r) ≡ r
+results_own nm plain m (One a) = ap One (written_own nm plain m a)
+results_own nm plain m (Several as') = ap Several (map_own TypeName WrittenType written_of (copy_written nm m) (written_own nm plain m) as')
+
+function_own_copy : (g : GenericGlobals) → BareGlobals g → (nm : Naming) → IsPlainNaming nm → (f : FunctionTree) → IsSingle (as_generic f.body) → copy_function g nm (generic_function f) NoForm ≡ f
+function_own_copy g bare nm plain f single =
     let m = assign [] NoForm in
     let scope = parameter_scope m (map generic_parameter f.parameters) in
-    ap (λ (n : ℕ). let t : FunctionTree = record { name = renamed f.name n; parameters = map (copy_parameter nm m) (map generic_parameter f.parameters); result = copy_written nm m (written_of f.result); body = copy g nm m scope (as_generic f.body) } in t) (plain.functions (number_of f.name))
-    ∙ ap (λ (qs : List Parameter). let t : FunctionTree = record { name = f.name; parameters = qs; result = copy_written nm m (written_of f.result); body = copy g nm m scope (as_generic f.body) } in t)
+    ap (λ (n : ℕ). let t : FunctionTree = record { name = renamed f.name n; parameters = map (copy_parameter nm m) (map generic_parameter f.parameters); result = map_results (copy_written nm m) (map_results written_of f.result); body = copy g nm m scope (as_generic f.body) } in t) (plain.functions (number_of f.name))
+    ∙ ap (λ (qs : List Parameter). let t : FunctionTree = record { name = f.name; parameters = qs; result = map_results (copy_written nm m) (map_results written_of f.result); body = copy g nm m scope (as_generic f.body) } in t)
     (map_own Parameter GenericParameterTree generic_parameter (copy_parameter nm m) (parameter_own nm plain m) f.parameters)
-    ∙ ap (λ (a : TypeName). let t : FunctionTree = record { name = f.name; parameters = f.parameters; result = a; body = copy g nm m scope (as_generic f.body) } in t) (written_own nm plain m f.result)
-    ∙ ap (λ (e : Expression). let t : FunctionTree = record { name = f.name; parameters = f.parameters; result = f.result; body = e } in t) (copy_own g bare nm plain m f.body scope (bare_scope m f.parameters))
+    ∙ ap (λ (a : Results TypeName). let t : FunctionTree = record { name = f.name; parameters = f.parameters; result = a; body = copy g nm m scope (as_generic f.body) } in t) (results_own nm plain m f.result)
+    ∙ ap (λ (e : Expression). let t : FunctionTree = record { name = f.name; parameters = f.parameters; result = f.result; body = e } in t) (copy_own g bare nm plain m f.body scope (bare_scope m f.parameters) single)
 
-main_own_copy : (g : GenericGlobals) → BareGlobals g → (nm : Naming) → IsPlainNaming nm → (f : MainTree) → copy_main g nm (generic_main f) ≡ f
-main_own_copy g bare nm plain f =
+main_own_copy : (g : GenericGlobals) → BareGlobals g → (nm : Naming) → IsPlainNaming nm → (f : MainTree) → IsSingle (as_generic f.body) → copy_main g nm (generic_main f) ≡ f
+main_own_copy g bare nm plain f single =
     let m = assign [] NoForm in
     let scope = parameter_scope m (generic_parameter f.parameter ∷ []) in
     ap (λ (q : Parameter). let t : MainTree = record { parameter = q; result = copy_written nm m (written_of f.result); body = copy g nm m scope (as_generic f.body) } in t) (parameter_own nm plain m f.parameter)
     ∙ ap (λ (a : TypeName). let t : MainTree = record { parameter = f.parameter; result = a; body = copy g nm m scope (as_generic f.body) } in t) (written_own nm plain m f.result)
-    ∙ ap (λ (e : Expression). let t : MainTree = record { parameter = f.parameter; result = f.result; body = e } in t) (copy_own g bare nm plain m f.body scope (bare_scope m (f.parameter ∷ [])))
+    ∙ ap (λ (e : Expression). let t : MainTree = record { parameter = f.parameter; result = f.result; body = e } in t) (copy_own g bare nm plain m f.body scope (bare_scope m (f.parameter ∷ [])) single)
 
 -- Programs
 
@@ -213,38 +246,42 @@ rows_bare (d ∷ ds) c row e =
     (λ (b : (j : ℕ) × (slice_get (rows_of (map generic_data ds)) j ≡ Some row) × (c ≡ length (map (row_of (generic_data d)) (map generic_constructor d.constructors)) + j)). rows_bare ds b.0 row b.1)
     (get_split GenericRow (map (row_of (generic_data d)) (map generic_constructor d.constructors)) (rows_of (map generic_data ds)) c row e)
 
-functions_bare : (fs : List FunctionTree) (x : ℕ) (h : GenericFunctionTree) → generic_named (map generic_function fs) x ≡ Some h → (a : TypeName) × (h.result ≡ written_of a)
+functions_bare : (fs : List FunctionTree) (x : ℕ) (h : GenericFunctionTree) → generic_named (map generic_function fs) x ≡ Some h → (r : Results TypeName) × (h.result ≡ map_results written_of r)
 functions_bare [] x h e = absurd cc
 functions_bare (f ∷ fs) x h e = step (number_of f.name == x) e (functions_bare fs x h) where
-  step : (b : Bool) → (if b then Some (generic_function f) else generic_named (map generic_function fs) x) ≡ Some h → (generic_named (map generic_function fs) x ≡ Some h → (a : TypeName) × (h.result ≡ written_of a)) → (a : TypeName) × (h.result ≡ written_of a)
+  step : (b : Bool) → (if b then Some (generic_function f) else generic_named (map generic_function fs) x) ≡ Some h → (generic_named (map generic_function fs) x ≡ Some h → (r : Results TypeName) × (h.result ≡ map_results written_of r)) → (r : Results TypeName) × (h.result ≡ map_results written_of r)
   step true e go = (f.result, ap (λ (u : GenericFunctionTree). u.result) (sym (same_Some (generic_function f) h e)))
   step false e go = go e
 
+bare_results : (m : Meant) (r : Results TypeName) → AreBareResults (map_results (formed m) (map_results written_of r))
+bare_results m (One a) = (bare_written m a, tt {0})
+bare_results m (Several as') = bare_all m as'
+
 bare_globals : (p : ProgramTree) → BareGlobals (globals_of_generic (generic_of p))
 bare_globals p = record {
-  rows = λ c row e ts. let h = rows_bare p.datas c row e in subst (λ (ws : List Rattle.gib_syntax.specs.Forms.WrittenType). AllByRecursion IsBare (map (formed (assign row.variables ts)) ws)) (sym h.1) (bare_all (assign row.variables ts) h.0);
-  functions = λ x h e ts. let k = functions_bare p.functions x h e in subst (λ (w : Rattle.gib_syntax.specs.Forms.WrittenType). IsBare (formed (assign h.variables ts) w)) (sym k.1) (bare_written (assign h.variables ts) k.0);
+  rows = λ c row e ts. let h = rows_bare p.datas c row e in subst (λ (ws : List WrittenType). AllByRecursion IsBare (map (formed (assign row.variables ts)) ws)) (sym h.1) (bare_all (assign row.variables ts) h.0);
+  functions = λ x h e ts. let k = functions_bare p.functions x h e in subst (λ (r : Results WrittenType). AreBareResults (map_results (formed (assign h.variables ts)) r)) (sym k.1) (bare_results (assign h.variables ts) k.0);
 }
 
-datas_own : (nm : Naming) → IsPlainNaming nm → (ds : List DataTree) (fs : List FunctionTree) → map (λ (c : DataCopy). copy_data nm c.decl c.types) (datas_in (plain_datas (map generic_data ds) ++ plain_functions (map generic_function fs))) ≡ ds
+pub datas_own : (nm : Naming) → IsPlainNaming nm → (ds : List DataTree) (fs : List FunctionTree) → map (λ (c : DataCopy). copy_data nm c.decl c.types) (datas_in (plain_datas (map generic_data ds) ++ plain_functions (map generic_function fs))) ≡ ds
 datas_own nm plain [] [] = refl
 datas_own nm plain [] (f ∷ fs) = datas_own nm plain [] fs
 datas_own nm plain (d ∷ ds) fs =
     ap (λ (u : DataTree). u ∷ map (λ (c : DataCopy). copy_data nm c.decl c.types) (datas_in (plain_datas (map generic_data ds) ++ plain_functions (map generic_function fs)))) (data_own_copy nm plain d)
     ∙ ap (λ (us : List DataTree). d ∷ us) (datas_own nm plain ds fs)
 
-functions_own : (g : GenericGlobals) → BareGlobals g → (nm : Naming) → IsPlainNaming nm → (ds : List DataTree) (fs : List FunctionTree) →
+functions_own : (g : GenericGlobals) → BareGlobals g → (nm : Naming) → IsPlainNaming nm → (ds : List DataTree) (fs : List FunctionTree) → AllByRecursion IsSingleFunction (map generic_function fs) →
     map (λ (c : FunctionCopy). copy_function g nm c.function c.types) (function_copies (plain_datas (map generic_data ds) ++ plain_functions (map generic_function fs))) ≡ fs
-functions_own g bare nm plain [] [] = refl
-functions_own g bare nm plain [] (f ∷ fs) =
-    ap (λ (u : FunctionTree). u ∷ map (λ (c : FunctionCopy). copy_function g nm c.function c.types) (function_copies (plain_functions (map generic_function fs)))) (function_own_copy g bare nm plain f)
-    ∙ ap (λ (us : List FunctionTree). f ∷ us) (functions_own g bare nm plain [] fs)
-functions_own g bare nm plain (d ∷ ds) fs = functions_own g bare nm plain ds fs
+functions_own g bare nm plain [] [] single = refl
+functions_own g bare nm plain [] (f ∷ fs) single =
+    ap (λ (u : FunctionTree). u ∷ map (λ (c : FunctionCopy). copy_function g nm c.function c.types) (function_copies (plain_functions (map generic_function fs)))) (function_own_copy g bare nm plain f single.0.1)
+    ∙ ap (λ (us : List FunctionTree). f ∷ us) (functions_own g bare nm plain [] fs single.1)
+functions_own g bare nm plain (d ∷ ds) fs single = functions_own g bare nm plain ds fs single
 
-pub own_copy : (p : ProgramTree) (nm : Naming) → IsPlainNaming nm → copied_program (generic_of p) nm (plain_copies (generic_of p)) ≡ p
-own_copy p nm plain =
+pub own_copy : (p : ProgramTree) (nm : Naming) → IsPlainNaming nm → IsSingleProgram (generic_of p) → copied_program (generic_of p) nm (plain_copies (generic_of p)) ≡ p
+own_copy p nm plain single =
     let g = globals_of_generic (generic_of p) in
     let found = plain_copies (generic_of p) in
     ap (λ (ds : List DataTree). let t : ProgramTree = record { datas = ds; functions = map (λ (c : FunctionCopy). copy_function g nm c.function c.types) (function_copies found); main = copy_main g nm (generic_main p.main) } in t) (datas_own nm plain p.datas p.functions)
-    ∙ ap (λ (fs : List FunctionTree). let t : ProgramTree = record { datas = p.datas; functions = fs; main = copy_main g nm (generic_main p.main) } in t) (functions_own g (bare_globals p) nm plain p.datas p.functions)
-    ∙ ap (λ (f : MainTree). let t : ProgramTree = record { datas = p.datas; functions = p.functions; main = f } in t) (main_own_copy g (bare_globals p) nm plain p.main)
+    ∙ ap (λ (fs : List FunctionTree). let t : ProgramTree = record { datas = p.datas; functions = fs; main = copy_main g nm (generic_main p.main) } in t) (functions_own g (bare_globals p) nm plain p.datas p.functions single.functions)
+    ∙ ap (λ (f : MainTree). let t : ProgramTree = record { datas = p.datas; functions = p.functions; main = f } in t) (main_own_copy g (bare_globals p) nm plain p.main single.main)

@@ -9,25 +9,29 @@ use Rattle.gib_syntax.specs.declared.tree.Ident.{Ident}
 use Rattle.gib_syntax.specs.declared.tree.TypeName.{TypeName}
 use Rattle.gib_syntax.specs.declared.tree.TypeName.TheVariants as ty
 use Rattle.gib_syntax.specs.declared.tree.Parameter.{Parameter}
-use Rattle.gib_syntax.specs.Tree.{Expression, Arguments, Arms, Var, Num, Bit, Paren, Op, Call, Make, Let, Par, If, Case, NoArgument, Argument, LastArm, NextArm, ConstructorTree, DataTree, FunctionTree, ProgramTree}
-use Rattle.gib_syntax.specs.Declarations.{number_of, place_of, type_names, type_of_name, type_or, tree_type, row_in, rows_from, table_of_program, constructor_names, constructor_named, function_named}
+use Rattle.gib_syntax.specs.Tree.{Expression, Arguments, Arms, Var, Num, Bit, Paren, Op, Call, Make, Let, Par, If, Case, Tuple, LetSeveral, ParSeveral, NoArgument, Argument, LastArm, NextArm, ConstructorTree, DataTree, ProgramTree}
+use Rattle.gib_syntax.specs.Declarations.{number_of, place_of, type_names, type_of_name, type_or, tree_type, row_in, rows_from, table_of_program, constructor_names, constructor_named}
 use Rattle.gib_syntax.specs.Typing.{IsKnown, HasKnownFields, HasKnownConstructors, IsTypedProgram}
-use Rattle.gib_syntax.specs.Meaning.{Outcome, Gives, Stops, Environment, value_in, bind, with_value, with_values, is_true, is_made_by, parts, made, choose, eval, eval_all, eval_arms, names_of, of_function, calls, means, run}
+use Rattle.gib_syntax.specs.Meaning.{Outcome, Gives, Stops, Environment, value_in, bind, with_value, with_values, is_true, is_made_by, parts, made, choose, eval, eval_all, eval_arms, names_of, calls}
 use Rattle.gib_syntax.specs.Forms.{Forms, NoForm, Meant, formed, assign}
-use Rattle.gib_syntax.specs.GenericTree.{GenericFunctionTree, GenericRow, row_of, rows_of, globals_of_generic, place_named, generic_named}
-use Rattle.gib_syntax.specs.GenericMeaning.{kind_of, kinds_at, made_at, meant, meant_all, meant_arms, generic_names, of_generic, calls_meant, means_generic, run_generic}
-use Rattle.gib_syntax.specs.Plain.{written_of, as_generic, all_as_generic, arms_as_generic, generic_constructor, generic_data, generic_parameter, generic_function, generic_of}
+use Rattle.gib_syntax.specs.GenericTree.{GenericRow, row_of, rows_of, globals_of_generic, place_named}
+use Rattle.gib_types.specs.Form.{form_or}
+use Rattle.gib_syntax.specs.GenericTyping.{FormScope, form_in, form_bound}
+use Rattle.gib_syntax.specs.Inferred.{arguments_of, forms_named, bind_forms, form_of}
+use Rattle.gib_syntax.specs.Single.{IsSingle, AreSingle, HasSingle}
+use Rattle.gib_syntax.specs.GenericMeaning.{kind_of, kinds_at, made_at, meant, meant_all, meant_arms, generic_names}
+use Rattle.gib_syntax.specs.Plain.{written_of, as_generic, all_as_generic, arms_as_generic, generic_constructor, generic_data, generic_parameter, generic_of}
 use Rattle.gib_mono.proofs.Tables.{map_both}
 
 -- Which fields are scalars
 
-abbrev SameKinds : List Ty → List Ty → Type 0
+abbrev pub SameKinds : List Ty → List Ty → Type 0
 SameKinds [] [] = Unit {0}
 SameKinds [] (u ∷ us) = ⊥
 SameKinds (t ∷ ts) [] = ⊥
 SameKinds (t ∷ ts) (u ∷ us) = (is_scalar t ≡ is_scalar u) × SameKinds ts us
 
-fields_same : (b : Bool) (ts us : List Ty) (rs : List Outcome) → SameKinds ts us → at_fields b ts rs ≡ at_fields b us rs
+pub fields_same : (b : Bool) (ts us : List Ty) (rs : List Outcome) → SameKinds ts us → at_fields b ts rs ≡ at_fields b us rs
 fields_same b [] [] rs h = refl
 fields_same b [] (u ∷ us) rs h = absurd h
 fields_same b (t ∷ ts) [] rs h = absurd h
@@ -43,27 +47,27 @@ known_kind types x None h = absurd (nothing h.0 h.1) where
   nothing t e = cc
 known_kind types x (Some n) h = refl
 
-kind_same : (types : List ℕ) (m : Meant) (a : TypeName) → IsKnown types a → is_scalar (kind_of (formed m (written_of a))) ≡ is_scalar (type_of_name types a)
+pub kind_same : (types : List ℕ) (m : Meant) (a : TypeName) → IsKnown types a → is_scalar (kind_of (formed m (written_of a))) ≡ is_scalar (type_of_name types a)
 kind_same types m (ty.Whole p) h = refl
 kind_same types m (ty.Truth p) h = refl
 kind_same types m (ty.Declared x) h = known_kind types x (place_of types (number_of x)) h
 
-kinds_same : (types : List ℕ) (m : Meant) (as' : List TypeName) → AllByRecursion (IsKnown types) as' → SameKinds (map kind_of (map (formed m) (map written_of as'))) (map (type_of_name types) as')
+pub kinds_same : (types : List ℕ) (m : Meant) (as' : List TypeName) → AllByRecursion (IsKnown types) as' → SameKinds (map kind_of (map (formed m) (map written_of as'))) (map (type_of_name types) as')
 kinds_same types m [] h = tt {0}
 kinds_same types m (a ∷ as') h = (kind_same types m a h.0, kinds_same types m as' h.1)
 
 abbrev SameRows : List GenericRow → List Row → Type 0
-SameRows rows others = (c : ℕ) → SameKinds (kinds_at (slice_get rows c) NoForm) (fields_of (slice_get others c))
+SameRows rows others = (c : ℕ) (ts : Forms) → SameKinds (kinds_at (slice_get rows c) ts) (fields_of (slice_get others c))
 
 front_same : (types : List ℕ) (owner : ℕ) (d : DataTree) (cs : List ConstructorTree) (rows : List GenericRow) (others : List Row) → AllByRecursion (HasKnownFields types) cs → SameRows rows others →
     SameRows (map (row_of (generic_data d)) (map generic_constructor cs) ++ rows) (map (row_in types owner) cs ++ others)
-front_same types owner d [] rows others known h c = h c
-front_same types owner d (k ∷ cs) rows others known h zero = kinds_same types (assign [] NoForm) k.fields known.0.1
-front_same types owner d (k ∷ cs) rows others known h (suc c) = front_same types owner d cs rows others known.1 h c
+front_same types owner d [] rows others known h c ts = h c ts
+front_same types owner d (k ∷ cs) rows others known h zero ts = kinds_same types (assign [] ts) k.fields known.0.1
+front_same types owner d (k ∷ cs) rows others known h (suc c) ts = front_same types owner d cs rows others known.1 h c ts
 
-rows_same : (types : List ℕ) (owner : ℕ) (ds : List DataTree) → AllByRecursion (HasKnownConstructors types) ds → SameRows (rows_of (map generic_data ds)) (rows_from types owner ds)
-rows_same types owner [] known c = tt {0}
-rows_same types owner (d ∷ ds) known c = front_same types owner d d.constructors (rows_of (map generic_data ds)) (rows_from types (suc owner) ds) known.0 (rows_same types (suc owner) ds known.1) c
+pub rows_same : (types : List ℕ) (owner : ℕ) (ds : List DataTree) → AllByRecursion (HasKnownConstructors types) ds → SameRows (rows_of (map generic_data ds)) (rows_from types owner ds)
+rows_same types owner [] known c ts = tt {0}
+rows_same types owner (d ∷ ds) known c ts = front_same types owner d d.constructors (rows_of (map generic_data ds)) (rows_from types (suc owner) ds) known.0 (rows_same types (suc owner) ds known.1) c ts
 
 -- Names
 
@@ -79,13 +83,13 @@ names_same types owner (d ∷ ds) =
     ∙ ap (λ (ns : List ℕ). map (λ (r : Row). r.name) (map (row_in types owner) d.constructors) ++ ns) (names_same types (suc owner) ds)
     ∙ sym (map_both Row ℕ (λ (r : Row). r.name) (map (row_in types owner) d.constructors) (rows_from types (suc owner) ds))
 
-place_same : (p : ProgramTree) (k : ℕ) → place_named (rows_of (map generic_data p.datas)) k ≡ constructor_named (table_of_program p) k
+pub place_same : (p : ProgramTree) (k : ℕ) → place_named (rows_of (map generic_data p.datas)) k ≡ constructor_named (table_of_program p) k
 place_same p k = ap (λ (ns : List ℕ). place_of ns k) (names_same (type_names p) 0 p.datas)
 
-made_same : (p : ProgramTree) → IsTypedProgram p → (o : Option ℕ) (rs : List Outcome) → made_at (rows_of (map generic_data p.datas)) o NoForm rs ≡ made (table_of_program p) o rs
+pub made_same : (p : ProgramTree) → IsTypedProgram p → (o : Option ℕ) (rs : List Outcome) → made_at (rows_of (map generic_data p.datas)) o NoForm rs ≡ made (table_of_program p) o rs
 made_same p typed None rs = refl
 made_same p typed (Some c) rs =
-    let h = rows_same (type_names p) 0 p.datas typed.fields c in
+    let h = rows_same (type_names p) 0 p.datas typed.fields c NoForm in
     let kinds = kinds_at (slice_get (rows_of (map generic_data p.datas)) c) NoForm in
     let fields = fields_at (table_of_program p) c in
     let go : List Datum → Outcome = λ vs. Gives (con c (data_of vs)) in
@@ -94,94 +98,81 @@ made_same p typed (Some c) rs =
 
 -- Expressions
 
-value_goes : (r q : Outcome) (go went : Datum → Outcome) → r ≡ q → ((v : Datum) → go v ≡ went v) → with_value r go ≡ with_value q went
+pub value_goes : (r q : Outcome) (go went : Datum → Outcome) → r ≡ q → ((v : Datum) → go v ≡ went v) → with_value r go ≡ with_value q went
 value_goes (Gives v) q go went e h = h v ∙ ap (λ (u : Outcome). with_value u went) e
 value_goes (Stops why) q go went e h = ap (λ (u : Outcome). with_value u went) e
 
-values_go : (rs : List Outcome) (go went : List Datum → Outcome) → ((vs : List Datum) → go vs ≡ went vs) → with_values rs go ≡ with_values rs went
+pub values_go : (rs : List Outcome) (go went : List Datum → Outcome) → ((vs : List Datum) → go vs ≡ went vs) → with_values rs go ≡ with_values rs went
 values_go [] go went h = h []
 values_go (Gives v ∷ rs) go went h = values_go rs (λ vs. go (v ∷ vs)) (λ vs. went (v ∷ vs)) (λ vs. h (v ∷ vs))
 values_go (Stops why ∷ rs) go went h = refl
 
-choice_same : (b : Bool) (r s q u : Outcome) → r ≡ q → s ≡ u → choose b r s ≡ choose b q u
+pub choice_same : (b : Bool) (r s q u : Outcome) → r ≡ q → s ≡ u → choose b r s ≡ choose b q u
 choice_same true r s q u e f = e
 choice_same false r s q u e f = f
 
 -- calls without types mean what calls mean
-abbrev SameCalls : (ℕ → Forms → List Datum → Outcome) → (ℕ → List Datum → Outcome) → Type 0
+abbrev pub SameCalls : (ℕ → Forms → List Datum → Outcome) → (ℕ → List Datum → Outcome) → Type 0
 SameCalls calls call = (x : ℕ) (vs : List Datum) → calls x NoForm vs ≡ call x vs
 
 mutual
-  same_meant : (p : ProgramTree) → IsTypedProgram p → (calls' : ℕ → Forms → List Datum → Outcome) (call : ℕ → List Datum → Outcome) → SameCalls calls' call → (m : Meant) (e : Expression) (env : Environment) →
-      meant (globals_of_generic (generic_of p)) calls' m (as_generic e) env ≡ eval (table_of_program p) call e env
-  same_meant p typed calls' call same m (Var x) env = refl
-  same_meant p typed calls' call same m (Num q n) env = refl
-  same_meant p typed calls' call same m (Bit q b) env = refl
-  same_meant p typed calls' call same m (Paren q e) env = same_meant p typed calls' call same m e env
-  same_meant p typed calls' call same m (Op q f a b) env =
-      value_goes _ _ _ _ (same_meant p typed calls' call same m a env) (λ x. value_goes _ _ _ _ (same_meant p typed calls' call same m b env) (λ y. refl))
-  same_meant p typed calls' call same m (Call f xs) env =
-      ap (λ (rs : List Outcome). with_values rs (calls' (number_of f) NoForm)) (all_same_meant p typed calls' call same m xs env)
+  pub same_meant : (p : ProgramTree) → IsTypedProgram p → (calls' : ℕ → Forms → List Datum → Outcome) (call : ℕ → List Datum → Outcome) → SameCalls calls' call → (m : Meant) (scope : FormScope) (e : Expression) (env : Environment) → IsSingle (as_generic e) →
+      meant (globals_of_generic (generic_of p)) calls' m scope (as_generic e) env ≡ eval (table_of_program p) call e env
+  same_meant p typed calls' call same m scope (Var x) env single = refl
+  same_meant p typed calls' call same m scope (Num q n) env single = refl
+  same_meant p typed calls' call same m scope (Bit q b) env single = refl
+  same_meant p typed calls' call same m scope (Paren q e) env single = same_meant p typed calls' call same m scope e env single
+  same_meant p typed calls' call same m scope (Op q f a b) env single =
+      value_goes _ _ _ _ (same_meant p typed calls' call same m scope a env single.0) (λ x. value_goes _ _ _ _ (same_meant p typed calls' call same m scope b env single.1) (λ y. refl))
+  same_meant p typed calls' call same m scope (Call f xs) env single =
+      ap (λ (rs : List Outcome). with_values rs (calls' (number_of f) NoForm)) (all_same_meant p typed calls' call same m scope xs env single)
       ∙ values_go (eval_all (table_of_program p) call xs env) (calls' (number_of f) NoForm) (call (number_of f)) (same (number_of f))
-  same_meant p typed calls' call same m (Make k xs) env =
-      ap (λ (rs : List Outcome). made_at (rows_of (map generic_data p.datas)) (place_named (rows_of (map generic_data p.datas)) (number_of k)) NoForm rs) (all_same_meant p typed calls' call same m xs env)
+  same_meant p typed calls' call same m scope (Make k xs) env single =
+      ap (λ (rs : List Outcome). made_at (rows_of (map generic_data p.datas)) (place_named (rows_of (map generic_data p.datas)) (number_of k)) NoForm rs) (all_same_meant p typed calls' call same m scope xs env single)
       ∙ ap (λ (o : Option ℕ). made_at (rows_of (map generic_data p.datas)) o NoForm (eval_all (table_of_program p) call xs env)) (place_same p (number_of k))
       ∙ made_same p typed (constructor_named (table_of_program p) (number_of k)) (eval_all (table_of_program p) call xs env)
-  same_meant p typed calls' call same m (Let q x a b) env = value_goes _ _ _ _ (same_meant p typed calls' call same m a env) (λ v. same_meant p typed calls' call same m b ((number_of x, v) ∷ env))
-  same_meant p typed calls' call same m (Par q x a y b c) env =
-      value_goes _ _ _ _ (same_meant p typed calls' call same m a env)
-      (λ v. value_goes _ _ _ _ (same_meant p typed calls' call same m b env) (λ w. same_meant p typed calls' call same m c ((number_of y, w) ∷ (number_of x, v) ∷ env)))
-  same_meant p typed calls' call same m (If q a b c) env =
-      value_goes _ _ _ _ (same_meant p typed calls' call same m a env)
-      (λ v. choice_same (is_true v) _ _ _ _ (same_meant p typed calls' call same m b env) (same_meant p typed calls' call same m c env))
-  same_meant p typed calls' call same m (Case q x arms) env = arms_same_meant p typed calls' call same m arms (value_in env (number_of x)) env
+  same_meant p typed calls' call same m scope (Let q x a b) env single =
+      value_goes _ _ _ _ (same_meant p typed calls' call same m scope a env single.0)
+      (λ v. same_meant p typed calls' call same m (form_bound x (form_of (globals_of_generic (generic_of p)) m scope (as_generic a)) scope) b ((number_of x, v) ∷ env) single.1)
+  same_meant p typed calls' call same m scope (Par q x a y b c) env single =
+      let g = globals_of_generic (generic_of p) in
+      value_goes _ _ _ _ (same_meant p typed calls' call same m scope a env single.0)
+      (λ v. value_goes _ _ _ _ (same_meant p typed calls' call same m scope b env single.1)
+      (λ w. same_meant p typed calls' call same m (form_bound y (form_of g m scope (as_generic b)) (form_bound x (form_of g m scope (as_generic a)) scope)) c ((number_of y, w) ∷ (number_of x, v) ∷ env) single.2))
+  same_meant p typed calls' call same m scope (If q a b c) env single =
+      value_goes _ _ _ _ (same_meant p typed calls' call same m scope a env single.0)
+      (λ v. choice_same (is_true v) _ _ _ _ (same_meant p typed calls' call same m scope b env single.1) (same_meant p typed calls' call same m scope c env single.2))
+  same_meant p typed calls' call same m scope (Case q x arms) env single =
+      arms_same_meant p typed calls' call same m scope (arguments_of (form_or (form_in scope (number_of x)))) arms (value_in env (number_of x)) env single
+  same_meant p typed calls' call same m scope (Tuple q as' xs) env single = absurd single
+  same_meant p typed calls' call same m scope (LetSeveral q qs a b) env single = absurd single
+  same_meant p typed calls' call same m scope (ParSeveral q qs a rs b c) env single = absurd single
 
-  all_same_meant : (p : ProgramTree) → IsTypedProgram p → (calls' : ℕ → Forms → List Datum → Outcome) (call : ℕ → List Datum → Outcome) → SameCalls calls' call → (m : Meant) (xs : Arguments) (env : Environment) →
-      meant_all (globals_of_generic (generic_of p)) calls' m (all_as_generic xs) env ≡ eval_all (table_of_program p) call xs env
-  all_same_meant p typed calls' call same m NoArgument env = refl
-  all_same_meant p typed calls' call same m (Argument a xs) env =
-      ap (λ (r : Outcome). r ∷ meant_all (globals_of_generic (generic_of p)) calls' m (all_as_generic xs) env) (same_meant p typed calls' call same m a env)
-      ∙ ap (λ (rs : List Outcome). eval (table_of_program p) call a env ∷ rs) (all_same_meant p typed calls' call same m xs env)
+  all_same_meant : (p : ProgramTree) → IsTypedProgram p → (calls' : ℕ → Forms → List Datum → Outcome) (call : ℕ → List Datum → Outcome) → SameCalls calls' call → (m : Meant) (scope : FormScope) (xs : Arguments) (env : Environment) → AreSingle (all_as_generic xs) →
+      meant_all (globals_of_generic (generic_of p)) calls' m scope (all_as_generic xs) env ≡ eval_all (table_of_program p) call xs env
+  all_same_meant p typed calls' call same m scope NoArgument env single = refl
+  all_same_meant p typed calls' call same m scope (Argument a xs) env single =
+      ap (λ (r : Outcome). r ∷ meant_all (globals_of_generic (generic_of p)) calls' m scope (all_as_generic xs) env) (same_meant p typed calls' call same m scope a env single.0)
+      ∙ ap (λ (rs : List Outcome). eval (table_of_program p) call a env ∷ rs) (all_same_meant p typed calls' call same m scope xs env single.1)
 
-  arms_same_meant : (p : ProgramTree) → IsTypedProgram p → (calls' : ℕ → Forms → List Datum → Outcome) (call : ℕ → List Datum → Outcome) → SameCalls calls' call → (m : Meant) (arms : Arms) (v : Datum) (env : Environment) →
-      meant_arms (globals_of_generic (generic_of p)) calls' m (arms_as_generic arms) v env ≡ eval_arms (table_of_program p) call arms v env
-  arms_same_meant p typed calls' call same m (LastArm k xs e) v env =
-      ap (λ (o : Option ℕ). choose (is_made_by o v) (meant (globals_of_generic (generic_of p)) calls' m (as_generic e) (bind xs (parts v) env)) (Gives (whole (pos 0)))) (place_same p (number_of k))
-      ∙ choice_same (is_made_by (constructor_named (table_of_program p) (number_of k)) v) _ _ _ _ (same_meant p typed calls' call same m e (bind xs (parts v) env)) refl
-  arms_same_meant p typed calls' call same m (NextArm k xs e arms) v env =
-      ap (λ (o : Option ℕ). choose (is_made_by o v) (meant (globals_of_generic (generic_of p)) calls' m (as_generic e) (bind xs (parts v) env)) (meant_arms (globals_of_generic (generic_of p)) calls' m (arms_as_generic arms) v env)) (place_same p (number_of k))
-      ∙ choice_same (is_made_by (constructor_named (table_of_program p) (number_of k)) v) _ _ _ _ (same_meant p typed calls' call same m e (bind xs (parts v) env)) (arms_same_meant p typed calls' call same m arms v env)
+  arms_same_meant : (p : ProgramTree) → IsTypedProgram p → (calls' : ℕ → Forms → List Datum → Outcome) (call : ℕ → List Datum → Outcome) → SameCalls calls' call → (m : Meant) (scope : FormScope) (ts : Forms) (arms : Arms) (v : Datum) (env : Environment) → HasSingle (arms_as_generic arms) →
+      meant_arms (globals_of_generic (generic_of p)) calls' m scope ts (arms_as_generic arms) v env ≡ eval_arms (table_of_program p) call arms v env
+  arms_same_meant p typed calls' call same m scope ts (LastArm k xs e) v env single =
+      let g = globals_of_generic (generic_of p) in
+      let inner = bind_forms xs (forms_named g.rows (place_named g.rows (number_of k)) ts) scope in
+      ap (λ (o : Option ℕ). choose (is_made_by o v) (meant g calls' m inner (as_generic e) (bind xs (parts v) env)) (Gives (whole (pos 0)))) (place_same p (number_of k))
+      ∙ choice_same (is_made_by (constructor_named (table_of_program p) (number_of k)) v) _ _ _ _ (same_meant p typed calls' call same m inner e (bind xs (parts v) env) single) refl
+  arms_same_meant p typed calls' call same m scope ts (NextArm k xs e arms) v env single =
+      let g = globals_of_generic (generic_of p) in
+      let inner = bind_forms xs (forms_named g.rows (place_named g.rows (number_of k)) ts) scope in
+      ap (λ (o : Option ℕ). choose (is_made_by o v) (meant g calls' m inner (as_generic e) (bind xs (parts v) env)) (meant_arms g calls' m scope ts (arms_as_generic arms) v env)) (place_same p (number_of k))
+      ∙ choice_same (is_made_by (constructor_named (table_of_program p) (number_of k)) v) _ _ _ _ (same_meant p typed calls' call same m inner e (bind xs (parts v) env) single.0) (arms_same_meant p typed calls' call same m scope ts arms v env single.1)
 
 -- Programs
 
-parameter_names : (qs : List Parameter) → generic_names (map generic_parameter qs) ≡ names_of qs
+pub parameter_names : (qs : List Parameter) → generic_names (map generic_parameter qs) ≡ names_of qs
 parameter_names [] = refl
 parameter_names (q ∷ qs) = ap (λ (xs : List Ident). q.name ∷ xs) (parameter_names qs)
-
-function_same : (fs : List FunctionTree) (x : ℕ) (go : GenericFunctionTree → Outcome) (went : FunctionTree → Outcome) → ((f : FunctionTree) → go (generic_function f) ≡ went f) → of_generic (generic_named (map generic_function fs) x) go ≡ of_function (function_named fs x) went
-function_same [] x go went h = refl
-function_same (f ∷ fs) x go went h = step (number_of f.name == x) (function_same fs x go went h) where
-  step : (b : Bool) → of_generic (generic_named (map generic_function fs) x) go ≡ of_function (function_named fs x) went →
-      of_generic (if b then Some (generic_function f) else generic_named (map generic_function fs) x) go ≡ of_function (if b then Some f else function_named fs x) went
-  step true rest = h f
-  step false rest = rest
-
-same_calls : (p : ProgramTree) → IsTypedProgram p → (n : ℕ) → SameCalls (calls_meant (generic_of p) n) (calls p n)
-same_calls p typed zero x vs = refl
-same_calls p typed (suc n) x vs =
-    function_same p.functions x
-    (λ g. meant (globals_of_generic (generic_of p)) (calls_meant (generic_of p) n) (assign g.variables NoForm) g.body (bind (generic_names g.parameters) vs []))
-    (λ g. eval (table_of_program p) (calls p n) g.body (bind (names_of g.parameters) vs []))
-    (λ f. same_meant p typed (calls_meant (generic_of p) n) (calls p n) (same_calls p typed n) (assign [] NoForm) f.body (bind (generic_names (map generic_parameter f.parameters)) vs [])
-    ∙ ap (λ (xs : List Ident). eval (table_of_program p) (calls p n) f.body (bind xs vs [])) (parameter_names f.parameters))
-
-pub same_run : (p : ProgramTree) (depth : ℕ) (v : Datum) → IsTypedProgram p → run_generic (generic_of p) depth v ≡ run p depth v
-same_run p depth v typed =
-    same_meant p typed (calls_meant (generic_of p) depth) (calls p depth) (same_calls p typed depth) (assign [] NoForm) p.main.body ((number_of p.main.parameter.name, v) ∷ [])
-
--- Each expression.
-pub same_each : (p : ProgramTree) (n : ℕ) (m : Meant) (e : Expression) (env : Environment) → IsTypedProgram p → means_generic (generic_of p) n m env (as_generic e) ≡ means p n env e
-same_each p n m e env typed = same_meant p typed (calls_meant (generic_of p) n) (calls p n) (same_calls p typed n) m e env
 
 -- The names of constructors.
 pub same_names : (p : ProgramTree) → map (λ (r : GenericRow). r.name) (rows_of (generic_of p).datas) ≡ constructor_names (table_of_program p)

@@ -1,12 +1,11 @@
 -- The values of a program without type parameters are those of its copy.
-use Rattle.std.proofs.Common.{◌≡◌, ℕ, zero, suc, ◌<◌, ◌≤◌, ◌==◌, Bool, true, false, if◌then◌else◌, List, [], ◌∷◌, ◌++◌, map, length, Option, Some, None, refl, sym, ap, ap₂, ◌∙◌, subst, arith}
+use Rattle.std.proofs.Common.{◌≡◌, ℕ, zero, suc, ◌<◌, List, [], ◌∷◌, ◌++◌, map, length, Some, refl, sym, ap, ap₂, ◌∙◌, subst, arith}
 use Rattle.std.specs.Prelude.{slice_get}
-use Rattle.std.specs.Option.{option_map}
 use Rattle.std.specs.List.{AllByRecursion}
-use Rattle.std.proofs.lemmas.Option.{same_Some, slice_get-map}
+use Rattle.std.proofs.lemmas.List.{map-append, length-map}
 use Rattle.gib_types.specs.declared.table.Ty.{Ty}
 use Rattle.gib_types.specs.declared.table.Ty.TheVariants.{Whole, Truth, Tree}
-use Rattle.gib_types.specs.Table.{Row, Table, con_at, fields_at, if_owned}
+use Rattle.gib_types.specs.Table.{Row, Table, fields_at, if_owned}
 use Rattle.gib_types.specs.Tree.{Datum, whole, truth, con, Data, none, more, HasType, HaveTypes}
 use Rattle.gib_syntax.specs.declared.tree.Ident.{Ident}
 use Rattle.gib_syntax.specs.Declarations.{AreDifferent, number_of, place_of, table_of_program, input_type, output_type, type_names}
@@ -24,7 +23,7 @@ use Rattle.gib_syntax.specs.GenericTyping.{IsTypedGeneric}
 use Rattle.gib_mono.specs.Bare.{IsPlainData, IsPlainFunction, IsPlainProgram, bare_program}
 use Rattle.gib_mono.specs.Copied.{Item, shown, shown_all, shown_outcome}
 use Rattle.gib_mono.specs.Copying.{Naming, IsPlainNaming}
-use Rattle.gib_mono.specs.Walk.{Copy, DataCopy, datas_in, plain_data, plain_datas, plain_function, plain_functions, plain_copies, copied_program, Made, made_of, made_from, or_zero, base_at, base_of}
+use Rattle.gib_mono.specs.Walk.{DataCopy, datas_in, plain_data, plain_datas, plain_function, plain_functions, plain_copies, copied_program, Made, made_of, made_from, or_zero, base_at, base_of}
 use Rattle.gib_mono.proofs.Bared.{bare_copy}
 use Rattle.gib_mono.proofs.Here.{map_found}
 use Rattle.gib_mono.proofs.OwnMeaning.{same_names}
@@ -47,10 +46,6 @@ made_name m = number_of m.constructor.name
 abbrev row_number : GenericRow → ℕ
 row_number r = r.name
 
-map_both : {A B : Type 0} (f : A → B) (xs ys : List A) → map f (xs ++ ys) ≡ map f xs ++ map f ys
-map_both f [] ys = refl
-map_both f (x ∷ xs) ys = ap (λ l. f x ∷ l) (map_both f xs ys)
-
 names_one : (n : ℕ) (c : DataCopy) (d : GenericDataTree) (ks : List GenericConstructorTree) → map made_name (map (made_of n c) ks) ≡ map row_number (map (row_of d) ks)
 names_one n c d [] = refl
 names_one n c d (k ∷ ks) = ap (λ l. number_of k.name ∷ l) (names_one n c d ks)
@@ -59,32 +54,28 @@ names_same : (n : ℕ) (ds : List GenericDataTree) → map made_name (made_from 
 unfolding own_copy
 names_same n [] = refl
 names_same n (d ∷ ds) =
-    map_both made_name (map (made_of n (own_copy d)) d.constructors) (made_from (suc n) (map own_copy ds))
+    map-append made_name (map (made_of n (own_copy d)) d.constructors) (made_from (suc n) (map own_copy ds))
     ∙ ap₂ (λ (a b : List ℕ). a ++ b) (names_one n (own_copy d) d d.constructors) (names_same (suc n) ds)
-    ∙ sym (map_both row_number (map (row_of d) d.constructors) (rows_of ds))
+    ∙ sym (map-append row_number (map (row_of d) d.constructors) (rows_of ds))
 
 there : (xs : List ℕ) (i : ℕ) → i < length xs → (x : ℕ) × (slice_get xs i ≡ Some x)
 there [] i l = absurd (omega (arith, l))
 there (x ∷ xs) zero l = (x, refl)
 there (x ∷ xs) (suc i) l = there xs i (omega (arith, l))
 
-many : {A B : Type 0} (f : A → B) (xs : List A) → length (map f xs) ≡ length xs
-many f [] = refl
-many f (x ∷ xs) = ap suc (many f xs)
-
 -- Each constructor of the copy has the number of its own.
-number_alone : (p : GenericProgramTree) (d : ℕ) → AreDifferent (map row_number (rows_of p.datas)) → IsPlainProgram p → d < length (rows_of p.datas) → base_of (rows_of p.datas) (plain_copies p) d ≡ d
-number_alone p d differ plain l =
+number_alone : (p : GenericProgramTree) (d : ℕ) → AreDifferent (map row_number (rows_of p.datas)) → AllByRecursion IsPlainData p.datas → AllByRecursion IsPlainFunction p.functions → d < length (rows_of p.datas) → base_of (rows_of p.datas) (plain_copies p) d ≡ d
+number_alone p d differ datas functions l =
     let names = map row_number (rows_of p.datas) in
-    let same : map made_name (made_from 0 (datas_in (plain_copies p))) ≡ names = ap (λ cs. map made_name (made_from 0 cs)) (datas_own p.datas p.functions plain.datas plain.functions) ∙ names_same 0 p.datas in
-    let e = many row_number (rows_of p.datas) in
+    let same : map made_name (made_from 0 (datas_in (plain_copies p))) ≡ names = ap (λ cs. map made_name (made_from 0 cs)) (datas_own p.datas p.functions datas functions) ∙ names_same 0 p.datas in
+    let e = length-map (rows_of p.datas) row_number in
     let x = there names d (omega (arith, l, e)) in
     let m = map_found Made ℕ made_name (made_from 0 (datas_in (plain_copies p))) d x.0 (ap (λ ns. slice_get ns d) same ∙ x.1) in
     let placed : place_of names x.0 ≡ Some d = place_found names x.0 d differ x.1 in
     ap (base_at (rows_of p.datas)) m.1 ∙ ap (λ n. or_zero (place_named (rows_of p.datas) n)) (sym m.2) ∙ ap or_zero placed
 
 pub number_own : (p : GenericProgramTree) (d : ℕ) → IsTypedGeneric p → IsPlainProgram p → d < length (rows_of p.datas) → base_of (rows_of p.datas) (plain_copies p) d ≡ d
-number_own p d typed plain l = number_alone p d typed.constructors_differ plain l
+number_own p d typed plain l = number_alone p d typed.constructors_differ plain.datas plain.functions l
 
 -- Values
 
@@ -114,10 +105,10 @@ rows_many : (p : GenericProgramTree) (nm : Naming) → IsPlainNaming nm → IsTy
 rows_many p nm own typed plain =
     ap (λ q. length (table_of_program q).rows) (sym (bare_copy p nm own typed plain))
     ∙ ap (λ (rows : List Row). length rows) (rows_made nm (type_names (copied_program p nm (plain_copies p))) 0 (datas_in (plain_copies p)))
-    ∙ many (made_row nm (type_names (copied_program p nm (plain_copies p)))) (made_from 0 (datas_in (plain_copies p)))
-    ∙ sym (many made_name (made_from 0 (datas_in (plain_copies p))))
+    ∙ length-map (made_from 0 (datas_in (plain_copies p))) (made_row nm (type_names (copied_program p nm (plain_copies p))))
+    ∙ sym (length-map (made_from 0 (datas_in (plain_copies p))) made_name)
     ∙ ap (λ (ns : List ℕ). length ns) (ap (λ cs. map made_name (made_from 0 cs)) (datas_own p.datas p.functions plain.datas plain.functions) ∙ names_same 0 p.datas)
-    ∙ many row_number (rows_of p.datas)
+    ∙ length-map (rows_of p.datas) row_number
 
 pub typed_own : (p : GenericProgramTree) (nm : Naming) (v : Datum) (t : Ty) → IsPlainNaming nm → IsTypedGeneric p → IsPlainProgram p → HasType (table_of_program (bare_program p)) v t → shown (base_of (rows_of p.datas) (plain_copies p)) v ≡ v
 typed_own p nm v t own typed plain h =
@@ -153,11 +144,10 @@ functions_none (f ∷ fs) = (refl, functions_none fs)
 pub plain_own : (p : ProgramTree) (v : Datum) (t : Ty) → IsTypedProgram p → HasType (table_of_program p) v t → shown (base_of (rows_of (generic_of p).datas) (plain_copies (generic_of p))) v ≡ v
 plain_own p v t typed h =
     let q = generic_of p in
-    let plain : IsPlainProgram q = record { datas = datas_none p.datas; functions = functions_none p.functions } in
     let names = same_names p in
     let count : length (table_of_program p).rows ≡ length (rows_of q.datas) =
-    sym (many (λ (r : Row). r.name) (table_of_program p).rows) ∙ ap (λ (ns : List ℕ). length ns) (sym names) ∙ many row_number (rows_of q.datas) in
-    value_own (table_of_program p) (base_of (rows_of q.datas) (plain_copies q)) (λ k l. number_alone q k (subst AreDifferent (sym names) typed.constructors_differ) plain (omega (arith, l, count))) v t h
+    sym (length-map (table_of_program p).rows (λ (r : Row). r.name)) ∙ ap (λ (ns : List ℕ). length ns) (sym names) ∙ length-map (rows_of q.datas) row_number in
+    value_own (table_of_program p) (base_of (rows_of q.datas) (plain_copies q)) (λ k l. number_alone q k (subst AreDifferent (sym names) typed.constructors_differ) (datas_none p.datas) (functions_none p.functions) (omega (arith, l, count))) v t h
 
 -- Texts
 

@@ -9,10 +9,11 @@ use Rattle.gib_syntax.specs.declared.tree.TypeName.{TypeName}
 use Rattle.gib_syntax.specs.declared.tree.TypeName.TheVariants as ty
 use Rattle.gib_syntax.specs.declared.tree.Parameter.{Parameter}
 use Rattle.gib_syntax.specs.Declarations.{number_of}
-use Rattle.gib_syntax.specs.Tree.{Expression, Arguments, Arms, Var, Num, Bit, Paren, Op, Call, Make, Let, Par, If, Case, NoArgument, Argument, LastArm, NextArm, ConstructorTree, DataTree, FunctionTree, ProgramTree}
+use Rattle.gib_syntax.specs.Tree.{Expression, Arguments, Arms, Var, Num, Bit, Paren, Op, Call, Make, Let, Par, If, Case, Tuple, LetSeveral, ParSeveral, NoArgument, Argument, LastArm, NextArm, ConstructorTree, DataTree, FunctionTree, ProgramTree}
+use Rattle.gib_syntax.specs.Results.{Results, One, Several, map_results}
 use Rattle.gib_syntax.specs.Forms.{Forms, NoForm, Meant, assign}
 use Rattle.gib_syntax.specs.GenericTree.{GenericDataTree, GenericParameterTree, GenericFunctionTree, GenericRow, globals_of_generic, generic_named, data_named}
-use Rattle.gib_mono.specs.Walk.{Ask, Copy, DataOf, FunctionOf, data_asked, function_asked, asked, same_copy, is_found, add_new, add_short, add_ask, with_found, add_asks, walk_one, walk, written_asks, types_asks, asks, all_asks, arm_asks, constructor_asks, function_asks, copy_asks, copies_asks, main_asks, plain_datas, plain_functions, plain_copies, copies_of}
+use Rattle.gib_mono.specs.Walk.{Ask, Copy, DataOf, FunctionOf, data_asked, function_asked, asked, same_copy, is_found, add_new, add_short, add_ask, with_found, add_asks, walk_one, walk, written_asks, results_asks, types_asks, asks, all_asks, arm_asks, constructor_asks, function_asks, copy_asks, copies_asks, main_asks, plain_datas, plain_functions, plain_copies, copies_of}
 use Rattle.gib_types.specs.Form.{has_long}
 use Rattle.gib_syntax.specs.Plain.{written_of, as_generic, all_as_generic, arms_as_generic, generic_constructor, generic_data, generic_parameter, generic_function, generic_of}
 use Rattle.gib_mono.proofs.Closing.{parts_same}
@@ -57,6 +58,10 @@ mutual
   bare_asks rows m (If p a b c) =
       bare_both (asks rows m (as_generic a)) (asks rows m (as_generic b) ++ asks rows m (as_generic c)) (bare_asks rows m a) (bare_both (asks rows m (as_generic b)) (asks rows m (as_generic c)) (bare_asks rows m b) (bare_asks rows m c))
   bare_asks rows m (Case p x arms) = bare_arm_asks rows m arms
+  bare_asks rows m (Tuple p as' xs) = bare_all_asks rows m xs
+  bare_asks rows m (LetSeveral p qs a b) = bare_both (asks rows m (as_generic a)) (asks rows m (as_generic b)) (bare_asks rows m a) (bare_asks rows m b)
+  bare_asks rows m (ParSeveral p qs a rs b c) =
+      bare_both (asks rows m (as_generic a)) (asks rows m (as_generic b) ++ asks rows m (as_generic c)) (bare_asks rows m a) (bare_both (asks rows m (as_generic b)) (asks rows m (as_generic c)) (bare_asks rows m b) (bare_asks rows m c))
 
   bare_all_asks : (rows : List GenericRow) (m : Meant) (xs : Arguments) → Bare (all_asks rows m (all_as_generic xs))
   bare_all_asks rows m NoArgument = tt {0}
@@ -66,10 +71,14 @@ mutual
   bare_arm_asks rows m (LastArm k xs e) = bare_asks rows m e
   bare_arm_asks rows m (NextArm k xs e arms) = bare_both (asks rows m (as_generic e)) (arm_asks rows m (arms_as_generic arms)) (bare_asks rows m e) (bare_arm_asks rows m arms)
 
-bare_function : (rows : List GenericRow) (m : Meant) (qs : List Parameter) (result : TypeName) (body : Expression) → Bare (function_asks rows m (map generic_parameter qs) (written_of result) (as_generic body))
+bare_results : (m : Meant) (r : Results TypeName) → Bare (results_asks m (map_results written_of r))
+bare_results m (One a) = bare_written m a
+bare_results m (Several as') = bare_types m as'
+
+bare_function : (rows : List GenericRow) (m : Meant) (qs : List Parameter) (result : Results TypeName) (body : Expression) → Bare (function_asks rows m (map generic_parameter qs) (map_results written_of result) (as_generic body))
 bare_function rows m qs result body =
-    bare_both (types_asks m (map (λ (q : GenericParameterTree). q.ty) (map generic_parameter qs))) (written_asks m (written_of result) ++ asks rows m (as_generic body)) (bare_parameters m qs)
-    (bare_both (written_asks m (written_of result)) (asks rows m (as_generic body)) (bare_written m result) (bare_asks rows m body))
+    bare_both (types_asks m (map (λ (q : GenericParameterTree). q.ty) (map generic_parameter qs))) (results_asks m (map_results written_of result) ++ asks rows m (as_generic body)) (bare_parameters m qs)
+    (bare_both (results_asks m (map_results written_of result)) (asks rows m (as_generic body)) (bare_results m result) (bare_asks rows m body))
 
 bare_copies : (rows : List GenericRow) (ds : List DataTree) (fs : List FunctionTree) → Bare (copies_asks rows (plain_datas (map generic_data ds) ++ plain_functions (map generic_function fs)))
 bare_copies rows [] [] = tt {0}
@@ -134,5 +143,5 @@ own_walk p =
     let found = plain_copies (generic_of p) in
     ap (λ (r : Result (List Copy) Span). with_found r (λ u. walk 1201 g u (length found)))
     (asks_own p (copies_asks g.rows found ++ main_asks (generic_of p))
-    (bare_both (copies_asks g.rows found) (main_asks (generic_of p)) (bare_copies g.rows p.datas p.functions) (bare_function g.rows (assign [] NoForm) (p.main.parameter ∷ []) p.main.result p.main.body)))
+    (bare_both (copies_asks g.rows found) (main_asks (generic_of p)) (bare_copies g.rows p.datas p.functions) (bare_function g.rows (assign [] NoForm) (p.main.parameter ∷ []) (One p.main.result) p.main.body)))
     ∙ ap (λ (o : Option Copy). walk_one g found o (λ u. walk 1200 g u (suc (length found)))) (past found)

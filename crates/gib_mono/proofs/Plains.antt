@@ -1,5 +1,5 @@
 -- Plain declarations are the first copies.
-use Rattle.std.proofs.Common.{◌≡◌, ℕ, zero, suc, ◌+◌, ◌<◌, ◌≤◌, Bool, true, false, ◌&&◌, ◌||◌, ◌==◌, nat_lt, List, [], ◌∷◌, ◌++◌, length, drop, Option, Some, None, slice_get, refl, sym, ap, ◌∙◌, arith, subst}
+use Rattle.std.proofs.Common.{◌≡◌, ℕ, zero, suc, ◌+◌, ◌<◌, ◌≤◌, Bool, true, false, ◌&&◌, ◌||◌, ◌==◌, nat_lt, List, [], ◌∷◌, ◌++◌, length, drop, Option, Some, None, slice_get, refl, sym, ap, ◌∙◌, arith, subst, append_assoc, append-nil}
 use Rattle.std.specs.Prelude.{Ok}
 use Rattle.std.proofs.lemmas.Bool.{ltb-true, eqb-true, eq-eqb}
 use borrow.Author.Tests.{lt-ltb}
@@ -110,14 +110,6 @@ get_there [] i l = absurd (omega (arith, l))
 get_there (x ∷ xs) zero l = (x, refl)
 get_there (x ∷ xs) (suc i) l = get_there xs i (omega (arith, l))
 
-append_append : {A : Type 0} (xs ys zs : List A) → (xs ++ ys) ++ zs ≡ xs ++ (ys ++ zs)
-append_append [] ys zs = refl
-append_append (x ∷ xs) ys zs = ap (λ l. x ∷ l) (append_append xs ys zs)
-
-append_nil : {A : Type 0} (xs : List A) → xs ++ [] ≡ xs
-append_nil [] = refl
-append_nil (x ∷ xs) = ap (λ l. x ∷ l) (append_nil xs)
-
 -- types
 
 data_first : (d : GenericDataTree) (vs : List Ident) (xs : List Copy) → plain_data d vs xs ≡ plain_data d vs [] ++ xs
@@ -129,7 +121,7 @@ types_left ds i fs = plain_datas (drop i ds) ++ fs
 
 types_step : (ds : List GenericDataTree) (i : ℕ) (d : GenericDataTree) (fs : List Copy) → slice_get ds i ≡ Some d → types_left ds i fs ≡ plain_data d d.variables [] ++ types_left ds (i + 1) fs
 types_step ds i d fs e =
-    ap (λ l. plain_datas l ++ fs) (drop_next ds i d e) ∙ ap (λ l. l ++ fs) (data_first d d.variables (plain_datas (drop (i + 1) ds))) ∙ append_append (plain_data d d.variables []) (plain_datas (drop (i + 1) ds)) fs
+    ap (λ l. plain_datas l ++ fs) (drop_next ds i d e) ∙ ap (λ l. l ++ fs) (data_first d d.variables (plain_datas (drop (i + 1) ds))) ∙ append_assoc (plain_data d d.variables []) (plain_datas (drop (i + 1) ds)) fs
 
 pub types_next : (g : GenericGlobals) (all : List Copy) (now new : Search) (ds : List GenericDataTree) (i : ℕ) (fs : List Copy) → IsGood g all → i < length ds → PlainSoFar g all now (types_left ds i fs)
     → ((d : GenericDataTree) (done rest : List Copy) → slice_get ds i ≡ Some d → IsGood g (done ++ plain_data d d.variables rest) → IsAt g now (Ok done) → IsAt g new (Ok (done ++ plain_data d d.variables []))) → PlainSoFar g all new (types_left ds (i + 1) fs)
@@ -140,7 +132,7 @@ types_next g all now new ds i fs good l h step =
     record {
       before = h.before ++ plain_data d.0 (d.0).variables [];
       at = step d.0 h.before (types_left ds (i + 1) fs) d.1 (subst (IsGood g) (sym whole) good) h.at;
-      whole = append_append h.before (plain_data d.0 (d.0).variables []) (types_left ds (i + 1) fs) ∙ ap (λ l. h.before ++ l) (sym left) ∙ h.whole;
+      whole = append_assoc h.before (plain_data d.0 (d.0).variables []) (types_left ds (i + 1) fs) ∙ ap (λ l. h.before ++ l) (sym left) ∙ h.whole;
     }
 
 -- functions
@@ -164,20 +156,20 @@ functions_next g all now new fs i good l h step =
     record {
       before = h.before ++ plain_function f.0 (f.0).variables [];
       at = step f.0 h.before (functions_left fs (i + 1)) f.1 (subst (IsGood g) (sym whole) good) h.at;
-      whole = append_append h.before (plain_function f.0 (f.0).variables []) (functions_left fs (i + 1)) ∙ ap (λ l. h.before ++ l) (sym left) ∙ h.whole;
+      whole = append_assoc h.before (plain_function f.0 (f.0).variables []) (functions_left fs (i + 1)) ∙ ap (λ l. h.before ++ l) (sym left) ∙ h.whole;
     }
 
 pub types_done : (g : GenericGlobals) (all : List Copy) (s : Search) (ds : List GenericDataTree) (i : ℕ) (fs : List GenericFunctionTree) → length ds ≤ i → PlainSoFar g all s (types_left ds i (plain_functions fs)) → PlainSoFar g all s (functions_left fs 0)
 types_done g all s ds i fs l h = record { before = h.before; at = h.at; whole = ap (λ q. h.before ++ (plain_datas q ++ plain_functions fs)) (sym (drop_all ds i l)) ∙ h.whole }
 
 pub functions_done : (g : GenericGlobals) (all : List Copy) (s : Search) (fs : List GenericFunctionTree) (i : ℕ) → length fs ≤ i → PlainSoFar g all s (functions_left fs i) → IsAt g s (Ok all)
-functions_done g all s fs i l h = subst (λ q. IsAt g s (Ok q)) (sym (append_nil h.before) ∙ ap (λ q. h.before ++ plain_functions q) (sym (drop_all fs i l)) ∙ h.whole) h.at
+functions_done g all s fs i l h = subst (λ q. IsAt g s (Ok q)) (sym (append-nil h.before) ∙ ap (λ q. h.before ++ plain_functions q) (sym (drop_all fs i l)) ∙ h.whole) h.at
 
 -- what plain declarations ask for
 
 asks_split : (rows : List GenericRow) (xs ys : List Copy) → copies_asks rows (xs ++ ys) ≡ copies_asks rows xs ++ copies_asks rows ys
 asks_split rows [] ys = refl
-asks_split rows (x ∷ xs) ys = ap (λ l. copy_asks rows x ++ l) (asks_split rows xs ys) ∙ sym (append_append (copy_asks rows x) (copies_asks rows xs) (copies_asks rows ys))
+asks_split rows (x ∷ xs) ys = ap (λ l. copy_asks rows x ++ l) (asks_split rows xs ys) ∙ sym (append_assoc (copy_asks rows x) (copies_asks rows xs) (copies_asks rows ys))
 
 pub record AskedPlain (g : GenericGlobals) (old now : Search) (all left : List Copy) : Type 0 where
   pub before : List Copy
@@ -191,7 +183,7 @@ asked_more : (g : GenericGlobals) (old now new : Search) (all left xs rest : Lis
 asked_more g old now new all left xs rest h e a = record {
   before = h.before ++ xs;
   asks = subst (AsksAll g old new) (sym (asks_split g.rows h.before xs)) (all_both g old now new (copies_asks g.rows h.before) (copies_asks g.rows xs) h.asks a);
-  whole = append_append h.before xs rest ∙ ap (λ l. h.before ++ l) (sym e) ∙ h.whole;
+  whole = append_assoc h.before xs rest ∙ ap (λ l. h.before ++ l) (sym e) ∙ h.whole;
 }
 
 pub asked_type : (g : GenericGlobals) (old now new : Search) (all : List Copy) (ds : List GenericDataTree) (i : ℕ) (fs : List Copy) → i < length ds → AskedPlain g old now all (types_left ds i fs)
@@ -210,7 +202,7 @@ pub types_asked : (g : GenericGlobals) (old now : Search) (all : List Copy) (ds 
 types_asked g old now all ds i fs l h = record { before = h.before; asks = h.asks; whole = ap (λ q. h.before ++ (plain_datas q ++ plain_functions fs)) (sym (drop_all ds i l)) ∙ h.whole }
 
 pub functions_asked : (g : GenericGlobals) (old now : Search) (all : List Copy) (fs : List GenericFunctionTree) (i : ℕ) → length fs ≤ i → AskedPlain g old now all (functions_left fs i) → AsksAll g old now (copies_asks g.rows all)
-functions_asked g old now all fs i l h = subst (λ q. AsksAll g old now (copies_asks g.rows q)) (sym (append_nil h.before) ∙ ap (λ q. h.before ++ plain_functions q) (sym (drop_all fs i l)) ∙ h.whole) h.asks
+functions_asked g old now all fs i l h = subst (λ q. AsksAll g old now (copies_asks g.rows q)) (sym (append-nil h.before) ∙ ap (λ q. h.before ++ plain_functions q) (sym (drop_all fs i l)) ∙ h.whole) h.asks
 
 -- one plain declaration
 
@@ -233,7 +225,7 @@ pub data_skipped : (g : GenericGlobals) (s : Search) (d : GenericDataTree) (done
 data_skipped g s d done not_empty at = by d.variables not_empty where
   by : (vs : List Ident) → (vs ≡ [] → ⊥) → IsAt g s (Ok (done ++ plain_data d vs []))
   by [] h = absurd (h refl)
-  by (v ∷ vs) h = subst (λ l. IsAt g s (Ok l)) (sym (append_nil done)) at
+  by (v ∷ vs) h = subst (λ l. IsAt g s (Ok l)) (sym (append-nil done)) at
 
 pub data_added : (g : GenericGlobals) (old new : Search) (key : CopyKey) (constructors : ℕ) (span : Span) (d : GenericDataTree) (done rest : List Copy) → AreDeclarations g → AreOnce (forms old.context) → KeyBelow (length (forms old.context)) key
     → copy_from g (forms old.context) key ≡ Some (DataOf d NoForm) → d.variables ≡ [] → length d.constructors + 0 ≡ constructors → IsGood g (done ++ plain_data d d.variables rest) → IsAt g old (Ok done) → AddsKey old new key constructors span
@@ -247,7 +239,7 @@ pub function_skipped : (g : GenericGlobals) (s : Search) (f : GenericFunctionTre
 function_skipped g s f done not_empty at = by f.variables not_empty where
   by : (vs : List Ident) → (vs ≡ [] → ⊥) → IsAt g s (Ok (done ++ plain_function f vs []))
   by [] h = absurd (h refl)
-  by (v ∷ vs) h = subst (λ l. IsAt g s (Ok l)) (sym (append_nil done)) at
+  by (v ∷ vs) h = subst (λ l. IsAt g s (Ok l)) (sym (append-nil done)) at
 
 pub function_added : (g : GenericGlobals) (old new : Search) (key : CopyKey) (span : Span) (f : GenericFunctionTree) (done rest : List Copy) → AreDeclarations g → AreOnce (forms old.context) → KeyBelow (length (forms old.context)) key
     → copy_from g (forms old.context) key ≡ Some (FunctionOf f NoForm) → f.variables ≡ [] → IsGood g (done ++ plain_function f f.variables rest) → IsAt g old (Ok done) → AddsKey old new key 0 span
@@ -266,7 +258,7 @@ data_asks_none g s d not_empty = by d.variables not_empty where
   by (v ∷ vs) h = record { on = λ r at. subst (IsAt g s) (asks_nothing g r) at }
 
 pub data_asks_all : (g : GenericGlobals) (old new : Search) (d : GenericDataTree) → d.variables ≡ [] → AsksAll g old new (copy_asks g.rows (DataOf d NoForm)) → AsksAll g old new (copies_asks g.rows (plain_data d d.variables []))
-data_asks_all g old new d empty a = subst (λ vs. AsksAll g old new (copies_asks g.rows (plain_data d vs []))) (sym empty) (subst (AsksAll g old new) (sym (append_nil (copy_asks g.rows (DataOf d NoForm)))) a)
+data_asks_all g old new d empty a = subst (λ vs. AsksAll g old new (copies_asks g.rows (plain_data d vs []))) (sym empty) (subst (AsksAll g old new) (sym (append-nil (copy_asks g.rows (DataOf d NoForm)))) a)
 
 pub function_asks_none : (g : GenericGlobals) (s : Search) (f : GenericFunctionTree) → (f.variables ≡ [] → ⊥) → AsksAll g s s (copies_asks g.rows (plain_function f f.variables []))
 function_asks_none g s f not_empty = by f.variables not_empty where
@@ -275,7 +267,7 @@ function_asks_none g s f not_empty = by f.variables not_empty where
   by (v ∷ vs) h = record { on = λ r at. subst (IsAt g s) (asks_nothing g r) at }
 
 pub function_asks_all : (g : GenericGlobals) (old new : Search) (f : GenericFunctionTree) → f.variables ≡ [] → AsksAll g old new (copy_asks g.rows (FunctionOf f NoForm)) → AsksAll g old new (copies_asks g.rows (plain_function f f.variables []))
-function_asks_all g old new f empty a = subst (λ vs. AsksAll g old new (copies_asks g.rows (plain_function f vs []))) (sym empty) (subst (AsksAll g old new) (sym (append_nil (copy_asks g.rows (FunctionOf f NoForm)))) a)
+function_asks_all g old new f empty a = subst (λ vs. AsksAll g old new (copies_asks g.rows (plain_function f vs []))) (sym empty) (subst (AsksAll g old new) (sym (append-nil (copy_asks g.rows (FunctionOf f NoForm)))) a)
 
 -- all uses of plain declarations and main
 pub plain_asked : (g : GenericGlobals) (old mid new : Search) (plain : List Copy) (mains : List Ask) → AsksAll g old mid (copies_asks g.rows plain) → AsksAll g mid new mains → AsksAll g old new (copies_asks g.rows plain ++ mains)

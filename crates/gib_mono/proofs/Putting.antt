@@ -5,9 +5,10 @@ use Rattle.gib_syntax.specs.declared.tree.Ident.{Ident}
 use Rattle.gib_syntax.specs.declared.tree.Operator.{Operator}
 use Rattle.gib_syntax.specs.declared.tree.Operator.TheVariants as o
 use Rattle.gib_syntax.specs.Declarations.{number_of}
+use Rattle.gib_syntax.specs.Results.{Results, One, Several, map_results, as_results}
 use Rattle.gib_syntax.specs.Forms.{WrittenType, WrittenTypes, WholeAt, TruthAt, VariableAt, DataAt, NoType, MoreTypes, Form, Forms, WholeForm, TruthForm, DataForm, NoForm, MoreForms, Meant, formed, formed_all, put, put_all, assign}
-use Rattle.gib_syntax.specs.GenericTree.{GenericExpression, GenericArguments, GenericArms, GenericVar, GenericNum, GenericBit, GenericParen, GenericOp, GenericCall, GenericMake, GenericLet, GenericPar, GenericIf, GenericCase, GenericNoArgument, GenericArgument, GenericLastArm, GenericNextArm, GenericParameterTree, GenericGlobals}
-use Rattle.gib_syntax.specs.GenericTyping.{FormScope, form_in, form_bound, BindsForms, operator_form, field_forms, parameter_forms, result_form, HasForm, HaveForms, ArmsHaveForm}
+use Rattle.gib_syntax.specs.GenericTree.{GenericExpression, GenericArguments, GenericArms, GenericVar, GenericNum, GenericBit, GenericParen, GenericOp, GenericCall, GenericMake, GenericLet, GenericPar, GenericIf, GenericCase, GenericTuple, GenericLetSeveral, GenericParSeveral, GenericNoArgument, GenericArgument, GenericLastArm, GenericNextArm, GenericParameterTree, GenericGlobals}
+use Rattle.gib_syntax.specs.GenericTyping.{FormScope, form_in, form_bound, BindsForms, operator_form, field_forms, parameter_forms, result_forms, HasForm, HaveForms, ArmsHaveForm}
 
 -- types put into what an assignment gives
 pub put_assign : (r : Meant) (vs : List Ident) (fs : Forms) (x : ℕ) → put r (assign vs fs x) ≡ assign vs (put_all r fs) x
@@ -74,20 +75,34 @@ operator_put r o.Less = refl
 operator_put r o.Quotient = refl
 operator_put r o.Remainder = refl
 
+-- types put into what is given
+put_as : (r : Meant) (ts : List Form) → map_results (put r) (as_results ts) ≡ as_results (map (put r) ts)
+put_as r [] = refl
+put_as r (t ∷ []) = refl
+put_as r (t ∷ u ∷ us) = refl
+
+put_each : (r m n : Meant) → ((x : ℕ) → put r (m x) ≡ n x) → (ws : List WrittenType) → map (put r) (map (formed m) ws) ≡ map (formed n) ws
+put_each r m n k [] = refl
+put_each r m n k (w ∷ ws) = ap (λ (f : Form). f ∷ map (put r) (map (formed m) ws)) (put_formed r m n k w) ∙ ap (λ (us : List Form). formed n w ∷ us) (put_each r m n k ws)
+
+pub put_results : (r m n : Meant) → ((x : ℕ) → put r (m x) ≡ n x) → (q : Results WrittenType) → map_results (put r) (map_results (formed m) q) ≡ map_results (formed n) q
+put_results r m n k (One w) = ap One (put_formed r m n k w)
+put_results r m n k (Several ws) = ap Several (put_each r m n k ws)
+
 mutual
-  pub put_has : (g : GenericGlobals) (vars : List ℕ) (r m n : Meant) → ((x : ℕ) → put r (m x) ≡ n x) → (e : GenericExpression) (ty : Form) (scope : FormScope) → HasForm g vars m scope e ty → HasForm g vars n (put_scope r scope) e (put r ty)
-  put_has g vars r m n k (GenericVar x) ty scope h = in_put r scope (number_of x) ty h
-  put_has g vars r m n k (GenericNum p v) ty scope h = ap (put r) h
-  put_has g vars r m n k (GenericBit p b) ty scope h = ap (put r) h
+  pub put_has : (g : GenericGlobals) (vars : List ℕ) (r m n : Meant) → ((x : ℕ) → put r (m x) ≡ n x) → (e : GenericExpression) (ty : Results Form) (scope : FormScope) → HasForm g vars m scope e ty → HasForm g vars n (put_scope r scope) e (map_results (put r) ty)
+  put_has g vars r m n k (GenericVar x) ty scope h = (put r h.0, ap (map_results (put r)) h.1, in_put r scope (number_of x) h.0 h.2)
+  put_has g vars r m n k (GenericNum p v) ty scope h = ap (map_results (put r)) h
+  put_has g vars r m n k (GenericBit p b) ty scope h = ap (map_results (put r)) h
   put_has g vars r m n k (GenericParen p e) ty scope h = put_has g vars r m n k e ty scope h
-  put_has g vars r m n k (GenericOp p f a b) ty scope h = (ap (put r) h.0 ∙ operator_put r f, put_has g vars r m n k a WholeForm scope h.1, put_has g vars r m n k b WholeForm scope h.2)
+  put_has g vars r m n k (GenericOp p f a b) ty scope h = (ap (map_results (put r)) h.0 ∙ ap One (operator_put r f), put_has g vars r m n k a (One WholeForm) scope h.1, put_has g vars r m n k b (One WholeForm) scope h.2)
   put_has g vars r m n k (GenericCall f ws xs) ty scope h =
       let fs : put_all r (formed_all m ws) ≡ formed_all n ws = put_formed_all r m n k ws in (
         h.0,
         h.1,
         h.2,
         h.3,
-        ap (put r) h.4 ∙ put_formed r (assign (h.0).variables (formed_all m ws)) (assign (h.0).variables (put_all r (formed_all m ws))) (put_assign r (h.0).variables (formed_all m ws)) (h.0).result ∙ ap (result_form h.0) fs,
+        ap (map_results (put r)) h.4 ∙ put_results r (assign (h.0).variables (formed_all m ws)) (assign (h.0).variables (put_all r (formed_all m ws))) (put_assign r (h.0).variables (formed_all m ws)) (h.0).result ∙ ap (result_forms h.0) fs,
         subst (λ (us : List Form). HaveForms g vars n (put_scope r scope) xs us)
             (put_parameters r (assign (h.0).variables (formed_all m ws)) (assign (h.0).variables (put_all r (formed_all m ws))) (put_assign r (h.0).variables (formed_all m ws)) (h.0).parameters ∙ ap (parameter_forms h.0) fs)
             (all_put g vars r m n k xs (parameter_forms h.0 (formed_all m ws)) scope h.5),
@@ -100,33 +115,55 @@ mutual
         h.3,
         h.4,
         h.5,
-        ap (put r) h.6 ∙ ap (DataForm (h.1).owner) fs,
+        ap (map_results (put r)) h.6 ∙ ap (λ (us : Forms). One (DataForm (h.1).owner us)) fs,
         subst (λ (us : List Form). HaveForms g vars n (put_scope r scope) xs us)
             (put_fields r (h.1).variables (formed_all m ws) (h.1).fields ∙ ap (field_forms h.1) fs)
             (all_put g vars r m n k xs (field_forms h.1 (formed_all m ws)) scope h.7),
       )
   put_has g vars r m n k (GenericLet p x a b) ty scope h =
-      (put r h.0, put_has g vars r m n k a h.0 scope h.1, new_put r scope (number_of x) h.2, put_has g vars r m n k b ty (form_bound x h.0 scope) h.3)
+      (put r h.0, put_has g vars r m n k a (One h.0) scope h.1, new_put r scope (number_of x) h.2, put_has g vars r m n k b ty (form_bound x h.0 scope) h.3)
   put_has g vars r m n k (GenericPar p x a y b c) ty scope h = (
     put r h.0,
     put r h.1,
-    put_has g vars r m n k a h.0 scope h.2,
-    put_has g vars r m n k b h.1 scope h.3,
+    put_has g vars r m n k a (One h.0) scope h.2,
+    put_has g vars r m n k b (One h.1) scope h.3,
     new_put r scope (number_of x) h.4,
     new_put r (form_bound x h.0 scope) (number_of y) h.5,
     put_has g vars r m n k c ty (form_bound y h.1 (form_bound x h.0 scope)) h.6,
   )
-  put_has g vars r m n k (GenericIf p a b c) ty scope h = (put_has g vars r m n k a TruthForm scope h.0, put_has g vars r m n k b ty scope h.1, put_has g vars r m n k c ty scope h.2)
+  put_has g vars r m n k (GenericIf p a b c) ty scope h = (put_has g vars r m n k a (One TruthForm) scope h.0, put_has g vars r m n k b ty scope h.1, put_has g vars r m n k c ty scope h.2)
   put_has g vars r m n k (GenericCase p x arms) ty scope h =
       (h.0, put_all r h.1, in_put r scope (number_of x) (DataForm h.0 h.1) h.2, h.3, arms_put g vars r m n k arms ty scope h.0 h.1 h.4)
+  put_has g vars r m n k (GenericTuple p xs) ty scope h = (map (put r) h.0, ap (map_results (put r)) h.1, all_put g vars r m n k xs h.0 scope h.2)
+  put_has g vars r m n k (GenericLetSeveral p xs a b) ty scope h = (
+    map (put r) h.0,
+    put_scope r h.1,
+    h.2,
+    subst (HasForm g vars n (put_scope r scope) a) (put_as r h.0) (put_has g vars r m n k a (as_results h.0) scope h.3),
+    binds_put r xs h.0 scope h.1 h.4,
+    put_has g vars r m n k b ty h.1 h.5,
+  )
+  put_has g vars r m n k (GenericParSeveral p xs a ys b c) ty scope h = (
+    map (put r) h.0,
+    map (put r) h.1,
+    put_scope r h.2,
+    put_scope r h.3,
+    h.4,
+    h.5,
+    subst (HasForm g vars n (put_scope r scope) a) (put_as r h.0) (put_has g vars r m n k a (as_results h.0) scope h.6),
+    subst (HasForm g vars n (put_scope r scope) b) (put_as r h.1) (put_has g vars r m n k b (as_results h.1) scope h.7),
+    binds_put r xs h.0 scope h.2 h.8,
+    binds_put r ys h.1 h.2 h.3 h.9,
+    put_has g vars r m n k c ty h.3 h.10,
+  )
 
   all_put : (g : GenericGlobals) (vars : List ℕ) (r m n : Meant) → ((x : ℕ) → put r (m x) ≡ n x) → (xs : GenericArguments) (fs : List Form) (scope : FormScope) → HaveForms g vars m scope xs fs → HaveForms g vars n (put_scope r scope) xs (map (put r) fs)
   all_put g vars r m n k GenericNoArgument [] scope h = tt {0}
   all_put g vars r m n k GenericNoArgument (f ∷ fs) scope h = absurd h
   all_put g vars r m n k (GenericArgument a xs) [] scope h = absurd h
-  all_put g vars r m n k (GenericArgument a xs) (f ∷ fs) scope h = (put_has g vars r m n k a f scope h.0, all_put g vars r m n k xs fs scope h.1)
+  all_put g vars r m n k (GenericArgument a xs) (f ∷ fs) scope h = (put_has g vars r m n k a (One f) scope h.0, all_put g vars r m n k xs fs scope h.1)
 
-  arms_put : (g : GenericGlobals) (vars : List ℕ) (r m n : Meant) → ((x : ℕ) → put r (m x) ≡ n x) → (arms : GenericArms) (ty : Form) (scope : FormScope) (t : ℕ) (ts : Forms) → ArmsHaveForm g vars m scope t ts arms ty → ArmsHaveForm g vars n (put_scope r scope) t (put_all r ts) arms (put r ty)
+  arms_put : (g : GenericGlobals) (vars : List ℕ) (r m n : Meant) → ((x : ℕ) → put r (m x) ≡ n x) → (arms : GenericArms) (ty : Results Form) (scope : FormScope) (t : ℕ) (ts : Forms) → ArmsHaveForm g vars m scope t ts arms ty → ArmsHaveForm g vars n (put_scope r scope) t (put_all r ts) arms (map_results (put r) ty)
   arms_put g vars r m n k (GenericLastArm c xs e) ty scope t ts h = (
     h.0,
     h.1,

@@ -1,5 +1,5 @@
 -- Reading runs of words.
-use Rattle.std.proofs.Common.{◌≡◌, ℕ, zero, suc, ◌+◌, ◌<◌, ◌≤◌, false, List, [], ◌∷◌, ◌++◌, length, map, take, drop, get_or, ◌-◌, refl, sym, ap, ap₂, ◌∙◌, arith, subst}
+use Rattle.std.proofs.Common.{◌≡◌, ℕ, zero, suc, ◌+◌, ◌<◌, ◌≤◌, false, List, [], ◌∷◌, ◌++◌, length, map, take, drop, get_or, ◌-◌, refl, sym, ap, ap₂, ◌∙◌, arith, subst, append_assoc}
 use Rattle.gib_base.specs.declared.Span.{Span}
 use Rattle.gib_types.specs.declared.types.TypeId.{TypeId}
 use Rattle.gib_types.specs.declared.types.TypeNode.{TypeNode}
@@ -37,14 +37,10 @@ left_places (suc n) (x ∷ st) = left_places n st
 ap₃ : {A B C D : Type 0} (f : A → B → C → D) {x y : A} {u v : B} {s t : C} → x ≡ y → u ≡ v → s ≡ t → f x u s ≡ f y v t
 ap₃ f {x} {y} {u} {v} {s} {t} e g h = ap (λ a. f a u s) e ∙ ap (λ b. f y b s) g ∙ ap (f y v) h
 
-append_append : (xs ys zs : List Ask) → (xs ++ ys) ++ zs ≡ xs ++ (ys ++ zs)
-append_append [] ys zs = refl
-append_append (x ∷ xs) ys zs = ap (λ l. x ∷ l) (append_append xs ys zs)
-
 pub asks_left : (m : Meant) (n : ℕ) (st : List WrittenType) → writtens_asks m (taken n st) ++ types_asks m (left n st) ≡ types_asks m st
 asks_left m zero st = refl
 asks_left m (suc n) [] = refl
-asks_left m (suc n) (x ∷ st) = append_append (written_asks m x) (writtens_asks m (taken n st)) (types_asks m (left n st)) ∙ ap (λ l. written_asks m x ++ l) (asks_left m n st)
+asks_left m (suc n) (x ∷ st) = append_assoc (written_asks m x) (writtens_asks m (taken n st)) (types_asks m (left n st)) ∙ ap (λ l. written_asks m x ++ l) (asks_left m n st)
 
 abbrev meant_read : Meant → List WrittenType → Read
 meant_read m st = record { types = map (formed m) st; places = map written_place st; asks = types_asks m st }
@@ -116,7 +112,7 @@ pub form_grows : (old new : List TypeNode) (i : TypeId) → GrowsTo (forms_of ol
 unfolding first_of
 form_grows old new i g l = ap first_of (forms_grow old new (i ∷ []) g (l, tt))
 
-listed_grow : (old new : List TypeNode) (is : List TypeId) → GrowsTo (forms_of old) (forms_of new) → AreBelow (length old) is → listed (forms_of new) is ≡ listed (forms_of old) is
+pub listed_grow : (old new : List TypeNode) (is : List TypeId) → GrowsTo (forms_of old) (forms_of new) → AreBelow (length old) is → listed (forms_of new) is ≡ listed (forms_of old) is
 listed_grow old new [] g h = refl
 listed_grow old new (i ∷ is) g h = ap₂ (λ (f : Form) (fs : List Form). f ∷ fs) (form_grows old new i g h.0) (listed_grow old new is g h.1)
 

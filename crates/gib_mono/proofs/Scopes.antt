@@ -1,5 +1,5 @@
 -- Scopes of a program and of its copy.
-use Rattle.std.proofs.Common.{◌≡◌, ℕ, Bool, true, false, ◌==◌, if◌then◌else◌, List, [], ◌∷◌, map, Option, Some, None, refl, sym, ap, ◌∙◌, subst}
+use Rattle.std.proofs.Common.{◌≡◌, ℕ, Bool, true, false, ◌==◌, if◌then◌else◌, List, [], ◌∷◌, map, Option, Some, None, refl, sym, ap, ap₂, ◌∙◌, subst}
 use Rattle.std.specs.Prelude.{slice_get}
 use Rattle.std.specs.List.{AllByRecursion}
 use Rattle.std.proofs.lemmas.Option.{same_Some}
@@ -10,13 +10,14 @@ use Rattle.gib_syntax.specs.declared.tree.Operator.{Operator}
 use Rattle.gib_syntax.specs.declared.tree.Parameter.{Parameter}
 use Rattle.gib_syntax.specs.declared.tree.Operator.TheVariants as o
 use Rattle.gib_syntax.specs.Declarations.{number_of, type_of_name}
-use Rattle.gib_syntax.specs.Typing.{type_in, BindsAll, operator_type, parameter_types, result_type}
-use Rattle.gib_syntax.specs.Forms.{Form, Forms, WholeForm, TruthForm, VariableForm, DataForm, Meant, written_place, formed, formed_all, assign}
-use Rattle.gib_syntax.specs.GenericTree.{GenericExpression, GenericArms, GenericVar, GenericNum, GenericBit, GenericParen, GenericOp, GenericCall, GenericMake, GenericLet, GenericPar, GenericIf, GenericCase, GenericLastArm, GenericNextArm, GenericParameterTree, GenericFunctionTree, GenericRow, GenericGlobals, place_named}
-use Rattle.gib_syntax.specs.GenericTyping.{FormScope, form_in, form_bound, BindsForms, operator_form, field_forms, parameter_forms, result_form, HasForm, ArmsHaveForm}
-use Rattle.gib_mono.specs.Copying.{Naming, name_of_form, plain_type, arguments_of, forms_named, owner_named, bind_forms, result_at, form_of, form_of_arms, copy_parameter, copy_function}
+use Rattle.gib_syntax.specs.Typing.{type_in, BindsAll, operator_type, parameter_types, result_types}
+use Rattle.gib_syntax.specs.Forms.{WrittenType, Form, Forms, WholeForm, TruthForm, VariableForm, DataForm, Meant, written_place, formed, formed_all, assign}
+use Rattle.gib_syntax.specs.Results.{Results, One, Several, map_results, as_results, list_results}
+use Rattle.gib_syntax.specs.GenericTree.{GenericExpression, GenericArguments, GenericNoArgument, GenericArgument, GenericArms, GenericVar, GenericNum, GenericBit, GenericParen, GenericOp, GenericCall, GenericMake, GenericLet, GenericPar, GenericIf, GenericCase, GenericTuple, GenericLetSeveral, GenericParSeveral, GenericLastArm, GenericNextArm, GenericParameterTree, GenericFunctionTree, GenericRow, GenericGlobals, place_named}
+use Rattle.gib_syntax.specs.GenericTyping.{FormScope, form_in, form_bound, BindsForms, operator_form, field_forms, parameter_forms, result_forms, HasForm, HaveForms, ArmsHaveForm}
+use Rattle.gib_mono.specs.Copying.{Naming, name_of_form, copy_written, plain_type, arguments_of, forms_named, owner_named, bind_forms, one_form, results_at, results_of, results_of_arms, forms_of_all, form_of, bound_forms, copy_parameter, copy_function}
 use Rattle.gib_types.specs.Form.{form_or}
-use Rattle.gib_mono.specs.Copied.{Item, IsItem, IsHere, Setting, plain, IsAsked, ArmsAsked, IsCopied, ScopeHere, plain_scope}
+use Rattle.gib_mono.specs.Copied.{Item, IsItem, IsHere, Setting, plain, IsAsked, AreAsked, ArmsAsked, IsCopied, ScopeHere, plain_scope}
 
 -- a written type of the copy is the type that is meant
 pub named_plain : (nm : Naming) (types : List ℕ) (p : Span) (f : Form) → type_of_name types (name_of_form nm p f) ≡ plain_type nm types f
@@ -85,33 +86,63 @@ owner_is rows p c row e f = rw e (rw f refl)
 pub arguments_is : (found : Option Form) (t : ℕ) (ts : Forms) → found ≡ Some (DataForm t ts) → arguments_of (form_or found) ≡ ts
 arguments_is found t ts e = rw e refl
 
--- the type that an expression has is the one that is computed
-mutual
-  pub form_is : (g : GenericGlobals) (vars : List ℕ) (m : Meant) (e : GenericExpression) (ty : Form) (scope : FormScope) → HasForm g vars m scope e ty → form_of g m scope e ≡ ty
-  form_is g vars m (GenericVar x) ty scope h = ap form_or h
-  form_is g vars m (GenericNum p n) ty scope h = sym h
-  form_is g vars m (GenericBit p b) ty scope h = sym h
-  form_is g vars m (GenericParen p e) ty scope h = form_is g vars m e ty scope h
-  form_is g vars m (GenericOp p f a b) ty scope h = sym h.0
-  form_is g vars m (GenericCall f ws xs) ty scope h = ap (λ (u : Option GenericFunctionTree). result_at u (formed_all m ws)) h.1 ∙ sym h.4
-  form_is g vars m (GenericMake k ws xs) ty scope h = ap (λ (n : ℕ). DataForm n (formed_all m ws)) (owner_is g.rows (place_named g.rows (number_of k)) h.0 h.1 h.2 h.3) ∙ sym h.6
-  form_is g vars m (GenericLet p x a b) ty scope h =
-      ap (λ (f : Form). form_of g m (form_bound x f scope) b) (form_is g vars m a h.0 scope h.1) ∙ form_is g vars m b ty (form_bound x h.0 scope) h.3
-  form_is g vars m (GenericPar p x a y b c) ty scope h =
-      ap (λ (f : Form). form_of g m (form_bound y (form_of g m scope b) (form_bound x f scope)) c) (form_is g vars m a h.0 scope h.2)
-      ∙ ap (λ (f : Form). form_of g m (form_bound y f (form_bound x h.0 scope)) c) (form_is g vars m b h.1 scope h.3)
-      ∙ form_is g vars m c ty (form_bound y h.1 (form_bound x h.0 scope)) h.6
-  form_is g vars m (GenericIf p a b c) ty scope h = form_is g vars m b ty scope h.1
-  form_is g vars m (GenericCase p x arms) ty scope h =
-      ap (λ (us : Forms). form_of_arms g m scope us arms) (arguments_is (form_in scope (number_of x)) h.0 h.1 h.2) ∙ arms_are g vars m arms ty scope h.0 h.1 h.4
+-- what an expression gives is what is computed
+pub one_is : (r : Results Form) (t : Form) → r ≡ One t → one_form r ≡ t
+one_is r t e = ap one_form e
 
-  arms_are : (g : GenericGlobals) (vars : List ℕ) (m : Meant) (arms : GenericArms) (ty : Form) (scope : FormScope) (t : ℕ) (ts : Forms) → ArmsHaveForm g vars m scope t ts arms ty → form_of_arms g m scope ts arms ≡ ty
-  arms_are g vars m (GenericLastArm k xs e) ty scope t ts h =
-      ap (λ (fs : List Form). form_of g m (bind_forms xs fs scope) e) (forms_is g.rows (place_named g.rows (number_of k)) h.0 h.1 ts h.3 h.4)
-      ∙ ap (λ (u : FormScope). form_of g m u e) (sym (binds_inner xs (field_forms h.1 ts) scope h.2 h.6)) ∙ form_is g vars m e ty h.2 h.7
-  arms_are g vars m (GenericNextArm k xs e arms) ty scope t ts h =
-      ap (λ (fs : List Form). form_of g m (bind_forms xs fs scope) e) (forms_is g.rows (place_named g.rows (number_of k)) h.0.0 h.0.1 ts h.0.3 h.0.4)
-      ∙ ap (λ (u : FormScope). form_of g m u e) (sym (binds_inner xs (field_forms h.0.1 ts) scope h.0.2 h.0.6)) ∙ form_is g vars m e ty h.0.2 h.0.7
+list_is : (r : Results Form) (ts : List Form) → r ≡ as_results ts → list_results r ≡ ts
+list_is r [] e = ap list_results e
+list_is r (t ∷ []) e = ap list_results e
+list_is r (t ∷ u ∷ us) e = ap list_results e
+
+mutual
+  pub results_are : (g : GenericGlobals) (vars : List ℕ) (m : Meant) (e : GenericExpression) (r : Results Form) (scope : FormScope) → HasForm g vars m scope e r → results_of g m scope e ≡ r
+  results_are g vars m (GenericVar x) r scope h = ap (λ (o : Option Form). One (form_or o)) h.2 ∙ sym h.1
+  results_are g vars m (GenericNum p n) r scope h = sym h
+  results_are g vars m (GenericBit p b) r scope h = sym h
+  results_are g vars m (GenericParen p e) r scope h = results_are g vars m e r scope h
+  results_are g vars m (GenericOp p f a b) r scope h = sym h.0
+  results_are g vars m (GenericCall f ws xs) r scope h = ap (λ (u : Option GenericFunctionTree). results_at u (formed_all m ws)) h.1 ∙ sym h.4
+  results_are g vars m (GenericMake k ws xs) r scope h = ap (λ (n : ℕ). One (DataForm n (formed_all m ws))) (owner_is g.rows (place_named g.rows (number_of k)) h.0 h.1 h.2 h.3) ∙ sym h.6
+  results_are g vars m (GenericLet p x a b) r scope h =
+      ap (λ (f : Form). results_of g m (form_bound x f scope) b) (one_is (results_of g m scope a) h.0 (results_are g vars m a (One h.0) scope h.1)) ∙ results_are g vars m b r (form_bound x h.0 scope) h.3
+  results_are g vars m (GenericPar p x a y b c) r scope h =
+      ap (λ (f : Form). results_of g m (form_bound y (form_of g m scope b) (form_bound x f scope)) c) (one_is (results_of g m scope a) h.0 (results_are g vars m a (One h.0) scope h.2))
+      ∙ ap (λ (f : Form). results_of g m (form_bound y f (form_bound x h.0 scope)) c) (one_is (results_of g m scope b) h.1 (results_are g vars m b (One h.1) scope h.3))
+      ∙ results_are g vars m c r (form_bound y h.1 (form_bound x h.0 scope)) h.6
+  results_are g vars m (GenericIf p a b c) r scope h = results_are g vars m b r scope h.1
+  results_are g vars m (GenericCase p x arms) r scope h =
+      ap (λ (us : Forms). results_of_arms g m scope us arms) (arguments_is (form_in scope (number_of x)) h.0 h.1 h.2) ∙ arms_are g vars m arms r scope h.0 h.1 h.4
+  results_are g vars m (GenericTuple p xs) r scope h = ap Several (forms_are g vars m xs h.0 scope h.2) ∙ sym h.1
+  results_are g vars m (GenericLetSeveral p xs a b) r scope h =
+      ap (λ (fs : List Form). results_of g m (bind_forms xs fs scope) b) (list_is (results_of g m scope a) h.0 (results_are g vars m a (as_results h.0) scope h.3))
+      ∙ ap (λ (u : FormScope). results_of g m u b) (sym (binds_inner xs h.0 scope h.1 h.4)) ∙ results_are g vars m b r h.1 h.5
+  results_are g vars m (GenericParSeveral p xs a ys b c) r scope h =
+      ap (λ (fs : List Form). results_of g m (bind_forms ys (bound_forms g m scope b) (bind_forms xs fs scope)) c) (list_is (results_of g m scope a) h.0 (results_are g vars m a (as_results h.0) scope h.6))
+      ∙ ap (λ (fs : List Form). results_of g m (bind_forms ys fs (bind_forms xs h.0 scope)) c) (list_is (results_of g m scope b) h.1 (results_are g vars m b (as_results h.1) scope h.7))
+      ∙ ap (λ (u : FormScope). results_of g m (bind_forms ys h.1 u) c) (sym (binds_inner xs h.0 scope h.2 h.8))
+      ∙ ap (λ (u : FormScope). results_of g m u c) (sym (binds_inner ys h.1 h.2 h.3 h.9)) ∙ results_are g vars m c r h.3 h.10
+
+  pub forms_are : (g : GenericGlobals) (vars : List ℕ) (m : Meant) (xs : GenericArguments) (ts : List Form) (scope : FormScope) → HaveForms g vars m scope xs ts → forms_of_all g m scope xs ≡ ts
+  forms_are g vars m GenericNoArgument [] scope h = refl
+  forms_are g vars m GenericNoArgument (t ∷ ts) scope h = absurd h
+  forms_are g vars m (GenericArgument a xs) [] scope h = absurd h
+  forms_are g vars m (GenericArgument a xs) (t ∷ ts) scope h =
+      ap₂ (λ (f : Form) (fs : List Form). f ∷ fs) (one_is (results_of g m scope a) t (results_are g vars m a (One t) scope h.0)) (forms_are g vars m xs ts scope h.1)
+
+  arms_are : (g : GenericGlobals) (vars : List ℕ) (m : Meant) (arms : GenericArms) (r : Results Form) (scope : FormScope) (t : ℕ) (ts : Forms) → ArmsHaveForm g vars m scope t ts arms r → results_of_arms g m scope ts arms ≡ r
+  arms_are g vars m (GenericLastArm k xs e) r scope t ts h =
+      ap (λ (fs : List Form). results_of g m (bind_forms xs fs scope) e) (forms_is g.rows (place_named g.rows (number_of k)) h.0 h.1 ts h.3 h.4)
+      ∙ ap (λ (u : FormScope). results_of g m u e) (sym (binds_inner xs (field_forms h.1 ts) scope h.2 h.6)) ∙ results_are g vars m e r h.2 h.7
+  arms_are g vars m (GenericNextArm k xs e arms) r scope t ts h =
+      ap (λ (fs : List Form). results_of g m (bind_forms xs fs scope) e) (forms_is g.rows (place_named g.rows (number_of k)) h.0.0 h.0.1 ts h.0.3 h.0.4)
+      ∙ ap (λ (u : FormScope). results_of g m u e) (sym (binds_inner xs (field_forms h.0.1 ts) scope h.0.2 h.0.6)) ∙ results_are g vars m e r h.0.2 h.0.7
+
+pub form_is : (g : GenericGlobals) (vars : List ℕ) (m : Meant) (e : GenericExpression) (t : Form) (scope : FormScope) → HasForm g vars m scope e (One t) → form_of g m scope e ≡ t
+form_is g vars m e t scope h = one_is (results_of g m scope e) t (results_are g vars m e (One t) scope h)
+
+pub bound_is : (g : GenericGlobals) (vars : List ℕ) (m : Meant) (e : GenericExpression) (ts : List Form) (scope : FormScope) → HasForm g vars m scope e (as_results ts) → bound_forms g m scope e ≡ ts
+bound_is g vars m e ts scope h = list_is (results_of g m scope e) ts (results_are g vars m e (as_results ts) scope h)
 
 operator_here : (s : Setting) (f : Operator) → IsHere s.types (operator_form f)
 operator_here s o.Add = tt {0}
@@ -122,36 +153,65 @@ operator_here s o.Less = tt {0}
 operator_here s o.Quotient = tt {0}
 operator_here s o.Remainder = tt {0}
 
--- the type of an expression is here
-mutual
-  pub type_here : (s : Setting) (copied : IsCopied s) (vars : List ℕ) (m : Meant) (e : GenericExpression) (ty : Form) (scope : FormScope) →
-      ScopeHere s scope → IsAsked s m e → HasForm s.from vars m scope e ty → IsHere s.types ty
-  type_here s copied vars m (GenericVar x) ty scope here asked h = here (number_of x) ty h
-  type_here s copied vars m (GenericNum p n) ty scope here asked h = subst (IsHere s.types) (sym h) (tt {0})
-  type_here s copied vars m (GenericBit p b) ty scope here asked h = subst (IsHere s.types) (sym h) (tt {0})
-  type_here s copied vars m (GenericParen p e) ty scope here asked h = type_here s copied vars m e ty scope here asked h
-  type_here s copied vars m (GenericOp p f a b) ty scope here asked h = subst (IsHere s.types) (sym h.0) (operator_here s f)
-  type_here s copied vars m (GenericCall f ws xs) ty scope here asked h = subst (IsHere s.types) (sym h.4) (copied.result_here (number_of f) h.0 (formed_all m ws) h.1 asked.0)
-  type_here s copied vars m (GenericMake k ws xs) ty scope here asked h =
-      subst (IsHere s.types) (sym h.6)
-      (subst (λ (n : ℕ). IsItem s.types n (formed_all m ws)) (owner_is s.from.rows (place_named s.from.rows (number_of k)) h.0 h.1 h.2 h.3) asked.0, asked.1)
-  type_here s copied vars m (GenericLet p x a b) ty scope here asked h =
-      type_here s copied vars m b ty (form_bound x h.0 scope) (bound_here s scope x h.0 here (type_here s copied vars m a h.0 scope here asked.0 h.1)) asked.1 h.3
-  type_here s copied vars m (GenericPar p x a y b c) ty scope here asked h =
-      type_here s copied vars m c ty (form_bound y h.1 (form_bound x h.0 scope))
-      (bound_here s (form_bound x h.0 scope) y h.1 (bound_here s scope x h.0 here (type_here s copied vars m a h.0 scope here asked.0 h.2)) (type_here s copied vars m b h.1 scope here asked.1 h.3))
-      asked.2 h.6
-  type_here s copied vars m (GenericIf p a b c) ty scope here asked h = type_here s copied vars m b ty scope here asked.1 h.1
-  type_here s copied vars m (GenericCase p x arms) ty scope here asked h = arms_here s copied vars m arms ty scope h.0 h.1 here (here (number_of x) (DataForm h.0 h.1) h.2).0 asked h.4
+-- the types of what is given are here
+abbrev pub AreHereAll : List Item → Results Form → Type 0
+AreHereAll types r = AllByRecursion (IsHere types) (list_results r)
 
-  arms_here : (s : Setting) (copied : IsCopied s) (vars : List ℕ) (m : Meant) (arms : GenericArms) (ty : Form) (scope : FormScope) (t : ℕ) (ts : Forms) →
-      ScopeHere s scope → IsItem s.types t ts → ArmsAsked s m arms → ArmsHaveForm s.from vars m scope t ts arms ty → IsHere s.types ty
-  arms_here s copied vars m (GenericLastArm k xs e) ty scope t ts here item asked h =
-      type_here s copied vars m e ty h.2
+one_here : (s : Setting) (r : Results Form) (t : Form) → r ≡ One t → IsHere s.types t → AreHereAll s.types r
+one_here s r t e h = subst (AreHereAll s.types) (sym e) (h, tt {0})
+
+pub bound_all_here : (s : Setting) (ts : List Form) → AreHereAll s.types (as_results ts) → AllByRecursion (IsHere s.types) ts
+bound_all_here s [] h = tt {0}
+bound_all_here s (t ∷ []) h = h
+bound_all_here s (t ∷ u ∷ us) h = h
+
+mutual
+  pub results_here : (s : Setting) (copied : IsCopied s) (vars : List ℕ) (m : Meant) (e : GenericExpression) (r : Results Form) (scope : FormScope) →
+      ScopeHere s scope → IsAsked s m e → HasForm s.from vars m scope e r → AreHereAll s.types r
+  results_here s copied vars m (GenericVar x) r scope here asked h = one_here s r h.0 h.1 (here (number_of x) h.0 h.2)
+  results_here s copied vars m (GenericNum p n) r scope here asked h = one_here s r WholeForm h (tt {0})
+  results_here s copied vars m (GenericBit p b) r scope here asked h = one_here s r TruthForm h (tt {0})
+  results_here s copied vars m (GenericParen p e) r scope here asked h = results_here s copied vars m e r scope here asked h
+  results_here s copied vars m (GenericOp p f a b) r scope here asked h = one_here s r (operator_form f) h.0 (operator_here s f)
+  results_here s copied vars m (GenericCall f ws xs) r scope here asked h = subst (AreHereAll s.types) (sym h.4) (copied.results_here (number_of f) h.0 (formed_all m ws) h.1 asked.0)
+  results_here s copied vars m (GenericMake k ws xs) r scope here asked h =
+      one_here s r (DataForm h.1.owner (formed_all m ws)) h.6
+      (subst (λ (n : ℕ). IsItem s.types n (formed_all m ws)) (owner_is s.from.rows (place_named s.from.rows (number_of k)) h.0 h.1 h.2 h.3) asked.0, asked.1)
+  results_here s copied vars m (GenericLet p x a b) r scope here asked h =
+      results_here s copied vars m b r (form_bound x h.0 scope) (bound_here s scope x h.0 here (results_here s copied vars m a (One h.0) scope here asked.0 h.1).0) asked.1 h.3
+  results_here s copied vars m (GenericPar p x a y b c) r scope here asked h =
+      results_here s copied vars m c r (form_bound y h.1 (form_bound x h.0 scope))
+      (bound_here s (form_bound x h.0 scope) y h.1 (bound_here s scope x h.0 here (results_here s copied vars m a (One h.0) scope here asked.0 h.2).0) (results_here s copied vars m b (One h.1) scope here asked.1 h.3).0)
+      asked.2 h.6
+  results_here s copied vars m (GenericIf p a b c) r scope here asked h = results_here s copied vars m b r scope here asked.1 h.1
+  results_here s copied vars m (GenericCase p x arms) r scope here asked h = arms_here s copied vars m arms r scope h.0 h.1 here (here (number_of x) (DataForm h.0 h.1) h.2).0 asked h.4
+  results_here s copied vars m (GenericTuple p xs) r scope here asked h = subst (AreHereAll s.types) (sym h.1) (all_here s copied vars m xs h.0 scope here asked h.2)
+  results_here s copied vars m (GenericLetSeveral p xs a b) r scope here asked h =
+      results_here s copied vars m b r h.1 (binds_here s xs h.0 scope h.1 h.4 here (bound_all_here s h.0 (results_here s copied vars m a (as_results h.0) scope here asked.0 h.3))) asked.1 h.5
+  results_here s copied vars m (GenericParSeveral p xs a ys b c) r scope here asked h =
+      results_here s copied vars m c r h.3
+      (binds_here s ys h.1 h.2 h.3 h.9 (binds_here s xs h.0 scope h.2 h.8 here (bound_all_here s h.0 (results_here s copied vars m a (as_results h.0) scope here asked.0 h.6))) (bound_all_here s h.1 (results_here s copied vars m b (as_results h.1) scope here asked.1 h.7)))
+      asked.2 h.10
+
+  pub all_here : (s : Setting) (copied : IsCopied s) (vars : List ℕ) (m : Meant) (xs : GenericArguments) (ts : List Form) (scope : FormScope) →
+      ScopeHere s scope → AreAsked s m xs → HaveForms s.from vars m scope xs ts → AllByRecursion (IsHere s.types) ts
+  all_here s copied vars m GenericNoArgument [] scope here asked h = tt {0}
+  all_here s copied vars m GenericNoArgument (t ∷ ts) scope here asked h = absurd h
+  all_here s copied vars m (GenericArgument a xs) [] scope here asked h = absurd h
+  all_here s copied vars m (GenericArgument a xs) (t ∷ ts) scope here asked h = ((results_here s copied vars m a (One t) scope here asked.0 h.0).0, all_here s copied vars m xs ts scope here asked.1 h.1)
+
+  arms_here : (s : Setting) (copied : IsCopied s) (vars : List ℕ) (m : Meant) (arms : GenericArms) (r : Results Form) (scope : FormScope) (t : ℕ) (ts : Forms) →
+      ScopeHere s scope → IsItem s.types t ts → ArmsAsked s m arms → ArmsHaveForm s.from vars m scope t ts arms r → AreHereAll s.types r
+  arms_here s copied vars m (GenericLastArm k xs e) r scope t ts here item asked h =
+      results_here s copied vars m e r h.2
       (binds_here s xs (field_forms h.1 ts) scope h.2 h.6 here (copied.fields_here h.0 h.1 ts h.4 (subst (λ (n : ℕ). IsItem s.types n ts) (sym h.5) item))) asked h.7
-  arms_here s copied vars m (GenericNextArm k xs e arms) ty scope t ts here item asked h =
-      type_here s copied vars m e ty h.0.2
+  arms_here s copied vars m (GenericNextArm k xs e arms) r scope t ts here item asked h =
+      results_here s copied vars m e r h.0.2
       (binds_here s xs (field_forms h.0.1 ts) scope h.0.2 h.0.6 here (copied.fields_here h.0.0 h.0.1 ts h.0.4 (subst (λ (n : ℕ). IsItem s.types n ts) (sym h.0.5) item))) asked.0 h.0.7
+
+pub type_here : (s : Setting) (copied : IsCopied s) (vars : List ℕ) (m : Meant) (e : GenericExpression) (t : Form) (scope : FormScope) →
+    ScopeHere s scope → IsAsked s m e → HasForm s.from vars m scope e (One t) → IsHere s.types t
+type_here s copied vars m e t scope here asked h = (results_here s copied vars m e (One t) scope here asked h).0
 
 -- types of parameters and of a result
 pub parameters_step : (nm : Naming) (types : List ℕ) (m : Meant) (qs : List GenericParameterTree) →
@@ -164,5 +224,15 @@ parameters_step nm types m (q ∷ qs) =
 pub parameters_plain : (s : Setting) (h : GenericFunctionTree) (ts : Forms) → parameter_types s.to.table (copy_function s.from s.naming h ts) ≡ map (plain s) (parameter_forms h ts)
 parameters_plain s h ts = parameters_step s.naming s.to.table.types (assign h.variables ts) h.parameters
 
-pub result_plain : (s : Setting) (h : GenericFunctionTree) (ts : Forms) → result_type s.to.table (copy_function s.from s.naming h ts) ≡ plain s (result_form h ts)
-result_plain s h ts = named_plain s.naming s.to.table.types (written_place h.result) (result_form h ts)
+pub result_plain : (s : Setting) (h : GenericFunctionTree) (ts : Forms) → result_types s.to.table (copy_function s.from s.naming h ts) ≡ map_results (plain s) (result_forms h ts)
+result_plain s h ts = go h.result where
+  m : Meant
+  m = assign h.variables ts
+
+  all : (ws : List WrittenType) → map (type_of_name s.to.table.types) (map (copy_written s.naming m) ws) ≡ map (plain s) (map (formed m) ws)
+  all [] = refl
+  all (w ∷ ws) = ap₂ (λ (t : Ty) (us : List Ty). t ∷ us) (named_plain s.naming s.to.table.types (written_place w) (formed m w)) (all ws)
+
+  go : (r : Results WrittenType) → map_results (type_of_name s.to.table.types) (map_results (copy_written s.naming m) r) ≡ map_results (plain s) (map_results (formed m) r)
+  go (One w) = ap One (named_plain s.naming s.to.table.types (written_place w) (formed m w))
+  go (Several ws) = ap Several (all ws)

@@ -1,5 +1,5 @@
 -- Uses that are asked for, one after another.
-use Rattle.std.proofs.Common.{◌≡◌, ℕ, Bool, true, false, List, [], ◌∷◌, ◌++◌, length, map, Some, None, refl, sym, ap, ap₂, ◌∙◌, subst}
+use Rattle.std.proofs.Common.{◌≡◌, ℕ, Bool, true, false, List, [], ◌∷◌, ◌++◌, length, map, Some, None, refl, sym, ap, ap₂, ◌∙◌, subst, append_assoc, append-nil}
 use Rattle.std.specs.Prelude.{Result, Ok, Err, Option}
 use Rattle.gib_base.specs.declared.Span.{Span}
 use Rattle.gib_types.specs.declared.types.TypeId.{TypeId}
@@ -183,23 +183,15 @@ pub record AskedSoFar (g : GenericGlobals) (old now : Search) (all left : Meant 
 pub asked_start : (g : GenericGlobals) (old : Search) (all : Meant → List Ask) → AskedSoFar g old old all all
 asked_start g old all = record { done' = λ n. []; asks = asks_none g old; whole = λ n. refl }
 
-append_append : (xs ys zs : List Ask) → (xs ++ ys) ++ zs ≡ xs ++ (ys ++ zs)
-append_append [] ys zs = refl
-append_append (x ∷ xs) ys zs = ap (λ l. x ∷ l) (append_append xs ys zs)
-
-append_nil : (xs : List Ask) → xs ++ [] ≡ xs
-append_nil [] = refl
-append_nil (x ∷ xs) = ap (λ l. x ∷ l) (append_nil xs)
-
 pub asked_next : (g : GenericGlobals) (old now new : Search) (all before left xs : Meant → List Ask) → AskedSoFar g old now all before → ((n : Meant) → before n ≡ xs n ++ left n) → Asks g now new xs → AskedSoFar g old new all left
 asked_next g old now new all before left xs h e a = record {
   done' = λ n. h.done' n ++ xs n;
   asks = asks_both g old now new h.done' xs h.asks a;
-  whole = λ n. append_append (h.done' n) (xs n) (left n) ∙ ap (λ l. h.done' n ++ l) (sym (e n)) ∙ h.whole n;
+  whole = λ n. append_assoc (h.done' n) (xs n) (left n) ∙ ap (λ l. h.done' n ++ l) (sym (e n)) ∙ h.whole n;
 }
 
 pub asked_end : (g : GenericGlobals) (old now : Search) (all left : Meant → List Ask) → AskedSoFar g old now all left → ((n : Meant) → left n ≡ []) → Asks g old now all
-asked_end g old now all left h e = asks_same g old now h.done' all (λ n. sym (append_nil (h.done' n)) ∙ ap (λ l. h.done' n ++ l) (sym (e n)) ∙ h.whole n) h.asks
+asked_end g old now all left h e = asks_same g old now h.done' all (λ n. sym (append-nil (h.done' n)) ∙ ap (λ l. h.done' n ++ l) (sym (e n)) ∙ h.whole n) h.asks
 
 -- a key that was added is a use
 

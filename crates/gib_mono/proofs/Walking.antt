@@ -1,5 +1,5 @@
 -- The walk over expressions.
-use Rattle.std.proofs.Common.{◌≡◌, ℕ, ◌-◌, ◌<◌, ◌≤◌, List, [], ◌∷◌, ◌++◌, length, take, drop, get_or, true, false, Some, refl, sym, ap, ◌∙◌, arith, subst}
+use Rattle.std.proofs.Common.{◌≡◌, ℕ, ◌-◌, ◌<◌, ◌≤◌, List, [], ◌∷◌, ◌++◌, length, take, drop, get_or, true, false, Some, refl, sym, ap, ◌∙◌, arith, subst, append-nil}
 use Rattle.std.specs.List.{AllByRecursion}
 use Rattle.gib_base.specs.declared.Span.{Span}
 use Rattle.gib_types.specs.Form.{Meant}
@@ -66,12 +66,8 @@ abbrev pub each_arm : GenericParts → List Arm → Meant → List Ask
 each_arm p [] n = []
 each_arm p (arm ∷ arms) n = asks_in p arm.body.0 n ++ each_arm p arms n
 
-append_nil : (xs : List Ask) → xs ++ [] ≡ xs
-append_nil [] = refl
-append_nil (x ∷ xs) = ap (λ l. x ∷ l) (append_nil xs)
-
 arms_are : (p : GenericParts) (arm : Arm) (arms : List Arm) (n : Meant) → each_arm p (arm ∷ arms) n ≡ arm_asks (globals_in p).rows n (arms_from (tree_of p.exprs) arm arms)
-arms_are p arm [] n = append_nil (asks_in p arm.body.0 n)
+arms_are p arm [] n = append-nil (asks_in p arm.body.0 n)
 arms_are p arm (next ∷ arms) n = ap (λ l. asks_in p arm.body.0 n ++ l) (arms_are p next arms n)
 
 pub record ArmsAsked (p : GenericParts) (id : ℕ) (old now : Search) (arms rest : List Arm) : Type 0 where

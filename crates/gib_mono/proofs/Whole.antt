@@ -12,19 +12,20 @@ use Rattle.gib_syntax.specs.Tree.{DataTree, FunctionTree}
 use Rattle.gib_syntax.specs.Declarations.{number_of, place_of, AreDifferent, type_names, tree_type, type_or, type_of_name, table_of_program, constructor_names, constructor_named, function_named}
 use Rattle.gib_syntax.specs.Typing.{globals_of}
 use Rattle.gib_syntax.proofs.Soundness.{place_within, place_found}
+use Rattle.gib_syntax.specs.Results.{Results, map_results, list_results}
 use Rattle.gib_syntax.specs.Forms.{WrittenType, written_place, Form, Forms, DataForm, Meant, formed, assign}
 use Rattle.gib_syntax.specs.GenericTree.{GenericConstructorTree, GenericDataTree, GenericParameterTree, GenericFunctionTree, GenericProgramTree, GenericRow, row_of, rows_of, GenericGlobals, globals_of_generic, place_named, generic_named, data_named}
-use Rattle.gib_syntax.specs.GenericTyping.{IsTypedGeneric, IsKnownData, variable_numbers, field_forms, parameter_forms, result_form}
+use Rattle.gib_syntax.specs.GenericTyping.{IsTypedGeneric, IsKnownData, variable_numbers, field_forms, parameter_forms}
 use Rattle.gib_syntax.specs.GenericFine.{HasGenericConstructor}
 use Rattle.gib_mono.specs.Copying.{Naming, plain_type, copy_written, copy_data, copy_function, parameter_scope}
 use Rattle.gib_mono.specs.Copied.{Item, IsItem, IsHere, Setting, plain, IsCopyOf, IsAsked, IsCopied}
-use Rattle.gib_mono.specs.Walk.{Copy, DataOf, FunctionOf, DataCopy, FunctionCopy, datas_in, function_copies, copied_program, type_items, function_items, Made, made_of, made_from, or_zero, base_at, base_of, IsNaming, written_asks, types_asks, asks}
+use Rattle.gib_mono.specs.Walk.{Copy, DataOf, FunctionOf, DataCopy, FunctionCopy, datas_in, function_copies, copied_program, type_items, function_items, Made, made_of, made_from, or_zero, base_at, base_of, IsNaming, results_asks, types_asks, asks}
 use Rattle.gib_mono.specs.Closed.{IsClosed, AreAnswered}
 use Rattle.gib_mono.proofs.Scopes.{named_plain}
 use Rattle.gib_mono.proofs.Closing.{data_found, data_has_name}
 use Rattle.gib_mono.proofs.Copies.{answered_split}
 use Rattle.gib_mono.proofs.Running.{generic_found, body_put}
-use Rattle.gib_mono.proofs.Asking.{assign_here, written_here, types_here, constructors_here, parameters_known, parameter_forms_are, uses_asked, found_setting}
+use Rattle.gib_mono.proofs.Asking.{assign_here, results_types_here, types_here, constructors_here, parameters_known, parameter_forms_are, uses_asked, found_setting}
 use Rattle.gib_mono.proofs.Here.{map_found, rows_are, rows_declared, TypesHere, types_here_at}
 use Rattle.gib_mono.proofs.Tables.{made_row, rows_made, made_at, made_found, rows_at, row_placed}
 use Rattle.gib_mono.proofs.Apart.{type_key, function_key, constructor_key, data_declared, function_declared, types_different, functions_different, constructors_different, function_at}
@@ -237,24 +238,24 @@ row_fields_here p nm names found c row ts is e item =
     (each_here (type_items found) (assign t.decl.variables ts) t.decl.constructors r.0 r.1 (copy_fields_here p nm names found t.index t.decl ts is t.there) r.2)
 
 -- what a function's copy asks for
-pub record IsFunctionHere (p : GenericProgramTree) (nm : Naming) (found : List Copy) (variables : List Rattle.gib_syntax.specs.declared.tree.Ident.Ident) (parameters : List GenericParameterTree) (result : WrittenType) (body : Rattle.gib_syntax.specs.GenericTree.GenericExpression) (m : Meant) : Type 0 where
+pub record IsFunctionHere (p : GenericProgramTree) (nm : Naming) (found : List Copy) (variables : List Rattle.gib_syntax.specs.declared.tree.Ident.Ident) (parameters : List GenericParameterTree) (result : Results WrittenType) (body : Rattle.gib_syntax.specs.GenericTree.GenericExpression) (m : Meant) : Type 0 where
   pub parameters_here : AllByRecursion (IsHere (type_items found)) (map (λ (q : GenericParameterTree). formed m q.ty) parameters)
-  pub result_here : IsHere (type_items found) (formed m result)
+  pub results_here : AllByRecursion (IsHere (type_items found)) (list_results (map_results (formed m) result))
   pub body_asked : IsAsked (set_of p nm found) m body
 
-pub function_here : (p : GenericProgramTree) (nm : Naming) (found : List Copy) (variables : List Rattle.gib_syntax.specs.declared.tree.Ident.Ident) (parameters : List GenericParameterTree) (result : WrittenType) (body : Rattle.gib_syntax.specs.GenericTree.GenericExpression) (m : Meant) → IsTypedGeneric p →
+pub function_here : (p : GenericProgramTree) (nm : Naming) (found : List Copy) (variables : List Rattle.gib_syntax.specs.declared.tree.Ident.Ident) (parameters : List GenericParameterTree) (result : Results WrittenType) (body : Rattle.gib_syntax.specs.GenericTree.GenericExpression) (m : Meant) → IsTypedGeneric p →
     Rattle.gib_syntax.specs.GenericTyping.IsTypedGenericFunction (globals_of_generic p) variables parameters result body → Rattle.gib_mono.proofs.Asking.MeantHere (type_items found) m →
     AreAnswered (globals_of_generic p) found (Rattle.gib_mono.specs.Walk.function_asks (rows_of p.datas) m parameters result body) → IsFunctionHere p nm found variables parameters result body m
 function_here p nm found variables parameters result body m typed own here h =
     let g = globals_of_generic p in
-    let first = answered_split g found (types_asks m (map (λ (q : GenericParameterTree). q.ty) parameters)) (written_asks m result ++ asks g.rows m body) h in
-    let second = answered_split g found (written_asks m result) (asks g.rows m body) first.1 in
+    let first = answered_split g found (types_asks m (map (λ (q : GenericParameterTree). q.ty) parameters)) (results_asks m result ++ asks g.rows m body) h in
+    let second = answered_split g found (results_asks m result) (asks g.rows m body) first.1 in
     let is = body_put g variables parameters result body m own in
     record {
       parameters_here = subst (λ (us : List Form). AllByRecursion (IsHere (type_items found)) us) (parameter_forms_are m parameters)
           (types_here g found (variable_numbers variables) m here (map (λ (q : GenericParameterTree). q.ty) parameters) (parameters_known p.datas (variable_numbers variables) parameters own.known) first.0).0;
-      result_here = written_here g found (variable_numbers variables) m here result own.known_result second.0;
-      body_asked = (uses_asked g nm (globals_of (copied_program p nm found)) (base_of (rows_of p.datas) found) found (rows_declared p typed) (variable_numbers variables) m here body (formed m result) (parameter_scope m parameters) is.typed second.1).0;
+      results_here = (results_types_here g found (variable_numbers variables) m here result own.known_result second.0).0;
+      body_asked = (uses_asked g nm (globals_of (copied_program p nm found)) (base_of (rows_of p.datas) found) found (rows_declared p typed) (variable_numbers variables) m here body (map_results (formed m) result) (parameter_scope m parameters) is.typed second.1).0;
     }
 
 -- A copied function
@@ -303,6 +304,6 @@ is_copied p nm names found is = record {
   fields_here = λ c row ts e item. row_fields_here p nm names found c row ts is e item;
   functions = λ x h ts named item. function_found_at p nm names found x h ts is named (function_copied p nm names found x h ts is named item);
   parameters_here = λ x h ts named item. let c = function_copied p nm names found x h ts is named item in (copy_function_here p nm names found c.index h ts is c.there).parameters_here;
-  result_here = λ x h ts named item. let c = function_copied p nm names found x h ts is named item in (copy_function_here p nm names found c.index h ts is c.there).result_here;
+  results_here = λ x h ts named item. let c = function_copied p nm names found x h ts is named item in (copy_function_here p nm names found c.index h ts is c.there).results_here;
   bodies_asked = λ x h ts named item. let c = function_copied p nm names found x h ts is named item in (copy_function_here p nm names found c.index h ts is c.there).body_asked;
 }

@@ -1,5 +1,5 @@
 -- A program without type parameters as a plain one: type arguments, of which it has none, are left out.
-use Rattle.std.specs.Prelude.{◌≡◌, ℕ, ◌<◌, ◌≤◌, List, [], ◌∷◌, ◌++◌, map, length}
+use Rattle.std.specs.Prelude.{◌≡◌, ℕ, ◌<◌, ◌≤◌, false, List, [], ◌∷◌, ◌++◌, map, length}
 use Rattle.std.specs.List.{AllByRecursion}
 use Rattle.gib_syntax.specs.declared.exprs.Node.{Node}
 use Rattle.gib_syntax.specs.declared.exprs.Node.TheVariants as n
@@ -10,12 +10,16 @@ use Rattle.gib_syntax.specs.declared.program.GenericFunction.{GenericFunction}
 use Rattle.gib_syntax.specs.declared.tree.Parameter.{Parameter}
 use Rattle.gib_syntax.specs.declared.tree.TypeName.{TypeName}
 use Rattle.gib_syntax.specs.declared.tree.TypeName.TheVariants as ty
+use Rattle.gib_syntax.specs.declared.written.ResultRuns.{ResultRuns}
+use Rattle.gib_syntax.specs.declared.written.ResultRuns.TheVariants as result
 use Rattle.gib_syntax.specs.Arena.{tree_of}
 use Rattle.gib_syntax.specs.Declarations.{number_of}
 use Rattle.gib_syntax.specs.GenericArena.{Arena, tree_of as generic_of}
-use Rattle.gib_syntax.specs.Tree.{Expression, Arguments, Arms, Var, Num, Bit, Paren, Op, Call, Make, Let, Par, If, Case, NoArgument, Argument, LastArm, NextArm, ConstructorTree, DataTree, FunctionTree, MainTree, ProgramTree}
+use Rattle.gib_syntax.specs.Tree.{Expression, Arguments, Arms, Var, Num, Bit, Paren, Op, Call, Make, Let, Par, If, Case, Tuple, LetSeveral, ParSeveral, NoArgument, Argument, LastArm, NextArm, ConstructorTree, DataTree, FunctionTree, MainTree, ProgramTree}
+use Rattle.gib_syntax.specs.Results.{map_results}
+pub use Rattle.gib_syntax.specs.Single.{IsSingle, AreSingle, HasSingle, IsSingleFunction}
 use Rattle.gib_syntax.specs.Forms.{WrittenType, WholeAt, TruthAt, VariableAt, DataAt, NoForm}
-use Rattle.gib_syntax.specs.GenericTree.{GenericExpression, GenericArguments, GenericArms, GenericVar, GenericNum, GenericBit, GenericParen, GenericOp, GenericCall, GenericMake, GenericLet, GenericPar, GenericIf, GenericCase, GenericNoArgument, GenericArgument, GenericLastArm, GenericNextArm, GenericConstructorTree, GenericDataTree, GenericParameterTree, GenericFunctionTree, GenericMainTree, GenericProgramTree}
+use Rattle.gib_syntax.specs.GenericTree.{GenericExpression, GenericArguments, GenericArms, GenericVar, GenericNum, GenericBit, GenericParen, GenericOp, GenericCall, GenericMake, GenericLet, GenericPar, GenericIf, GenericCase, GenericTuple, GenericLetSeveral, GenericParSeveral, GenericNoArgument, GenericArgument, GenericLastArm, GenericNextArm, GenericConstructorTree, GenericDataTree, GenericParameterTree, GenericFunctionTree, GenericMainTree, GenericProgramTree}
 use Rattle.gib_mono.specs.Copied.{Item}
 use Rattle.gib_mono.specs.Declaring.{own_entry}
 use Rattle.gib_mono.specs.Naming.{entry}
@@ -28,10 +32,12 @@ IsPlainData d = d.variables ≡ []
 abbrev pub IsPlainFunction : GenericFunctionTree → Type 0
 IsPlainFunction f = f.variables ≡ []
 
--- No declaration of the program has type variables.
+-- No declaration of the program has type variables, and it has no results of several parts.
 pub record IsPlainProgram (p : GenericProgramTree) : Type 0 where
   pub datas : AllByRecursion IsPlainData p.datas
   pub functions : AllByRecursion IsPlainFunction p.functions
+  pub singles : AllByRecursion IsSingleFunction p.functions
+  pub main : IsSingle p.main.body
 
 -- A written type by its name alone, where it is written; `Int` for a type variable, which typing excludes.
 abbrev pub bare_written : WrittenType → TypeName
@@ -54,6 +60,9 @@ abbrev mutual
   bare (GenericPar p x a y b c) = Par p x (bare a) y (bare b) (bare c)
   bare (GenericIf p a b c) = If p (bare a) (bare b) (bare c)
   bare (GenericCase p x arms) = Case p x (arms_bare arms)
+  bare (GenericTuple p xs) = Tuple p [] (all_bare xs)
+  bare (GenericLetSeveral p xs a b) = LetSeveral p [] (bare a) (bare b)
+  bare (GenericParSeveral p xs a ys b c) = ParSeveral p [] (bare a) [] (bare b) (bare c)
 
   pub all_bare : GenericArguments → Arguments
   all_bare GenericNoArgument = NoArgument
@@ -77,7 +86,7 @@ bare_parameter q = record { name = q.name; ty = bare_written q.ty }
 
 -- A function.
 abbrev pub bare_function : GenericFunctionTree → FunctionTree
-bare_function f = record { name = f.name; parameters = map bare_parameter f.parameters; result = bare_written f.result; body = bare f.body }
+bare_function f = record { name = f.name; parameters = map bare_parameter f.parameters; result = map_results bare_written f.result; body = bare f.body }
 
 -- Main.
 abbrev pub bare_main : GenericMainTree → MainTree
@@ -100,6 +109,9 @@ IsLet (g.Let p x a b) = Unit {0}
 IsLet (g.LetPar p x a y b c) = Unit {0}
 IsLet (g.If p a b c) = ⊥
 IsLet (g.Case p x arms) = ⊥
+IsLet (g.Tuple p xs) = ⊥
+IsLet (g.LetSeveral p xs a b) = ⊥
+IsLet (g.ParSeveral p xs a ys b c) = ⊥
 
 -- A node chooses among its parts.
 abbrev pub IsChoice : GenericNode → Type 0
@@ -114,8 +126,37 @@ IsChoice (g.Let p x a b) = ⊥
 IsChoice (g.LetPar p x a y b c) = ⊥
 IsChoice (g.If p a b c) = Unit {0}
 IsChoice (g.Case p x arms) = Unit {0}
+IsChoice (g.Tuple p xs) = ⊥
+IsChoice (g.LetSeveral p xs a b) = ⊥
+IsChoice (g.ParSeveral p xs a ys b c) = ⊥
 
--- A node without its type arguments: its parts keep their numbers.
+-- A node has no parts, and no variables for them.
+abbrev pub IsSingleNode : GenericNode → Type 0
+IsSingleNode (g.Variable x) = Unit {0}
+IsSingleNode (g.Whole p v) = Unit {0}
+IsSingleNode (g.Truth p b) = Unit {0}
+IsSingleNode (g.Paren p a) = Unit {0}
+IsSingleNode (g.Operation p f a b) = Unit {0}
+IsSingleNode (g.Call f ws xs) = Unit {0}
+IsSingleNode (g.Make k ws xs) = Unit {0}
+IsSingleNode (g.Let p x a b) = Unit {0}
+IsSingleNode (g.LetPar p x a y b c) = Unit {0}
+IsSingleNode (g.If p a b c) = Unit {0}
+IsSingleNode (g.Case p x arms) = Unit {0}
+IsSingleNode (g.Tuple p xs) = ⊥
+IsSingleNode (g.LetSeveral p xs a b) = ⊥
+IsSingleNode (g.ParSeveral p xs a ys b c) = ⊥
+
+-- No expression has parts.
+abbrev pub AreSingleTrees : Arena → Type 0
+AreSingleTrees a = (i : ℕ) → i < length a.nodes → IsSingle (generic_of a i)
+
+-- A function gives one thing.
+abbrev pub GivesOne : ResultRuns → Type 0
+GivesOne (result.One run) = Unit {0}
+GivesOne (result.Several runs) = ⊥
+
+-- A node without its type arguments: its parts keep their numbers. Of a node with several parts it is not asked.
 abbrev pub bare_node : GenericNode → Node
 bare_node (g.Variable x) = n.Variable x
 bare_node (g.Whole p v) = n.Whole p v
@@ -128,6 +169,9 @@ bare_node (g.Let p x a b) = n.Let p x a b
 bare_node (g.LetPar p x a y b c) = n.LetPar p x a y b c
 bare_node (g.If p a b c) = n.If p a b c
 bare_node (g.Case p x arms) = n.Case p x arms
+bare_node (g.Tuple p xs) = n.Truth p false
+bare_node (g.LetSeveral p xs a b) = n.Truth p false
+bare_node (g.ParSeveral p xs a ys b c) = n.Truth p false
 
 -- The expression of a number without its type arguments.
 abbrev pub bare_tree : Arena → ℕ → Expression
@@ -142,9 +186,9 @@ pub record AreBare (a : Arena) (count : ℕ) (nodes : List Node) : Type 0 where
 abbrev pub IsPlainKept : GenericData → Type 0
 IsPlainKept d = d.variables.items ≡ []
 
--- A function as the code keeps it has none.
+-- A function as the code keeps it has none, and gives one thing.
 abbrev pub IsPlainHere : GenericFunction → Type 0
-IsPlainHere f = f.variables.items ≡ []
+IsPlainHere f = (f.variables.items ≡ []) × GivesOne f.result
 
 -- The names that a type brings, with those of its constructors, where it has no type variables.
 abbrev pub data_names : GenericData → List Item

@@ -9,8 +9,9 @@ use Rattle.gib_syntax.specs.Declarations.{number_of, constructor_named, function
 use Rattle.gib_syntax.specs.Typing.{Globals, Scope}
 use Rattle.gib_syntax.specs.Meaning.{Outcome, Gives, Stops, Environment}
 use Rattle.gib_syntax.specs.Forms.{Form, Forms, WholeForm, TruthForm, VariableForm, DataForm, NoForm, MoreForms, Meant, formed_all, assign}
-use Rattle.gib_syntax.specs.GenericTree.{GenericExpression, GenericArguments, GenericArms, GenericVar, GenericNum, GenericBit, GenericParen, GenericOp, GenericCall, GenericMake, GenericLet, GenericPar, GenericIf, GenericCase, GenericNoArgument, GenericArgument, GenericLastArm, GenericNextArm, GenericFunctionTree, GenericRow, GenericGlobals, place_named, generic_named}
-use Rattle.gib_syntax.specs.GenericTyping.{FormScope, form_in, field_forms, parameter_forms, result_form}
+use Rattle.gib_syntax.specs.GenericTree.{GenericExpression, GenericArguments, GenericArms, GenericVar, GenericNum, GenericBit, GenericParen, GenericOp, GenericCall, GenericMake, GenericLet, GenericPar, GenericIf, GenericCase, GenericTuple, GenericLetSeveral, GenericParSeveral, GenericNoArgument, GenericArgument, GenericLastArm, GenericNextArm, GenericFunctionTree, GenericRow, GenericGlobals, place_named, generic_named}
+use Rattle.gib_syntax.specs.Results.{Results, One, Several, list_results}
+use Rattle.gib_syntax.specs.GenericTyping.{FormScope, form_in, field_forms, parameter_forms, result_forms}
 use Rattle.gib_mono.specs.Copying.{Naming, plain_type, owner_named, copy_function}
 
 -- A type or a function with a list of types.
@@ -69,6 +70,9 @@ abbrev mutual
   IsAsked s m (GenericPar p x a y b c) = IsAsked s m a × IsAsked s m b × IsAsked s m c
   IsAsked s m (GenericIf p a b c) = IsAsked s m a × IsAsked s m b × IsAsked s m c
   IsAsked s m (GenericCase p x arms) = ArmsAsked s m arms
+  IsAsked s m (GenericTuple p xs) = AreAsked s m xs
+  IsAsked s m (GenericLetSeveral p xs a b) = IsAsked s m a × IsAsked s m b
+  IsAsked s m (GenericParSeveral p xs a ys b c) = IsAsked s m a × IsAsked s m b × IsAsked s m c
 
   pub AreAsked : Setting → Meant → GenericArguments → Type 0
   AreAsked s m GenericNoArgument = Unit {0}
@@ -88,7 +92,7 @@ pub record IsCopied (s : Setting) : Type 0 where
   pub fields_here : (c : ℕ) (row : GenericRow) (ts : Forms) → slice_get s.from.rows c ≡ Some row → IsItem s.types row.owner ts → AllByRecursion (IsHere s.types) (field_forms row ts)
   pub functions : (x : ℕ) (h : GenericFunctionTree) (ts : Forms) → generic_named s.from.functions x ≡ Some h → IsItem s.functions x ts → function_named s.to.functions (s.naming.functions x ts) ≡ Some (copy_function s.from s.naming h ts)
   pub parameters_here : (x : ℕ) (h : GenericFunctionTree) (ts : Forms) → generic_named s.from.functions x ≡ Some h → IsItem s.functions x ts → AllByRecursion (IsHere s.types) (parameter_forms h ts)
-  pub result_here : (x : ℕ) (h : GenericFunctionTree) (ts : Forms) → generic_named s.from.functions x ≡ Some h → IsItem s.functions x ts → IsHere s.types (result_form h ts)
+  pub results_here : (x : ℕ) (h : GenericFunctionTree) (ts : Forms) → generic_named s.from.functions x ≡ Some h → IsItem s.functions x ts → AllByRecursion (IsHere s.types) (list_results (result_forms h ts))
   pub bodies_asked : (x : ℕ) (h : GenericFunctionTree) (ts : Forms) → generic_named s.from.functions x ≡ Some h → IsItem s.functions x ts → IsAsked s (assign h.variables ts) h.body
 
 -- The types of variables are here.
@@ -110,10 +114,22 @@ abbrev mutual
   shown_all base none = none
   shown_all base (more v vs) = more (shown base v) (shown_all base vs)
 
+-- What an expression gives, as what it gives in the program: parts are shown one by one, and the list of them is no constructor.
+abbrev pub shown_results : {A : Type 0} → (ℕ → ℕ) → Results A → Datum → Datum
+shown_results base (One t) v = shown base v
+shown_results base (Several ts) (con k vs) = con k (shown_all base vs)
+shown_results base (Several ts) (whole z) = whole z
+shown_results base (Several ts) (truth b) = truth b
+
 -- An outcome of the copy as one of the program.
 abbrev pub shown_outcome : (ℕ → ℕ) → Outcome → Outcome
 shown_outcome base (Gives v) = Gives (shown base v)
 shown_outcome base (Stops why) = Stops why
+
+-- An outcome of the copy as one of the program, of an expression that gives one thing or several parts.
+abbrev pub shown_given : {A : Type 0} → (ℕ → ℕ) → Results A → Outcome → Outcome
+shown_given base r (Gives v) = Gives (shown_results base r v)
+shown_given base r (Stops why) = Stops why
 
 -- An environment of the copy as one of the program.
 abbrev pub shown_environment : (ℕ → ℕ) → Environment → Environment

@@ -5,6 +5,8 @@ use Rattle.gib_base.specs.declared.Span.{Span}
 use Rattle.gib_types.specs.Form.{Form, Forms, Meant}
 use Rattle.gib_types.specs.Types.{form_at, AreBelow, GrowsTo}
 use Rattle.gib_syntax.specs.declared.tree.TypeName.{TypeName}
+use Rattle.gib_syntax.specs.declared.tree.ResultTypes.{ResultTypes}
+use Rattle.gib_syntax.specs.Results.{Results, map_results}
 use Rattle.gib_syntax.specs.declared.tree.Parameter.{Parameter}
 use Rattle.gib_syntax.specs.declared.tree.DataDecl.{DataDecl}
 use Rattle.gib_syntax.specs.declared.tree.FunctionDecl.{FunctionDecl}
@@ -13,7 +15,7 @@ use Rattle.gib_syntax.specs.declared.program.GenericConstructor.{GenericConstruc
 use Rattle.gib_syntax.specs.Tree.{ConstructorTree}
 use Rattle.gib_syntax.specs.Arena.{tree_of, Grows}
 use Rattle.gib_syntax.specs.Declarations.{number_of}
-use Rattle.gib_syntax.specs.Parts.{data_tree, function_tree, main_tree, IsFunctionInside}
+use Rattle.gib_syntax.specs.Parts.{data_tree, results_tree, function_tree, main_tree, IsFunctionInside}
 use Rattle.gib_syntax.specs.Forms.{WrittenType, formed}
 use Rattle.gib_syntax.specs.GenericParts.{GenericParts, generic_program_of}
 use Rattle.gib_syntax.specs.GenericTree.{GenericExpression, GenericConstructorTree, GenericDataTree, GenericParameterTree, GenericFunctionTree, GenericMainTree, GenericGlobals}
@@ -87,6 +89,11 @@ pub record Writes (old new : Copier) (w : Written) (t : WrittenType) : Type 0 wh
   pub form : form_at (forms new.scene) w.ty.0 ≡ formed (meaning old.scene) t
   pub name : w.name ≡ copy_written (naming old) (meaning old.scene) t
 
+-- What a function gives is written in the copy, and nothing but expressions and types came.
+pub record WritesResults (old new : Copier) (types : ResultTypes) (r : Results WrittenType) : Type 0 where
+  pub stays : Stays old new
+  pub is : results_tree types ≡ map_results (copy_written (naming old) (meaning old.scene)) r
+
 -- Constructors were.
 pub record CopiesConstructors (old new : Copier) (made : List ConstructorTree) (ts : Forms) (cs : List GenericConstructorTree) : Type 0 where
   pub stays : Stays old new
@@ -114,11 +121,11 @@ pub record CopiesParameters (old new : Copier) (ps : List Parameter) (qs : List 
   pub binds : Binds old new (parameters_bound (meaning old.scene) qs (scope_in old.scene))
   pub is : ps ≡ map (copy_parameter (naming old) (meaning old.scene)) qs
 
--- Parameters, a result and a body were copied.
-pub record CopiesParts (g : GenericGlobals) (old new : Copier) (c : CopiedParts) (qs : List GenericParameterTree) (t : WrittenType) (e : GenericExpression) : Type 0 where
+-- Parameters, what is given and a body were copied.
+pub record CopiesParts (g : GenericGlobals) (old new : Copier) (c : CopiedParts) (qs : List GenericParameterTree) (r : Results WrittenType) (e : GenericExpression) : Type 0 where
   pub goes : Goes old new
   pub parameters : c.parameters.items ≡ map (copy_parameter (naming old) (meaning old.scene)) qs
-  pub result : c.result ≡ copy_written (naming old) (meaning old.scene) t
+  pub result : results_tree c.result ≡ map_results (copy_written (naming old) (meaning old.scene)) r
   pub inside : c.body.0 < length new.exprs
   pub body : tree_of new.exprs c.body.0 ≡ copy g (naming old) (meaning old.scene) (parameters_bound (meaning old.scene) qs (scope_in old.scene)) e
 

@@ -3,6 +3,7 @@ use Rattle.std.specs.Prelude.{ℕ, [], ◌∷◌}
 use Rattle.gib_base.specs.declared.Span.{Span}
 use Rattle.gib_syntax.specs.declared.tree.Ident.{Ident}
 use Rattle.gib_syntax.specs.declared.tree.Operator.TheVariants as o
+use Rattle.gib_syntax.specs.Results.{One}
 use Rattle.gib_syntax.specs.Forms.{WholeAt, VariableAt, DataAt, NoType, MoreTypes, Forms, WholeForm, NoForm, MoreForms}
 use Rattle.gib_syntax.specs.GenericTree.{GenericVar, GenericNum, GenericOp, GenericCall, GenericMake, GenericCase, GenericNoArgument, GenericArgument, GenericLastArm, GenericNextArm, GenericDataTree, GenericFunctionTree, GenericProgramTree}
 
@@ -24,7 +25,7 @@ len_function p = record {
   name = named 4 p;
   variables = named 1 p ∷ [];
   parameters = record { name = named 5 p; ty = DataAt p (named 0 p) (MoreTypes (VariableAt (named 1 p)) NoType) } ∷ [];
-  result = WholeAt p;
+  result = One (WholeAt p);
   body = GenericCase p (named 5 p) (GenericNextArm (named 2 p) [] (GenericNum p 0) (GenericLastArm (named 3 p) (named 6 p ∷ named 7 p ∷ [])
       (GenericOp p o.Add (GenericNum p 1) (GenericCall (named 4 p) (MoreTypes (VariableAt (named 1 p)) NoType) (GenericArgument (GenericVar (named 7 p)) GenericNoArgument)))));
 }
@@ -52,7 +53,7 @@ growing_program p q = record {
     name = named 4 p;
     variables = named 1 p ∷ [];
     parameters = record { name = named 6 p; ty = VariableAt (named 1 p) } ∷ [];
-    result = WholeAt p;
+    result = One (WholeAt p);
     body = GenericCall (named 4 q) (MoreTypes (DataAt p (named 0 p) (MoreTypes (VariableAt (named 1 p)) NoType)) NoType)
         (GenericArgument (GenericMake (named 3 p) (MoreTypes (VariableAt (named 1 p)) NoType) (GenericArgument (GenericVar (named 6 p)) (GenericArgument (GenericMake (named 2 p) (MoreTypes (VariableAt (named 1 p)) NoType) GenericNoArgument) GenericNoArgument))) GenericNoArgument);
   } ∷ [];

@@ -17,3 +17,4 @@ pub mod Scenes
 pub mod Made
 pub mod Declaring
 pub mod Bare
+pub mod Placed

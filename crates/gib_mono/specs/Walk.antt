@@ -6,8 +6,9 @@ use Rattle.gib_types.specs.SameForm.{same_forms}
 use Rattle.gib_syntax.specs.declared.tree.Ident.{Ident}
 use Rattle.gib_syntax.specs.Tree.{ProgramTree}
 use Rattle.gib_syntax.specs.Declarations.{number_of}
+use Rattle.gib_syntax.specs.Results.{Results, One, Several}
 use Rattle.gib_syntax.specs.Forms.{WrittenType, WrittenTypes, WholeAt, TruthAt, VariableAt, DataAt, NoType, MoreTypes, Form, Forms, WholeForm, TruthForm, VariableForm, DataForm, NoForm, MoreForms, Meant, formed_all, assign}
-use Rattle.gib_syntax.specs.GenericTree.{GenericExpression, GenericArguments, GenericArms, GenericVar, GenericNum, GenericBit, GenericParen, GenericOp, GenericCall, GenericMake, GenericLet, GenericPar, GenericIf, GenericCase, GenericNoArgument, GenericArgument, GenericLastArm, GenericNextArm, GenericConstructorTree, GenericDataTree, GenericParameterTree, GenericFunctionTree, GenericProgramTree, GenericRow, GenericGlobals, globals_of_generic, place_named, generic_named, data_named}
+use Rattle.gib_syntax.specs.GenericTree.{GenericExpression, GenericArguments, GenericArms, GenericVar, GenericNum, GenericBit, GenericParen, GenericOp, GenericCall, GenericMake, GenericLet, GenericPar, GenericIf, GenericCase, GenericTuple, GenericLetSeveral, GenericParSeveral, GenericNoArgument, GenericArgument, GenericLastArm, GenericNextArm, GenericConstructorTree, GenericDataTree, GenericParameterTree, GenericFunctionTree, GenericProgramTree, GenericRow, GenericGlobals, globals_of_generic, place_named, generic_named, data_named}
 use Rattle.gib_mono.specs.Copying.{Naming, owner_named, copy_data, copy_function, copy_main}
 use Rattle.gib_mono.specs.Copied.{Item}
 
@@ -56,6 +57,9 @@ abbrev mutual
   asks rows m (GenericPar p x a y b c) = asks rows m a ++ (asks rows m b ++ asks rows m c)
   asks rows m (GenericIf p a b c) = asks rows m a ++ (asks rows m b ++ asks rows m c)
   asks rows m (GenericCase p x arms) = arm_asks rows m arms
+  asks rows m (GenericTuple p xs) = all_asks rows m xs
+  asks rows m (GenericLetSeveral p xs a b) = asks rows m a ++ asks rows m b
+  asks rows m (GenericParSeveral p xs a ys b c) = asks rows m a ++ (asks rows m b ++ asks rows m c)
 
   pub all_asks : List GenericRow → Meant → GenericArguments → List Ask
   all_asks rows m GenericNoArgument = []
@@ -70,9 +74,14 @@ abbrev pub constructor_asks : Meant → List GenericConstructorTree → List Ask
 constructor_asks m [] = []
 constructor_asks m (c ∷ cs) = types_asks m c.fields ++ constructor_asks m cs
 
--- The uses in parameters, a result and a body.
-abbrev pub function_asks : List GenericRow → Meant → List GenericParameterTree → WrittenType → GenericExpression → List Ask
-function_asks rows m parameters result body = types_asks m (map (λ (q : GenericParameterTree). q.ty) parameters) ++ (written_asks m result ++ asks rows m body)
+-- The uses in the type of a result, or in those of the parts.
+abbrev pub results_asks : Meant → Results WrittenType → List Ask
+results_asks m (One w) = written_asks m w
+results_asks m (Several ws) = types_asks m ws
+
+-- The uses in parameters, what a function gives, and a body.
+abbrev pub function_asks : List GenericRow → Meant → List GenericParameterTree → Results WrittenType → GenericExpression → List Ask
+function_asks rows m parameters result body = types_asks m (map (λ (q : GenericParameterTree). q.ty) parameters) ++ (results_asks m result ++ asks rows m body)
 
 -- The uses in a copy.
 abbrev pub copy_asks : List GenericRow → Copy → List Ask
@@ -81,7 +90,7 @@ copy_asks rows (FunctionOf f ts) = function_asks rows (assign f.variables ts) f.
 
 -- Those of main.
 abbrev pub main_asks : GenericProgramTree → List Ask
-main_asks p = function_asks (globals_of_generic p).rows (assign [] NoForm) (p.main.parameter ∷ []) p.main.result p.main.body
+main_asks p = function_asks (globals_of_generic p).rows (assign [] NoForm) (p.main.parameter ∷ []) (One p.main.result) p.main.body
 
 -- The copy that is asked for; none where nothing has the name, which typing excludes.
 abbrev pub data_asked : Option GenericDataTree → Forms → Option Copy

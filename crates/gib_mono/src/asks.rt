@@ -46,6 +46,14 @@ pub fn ask_expression(search: &mut Search, source: &Source, id: ExprId) -> Resul
             variable,
             arms,
         } => ask_case(search, source, id, *span, *variable, arms),
+        GenericNode::Tuple(_, ids) => ask_arguments(search, source, id, ids),
+        GenericNode::LetSeveral { bound, body, .. } => ask_two(search, source, *bound, *body),
+        GenericNode::ParSeveral {
+            left,
+            right,
+            body,
+            ..
+        } => ask_three(search, source, *left, *right, *body),
     }
 }
 

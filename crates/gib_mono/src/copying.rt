@@ -5,27 +5,42 @@ ghost use Rattle.std.specs.List.{AllByRecursion};
 ghost use Rattle.gib_types.specs.Form.{Form};
 ghost use Rattle.gib_types.specs.Types.{AreBelow, ArgumentsBelow, form_from, forms_at};
 ghost use Rattle.gib_syntax.specs.GenericArena.{ArmsBelow, IsArmBelow, arguments_from, case_from, tree_of};
-ghost use Rattle.gib_syntax.specs.GenericTree.{GenericGlobals, GenericVar, GenericNum, GenericBit, GenericParen, GenericOp, GenericCall, GenericMake, GenericLet, GenericPar, GenericIf, GenericCase};
+ghost use Rattle.gib_syntax.specs.GenericTree.{GenericGlobals, GenericVar, GenericNum, GenericBit, GenericParen, GenericOp, GenericCall, GenericMake, GenericLet, GenericPar, GenericIf, GenericCase, GenericTuple, GenericLetSeveral, GenericParSeveral};
 ghost use Rattle.gib_syntax.specs.GenericTyping.{operator_form};
 ghost use Rattle.gib_syntax.specs.Words.{types_in};
 ghost use Rattle.gib_mono.specs.Scenes.{forms};
 ghost use Rattle.gib_mono.specs.Sources.{globals_in};
-ghost use Rattle.gib_mono.specs.Made.{Copies, CopiesAll, CopiesArm, CopiesArms, Meets};
+ghost use Rattle.gib_mono.specs.Made.{Copies, CopiesAll, CopiesTuple, CopiesArm, CopiesArms, Meets};
 
 use crate::copier::{Copied, Copier};
 use crate::source::Source;
 use gib_base::{Memory, Span};
+use gib_check::ResultIds;
 use gib_syntax::{Arm, Bound, ExprId, GenericNode, Ident, Node, Operator, Run};
 use gib_types::types::{TypeId, TypeNode};
 
-/// A copied arm, with the type of its expression.
+/// A copied arm, with what its expression gives.
 #[derive(Drop)]
 pub struct CopiedArm {
     pub arm: Arm,
-    pub ty: TypeId,
+    pub given: ResultIds,
 }
 
-/// The copy of an expression, with its type.
+/// The copied parts of a tuple, with their types.
+#[derive(Drop)]
+pub struct CopiedTuple {
+    pub exprs: Vec<ExprId>,
+    pub types: Vec<TypeId>,
+}
+
+/// The variables of a side of a `let par`, and its expression.
+#[derive(Drop)]
+struct Side<'a> {
+    names: &'a [Ident],
+    value: ExprId,
+}
+
+/// The copy of an expression, with what it gives.
 ///
 /// # Errors
 ///
@@ -77,6 +92,31 @@ pub fn copy_expression(copier: &mut Copier, source: &Source, id: ExprId) -> Resu
             variable,
             arms,
         } => copy_case(copier, source, id, *span, *variable, arms),
+        GenericNode::Tuple(span, ids) => copy_tuple(copier, source, id, *span, ids),
+        GenericNode::LetSeveral {
+            span,
+            names,
+            bound,
+            body,
+        } => copy_let_several(copier, source, *span, names, *bound, *body),
+        GenericNode::ParSeveral {
+            span,
+            left_names,
+            left,
+            right_names,
+            right,
+            body,
+        } => {
+            let left = Side {
+                names: left_names,
+                value: *left,
+            };
+            let right = Side {
+                names: right_names,
+                value: *right,
+            };
+            copy_par_several(copier, source, *span, &left, &right, *body)
+        }
     }
 }
 
@@ -86,7 +126,10 @@ fn copy_variable(copier: &mut Copier, x: Ident) -> Result<Copied, Memory>
 {
     let ty = copier.meet_variable(x.name)?;
     let expr = copier.put(Node::Variable(x))?;
-    Ok(Copied { expr, ty })
+    Ok(Copied {
+        expr,
+        given: ResultIds::One(ty),
+    })
 }
 
 /// An integer.
@@ -96,7 +139,10 @@ fn copy_whole(copier: &mut Copier, span: Span, number: u64) -> Result<Copied, Me
 {
     let ty = copier.meet(TypeNode::Whole)?;
     let expr = copier.put(Node::Whole(span, number))?;
-    Ok(Copied { expr, ty })
+    Ok(Copied {
+        expr,
+        given: ResultIds::One(ty),
+    })
 }
 
 /// `True` or `False`.
@@ -105,7 +151,10 @@ fn copy_truth(copier: &mut Copier, span: Span, truth: bool) -> Result<Copied, Me
 {
     let ty = copier.meet(TypeNode::Truth)?;
     let expr = copier.put(Node::Truth(span, truth))?;
-    Ok(Copied { expr, ty })
+    Ok(Copied {
+        expr,
+        given: ResultIds::One(ty),
+    })
 }
 
 /// An expression in parentheses.
@@ -121,7 +170,10 @@ fn copy_paren(
 {
     let part = copy_expression(copier, source, inner)?;
     let expr = copier.put(Node::Paren(span, part.expr))?;
-    Ok(Copied { expr, ty: part.ty })
+    Ok(Copied {
+        expr,
+        given: part.given,
+    })
 }
 
 /// The type of what an operator gives.
@@ -170,7 +222,10 @@ fn copy_operation(
         left: first.expr,
         right: second.expr,
     })?;
-    Ok(Copied { expr, ty })
+    Ok(Copied {
+        expr,
+        given: ResultIds::One(ty),
+    })
 }
 
 /// An `if`, whose type is that of its first part.
@@ -199,7 +254,7 @@ fn copy_if(
     })?;
     Ok(Copied {
         expr,
-        ty: second.ty,
+        given: second.given,
     })
 }
 
@@ -217,8 +272,9 @@ fn copy_let(
     ensures { IfOk result (λ c. Copies (globals_in source.now) copier.old copier.new c (GenericLet span bound.name (tree_of source.now.exprs bound.value.0) (tree_of source.now.exprs body.0))) }
 {
     let value = copy_expression(copier, source, bound.value)?;
+    let ty = copier.one(value.given)?;
     let outer = copier.scene.scope_len();
-    copier.bind(bound.name, value.ty)?;
+    copier.bind(bound.name, ty)?;
     let inner = copy_expression(copier, source, body)?;
     copier.leave(outer);
     let expr = copier.put(Node::Let {
@@ -227,7 +283,10 @@ fn copy_let(
         bound: value.expr,
         body: inner.expr,
     })?;
-    Ok(Copied { expr, ty: inner.ty })
+    Ok(Copied {
+        expr,
+        given: inner.given,
+    })
 }
 
 /// A `let par`.
@@ -247,9 +306,11 @@ fn copy_let_par(
 {
     let first = copy_expression(copier, source, left.value)?;
     let second = copy_expression(copier, source, right.value)?;
+    let left_ty = copier.one(first.given)?;
+    let right_ty = copier.one(second.given)?;
     let outer = copier.scene.scope_len();
-    copier.bind(left.name, first.ty)?;
-    copier.bind(right.name, second.ty)?;
+    copier.bind(left.name, left_ty)?;
+    copier.bind(right.name, right_ty)?;
     let inner = copy_expression(copier, source, body)?;
     copier.leave(outer);
     let expr = copier.put(Node::LetPar {
@@ -260,7 +321,10 @@ fn copy_let_par(
         right: second.expr,
         body: inner.expr,
     })?;
-    Ok(Copied { expr, ty: inner.ty })
+    Ok(Copied {
+        expr,
+        given: inner.given,
+    })
 }
 
 /// Arguments, from left to right.
@@ -285,6 +349,128 @@ fn copy_arguments(
     Ok(copied)
 }
 
+/// The parts of a tuple, from left to right.
+#[cycle(copy)]
+fn copy_tuple_parts(
+    copier: &mut Copier,
+    source: &Source,
+    id: ExprId,
+    ids: &[ExprId],
+) -> Result<CopiedTuple, Memory>
+    requires inside { id.0 < length source.now.exprs.nodes }
+    requires below { AllByRecursion (λ a. a.0 < id.0) ids.now }
+    ensures { IfOk result (λ copied. CopiesTuple (globals_in source.now) copier.old copier.new copied.exprs.items copied.types.items (arguments_from (tree_of source.now.exprs) ids.now)) }
+{
+    let mut exprs = Vec::new(copier.alloc);
+    let mut types = Vec::new(copier.alloc);
+    let mut rest = ids;
+    'parts: while let [part, after @ ..] = rest {
+        let copied = copy_expression(copier, source, *part)?;
+        let ty = copier.one(copied.given)?;
+        exprs.push(copied.expr)?;
+        types.push(ty)?;
+        rest = after;
+    }
+    Ok(CopiedTuple { exprs, types })
+}
+
+/// A tuple, which carries the types of its parts.
+#[cycle(copy)]
+fn copy_tuple(
+    copier: &mut Copier,
+    source: &Source,
+    id: ExprId,
+    span: Span,
+    ids: &[ExprId],
+) -> Result<Copied, Memory>
+    requires inside { id.0 < length source.now.exprs.nodes }
+    requires below { AllByRecursion (λ a. a.0 < id.0) ids.now }
+    ensures { IfOk result (λ c. Copies (globals_in source.now) copier.old copier.new c (GenericTuple span (arguments_from (tree_of source.now.exprs) ids.now))) }
+{
+    let copied = copy_tuple_parts(copier, source, id, ids)?;
+    let types = copier.type_names(span, &copied.types)?;
+    let given = copier.put_parts(&copied.types)?;
+    let expr = copier.put(Node::Tuple {
+        span,
+        types,
+        parts: copied.exprs,
+    })?;
+    Ok(Copied { expr, given })
+}
+
+/// A `let` of several variables, which carry their types.
+#[cycle(copy)]
+fn copy_let_several(
+    copier: &mut Copier,
+    source: &Source,
+    span: Span,
+    names: &[Ident],
+    bound: ExprId,
+    body: ExprId,
+) -> Result<Copied, Memory>
+    requires bound { bound.0 < length source.now.exprs.nodes }
+    requires body { body.0 < length source.now.exprs.nodes }
+    ensures { IfOk result (λ c. Copies (globals_in source.now) copier.old copier.new c (GenericLetSeveral span names.now (tree_of source.now.exprs bound.0) (tree_of source.now.exprs body.0))) }
+{
+    let value = copy_expression(copier, source, bound)?;
+    let types = copier.types_given(value.given)?;
+    let variables = copier.variables(names, &types)?;
+    let outer = copier.scene.scope_len();
+    copier.bind_all(names, &types)?;
+    let inner = copy_expression(copier, source, body)?;
+    copier.leave(outer);
+    let expr = copier.put(Node::LetSeveral {
+        span,
+        names: variables,
+        bound: value.expr,
+        body: inner.expr,
+    })?;
+    Ok(Copied {
+        expr,
+        given: inner.given,
+    })
+}
+
+/// A `let par` of several variables, which carry their types.
+#[cycle(copy)]
+fn copy_par_several(
+    copier: &mut Copier,
+    source: &Source,
+    span: Span,
+    left: &Side,
+    right: &Side,
+    body: ExprId,
+) -> Result<Copied, Memory>
+    requires left { left.now.value.0 < length source.now.exprs.nodes }
+    requires right { right.now.value.0 < length source.now.exprs.nodes }
+    requires body { body.0 < length source.now.exprs.nodes }
+    ensures { IfOk result (λ c. Copies (globals_in source.now) copier.old copier.new c (GenericParSeveral span left.now.names.now (tree_of source.now.exprs left.now.value.0) right.now.names.now (tree_of source.now.exprs right.now.value.0) (tree_of source.now.exprs body.0))) }
+{
+    let first = copy_expression(copier, source, left.value)?;
+    let second = copy_expression(copier, source, right.value)?;
+    let left_types = copier.types_given(first.given)?;
+    let right_types = copier.types_given(second.given)?;
+    let left_names = copier.variables(left.names, &left_types)?;
+    let right_names = copier.variables(right.names, &right_types)?;
+    let outer = copier.scene.scope_len();
+    copier.bind_all(left.names, &left_types)?;
+    copier.bind_all(right.names, &right_types)?;
+    let inner = copy_expression(copier, source, body)?;
+    copier.leave(outer);
+    let expr = copier.put(Node::ParSeveral {
+        span,
+        left_names,
+        left: first.expr,
+        right_names,
+        right: second.expr,
+        body: inner.expr,
+    })?;
+    Ok(Copied {
+        expr,
+        given: inner.given,
+    })
+}
+
 /// A call, of the function's copy at the types that the call says.
 #[cycle(copy)]
 fn copy_call(
@@ -302,9 +488,9 @@ fn copy_call(
     let types = copier.meet_types(source.words(run))?;
     let name = copier.name(f, &types)?;
     let arguments = copy_arguments(copier, source, id, ids)?;
-    let ty = copier.meet_result(source, f.name, &types)?;
+    let given = copier.meet_result(source, f.name, &types)?;
     let expr = copier.put(Node::Call(name, arguments))?;
-    Ok(Copied { expr, ty })
+    Ok(Copied { expr, given })
 }
 
 /// A constructor, of the copy of its type at the types that it says.
@@ -326,7 +512,10 @@ fn copy_make(
     let arguments = copy_arguments(copier, source, id, ids)?;
     let ty = copier.meet(TypeNode::Data(source.owner(k.name).0, types))?;
     let expr = copier.put(Node::Make(name, arguments))?;
-    Ok(Copied { expr, ty })
+    Ok(Copied {
+        expr,
+        given: ResultIds::One(ty),
+    })
 }
 
 /// An arm of a `case` on a variable whose type has these arguments.
@@ -341,7 +530,7 @@ fn copy_arm(
     requires inside { id.0 < length source.now.exprs.nodes }
     requires below { IsArmBelow id.0 arm.now }
     requires types { AreBelow (length copier.old.scene.types) types.now }
-    ensures { IfOk result (λ c. CopiesArm (globals_in source.now) copier.old copier.new c.arm c.ty arm.now (tree_of source.now.exprs arm.now.body.0) (forms_at (forms copier.old.scene) types.now)) }
+    ensures { IfOk result (λ c. CopiesArm (globals_in source.now) copier.old copier.new c.arm c.given arm.now (tree_of source.now.exprs arm.now.body.0) (forms_at (forms copier.old.scene) types.now)) }
 {
     let constructor = copier.name(arm.constructor, types)?;
     let outer = copier.scene.scope_len();
@@ -355,7 +544,7 @@ fn copy_arm(
             variables,
             body: inner.expr,
         },
-        ty: inner.ty,
+        given: inner.given,
     })
 }
 
@@ -403,7 +592,7 @@ fn copy_case(
     let of = copier.meet_variable(variable.name)?;
     let types = copier.arguments(of)?;
     let part = copy_arm(copier, source, id, first, &types)?;
-    let ty = part.ty;
+    let given = part.given;
     let mut copied = Vec::new(copier.alloc);
     copied.push(part.arm)?;
     copy_arms(copier, source, id, further, &types, &mut copied)?;
@@ -412,5 +601,5 @@ fn copy_case(
         variable,
         arms: copied,
     })?;
-    Ok(Copied { expr, ty })
+    Ok(Copied { expr, given })
 }

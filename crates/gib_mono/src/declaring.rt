@@ -4,11 +4,11 @@ ghost use Rattle.std.specs.Prelude.{◌≡◌, ◌<◌, [], ◌∷◌, length, m
 ghost use Rattle.gib_types.specs.Types.{form_at, forms_at, AreBelow};
 ghost use Rattle.gib_syntax.specs.Parts.{constructor_tree};
 ghost use Rattle.gib_syntax.specs.GenericArena.{tree_of as generic_of};
-ghost use Rattle.gib_syntax.specs.GenericParts.{constructor_in, generic_program_of, parameter_in};
+ghost use Rattle.gib_syntax.specs.GenericParts.{constructor_in, generic_program_of, parameter_in, results_in};
 ghost use Rattle.gib_syntax.specs.GenericTree.{GenericDataTree, GenericFunctionTree};
 ghost use Rattle.gib_syntax.specs.Words.{first_type, stack_of, type_in};
-ghost use Rattle.gib_mono.specs.Copying.{copy_written, name_of_form};
-ghost use Rattle.gib_mono.specs.Declaring.{first_span, named_forms, Writes, WritesAll, CopiesConstructors, CopiesData, CopiesParameters, CopiesParts, CopiesFunction, CopiesMain, Declares, IsKeyInside, AreKeysInside, copies_from};
+ghost use Rattle.gib_mono.specs.Copying.{copy_written};
+ghost use Rattle.gib_mono.specs.Declaring.{first_span, named_forms, Writes, WritesAll, WritesResults, CopiesConstructors, CopiesData, CopiesParameters, CopiesParts, CopiesFunction, CopiesMain, Declares, IsKeyInside, AreKeysInside, copies_from};
 ghost use Rattle.gib_mono.specs.Made.{naming};
 ghost use Rattle.gib_mono.specs.Reading.{listed};
 ghost use Rattle.gib_mono.specs.Scenes.{forms, meaning};
@@ -18,13 +18,13 @@ use crate::copier::Copier;
 use crate::copying::copy_expression;
 use crate::found::CopyKey;
 use crate::source::Source;
-use gib_base::{Memory, Name, Span};
+use gib_base::{Memory, Span};
 use gib_check::Stack;
 use gib_syntax::{
-    ConstructorDecl, DataDecl, ExprId, FunctionDecl, GenericConstructor, GenericParameter, Ident,
-    MainDecl, Parameter, Run, TypeName, Word,
+    ConstructorDecl, DataDecl, ExprId, FunctionDecl, GenericConstructor, GenericParameter,
+    MainDecl, Parameter, ResultRuns, ResultTypes, Run, TypeName, Word,
 };
-use gib_types::types::{TypeId, TypeNode};
+use gib_types::types::TypeId;
 
 /// A type as the copy writes it, with its number.
 #[derive(Clone, Copy, Debug)]
@@ -37,7 +37,7 @@ pub struct Written {
 #[derive(Drop)]
 pub struct CopiedParts {
     pub parameters: Vec<Parameter>,
-    pub result: TypeName,
+    pub result: ResultTypes,
     pub body: ExprId,
 }
 
@@ -46,26 +46,6 @@ pub struct CopiedParts {
 pub struct Declarations {
     pub datas: Vec<DataDecl>,
     pub functions: Vec<FunctionDecl>,
-}
-
-/// A type as the copy writes it.
-fn type_name(copier: &Copier, span: Span, ty: TypeId) -> Result<TypeName, Memory>
-    requires { ty.0 < length copier.now.scene.types }
-    ensures { IfOk result (λ name. name ≡ name_of_form (naming copier.now) span (form_at (forms copier.now.scene) ty.0)) }
-{
-    match copier.scene.types().node(ty) {
-        TypeNode::Whole => Ok(TypeName::Whole(span)),
-        TypeNode::Truth => Ok(TypeName::Truth(span)),
-        TypeNode::Variable(_) => Ok(TypeName::Whole(span)),
-        TypeNode::Data(name, types) => {
-            let plain = Ident {
-                name: Name(*name),
-                span,
-            };
-            let name = copier.name(plain, types)?;
-            Ok(TypeName::Declared(name))
-        }
-    }
 }
 
 /// Types as the copy writes them, each where it is written.
@@ -80,7 +60,7 @@ fn type_names(copier: &Copier, places: &[Span], types: &[TypeId]) -> Result<Vec<
         let [ty, further_types @ ..] = left else {
             return Ok(names);
         };
-        let name = type_name(copier, *span, *ty)?;
+        let name = copier.type_name(*span, *ty)?;
         names.push(name)?;
         spans = further_spans;
         left = further_types;
@@ -115,7 +95,7 @@ fn copy_type(copier: &mut Copier, words: &[Word]) -> Result<Written, Memory>
     let reading = copier.scene.read(copier.alloc, words)?;
     let span = first_place(reading.places);
     let ty = copier.first(reading.types)?;
-    let name = type_name(copier, span, ty)?;
+    let name = copier.type_name(span, ty)?;
     Ok(Written { name, ty })
 }
 
@@ -196,23 +176,61 @@ fn copy_parameters(
     Ok(copied)
 }
 
-/// The copies of parameters, a result and a body.
+/// The types of parts, as the copy writes them.
+fn copy_part_types(
+    copier: &mut Copier,
+    source: &Source,
+    runs: &[Run],
+) -> Result<Vec<TypeName>, Memory>
+    ensures { IfOk result (λ names. WritesAll copier.old copier.new names.items (map (copy_written (naming copier.old) (meaning copier.old.scene)) (map (type_in source.now.exprs.words) runs.now))) }
+{
+    let mut names = Vec::new(copier.alloc);
+    let mut rest = runs;
+    'runs: while let [run, after @ ..] = rest {
+        let written = copy_type(copier, source.words(*run))?;
+        names.push(written.name)?;
+        rest = after;
+    }
+    Ok(names)
+}
+
+/// What a function gives, as the copy writes it.
+fn copy_results(
+    copier: &mut Copier,
+    source: &Source,
+    gives: &ResultRuns,
+) -> Result<ResultTypes, Memory>
+    ensures { IfOk result (λ types. WritesResults copier.old copier.new types (results_in source.now.exprs.words gives.now)) }
+{
+    match gives {
+        ResultRuns::One(run) => {
+            let written = copy_type(copier, source.words(*run))?;
+            Ok(ResultTypes::One(written.name))
+        }
+        ResultRuns::Several(runs) => {
+            let names = copy_part_types(copier, source, runs)?;
+            Ok(ResultTypes::Several(names))
+        }
+    }
+}
+
+/// The copies of parameters, of what is given, and of a body.
 fn copy_parts(
     copier: &mut Copier,
     source: &Source,
     parameters: &[GenericParameter],
-    result_ty: Run,
+    gives: &ResultRuns,
     body: ExprId,
 ) -> Result<CopiedParts, Memory>
     requires { body.0 < length source.now.exprs.nodes }
-    ensures { IfOk result (λ parts. CopiesParts (globals_in source.now) copier.old copier.new parts (map (parameter_in source.now.exprs.words) parameters.now) (type_in source.now.exprs.words result_ty) (generic_of source.now.exprs body.0)) }
+    ensures { IfOk result (λ parts. CopiesParts (globals_in source.now) copier.old copier.new parts (map (parameter_in source.now.exprs.words) parameters.now) (results_in source.now.exprs.words gives.now) (generic_of source.now.exprs body.0)) }
 {
     let copied = copy_parameters(copier, source, parameters)?;
-    let written = copy_type(copier, source.words(result_ty))?;
+    let result = copy_results(copier, source, gives)?;
     let part = copy_expression(copier, source, body)?;
     Ok(CopiedParts {
         parameters: copied,
-        result: written.name,
+        result,
         body: part.expr,
     })
 }
@@ -237,7 +255,7 @@ fn copy_function(
         copier,
         source,
         &function.parameters,
-        function.result,
+        &function.result,
         function.body,
     )?;
     Ok(FunctionDecl {
@@ -260,14 +278,16 @@ pub fn copy_main(copier: &mut Copier, source: &Source) -> Result<MainDecl, Memor
     let alloc = copier.alloc;
     copier.scene.enter(Vec::new(alloc), Vec::new(alloc));
     let parameters = [main.parameter];
-    let parts = copy_parts(copier, source, &parameters, main.result, main.body)?;
-    let [parameter, ..] = parts.parameters.as_slice() else {
+    let copied = copy_parameters(copier, source, &parameters)?;
+    let written = copy_type(copier, source.words(main.result))?;
+    let part = copy_expression(copier, source, main.body)?;
+    let [parameter, ..] = copied.as_slice() else {
         unreachable!()
     };
     Ok(MainDecl {
         parameter: *parameter,
-        result: parts.result,
-        body: parts.body,
+        result: written.name,
+        body: part.expr,
     })
 }
 

@@ -4,7 +4,7 @@ ghost use Rattle.std.specs.Prelude.{◌≡◌, ◌<◌, List, [], ◌++◌, map,
 ghost use Rattle.std.specs.List.{AllByRecursion};
 ghost use Rattle.gib_types.specs.Types.{forms_at, AreBelow};
 ghost use Rattle.gib_syntax.specs.GenericArena.{tree_of};
-ghost use Rattle.gib_syntax.specs.GenericParts.{generic_program_of, constructor_in, parameter_in, IsParameterInside};
+ghost use Rattle.gib_syntax.specs.GenericParts.{generic_program_of, constructor_in, parameter_in, results_in, IsParameterInside, AreResultsInside};
 ghost use Rattle.gib_syntax.specs.GenericTree.{GenericDataTree, GenericFunctionTree, GenericParameterTree};
 ghost use Rattle.gib_syntax.specs.Words.{type_in, IsTypeRun};
 ghost use Rattle.gib_mono.specs.Contexts.{forms};
@@ -13,7 +13,7 @@ ghost use Rattle.gib_mono.specs.Limits.{IsLimitOf, IsMemory};
 ghost use Rattle.gib_mono.specs.Closed.{IsGood};
 ghost use Rattle.gib_mono.specs.Searching.{IsAt, IsOpen, Walked, Asks, AsksAll};
 ghost use Rattle.gib_mono.specs.Sources.{globals_in};
-ghost use Rattle.gib_mono.specs.Walk.{Copy, DataOf, FunctionOf, copies_of, copy_asks, main_asks, copies_asks, constructor_asks, function_asks, types_asks, plain_copies, plain_data, plain_datas, plain_function, plain_functions};
+ghost use Rattle.gib_mono.specs.Walk.{Copy, DataOf, FunctionOf, copies_of, copy_asks, main_asks, copies_asks, constructor_asks, function_asks, results_asks, types_asks, plain_copies, plain_data, plain_datas, plain_function, plain_functions};
 
 use crate::asks::ask_expression;
 use crate::context::Context;
@@ -21,7 +21,7 @@ use crate::found::{CopyKey, Found, MonoFault};
 use crate::search::{Search, add, ask_types};
 use crate::source::Source;
 use gib_base::Memory;
-use gib_syntax::{ExprId, GenericConstructor, GenericParameter, Run};
+use gib_syntax::{ExprId, GenericConstructor, GenericParameter, ResultRuns, Run};
 use gib_types::types::TypeId;
 use std::alloc::Global;
 
@@ -65,21 +65,45 @@ fn ask_parameters(
     Ok(())
 }
 
-/// What parameters, a result and a body use is asked for.
+/// What the types of parts use is asked for.
+fn ask_parts(search: &mut Search, source: &Source, runs: &[Run]) -> Result<(), Memory>
+    requires { AllByRecursion (IsTypeRun source.now.exprs.words) runs.now }
+    ensures { IfOk result (λ _. Asks (globals_in source.now) search.old search.new (λ m. types_asks m (map (type_in source.now.exprs.words) runs.now))) }
+{
+    let mut rest = runs;
+    'runs: while let [run, after @ ..] = rest {
+        ask_types(search, source, source.words(*run))?;
+        rest = after;
+    }
+    Ok(())
+}
+
+/// What the type of a result uses, or those of the parts, is asked for.
+fn ask_results(search: &mut Search, source: &Source, gives: &ResultRuns) -> Result<(), Memory>
+    requires { AreResultsInside source.now.exprs.words gives.now }
+    ensures { IfOk result (λ _. Asks (globals_in source.now) search.old search.new (λ m. results_asks m (results_in source.now.exprs.words gives.now))) }
+{
+    match gives {
+        ResultRuns::One(run) => ask_types(search, source, source.words(*run)),
+        ResultRuns::Several(runs) => ask_parts(search, source, runs),
+    }
+}
+
+/// What parameters, what a function gives and a body use is asked for.
 fn ask_function(
     search: &mut Search,
     source: &Source,
     parameters: &[GenericParameter],
-    result_ty: Run,
+    gives: &ResultRuns,
     body: ExprId,
 ) -> Result<(), Memory>
     requires parameters { AllByRecursion (IsParameterInside source.now.exprs.words) parameters.now }
-    requires result_ty { IsTypeRun source.now.exprs.words result_ty }
+    requires gives { AreResultsInside source.now.exprs.words gives.now }
     requires body { body.0 < length source.now.exprs.nodes }
-    ensures { IfOk result (λ _. Asks (globals_in source.now) search.old search.new (λ m. function_asks (globals_in source.now).rows m (map (parameter_in source.now.exprs.words) parameters.now) (type_in source.now.exprs.words result_ty) (tree_of source.now.exprs body.0))) }
+    ensures { IfOk result (λ _. Asks (globals_in source.now) search.old search.new (λ m. function_asks (globals_in source.now).rows m (map (parameter_in source.now.exprs.words) parameters.now) (results_in source.now.exprs.words gives.now) (tree_of source.now.exprs body.0))) }
 {
     ask_parameters(search, source, parameters)?;
-    ask_types(search, source, source.words(result_ty))?;
+    ask_results(search, source, gives)?;
     ask_expression(search, source, body)?;
     Ok(())
 }
@@ -122,7 +146,7 @@ fn ask_function_copy(
         search,
         source,
         &function.parameters,
-        function.result,
+        &function.result,
         function.body,
     )?;
     Ok(())
@@ -136,7 +160,8 @@ fn ask_main(search: &mut Search, source: &Source) -> Result<(), Memory>
     let alloc = search.alloc;
     search.context.enter(Vec::new(alloc), Vec::new(alloc));
     let parameters = [main.parameter];
-    ask_function(search, source, &parameters, main.result, main.body)?;
+    let gives = ResultRuns::One(main.result);
+    ask_function(search, source, &parameters, &gives, main.body)?;
     Ok(())
 }
 

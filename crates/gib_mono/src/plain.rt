@@ -5,17 +5,18 @@ ghost use Rattle.std.specs.Prelude.{◌≡◌, List, true, length, map, IfOk, On
 ghost use Rattle.std.specs.List.{AllByRecursion};
 ghost use Rattle.gib_syntax.specs.Arena.{Makes, PartsBelow};
 ghost use Rattle.gib_syntax.specs.Forms.{WrittenType};
-ghost use Rattle.gib_syntax.specs.GenericParts.{IsFunctionInside, constructor_in, data_in, function_in, generic_program_of, main_in, parameter_in};
-ghost use Rattle.gib_syntax.specs.Parts.{constructor_tree, data_tree, function_tree, main_tree, program_of, IsFunctionInside as IsInside};
+ghost use Rattle.gib_syntax.specs.GenericParts.{IsFunctionInside, constructor_in, data_in, function_in, generic_program_of, main_in, parameter_in, results_in};
+ghost use Rattle.gib_syntax.specs.Parts.{constructor_tree, data_tree, results_tree, function_tree, main_tree, program_of, IsFunctionInside as IsInside};
+ghost use Rattle.gib_syntax.specs.Results.{map_results};
 ghost use Rattle.gib_syntax.specs.Words.{first_type, read_word, stack_of};
-ghost use Rattle.gib_mono.specs.Bare.{AreBare, IsChoice, IsLet, IsPlainHere, IsPlainKept, IsPlainProgram, bare_constructor, bare_data, bare_function, bare_main, bare_node, bare_parameter, bare_program, bare_tree, bare_written};
+ghost use Rattle.gib_mono.specs.Bare.{AreBare, AreSingleTrees, GivesOne, IsChoice, IsLet, IsSingleNode, IsPlainHere, IsPlainKept, IsPlainProgram, bare_constructor, bare_data, bare_function, bare_main, bare_node, bare_parameter, bare_program, bare_tree, bare_written};
 
 use gib_base::{Memory, Span};
 use gib_check::Stack;
 use gib_syntax::{
-    ConstructorDecl, DataDecl, Exprs, FunctionDecl, GenericConstructor, GenericData, GenericExprs,
-    GenericFunction, GenericMain, GenericNode, GenericParameter, GenericProgram, Ident, MainDecl,
-    Node, Parameter, Program, TypeName, Word,
+    ConstructorDecl, DataDecl, ExprId, Exprs, FunctionDecl, GenericConstructor, GenericData,
+    GenericExprs, GenericFunction, GenericMain, GenericNode, GenericParameter, GenericProgram,
+    Ident, MainDecl, Node, Parameter, Program, ResultRuns, ResultTypes, TypeName, Word,
 };
 use std::alloc::{AllocError, Global};
 
@@ -33,13 +34,13 @@ fn are_plain_datas(datas: &[GenericData]) -> bool
     true
 }
 
-/// Whether no function has type variables.
+/// Whether no function has type variables, and each gives one thing.
 fn are_plain_functions(functions: &[GenericFunction]) -> bool
     ensures { result ≡ true → AllByRecursion IsPlainHere functions.now }
 {
     let mut rest = functions;
     'functions: while let [function, after @ ..] = rest {
-        if !function.variables.is_empty() {
+        if !function.variables.is_empty() || !gives_one(&function.result) {
             return false;
         }
         rest = after;
@@ -47,14 +48,66 @@ fn are_plain_functions(functions: &[GenericFunction]) -> bool
     true
 }
 
-/// Whether no declaration has type variables.
+/// Whether a function gives one thing.
+fn gives_one(gives: &ResultRuns) -> bool
+    ensures { result ≡ true → GivesOne gives.now }
+{
+    match gives {
+        ResultRuns::One(_) => true,
+        ResultRuns::Several(_) => false,
+    }
+}
+
+/// Whether a node has no parts, and no variables for them.
+fn is_single(node: &GenericNode) -> bool
+    ensures { result ≡ true → IsSingleNode node.now }
+{
+    match node {
+        GenericNode::Tuple(..) | GenericNode::LetSeveral { .. } | GenericNode::ParSeveral { .. } =>
+            false,
+        GenericNode::Variable(_)
+        | GenericNode::Whole(..)
+        | GenericNode::Truth(..)
+        | GenericNode::Paren(..)
+        | GenericNode::Operation { .. }
+        | GenericNode::Call(..)
+        | GenericNode::Make(..)
+        | GenericNode::Let { .. }
+        | GenericNode::LetPar { .. }
+        | GenericNode::If { .. }
+        | GenericNode::Case { .. } => true,
+    }
+}
+
+/// Whether no expression has parts.
+fn are_single(exprs: &GenericExprs) -> bool
+    ensures { result ≡ true → AreSingleTrees exprs.now }
+{
+    let mut number = 0_u32;
+    'nodes: while (number as usize) < exprs.len() {
+        if !is_single(exprs.node(ExprId(number))) {
+            return false;
+        }
+        let Some(next) = number.checked_add(1) else {
+            return false;
+        };
+        number = next;
+    }
+    true
+}
+
+/// Whether no declaration has type variables, and nothing has several parts.
 pub fn is_plain(program: &GenericProgram) -> bool
-    ensures { result ≡ true → IsPlainProgram (generic_program_of program.now) }
+    ensures plain { result ≡ true → IsPlainProgram (generic_program_of program.now) }
+    ensures single { result ≡ true → AreSingleTrees program.now.exprs }
 {
     if !are_plain_datas(program.datas()) {
         return false;
     }
-    are_plain_functions(program.functions())
+    if !are_plain_functions(program.functions()) {
+        return false;
+    }
+    are_single(program.exprs())
 }
 
 /// The plain node of one that binds variables of its own in front of what it is.
@@ -125,6 +178,7 @@ fn bare_choice(node: GenericNode) -> Node
 
 /// The plain node of a node: its type arguments are left out, its parts keep their numbers.
 fn bare_node(node: GenericNode) -> Node
+    requires { IsSingleNode node }
     ensures { result ≡ bare_node node }
 {
     match node {
@@ -147,6 +201,8 @@ fn bare_node(node: GenericNode) -> Node
         GenericNode::Make(k, _, ids) => Node::Make(k, ids),
         GenericNode::Let { .. } | GenericNode::LetPar { .. } => bare_let(node),
         GenericNode::If { .. } | GenericNode::Case { .. } => bare_choice(node),
+        GenericNode::Tuple(..) | GenericNode::LetSeveral { .. } | GenericNode::ParSeveral { .. } =>
+            { unreachable!() }
     }
 }
 
@@ -165,6 +221,7 @@ fn put_next(made: &mut Exprs, next: u32, node: Node) -> Result<(), Memory>
 
 /// All expressions without their type arguments, each at the number that it has.
 fn bare_exprs(alloc: Global, exprs: GenericExprs) -> Result<Exprs, Memory>
+    requires { AreSingleTrees exprs }
     ensures { IfOk result (λ made. AreBare exprs (length exprs.nodes) made) }
 {
     let mut made = Exprs::new(alloc);
@@ -299,13 +356,25 @@ fn bare_parameters(
     Ok(made)
 }
 
+/// What a function gives, which is one thing.
+fn bare_result(exprs: &GenericExprs, gives: &ResultRuns) -> ResultTypes
+    requires { GivesOne gives.now }
+    ensures { results_tree result ≡ map_results bare_written (results_in exprs.now.words gives.now) }
+{
+    match gives {
+        ResultRuns::One(run) => ResultTypes::One(bare_type(exprs.words(*run))),
+        ResultRuns::Several(_) => unreachable!(),
+    }
+}
+
 /// A function, whose body has the number that it has.
 fn bare_function(
     alloc: Global,
     exprs: &GenericExprs,
     function: &GenericFunction,
 ) -> Result<FunctionDecl, Memory>
-    requires { IsFunctionInside exprs.now function.now }
+    requires inside { IsFunctionInside exprs.now function.now }
+    requires plain { IsPlainHere function.now }
     ensures tree { IfOk result (λ made. function_tree (bare_tree exprs.now) made ≡ bare_function (function_in exprs.now function.now)) }
     ensures inside { IfOk result (λ made. IsInside (length exprs.now.nodes) made) }
 {
@@ -313,7 +382,7 @@ fn bare_function(
     Ok(FunctionDecl {
         name: function.name,
         parameters,
-        result: bare_type(exprs.words(function.result)),
+        result: bare_result(exprs, &function.result),
         body: function.body,
     })
 }
@@ -324,7 +393,8 @@ fn bare_functions(
     exprs: &GenericExprs,
     functions: &[GenericFunction],
 ) -> Result<Vec<FunctionDecl>, Memory>
-    requires { AllByRecursion (IsFunctionInside exprs.now) functions.now }
+    requires inside { AllByRecursion (IsFunctionInside exprs.now) functions.now }
+    requires plain { AllByRecursion IsPlainHere functions.now }
     ensures trees { IfOk result (λ made. map (function_tree (bare_tree exprs.now)) made.items ≡ map bare_function (map (function_in exprs.now) functions.now)) }
     ensures inside { IfOk result (λ made. AllByRecursion (IsInside (length exprs.now.nodes)) made.items) }
 {
@@ -355,6 +425,8 @@ fn bare_main(exprs: &GenericExprs, main: GenericMain) -> MainDecl
 ///
 /// Want of memory.
 pub fn bare_program(alloc: Global, program: GenericProgram) -> Result<Program, Memory>
+    requires plain { IsPlainProgram (generic_program_of program) }
+    requires single { AreSingleTrees program.exprs }
     ensures { IfOk result (λ made. program_of made ≡ bare_program (generic_program_of program)) }
 {
     let datas = bare_datas(alloc, program.exprs(), program.datas())?;

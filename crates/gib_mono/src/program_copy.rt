@@ -7,7 +7,7 @@ ghost use Rattle.gib_syntax.specs.GenericTyping.{IsTypedGeneric};
 ghost use Rattle.gib_syntax.specs.Parts.{program_of};
 ghost use Rattle.gib_mono.specs.Walk.{Copy, copies_of, copied_program, plain_copies};
 ghost use Rattle.gib_mono.specs.Naming.{entries, naming_of, AreNamedBelow};
-ghost use Rattle.gib_mono.specs.Bare.{IsPlainProgram, bare_program};
+ghost use Rattle.gib_mono.specs.Bare.{AreSingleTrees, IsPlainProgram, bare_program};
 ghost use Rattle.gib_mono.specs.Declaring.{Finds};
 ghost use Rattle.gib_mono.specs.Entries.{items_of};
 ghost use Rattle.gib_mono.specs.Limits.{IsLimitOf, IsMemory, IsMemoryOr};
@@ -51,6 +51,7 @@ fn copy_asked(
     let mut copier = Copier {
         alloc,
         scene,
+        parts: Vec::new(alloc),
         base,
         exprs: Exprs::new(alloc),
     };
@@ -67,6 +68,7 @@ fn copy_asked(
 fn copy_plain(alloc: Global, program: GenericProgram) -> Result<MonoProgram, Memory>
     requires typed { IsTypedGeneric (generic_program_of program) }
     requires plain { IsPlainProgram (generic_program_of program) }
+    requires single { AreSingleTrees program.exprs }
     requires below { (base : ℕ) × AreNamedBelow base (generic_program_of program) }
     ensures { IfOk result (λ m. (program_of m.typed ≡ bare_program (generic_program_of program)) × (items_of m.copies ≡ entries (plain_copies (generic_program_of program)))) }
 {

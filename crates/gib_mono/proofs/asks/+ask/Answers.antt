@@ -1,7 +1,7 @@
 use Rattle.std.proofs.Common.{◌-◌, ◌++◌, ◌∷◌, length, take, drop, sym, ap, ◌∙◌}
 use Rattle.gib_syntax.specs.GenericArena.{arguments_from, case_from, tree_of}
 use Rattle.gib_syntax.specs.declared.generic.GenericNode.TheVariants as n
-use Rattle.gib_syntax.specs.GenericTree.{GenericCall, GenericMake, GenericCase}
+use Rattle.gib_syntax.specs.GenericTree.{GenericCall, GenericMake, GenericCase, GenericTuple}
 use Rattle.gib_syntax.specs.Words.{types_in}
 use Rattle.gib_mono.specs.Sources.{globals_in, asks_in}
 use Rattle.gib_mono.proofs.Seeking.{asks_both, if_ok}
@@ -83,3 +83,18 @@ pub ask_expression-returns-in-Case : goal.ask_expression-returns-in-Case
 ask_expression-returns-in-Case t c =
     if_ok _ _ c.ask_case.result (λ u a. opened_asks c.args.source.now c.args.search.now c.ask_case.new.search c.args.id.0 _
     (opened_node c.args.source.now c.args.id.0 c.node.result.now (n.Case c.in-Case.span c.in-Case.variable c.in-Case.arms) c.node.ensures c.in-Case.is ∙ ap (λ is. case_from (tree_of c.args.source.now.exprs) is (GenericCase c.in-Case.span c.in-Case.variable)) (sym c.deref-in-Case.ensures.value)) a) c.ask_case.ensures
+
+pub ask_expression-returns-in-Tuple : goal.ask_expression-returns-in-Tuple
+ask_expression-returns-in-Tuple t c =
+    if_ok _ _ c.ask_arguments.result (λ u a. opened_asks c.args.source.now c.args.search.now c.ask_arguments.new.search c.args.id.0 _
+    (opened_node c.args.source.now c.args.id.0 c.node.result.now (n.Tuple c.in-Tuple.field-0 c.in-Tuple.ids) c.node.ensures c.in-Tuple.is ∙ ap (λ is. GenericTuple c.in-Tuple.field-0 (arguments_from (tree_of c.args.source.now.exprs) is)) (sym c.deref-in-Tuple.ensures.value)) a) c.ask_arguments.ensures
+
+pub ask_expression-returns-in-LetSeveral : goal.ask_expression-returns-in-LetSeveral
+ask_expression-returns-in-LetSeveral t c =
+    if_ok _ _ c.ask_two-in-LetSeveral.result (λ u a. opened_asks c.args.source.now c.args.search.now c.ask_two-in-LetSeveral.new.search c.args.id.0 _
+    (opened_node c.args.source.now c.args.id.0 c.node.result.now (n.LetSeveral c.in-LetSeveral.span c.in-LetSeveral.names c.in-LetSeveral.bound c.in-LetSeveral.body) c.node.ensures c.in-LetSeveral.is) a) c.ask_two-in-LetSeveral.ensures
+
+pub ask_expression-returns-in-ParSeveral : goal.ask_expression-returns-in-ParSeveral
+ask_expression-returns-in-ParSeveral t c =
+    if_ok _ _ c.ask_three-in-ParSeveral.result (λ u a. opened_asks c.args.source.now c.args.search.now c.ask_three-in-ParSeveral.new.search c.args.id.0 _
+    (opened_node c.args.source.now c.args.id.0 c.node.result.now (n.ParSeveral c.in-ParSeveral.span c.in-ParSeveral.left_names c.in-ParSeveral.left c.in-ParSeveral.right_names c.in-ParSeveral.right c.in-ParSeveral.body) c.node.ensures c.in-ParSeveral.is) a) c.ask_three-in-ParSeveral.ensures

@@ -2,12 +2,14 @@ use Rattle.std.proofs.Common.{rules, ◌-◌, [], ◌++◌, ◌∷◌, length, t
 use Rattle.gib_types.specs.Types.{forms_at}
 use Rattle.gib_syntax.specs.declared.generic.GenericNode.TheVariants as n
 use Rattle.gib_syntax.specs.GenericArena.{arguments_from, tree_of}
-use Rattle.gib_mono.specs.Made.{Copies}
-use Rattle.gib_mono.specs.Scenes.{forms}
+use Rattle.gib_mono.specs.Copying.{copy_variables, bind_forms}
+use Rattle.gib_mono.specs.Made.{naming, Binds, Copies}
+use Rattle.gib_mono.specs.Reading.{listed}
+use Rattle.gib_mono.specs.Scenes.{forms, scope_in}
 use Rattle.gib_mono.specs.Sources.{globals_in}
 use Rattle.gib_mono.proofs.Seeking.{if_ok}
 use Rattle.gib_mono.proofs.Walking.{split_is, opened_node}
-use Rattle.gib_mono.proofs.Making.{arguments_go, arm_made, arms_go, bound_both, call_made, make_made, case_arms, case_below, case_made, case_type, CaseArms, further_below, types_below, if_made, let_made, let_par_made, operation_made}
+use Rattle.gib_mono.proofs.Making.{arguments_go, arm_made, arms_go, bound_both, call_made, make_made, case_arms, case_below, case_made, case_type, CaseArms, further_below, types_below, if_made, let_made, let_par_made, let_several_made, met_stays, par_several_made, tuple_begin, tuple_go, tuple_made, operation_made}
 use Rattle.gib_mono.proofs.copying.+copy.Goals as goal
 
 pub copy_arguments-arguments-preserved : goal.copy_arguments-arguments-preserved
@@ -24,13 +26,13 @@ copy_arm-returns t c =
 pub copy_arms-arms-preserved : goal.copy_arms-arms-preserved
 copy_arms-arms-preserved t c =
     arms_go (globals_in c.args.source.now) (tree_of c.args.source.now.exprs) c.args.id.0 c.args.copier.now c.arms.copier c.copy_arm.new.copier c.args.types.now c.args.copied.now.items c.arms.copied.items c.push.new.self.items c.args.arms.now c.arms.rest.now _
-    c.in_ok-part.part.arm c.arm-item.result c.in_ok-part.part.ty (split_is c.arms.rest.now c.arm-item.result c.in-len1-up.len_at_least ∙ ap (λ a. a ∷ take (length c.arms.rest.now - 1) (drop 1 c.arms.rest.now)) (sym c.arm-item.is)) c.requires.types c.arms.invariant
+    c.in_ok-part.part.arm c.arm-item.result c.in_ok-part.part.given (split_is c.arms.rest.now c.arm-item.result c.in-len1-up.len_at_least ∙ ap (λ a. a ∷ take (length c.arms.rest.now - 1) (drop 1 c.arms.rest.now)) (sym c.arm-item.is)) c.requires.types c.arms.invariant
     c.in_ok-part.ensures c.in_ok-push.ensures.items
 
 pub copy_call-returns : goal.copy_call-returns
 copy_call-returns t c =
     call_made (globals_in c.args.source.now) c.args.source.now.exprs.words c.words.result.now c.args.run c.args.copier.now c.meet_types.new.self c.copy_arguments.new.copier c.meet_result.new.self c.put.new.self c.in_ok-types.types.items c.deref.result.now c.deref-2.result.now c.args.f
-    c.in_ok-name.name c.in_ok-arguments.arguments c.in_ok-expr.expr c.in_ok-ty.ty (arguments_from (tree_of c.args.source.now.exprs) c.args.ids.now) c.words.ensures c.in_ok-types.ensures c.deref.ensures.value c.in_ok-name.ensures c.in_ok-arguments.ensures c.deref-2.ensures.value c.in_ok-ty.ensures
+    c.in_ok-name.name c.in_ok-arguments.arguments c.in_ok-expr.expr c.in_ok-given.given (arguments_from (tree_of c.args.source.now.exprs) c.args.ids.now) c.words.ensures c.in_ok-types.ensures c.deref.ensures.value c.in_ok-name.ensures c.in_ok-arguments.ensures c.deref-2.ensures.value c.in_ok-given.ensures
     c.in_ok-expr.ensures
 
 pub copy_make-returns : goal.copy_make-returns
@@ -51,15 +53,61 @@ copy_if-returns t c =
 
 pub copy_let-returns : goal.copy_let-returns
 copy_let-returns t c =
-    let_made (globals_in c.args.source.now) c.args.copier.now c.copy_expression.new.copier c.bind.new.self c.copy_expression-2.new.copier c.leave.new.self c.put.new.self c.scope_len-outer.result c.in_ok-expr.expr c.in_ok-value.value c.in_ok-inner.inner c.args.span c.args.bound.name
-    (tree_of c.args.source.now.exprs c.args.bound.value.0) (tree_of c.args.source.now.exprs c.args.body.0) c.in_ok-value.ensures c.scope_len-outer.ensures.known c.scope_len-outer.ensures.len c.in_ok-bind.ensures.scope c.in_ok-inner.ensures c.leave.ensures c.in_ok-expr.ensures
+    let_made (globals_in c.args.source.now) c.args.copier.now c.copy_expression.new.copier c.one.new.self c.bind.new.self c.copy_expression-2.new.copier c.leave.new.self c.put.new.self c.scope_len-outer.result c.in_ok-expr.expr c.in_ok-value.value c.in_ok-inner.inner c.in_ok-ty.ty c.args.span c.args.bound.name
+    (tree_of c.args.source.now.exprs c.args.bound.value.0) (tree_of c.args.source.now.exprs c.args.body.0) c.in_ok-value.ensures c.in_ok-ty.ensures c.scope_len-outer.ensures.known c.scope_len-outer.ensures.len c.in_ok-bind.ensures.scope c.in_ok-inner.ensures c.leave.ensures c.in_ok-expr.ensures
 
 pub copy_let_par-returns : goal.copy_let_par-returns
 copy_let_par-returns t c =
-    let_par_made (globals_in c.args.source.now) c.args.copier.now c.copy_expression.new.copier c.copy_expression-2.new.copier c.bind-2.new.self c.copy_expression-3.new.copier c.leave.new.self c.put.new.self c.scope_len-outer.result c.in_ok-expr.expr c.in_ok-first.first c.in_ok-second.second c.in_ok-inner.inner
-    c.args.span c.args.left.name c.args.right.name (tree_of c.args.source.now.exprs c.args.left.value.0) (tree_of c.args.source.now.exprs c.args.right.value.0) (tree_of c.args.source.now.exprs c.args.body.0) c.in_ok-first.ensures c.in_ok-second.ensures c.scope_len-outer.ensures.known
-    c.scope_len-outer.ensures.len
-    (bound_both c.copy_expression-2.new.copier c.bind.new.self c.bind-2.new.self c.args.left.name c.args.right.name c.in_ok-first.first.ty c.in_ok-second.second.ty c.in_ok-bind.ensures.scope c.in_ok-bind.ensures.types c.in_ok-bind-2.ensures.scope) c.in_ok-inner.ensures c.leave.ensures c.in_ok-expr.ensures
+    let_par_made (globals_in c.args.source.now) c.args.copier.now c.copy_expression.new.copier c.copy_expression-2.new.copier c.one.new.self c.one-2.new.self c.bind-2.new.self c.copy_expression-3.new.copier c.leave.new.self c.put.new.self c.scope_len-outer.result c.in_ok-expr.expr c.in_ok-first.first c.in_ok-second.second
+    c.in_ok-inner.inner c.in_ok-left_ty.left_ty c.in_ok-right_ty.right_ty c.args.span c.args.left.name c.args.right.name (tree_of c.args.source.now.exprs c.args.left.value.0) (tree_of c.args.source.now.exprs c.args.right.value.0) (tree_of c.args.source.now.exprs c.args.body.0) c.in_ok-first.ensures
+    c.in_ok-second.ensures c.in_ok-left_ty.ensures c.in_ok-right_ty.ensures c.scope_len-outer.ensures.known c.scope_len-outer.ensures.len
+    (bound_both c.one-2.new.self c.bind.new.self c.bind-2.new.self c.args.left.name c.args.right.name c.in_ok-left_ty.left_ty c.in_ok-right_ty.right_ty c.in_ok-bind.ensures.scope c.in_ok-bind.ensures.types c.in_ok-bind-2.ensures.scope) c.in_ok-inner.ensures c.leave.ensures c.in_ok-expr.ensures
+
+pub copy_let_par-one-requires : goal.copy_let_par-one-requires
+copy_let_par-one-requires t c = met_stays c.copy_expression.new.copier c.copy_expression-2.new.copier c.in_ok-first.first.given c.in_ok-second.ensures.stays c.in_ok-first.ensures.met
+
+pub copy_let_par-one-requires-2 : goal.copy_let_par-one-requires-2
+copy_let_par-one-requires-2 t c = met_stays c.copy_expression-2.new.copier c.one.new.self c.in_ok-second.second.given c.in_ok-left_ty.ensures.stays c.in_ok-second.ensures.met
+
+pub copy_par_several-types_given-requires : goal.copy_par_several-types_given-requires
+copy_par_several-types_given-requires t c = met_stays c.copy_expression.new.copier c.copy_expression-2.new.copier c.in_ok-first.first.given c.in_ok-second.ensures.stays c.in_ok-first.ensures.met
+
+pub copy_tuple_parts-parts-init : goal.copy_tuple_parts-parts-init
+copy_tuple_parts-parts-init t c =
+    tuple_begin (globals_in c.args.source.now) (tree_of c.args.source.now.exprs) c.args.id.0 c.args.copier.now c.args.ids.now c.new-exprs.result.items c.new-types.result.items c.new-exprs.ensures.items c.new-types.ensures.items c.requires.below
+
+pub copy_tuple_parts-parts-preserved : goal.copy_tuple_parts-parts-preserved
+copy_tuple_parts-parts-preserved t c =
+    tuple_go (globals_in c.args.source.now) (tree_of c.args.source.now.exprs) c.args.id.0 c.args.copier.now c.parts.copier c.copy_expression.new.copier c.one.new.self c.args.ids.now c.parts.rest.now _ c.parts.exprs.items c.push.new.self.items c.parts.types.items c.push-in-len1-up.new.self.items _ c.in_ok-copied.copied c.in_ok-ty.ty
+    (split_is c.parts.rest.now _ c.in-len1-up.len_at_least) c.parts.invariant c.in_ok-copied.ensures c.in_ok-ty.ensures c.in_ok-push.ensures.items c.in_ok-push-2.ensures.items
+
+pub copy_tuple-returns : goal.copy_tuple-returns
+copy_tuple-returns t c =
+    tuple_made (globals_in c.args.source.now) c.args.copier.now c.copy_tuple_parts.new.copier c.put_parts.new.self c.put.new.self c.in_ok-expr.expr c.in_ok-given.given c.in_ok-copied.copied.exprs c.in_ok-copied.copied.types.items c.deref.result.now c.deref-2.result.now c.in_ok-types.types c.args.span
+    (arguments_from (tree_of c.args.source.now.exprs) c.args.ids.now) c.in_ok-copied.ensures c.deref.ensures.value c.in_ok-types.ensures c.deref-2.ensures.value c.in_ok-given.ensures c.in_ok-expr.ensures
+
+pub copy_let_several-returns : goal.copy_let_several-returns
+copy_let_several-returns t c =
+    let at = c.copy_expression.new.copier in
+    let_several_made (globals_in c.args.source.now) c.args.copier.now at c.bind_all.new.self c.copy_expression-2.new.copier c.leave.new.self c.put.new.self c.scope_len-outer.result c.in_ok-expr.expr c.in_ok-value.value c.in_ok-inner.inner c.in_ok-types.types.items c.in_ok-variables.variables c.args.span c.args.names.now
+    (tree_of c.args.source.now.exprs c.args.bound.0) (tree_of c.args.source.now.exprs c.args.body.0) c.in_ok-value.ensures c.in_ok-types.ensures.forms
+    (c.in_ok-variables.ensures ∙ ap (λ l. copy_variables (naming at) c.args.names.now (listed (forms at.scene) l)) c.deref.ensures.value) c.scope_len-outer.ensures.known c.scope_len-outer.ensures.len
+    (subst (λ l. Binds at c.bind_all.new.self (bind_forms c.args.names.now (listed (forms at.scene) l) (scope_in at.scene))) c.deref-2.ensures.value c.in_ok-bind_all.ensures) c.in_ok-inner.ensures c.leave.ensures c.in_ok-expr.ensures
+
+pub copy_par_several-returns : goal.copy_par_several-returns
+copy_par_several-returns t c =
+    let at = c.copy_expression-2.new.copier in
+    let xs = c.args.left.now.names.now in
+    let ys = c.args.right.now.names.now in
+    par_several_made (globals_in c.args.source.now) c.args.copier.now c.copy_expression.new.copier at c.bind_all.new.self c.bind_all-2.new.self c.copy_expression-3.new.copier c.leave.new.self c.put.new.self c.scope_len-outer.result c.in_ok-expr.expr c.in_ok-first.first c.in_ok-second.second c.in_ok-inner.inner
+    c.in_ok-left_types.left_types.items c.in_ok-right_types.right_types.items c.in_ok-left_names.left_names c.in_ok-right_names.right_names c.args.span xs ys (tree_of c.args.source.now.exprs c.args.left.now.value.0) (tree_of c.args.source.now.exprs c.args.right.now.value.0) (tree_of c.args.source.now.exprs c.args.body.0)
+    c.in_ok-first.ensures c.in_ok-second.ensures c.in_ok-left_types.ensures.forms c.in_ok-right_types.ensures.forms
+    (c.in_ok-left_names.ensures ∙ ap (λ l. copy_variables (naming at) xs (listed (forms at.scene) l)) c.deref.ensures.value)
+    (c.in_ok-right_names.ensures ∙ ap (λ l. copy_variables (naming at) ys (listed (forms at.scene) l)) c.deref-2.ensures.value)
+    c.in_ok-right_types.ensures.below c.scope_len-outer.ensures.known c.scope_len-outer.ensures.len
+    (subst (λ l. Binds at c.bind_all.new.self (bind_forms xs (listed (forms at.scene) l) (scope_in at.scene))) c.deref-3.ensures.value c.in_ok-bind_all.ensures)
+    (subst (λ l. Binds c.bind_all.new.self c.bind_all-2.new.self (bind_forms ys (listed (forms c.bind_all.new.self.scene) l) (scope_in c.bind_all.new.self.scene))) c.deref-4.ensures.value c.in_ok-bind_all-2.ensures)
+    c.in_ok-inner.ensures c.leave.ensures c.in_ok-expr.ensures
 
 pub copy_expression-returns-in-Variable : goal.copy_expression-returns-in-Variable
 copy_expression-returns-in-Variable t c =
@@ -80,7 +128,7 @@ abbrev all_arms : (t : _) (c : goal.copy_case-After-put-arg-1 t)
     → CaseArms (globals_in c.args.source.now) (tree_of c.args.source.now.exprs) c.args.copier.now c.copy_arms.new.copier c.args.variable c.copy_arms.new.copied.items c.first-item.result (take (length c.args.arms.now - 1) (drop 1 c.args.arms.now))
 all_arms t c =
     case_arms (globals_in c.args.source.now) (tree_of c.args.source.now.exprs) c.args.copier.now c.meet_variable.new.self c.copy_arm.new.copier c.copy_arms.new.copier c.args.variable c.in_ok-of.of c.in_ok-types.types.items c.deref.result.now c.deref-2.result.now c.in_ok-part.part.arm
-    c.first-item.result c.in_ok-part.part.ty c.push.new.self.items c.copy_arms.new.copied.items (take (length c.args.arms.now - 1) (drop 1 c.args.arms.now)) c.in_ok-of.ensures c.in_ok-types.ensures.forms c.in_ok-types.ensures.below c.deref.ensures.value c.in_ok-part.ensures
+    c.first-item.result c.in_ok-part.part.given c.push.new.self.items c.copy_arms.new.copied.items (take (length c.args.arms.now - 1) (drop 1 c.args.arms.now)) c.in_ok-of.ensures c.in_ok-types.ensures.forms c.in_ok-types.ensures.below c.deref.ensures.value c.in_ok-part.ensures
     (c.in_ok-push.ensures.items ∙ ap (λ l. l ++ c.in_ok-part.part.arm ∷ []) c.new-copied.ensures.items) c.deref-2.ensures.value c.in_ok-copy_arms.ensures
 
 pub copy_case-copy_arms-requires : goal.copy_case-copy_arms-requires
@@ -105,9 +153,9 @@ copy_case-returns t c =
     let f = tree_of c.args.source.now.exprs in
     let further = take (length c.args.arms.now - 1) (drop 1 c.args.arms.now) in
     let arms = case_arms (globals_in c.args.source.now) f c.args.copier.now c.meet_variable.new.self c.copy_arm.new.copier c.copy_arms.new.copier c.args.variable c.in_ok-of.of c.in_ok-types.types.items c.deref.result.now c.deref-2.result.now c.in_ok-part.part.arm
-    c.first-item.result c.in_ok-part.part.ty c.push.new.self.items c.copy_arms.new.copied.items further c.in_ok-of.ensures c.in_ok-types.ensures.forms c.in_ok-types.ensures.below c.deref.ensures.value c.in_ok-part.ensures
+    c.first-item.result c.in_ok-part.part.given c.push.new.self.items c.copy_arms.new.copied.items further c.in_ok-of.ensures c.in_ok-types.ensures.forms c.in_ok-types.ensures.below c.deref.ensures.value c.in_ok-part.ensures
     (c.in_ok-push.ensures.items ∙ ap (λ l. l ++ c.in_ok-part.part.arm ∷ []) c.new-copied.ensures.items) c.deref-2.ensures.value c.in_ok-copy_arms.ensures in
-    let ty = case_type (globals_in c.args.source.now) f c.args.copier.now c.meet_variable.new.self c.copy_arm.new.copier c.copy_arms.new.copier c.args.variable c.in_ok-of.of c.in_ok-types.types.items c.deref.result.now c.in_ok-part.part.arm c.first-item.result c.in_ok-part.part.ty
+    let ty = case_type (globals_in c.args.source.now) f c.args.copier.now c.meet_variable.new.self c.copy_arm.new.copier c.copy_arms.new.copier c.args.variable c.in_ok-of.of c.in_ok-types.types.items c.deref.result.now c.in_ok-part.part.arm c.first-item.result c.in_ok-part.part.given
     c.in_ok-of.ensures c.in_ok-types.ensures.forms c.deref.ensures.value c.in_ok-part.ensures c.in_ok-copy_arms.ensures.stays in
-    case_made (globals_in c.args.source.now) f c.args.copier.now c.copy_arms.new.copier c.put.new.self c.args.span c.args.variable c.in_ok-expr.expr c.in_ok-part.part.ty c.copy_arms.new.copied c.args.arms.now c.first-item.result further arms
+    case_made (globals_in c.args.source.now) f c.args.copier.now c.copy_arms.new.copier c.put.new.self c.args.span c.args.variable c.in_ok-expr.expr c.in_ok-part.part.given c.copy_arms.new.copied c.args.arms.now c.first-item.result further arms
     (split_is c.args.arms.now c.first-item.result c.in-len1-up.len_at_least ∙ ap (λ a. a ∷ further) (sym c.first-item.is)) ty.0 ty.1 c.in_ok-expr.ensures

@@ -3,7 +3,7 @@ use Rattle.gib_types.specs.Types.{forms_at}
 use Rattle.gib_syntax.specs.GenericArena.{tree_of}
 use Rattle.gib_mono.specs.Scenes.{forms}
 use Rattle.gib_mono.specs.Sources.{globals_in}
-use Rattle.gib_mono.proofs.Making.{ArgumentsCopied, ArmsCopied}
+use Rattle.gib_mono.proofs.Making.{ArgumentsCopied, ArmsCopied, TupleCopied}
 use Rattle.gib_mono.proofs.copying.+copy.Given as goal
 
 abbrev pub decreases-copy_arguments : goal.decreases-copy_arguments
@@ -17,6 +17,24 @@ decreases-copy_arms l = 4 * l.id.0 + 1
 
 abbrev pub decreases-copy_case : goal.decreases-copy_case
 decreases-copy_case l = 4 * l.id.0 + 2
+
+abbrev pub decreases-copy_tuple_parts : goal.decreases-copy_tuple_parts
+decreases-copy_tuple_parts l = 4 * l.id.0
+
+abbrev pub decreases-copy_tuple : goal.decreases-copy_tuple
+decreases-copy_tuple l = 4 * l.id.0 + 1
+
+abbrev pub decreases-copy_let_several : goal.decreases-copy_let_several
+decreases-copy_let_several l = 4 * max l.bound.0 l.body.0 + 4
+
+abbrev pub decreases-copy_par_several : goal.decreases-copy_par_several
+decreases-copy_par_several l = 4 * max (max l.left.now.value.0 l.right.now.value.0) l.body.0 + 4
+
+abbrev pub invariant-copy_tuple_parts-parts : goal.invariant-copy_tuple_parts-parts
+invariant-copy_tuple_parts-parts l = TupleCopied (globals_in l.source) (tree_of l.source.exprs) l.fn.id.0 l.fn.copier l.copier l.ids l.rest l.exprs.items l.types.items
+
+abbrev pub decreases-copy_tuple_parts-parts : goal.decreases-copy_tuple_parts-parts
+decreases-copy_tuple_parts-parts l = length l.rest
 
 abbrev pub decreases-copy_call : goal.decreases-copy_call
 decreases-copy_call l = 4 * l.id.0 + 1

@@ -37,7 +37,7 @@ pub copy_plain-requires-clause-typed : goal.copy_plain-requires-clause-typed
 copy_plain-requires-clause-typed c = subst (λ q. IsTypedGeneric (generic_program_of q)) (sym c.into_program-program.ensures.value) c.into_program-program.ensures.typed
 
 pub copy_plain-requires-clause-plain : goal.copy_plain-requires-clause-plain
-copy_plain-requires-clause-plain c = c.if-not-is_plain.ensures refl
+copy_plain-requires-clause-plain c = c.if-not-is_plain.ensures.plain refl
 
 pub copy_plain-requires-clause-below : goal.copy_plain-requires-clause-below
 copy_plain-requires-clause-below c = (c.args.base, subst (λ q. AreNamedBelow c.args.base (generic_program_of q)) (sym c.into_program-program.ensures.value) c.requires.below)
@@ -45,7 +45,7 @@ copy_plain-requires-clause-below c = (c.args.base, subst (λ q. AreNamedBelow c.
 pub returns-in-Ok-clause-copied : goal.returns-in-Ok-clause-copied
 returns-in-Ok-clause-copied c =
     let e = c.into_program-program.ensures.value in
-    let plain : IsPlainProgram (generic_program_of c.args.generic) = subst (λ q. IsPlainProgram (generic_program_of q)) e (c.if-not-is_plain.ensures refl) in
+    let plain : IsPlainProgram (generic_program_of c.args.generic) = subst (λ q. IsPlainProgram (generic_program_of q)) e (c.if-not-is_plain.ensures.plain refl) in
     let made = subst (λ q. (program_of c.in-Ok.mono.typed ≡ Rattle.gib_mono.specs.Bare.bare_program (generic_program_of q)) × (items_of c.in-Ok.mono.copies ≡ entries (Rattle.gib_mono.specs.Walk.plain_copies (generic_program_of q)))) e c.in-Ok.ensures in
     let h = plain_copied (generic_program_of c.args.generic) c.args.base (program_of c.in-Ok.mono.typed) (items_of c.in-Ok.mono.copies) c.into_program-program.ensures.typed plain made.0 made.1 in
     (h.found, h.are, h.program, h.names_are)
@@ -53,5 +53,8 @@ returns-in-Ok-clause-copied c =
 pub returns-in-Ok-clause-told : goal.returns-in-Ok-clause-told
 returns-in-Ok-clause-told c =
     let e = c.into_program-program.ensures.value in
-    let plain : IsPlainProgram (generic_program_of c.args.generic) = subst (λ q. IsPlainProgram (generic_program_of q)) e (c.if-not-is_plain.ensures refl) in
+    let plain : IsPlainProgram (generic_program_of c.args.generic) = subst (λ q. IsPlainProgram (generic_program_of q)) e (c.if-not-is_plain.ensures.plain refl) in
     λ span over. plain_within (generic_program_of c.args.generic) span c.into_program-program.ensures.typed plain over
+
+pub copy_plain-requires-clause-single : goal.copy_plain-requires-clause-single
+copy_plain-requires-clause-single c = c.if-not-is_plain.ensures.single refl
