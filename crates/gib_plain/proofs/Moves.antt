@@ -8,13 +8,13 @@ use Rattle.gib_value.specs.declared.node.Node.{Node}
 use Rattle.gib_value.specs.Heap.{value_of, IsWithin}
 use Rattle.gib_syntax.specs.declared.tree.Ident.{Ident}
 use Rattle.gib_syntax.specs.declared.tree.Parameter.{Parameter}
-use Rattle.gib_syntax.specs.Meaning.{Environment, bind, names_of}
+use Rattle.gib_syntax.specs.Meaning.{Environment, bind, bind_results, names_of, parts}
 use Rattle.gib_plain.specs.declared.stack.Binding.{Binding}
 use Rattle.gib_plain.specs.declared.machine.Frame.{Frame}
 use Rattle.gib_plain.specs.Running.{Waiting, Doing, State, with_done}
-use Rattle.gib_plain.specs.Stacks.{cut, env_of, bindings_of, IsBound}
+use Rattle.gib_plain.specs.Stacks.{cut, env_of, env_over, bindings_of, Adds, IsBound}
 use Rattle.gib_plain.specs.Machines.{waiting, all_waiting, Nest, Held}
-use Rattle.gib_plain.proofs.Stacks.{All-take, All-drop, All-append, AllWithin-later, AllBound-later, env_over-append, env_over-more, env_over-bindings, nest_more, nest_push, nest_pop, Popped, frames_same, frames_grown}
+use Rattle.gib_plain.proofs.Stacks.{All-take, All-drop, All-append, AllWithin-later, AllBound-later, bindings-within, env_over-append, env_over-more, env_over-bindings, nest_more, nest_push, nest_pop, Popped, frames_same, frames_grown}
 
 pub held_push : (h : List Datum) (vars : List Binding) (temps : List Node) (fs : List Frame) (base : ℕ) (f : Frame) → Held h vars temps fs base → Nest 0 0 fs f.vars_len f.start → f.base ≤ f.vars_len → f.start ≤ f.temps_len → f.vars_len ≤ length vars → f.temps_len ≤ length temps → Held h vars temps (fs ++ f ∷ []) base
 held_push h vars temps fs base f held n b a v t = record { vars_within = held.vars_within; temps_within = held.temps_within; base_in = held.base_in; nest = nest_push 0 0 fs f (length vars) (length temps) n b a v t }
@@ -159,6 +159,13 @@ env_bound h vars xs ws base le =
     ∙ env_over-append h (drop base vars) (bindings_of xs ws) []
     ∙ env_over-bindings h xs ws (env_of h (drop base vars))
 
+-- so of those that something was said of
+pub env_added : (h : List Datum) (vars added : List Binding) (base : ℕ) (change : Environment → Environment) → base ≤ length vars → ((env : Environment) → env_over h added env ≡ change env) → env_of h (drop base (vars ++ added)) ≡ change (env_of h (drop base vars))
+env_added h vars added base change le same =
+    ap (env_of h) (drop-append-le base vars added le)
+    ∙ env_over-append h (drop base vars) added []
+    ∙ same (env_of h (drop base vars))
+
 pub state_eq : (fs fs' : List Waiting) (l l' : ℕ) (e e' : Environment) (d d' : Doing) → fs ≡ fs' → l ≡ l' → e ≡ e' → d ≡ d' → (let s : State = record { frames = fs; left = l; env = e; doing = d } in s) ≡ record { frames = fs'; left = l'; env = e'; doing = d' }
 state_eq fs fs' l l' e e' d d' q r s t = cc
 
@@ -229,3 +236,30 @@ bind-none (x ∷ xs) env = refl
 pub list-data : (vs : List Datum) → list_of (data_of vs) ≡ vs
 list-data [] = refl
 list-data (v ∷ vs) = ap (λ (ws : List Datum). v ∷ ws) (list-data vs)
+
+-- ---- bindings of what an expression gives
+
+pub adds_none : (h : List Datum) (vars : List Binding) (change : Environment → Environment) → ((env : Environment) → env ≡ change env) → (added : List Binding) × (vars ≡ vars ++ added) × AllByRecursion (IsBound (length h)) added × ((env : Environment) → env_over h added env ≡ change env) × Unit {0}
+adds_none h vars change same = ([], sym (append-nil vars), tt, same, tt)
+
+pub adds_bindings : {T E : Type 0} (r : Result T E) (h : List Datum) (old new : List Binding) (xs : List Ident) (ws : List Node) (change : Environment → Environment) → new ≡ cond (is_ok r) (old ++ bindings_of xs ws) old → AllByRecursion (IsWithin (length h)) ws → ((env : Environment) → bind xs (map (value_of h) ws) env ≡ change env) → Adds r h old new change
+adds_bindings (Ok t) h old new xs ws change e all same = (bindings_of xs ws, e, bindings-within (length h) xs ws all, λ env. env_over-bindings h xs ws env ∙ same env, tt)
+adds_bindings (Err x) h old new xs ws change e all same = ([], e ∙ sym (append-nil old), tt, tt, refl)
+
+pub adds_same : {T E : Type 0} (r : Result T E) (h : List Datum) (old new : List Binding) (change other : Environment → Environment) → ((env : Environment) → change env ≡ other env) → Adds r h old new change → Adds r h old new other
+adds_same (Ok t) h old new change other same a = (a.0, a.1, a.2, λ env. a.3 env ∙ same env, tt)
+adds_same (Err x) h old new change other same a = a
+
+pub adds_both : (old mid new a b : List Binding) → mid ≡ old ++ a → new ≡ mid ++ b → new ≡ old ++ (a ++ b)
+adds_both old mid new a b e f = f ∙ ap (λ (xs : List Binding). xs ++ b) e ∙ append_assoc old a b
+
+-- one name takes the value, any other number of them its parts
+pub one_bound : (ps : List Parameter) (v : Datum) (env : Environment) → length ps ≡ 1 → bind (names_of ps) (v ∷ []) env ≡ bind_results (names_of ps) v env
+one_bound [] v env e = absurd (omega (arith, e))
+one_bound (p ∷ []) v env e = refl
+one_bound (p ∷ q ∷ ps) v env e = absurd (omega (arith, e))
+
+pub parts_bound : (ps : List Parameter) (v : Datum) (env : Environment) → (length ps ≡ 1 → ⊥) → bind (names_of ps) (parts v) env ≡ bind_results (names_of ps) v env
+parts_bound [] v env no_one = refl
+parts_bound (p ∷ []) v env no_one = absurd (no_one refl)
+parts_bound (p ∷ q ∷ ps) v env no_one = refl

@@ -5,10 +5,10 @@ use Rattle.gib_types.specs.declared.table.Ty.{Ty}
 use Rattle.gib_types.specs.declared.table.Ty.TheVariants.{Whole, Truth, Tree}
 use Rattle.gib_types.specs.Table.{fields_at, at_fields}
 use Rattle.gib_types.specs.Tree.{Datum, con, data_of}
-use Rattle.gib_syntax.specs.Tree.{Expression, Arguments, Var, Num, Bit, Paren, Op, Call, Make, Let, Par, If, Case, NoArgument, Argument}
+use Rattle.gib_syntax.specs.Tree.{Expression, Arguments, Var, Num, Bit, Paren, Op, Call, Make, Let, Par, If, Case, Tuple, LetSeveral, ParSeveral, NoArgument, Argument}
 use Rattle.gib_syntax.specs.Declarations.{number_of, constructor_named, table_of_program}
-use Rattle.gib_syntax.specs.Meaning.{Reason, Outcome, Gives, Stops, Environment, with_value, with_values, with_fields, eval_all, made}
-use Rattle.gib_plain.specs.Running.{Waiting, Code, Around, at, gives, means_in, all_mean, expressions_of, first_parts, left_parts, finish, finished, complete, after, with_done, resume, if_values, cost, cost_all, costs, finish_cost, finished_cost, complete_cost, after_cost, stack_cost, fields_made, made_of}
+use Rattle.gib_syntax.specs.Meaning.{Reason, Outcome, Gives, Stops, Environment, tuple, with_value, with_values, with_fields, eval_all, made}
+use Rattle.gib_plain.specs.Running.{Waiting, Code, Around, at, gives, means_in, all_mean, expressions_of, first_parts, left_parts, finish, finished, complete, after, with_done, resume, if_values, cost, cost_all, costs, finish_cost, finished_cost, complete_cost, after_cost, stack_cost, fields_made, types_in, made_of}
 use Rattle.gib_plain.specs.Turns.{in_turn, in_place}
 use Rattle.gib_plain.proofs.InTurn.{map_turn, fields_in_turn}
 
@@ -141,6 +141,9 @@ IsBegun a (Let p x l b) = Unit {0}
 IsBegun a (Par p x l y r b) = Unit {0}
 IsBegun a (If p c t e) = Unit {0}
 IsBegun a (Case p x arms) = ⊥
+IsBegun a (Tuple p as' xs) = Unit {0}
+IsBegun a (LetSeveral p qs l b) = Unit {0}
+IsBegun a (ParSeveral p qs l rs r b) = Unit {0}
 
 one : (o : Outcome) (go : Datum → Outcome) (h : List Datum → Outcome) → ((v : Datum) → go v ≡ h (v ∷ [])) → with_value o go ≡ with_values (o ∷ []) h
 one (Stops why) go h e = refl
@@ -170,6 +173,13 @@ begin-mean a (Let p x l b) env h = one (means_in a l env) _ (λ vs. finish a (Le
 begin-mean a (Par p x l y r b) env h = two (means_in a l env) (means_in a r env) _ (λ vs. finish a (Par p x l y r b) env vs) (λ v w. refl)
 begin-mean a (If p c t e) env h = one (means_in a c env) _ (λ vs. finish a (If p c t e) env vs) (λ v. refl)
 begin-mean a (Case p x arms) env h = absurd h
+begin-mean a (Tuple p as' xs) env h =
+    let ts = types_in a.table as' in
+    ap (λ os. with_fields ts os (λ vs. Gives (tuple vs))) (args_mean a xs env)
+    ∙ fields_in_turn ts (all_mean a (expressions_of xs) env) (λ vs. Gives (tuple vs))
+    ∙ ap (λ os. with_values os (λ vs. Gives (tuple (in_place ts vs)))) (sym (turn_mean a ts (expressions_of xs) env))
+begin-mean a (LetSeveral p qs l b) env h = one (means_in a l env) _ (λ vs. finish a (LetSeveral p qs l b) env vs) (λ v. refl)
+begin-mean a (ParSeveral p qs l rs r b) env h = two (means_in a l env) (means_in a r env) _ (λ vs. finish a (ParSeveral p qs l rs r b) env vs) (λ v w. refl)
 
 pub begin-cost : (a : Around) (e : Expression) (env : Environment) → IsBegun a e → costs a (first_parts a.table e) env + if_values (all_mean a (first_parts a.table e) env) (λ vs. finish_cost a e env vs) + 1 ≤ cost a e env
 begin-cost a (Var x) env h = absurd h
@@ -185,3 +195,8 @@ begin-cost a (Let p x l b) env h = omega arith
 begin-cost a (Par p x l y r b) env h = omega arith
 begin-cost a (If p c t e) env h = omega arith
 begin-cost a (Case p x arms) env h = absurd h
+begin-cost a (Tuple p as' xs) env h =
+    let ts = types_in a.table as' in
+    omega (arith, args_cost a xs env, turn_cost a ts (expressions_of xs) env, if_values-none (all_mean a (in_turn ts (expressions_of xs)) env))
+begin-cost a (LetSeveral p qs l b) env h = omega arith
+begin-cost a (ParSeveral p qs l rs r b) env h = omega arith

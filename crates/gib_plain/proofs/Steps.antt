@@ -1,20 +1,33 @@
 -- Each step owes what was owed, and leaves less work.
 use Rattle.std.proofs.Common.{◌≡◌, ℕ, suc, ◌+◌, ◌-◌, ◌≤◌, Bool, true, false, cond, eqb, List, [], ◌∷◌, ◌++◌, Option, Some, None, Result, Ok, Err, length, drop, refl, sym, ap, subst, ◌∙◌, arith, pos}
-use Rattle.std.specs.Prelude.{OnOk}
+use Rattle.std.specs.Prelude.{OnOk, IfOk, MatchOption}
 use Rattle.gib_types.specs.Tree.{Datum, whole, truth, con}
 use Rattle.gib_syntax.specs.declared.exprs.Arm.{Arm}
 use Rattle.gib_syntax.specs.declared.tree.Ident.{Ident}
 use Rattle.gib_syntax.specs.Tree.{Expression, Case, FunctionTree}
 use Rattle.gib_base.specs.declared.Span.{Span}
-use Rattle.gib_syntax.specs.Arena.{arms_from, case_from, ArmsBelow}
+use Rattle.gib_syntax.specs.Arena.{arms_from, case_from, tree_of, ArmsBelow}
+use Rattle.gib_syntax.specs.declared.tree.MainDecl.{MainDecl}
+use Rattle.gib_syntax.specs.Parts.{Parts, program_of}
 use Rattle.gib_syntax.specs.Declarations.{number_of, constructor_named, function_named, table_of_program}
-use Rattle.gib_syntax.specs.Meaning.{Reason, Outcome, Gives, Stops, Deep, Environment, value_in, bind, choose, is_made_by, parts, eval_arms, calls, names_of, of_function}
-use Rattle.gib_plain.specs.Running.{Waiting, Doing, Entering, Leaving, Ended, doing_for, State, Code, Around, at, gives, means_in, finish, finished, finish_cost, finished_cost, complete, complete_cost, first_parts, left_parts, after, after_cost, with_done, resume, owes, cost, cost_arms, call_cost, function_cost, pick, stack_cost, work, Comes, Goes, frame_at, is_empty, is_over, is_number, arm_of, IsScalar, IsMadeBy}
+use Rattle.gib_syntax.specs.Meaning.{Reason, Outcome, Gives, Stops, Deep, Environment, value_in, bind, choose, is_made_by, parts, eval_arms, calls, names_of, of_function, run}
+use Rattle.gib_plain.specs.Running.{Waiting, Doing, Entering, Leaving, Ended, doing_for, State, Code, Around, at, code_of, gives, means_in, finish, finished, finish_cost, finished_cost, complete, complete_cost, first_parts, left_parts, after, after_cost, with_done, resume, owes, cost, cost_arms, call_cost, function_cost, pick, stack_cost, work, Comes, Goes, frame_at, is_empty, is_over, is_number, arm_of, IsScalar, IsMadeBy}
 use Rattle.gib_plain.proofs.Runs.{resume-snoc, stack_cost-snoc, resume-stops, stack_cost-stops, complete-next, complete_cost-next, complete-all, complete_cost-all, IsBegun, begin-mean, begin-cost}
 
 pub on_ok : {T E : Type 0} {X Y : Type 0} (r : Result T E) → (Y → X) → OnOk r Y → OnOk r X
 on_ok (Ok t) f y = f y
 on_ok (Err e) f y = tt
+
+pub if_ok : {T E : Type 0} {X Y : T → Type 0} (r : Result T E) → ((t : T) → Y t → X t) → IfOk r Y → IfOk r X
+if_ok (Ok t) f y = f t y
+if_ok (Err e) f y = tt
+
+-- where an option is one of its cases
+pub match_some : {A : Type 0} (N : Type 0) (P : A → Type 0) (o : Option A) (x : A) → MatchOption o N P → o ≡ Some x → P x
+match_some N P o x h e = subst (λ p. MatchOption p N P) e h
+
+pub match_none : {A : Type 0} (N : Type 0) (P : A → Type 0) (o : Option A) → MatchOption o N P → o ≡ None → N
+match_none N P o h e = subst (λ p. MatchOption p N P) e h
 
 -- ---- what came
 
@@ -41,6 +54,11 @@ came_next c s fs f n env i is el ee ei =
     let owed : resume c (fs ++ f ∷ []) (gives c n e env) ≡ resume c fs (complete c f) = resume-snoc c fs f (gives c n e env) ∙ ap (λ q. resume c fs (after c f q)) o ∙ ap (resume c fs) (sym all) in
     let costs : stack_cost c (fs ++ f ∷ []) (gives c n e env) ≡ stack_cost c fs (complete c f) + after_cost c f (gives c f.left e f.env) = stack_cost-snoc c fs f (gives c n e env) ∙ ap (λ q. stack_cost c fs (after c f q) + after_cost c f q) o ∙ ap (λ q. stack_cost c fs q + after_cost c f (gives c f.left e f.env)) (sym all) in
     subst (λ t. Comes c t (resume c fs (complete c f)) (stack_cost c fs (complete c f) + complete_cost c f)) (sym is) (record { same = owed; within = omega (arith, costs, k, less) })
+
+-- a run from its start to its end
+pub run_whole : (p : Parts) (m : MainDecl) (depth : ℕ) (v : Datum) (o : Outcome) (start last : State) → o ≡ owes (code_of p) last → owes (code_of p) last ≡ owes (code_of p) start → start ≡ record { frames = []; left = depth; env = (m.parameter.name.name.0, v) ∷ []; doing = Entering m.body.0 } → m ≡ p.main → o ≡ run (program_of p) depth v
+run_whole p m depth v o start last told same begins main =
+    told ∙ same ∙ ap (owes (code_of p)) begins ∙ ap (λ (d : MainDecl). gives (code_of p) depth (tree_of p.exprs d.body.0) ((d.parameter.name.name.0, v) ∷ [])) main
 
 -- a frame whose parts are all done
 pub came_all : (c : Code) (s : State) (fs : List Waiting) (f : Waiting) → left_parts c f ≡ [] → Comes c s (resume c fs (finished c f f.finished)) (stack_cost c fs (finished c f f.finished) + finished_cost c f f.finished) → Comes c s (resume c fs (complete c f)) (stack_cost c fs (complete c f) + complete_cost c f)

@@ -1,16 +1,19 @@
 -- The machine's state, what it still owes, and the work that is left.
-use Rattle.std.specs.Prelude.{◌≡◌, ℕ, zero, suc, ◌+◌, ◌<◌, ◌≤◌, if◌then◌else◌, Bool, true, false, pos, List, [], ◌∷◌, ◌++◌, Option, Some, None, get_or, drop, length}
+use Rattle.std.specs.Prelude.{◌≡◌, ℕ, zero, suc, ◌+◌, ◌<◌, ◌≤◌, if◌then◌else◌, Bool, true, false, pos, List, [], ◌∷◌, ◌++◌, map, Option, Some, None, get_or, drop, length}
 use Rattle.gib_types.specs.declared.table.Ty.{Ty}
 use Rattle.gib_types.specs.Table.{Table, fields_at}
 use Rattle.gib_types.specs.Tree.{Datum, whole, truth, con, data_of}
 use Rattle.gib_syntax.specs.declared.exprs.Arm.{Arm}
-use Rattle.gib_syntax.specs.Tree.{Expression, Arguments, Arms, Var, Num, Bit, Paren, Op, Call, Make, Let, Par, If, Case, NoArgument, Argument, LastArm, NextArm, FunctionTree, ProgramTree}
+use Rattle.gib_syntax.specs.declared.exprs.Node.{Node}
+use Rattle.gib_syntax.specs.declared.exprs.Node.TheVariants as n
+use Rattle.gib_syntax.specs.Tree.{Expression, Arguments, Arms, Var, Num, Bit, Paren, Op, Call, Make, Let, Par, If, Case, Tuple, LetSeveral, ParSeveral, NoArgument, Argument, LastArm, NextArm, FunctionTree, ProgramTree}
 use Rattle.gib_syntax.specs.Arena.{tree_of}
 use Rattle.gib_syntax.specs.Parts.{Parts, program_of}
-use Rattle.gib_syntax.specs.Declarations.{number_of, constructor_named, function_named, table_of_program}
+use Rattle.gib_syntax.specs.declared.tree.TypeName.{TypeName}
+use Rattle.gib_syntax.specs.Declarations.{number_of, constructor_named, function_named, table_of_program, type_of_name}
 pub use Rattle.gib_check.specs.ArmPlaces.{is_number}
 use Rattle.gib_plain.specs.Turns.{in_turn, in_place}
-use Rattle.gib_syntax.specs.Meaning.{Reason, Outcome, Gives, Stops, Environment, value_in, bind, with_values, number_in, is_true, is_made_by, parts, outcome, choose, eval, eval_all, names_of, calls}
+use Rattle.gib_syntax.specs.Meaning.{Reason, Outcome, Gives, Stops, Environment, value_in, bind, bind_results, tuple, with_values, number_in, is_true, is_made_by, parts, outcome, choose, eval, eval_all, names_of, calls}
 
 -- An expression whose parts are being evaluated: the calls left, the variables in scope, the values of the
 -- parts that are done, and the expression's number.
@@ -48,6 +51,27 @@ abbrev pub fields_made : Table → Option ℕ → List Ty
 fields_made table None = []
 fields_made table (Some c) = fields_at table c
 
+-- The types of the parts of a tuple.
+abbrev pub types_in : Table → List TypeName → List Ty
+types_in table as' = map (type_of_name table.types) as'
+
+-- The types that a node carries where it is a tuple, none else.
+abbrev pub tuple_types : Table → Node → List Ty
+tuple_types table (n.Variable x) = []
+tuple_types table (n.Whole p v) = []
+tuple_types table (n.Truth p b) = []
+tuple_types table (n.Paren p a) = []
+tuple_types table (n.Operation p f a b) = []
+tuple_types table (n.Call f xs) = []
+tuple_types table (n.Make k xs) = []
+tuple_types table (n.Let p x a b) = []
+tuple_types table (n.LetPar p x a y b c) = []
+tuple_types table (n.If p a b c) = []
+tuple_types table (n.Case p x arms) = []
+tuple_types table (n.Tuple p ts xs) = types_in table ts.items
+tuple_types table (n.LetSeveral p qs a b) = []
+tuple_types table (n.ParSeveral p qs a rs b c) = []
+
 -- The parts of an expression that are evaluated before all else, in the order in which they are evaluated.
 abbrev pub first_parts : Table → Expression → List Expression
 first_parts table (Var x) = []
@@ -61,6 +85,9 @@ first_parts table (Let p x a b) = a ∷ []
 first_parts table (Par p x a y b c) = a ∷ b ∷ []
 first_parts table (If p a b c) = a ∷ []
 first_parts table (Case p x arms) = []
+first_parts table (Tuple p as' xs) = in_turn (types_in table as') (expressions_of xs)
+first_parts table (LetSeveral p qs a b) = a ∷ []
+first_parts table (ParSeveral p qs a rs b c) = a ∷ b ∷ []
 
 -- The value at a place, 0 where there is none.
 abbrev pub value_at : List Datum → ℕ → Datum
@@ -100,6 +127,9 @@ finish a (Let p x l b) env vs = means_in a b (bind (x ∷ []) vs env)
 finish a (Par p x l y r b) env vs = means_in a b (bind (x ∷ y ∷ []) vs env)
 finish a (If p c t e) env vs = choose (is_true (value_at vs 0)) (means_in a t env) (means_in a e env)
 finish a (Case p x arms) env vs = Gives (whole (pos 0))
+finish a (Tuple p as' xs) env vs = Gives (tuple (in_place (types_in a.table as') vs))
+finish a (LetSeveral p qs l b) env vs = means_in a b (bind_results (names_of qs) (value_at vs 0) env)
+finish a (ParSeveral p qs l rs r b) env vs = means_in a b (bind_results (names_of rs) (value_at vs 1) (bind_results (names_of qs) (value_at vs 0) env))
 
 -- Steps.
 
@@ -130,6 +160,12 @@ abbrev mutual
   cost a (If p c t e) env =
       1 + (1 + cost a c env + if_values (eval a.table a.call c env ∷ []) (λ vs. pick (is_true (value_at vs 0)) (cost a t env) (cost a e env)))
   cost a (Case p x arms) env = 1 + cost_arms a arms (value_in env (number_of x)) env
+  cost a (Tuple p as' xs) env = 1 + cost_all a xs env
+  cost a (LetSeveral p qs l b) env =
+      1 + (1 + cost a l env + if_values (eval a.table a.call l env ∷ []) (λ vs. cost a b (bind_results (names_of qs) (value_at vs 0) env)))
+  cost a (ParSeveral p qs l rs r b) env =
+      1 + (1 + cost a l env + (1 + cost a r env)
+      + if_values (eval a.table a.call l env ∷ eval a.table a.call r env ∷ []) (λ vs. cost a b (bind_results (names_of rs) (value_at vs 1) (bind_results (names_of qs) (value_at vs 0) env))))
 
   pub cost_all : Around → Arguments → Environment → ℕ
   cost_all a NoArgument env = 0
@@ -157,6 +193,9 @@ finish_cost a (Let p x l b) env vs = cost a b (bind (x ∷ []) vs env)
 finish_cost a (Par p x l y r b) env vs = cost a b (bind (x ∷ y ∷ []) vs env)
 finish_cost a (If p c t e) env vs = pick (is_true (value_at vs 0)) (cost a t env) (cost a e env)
 finish_cost a (Case p x arms) env vs = 0
+finish_cost a (Tuple p as' xs) env vs = 0
+finish_cost a (LetSeveral p qs l b) env vs = cost a b (bind_results (names_of qs) (value_at vs 0) env)
+finish_cost a (ParSeveral p qs l rs r b) env vs = cost a b (bind_results (names_of rs) (value_at vs 1) (bind_results (names_of qs) (value_at vs 0) env))
 
 -- What f says of the function, 0 where there is none.
 abbrev pub function_cost : Option FunctionTree → (FunctionTree → ℕ) → ℕ

@@ -1,5 +1,6 @@
 -- The stacks of the machine.
-use Rattle.std.specs.Prelude.{ℕ, List, [], ◌∷◌, take, drop}
+use Rattle.std.specs.Prelude.{◌≡◌, ℕ, List, [], ◌∷◌, ◌++◌, length, take, drop, Result, OnOk, OnErr}
+use Rattle.std.specs.List.{AllByRecursion}
 use Rattle.gib_value.specs.declared.node.Node.{Node}
 use Rattle.gib_value.specs.Heap.{value_of, IsWithin}
 use Rattle.gib_types.specs.Tree.{Datum}
@@ -29,3 +30,9 @@ bindings_of (x ∷ xs) (w ∷ ws) = record { name = x.name; value = w } ∷ bind
 -- The variable's value has its fields before the place.
 abbrev pub IsBound : ℕ → Binding → Type 0
 IsBound n b = IsWithin n b.value
+
+-- Where there was memory the new bindings add to the variables what is said; else there are no new ones.
+abbrev pub Adds : {T E : Type 0} → Result T E → List Datum → List Binding → List Binding → (Environment → Environment) → Type 0
+Adds result heap old new change =
+    (added : List Binding) × (new ≡ old ++ added) × AllByRecursion (IsBound (length heap)) added
+    × OnOk result ((env : Environment) → env_over heap added env ≡ change env) × OnErr result (added ≡ [])

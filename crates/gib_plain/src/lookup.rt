@@ -1,19 +1,19 @@
 //! What the names and parts of a program are.
 
-ghost use Rattle.std.specs.Prelude.{◌≡◌, ◌<◌, ◌+◌, ℕ, [], ◌∷◌, None, Some, MatchOption, drop, length};
+ghost use Rattle.std.specs.Prelude.{◌≡◌, ◌<◌, ◌+◌, ℕ, [], ◌∷◌, ◌++◌, None, Some, MatchOption, OnOk, IfOk, drop, length};
 ghost use Rattle.gib_base.specs.declared.Span.{Span};
 ghost use Rattle.gib_syntax.specs.declared.tree.Ident.{Ident};
 ghost use Rattle.gib_syntax.specs.Tree.{Expression, Case};
 ghost use Rattle.gib_syntax.specs.Arena.{layer, tree_of, arguments_from, case_from};
 ghost use Rattle.gib_syntax.specs.Parts.{program_of, function_tree};
 ghost use Rattle.gib_syntax.specs.Declarations.{table_of_program, constructor_named, function_named};
-ghost use Rattle.gib_plain.specs.Running.{first_parts, expressions_of, fields_made, arm_of};
+ghost use Rattle.gib_plain.specs.Running.{first_parts, expressions_of, fields_made, types_in, tuple_types, arm_of};
 ghost use Rattle.gib_plain.specs.Turns.{in_turn};
 
 use crate::turns::argument_at;
-use gib_base::Name;
+use gib_base::{Memory, Name};
 use gib_check::Typed;
-use gib_syntax::{Arm, ExprId, FunctionDecl, Node};
+use gib_syntax::{Arm, ExprId, FunctionDecl, Node, TypeName};
 use gib_types::{ConId, Ty};
 
 /// The function of a name.
@@ -88,6 +88,18 @@ fn field_types(typed: &Typed, name: Name) -> &[Ty]
     }
 }
 
+/// Types that are written are put behind others.
+pub fn push_types(types: &mut Vec<Ty>, typed: &Typed, names: &[TypeName]) -> Result<(), Memory>
+    ensures { OnOk result (types.new.items ≡ types.old.items ++ types_in (table_of_program (program_of typed.now)) names.now) }
+{
+    let mut rest = names;
+    'names: while let [name, after @ ..] = rest {
+        types.push(typed.type_named(*name))?;
+        rest = after;
+    }
+    Ok(())
+}
+
 /// The part at a place among a constructor's arguments, in the order in which they are evaluated.
 fn part_in_turn(types: &[Ty], parts: &[ExprId], at: usize) -> Option<ExprId>
     ensures { (f : ℕ → Expression) → MatchOption result
@@ -97,8 +109,9 @@ fn part_in_turn(types: &[Ty], parts: &[ExprId], at: usize) -> Option<ExprId>
     argument_at(types, parts, at)
 }
 
-/// The part at a place among those of an expression that are evaluated first.
-fn part(typed: &Typed, node: &Node, at: usize) -> Option<ExprId>
+/// The part at a place among those of an expression that are evaluated first, where those of a tuple have these types.
+fn part(typed: &Typed, types: &[Ty], node: &Node, at: usize) -> Option<ExprId>
+    requires { types.now ≡ tuple_types (table_of_program (program_of typed.now)) node.now }
     ensures { (f : ℕ → Expression) → MatchOption result
         (drop at (first_parts (table_of_program (program_of typed.now)) (layer f (Some node.now))) ≡ [])
         (λ i. drop at (first_parts (table_of_program (program_of typed.now)) (layer f (Some node.now))) ≡ f i.0 ∷ drop (at + 1) (first_parts (table_of_program (program_of typed.now)) (layer f (Some node.now)))) }
@@ -115,18 +128,44 @@ fn part(typed: &Typed, node: &Node, at: usize) -> Option<ExprId>
         Node::LetPar { left, right, .. } => part_of_two(*left, *right, at),
         Node::If { condition, .. } => part_of_one(*condition, at),
         Node::Case { .. } => None,
+        Node::Tuple { parts, .. } => part_in_turn(types, parts, at),
+        Node::LetSeveral { bound, .. } => part_of_one(*bound, at),
+        Node::ParSeveral { left, right, .. } => part_of_two(*left, *right, at),
     }
 }
 
-/// The part at a place among those of the expression of a number that are evaluated first.
-pub fn next_part(typed: &Typed, id: ExprId, at: usize) -> Option<ExprId>
-    ensures { MatchOption result
+/// The types of the parts of a tuple are put in place of others; of any other expression, nothing.
+fn put_part_types(types: &mut Vec<Ty>, typed: &Typed, node: &Node) -> Result<(), Memory>
+    ensures { OnOk result (types.new.items ≡ tuple_types (table_of_program (program_of typed.now)) node.now) }
+{
+    types.clear();
+    if let Node::Tuple { types: names, .. } = node {
+        push_types(types, typed, names)?;
+    }
+    Ok(())
+}
+
+/// The part at a place among those of the expression of a number that are evaluated first. In `types` a tuple's types are
+/// put, each time anew.
+///
+/// # Errors
+///
+/// Want of memory.
+pub fn next_part(
+    typed: &Typed,
+    types: &mut Vec<Ty>,
+    id: ExprId,
+    at: usize,
+) -> Result<Option<ExprId>, Memory>
+    ensures { IfOk result (λ next. MatchOption next
         (drop at (first_parts (table_of_program (program_of typed.now)) (tree_of typed.now.exprs id.0)) ≡ [])
-        (λ i. drop at (first_parts (table_of_program (program_of typed.now)) (tree_of typed.now.exprs id.0)) ≡ tree_of typed.now.exprs i.0 ∷ drop (at + 1) (first_parts (table_of_program (program_of typed.now)) (tree_of typed.now.exprs id.0))) }
+        (λ i. drop at (first_parts (table_of_program (program_of typed.now)) (tree_of typed.now.exprs id.0)) ≡ tree_of typed.now.exprs i.0 ∷ drop (at + 1) (first_parts (table_of_program (program_of typed.now)) (tree_of typed.now.exprs id.0)))) }
 {
     let exprs = typed.program().exprs();
     if id.0 as usize >= exprs.len() {
-        return None;
+        return Ok(None);
     }
-    part(typed, exprs.node(id), at)
+    let node = exprs.node(id);
+    put_part_types(types, typed, node)?;
+    Ok(part(typed, types, node, at))
 }

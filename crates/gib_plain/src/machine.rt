@@ -4,10 +4,11 @@ ghost use Rattle.std.specs.Prelude.{◌≡◌, ◌<◌, ◌≤◌, ◌+◌, ◌-
 ghost use Rattle.std.specs.Prelude.{pos};
 ghost use Rattle.gib_types.specs.Tree.{Datum, whole, truth, con as con_of, data_of};
 ghost use Rattle.gib_value.specs.Heap.{value_of};
-ghost use Rattle.gib_syntax.specs.Meaning.{bind, value_in, parts, Deep, outcome, number_in, is_true, names_of, run};
+ghost use Rattle.gib_syntax.specs.Meaning.{bind, bind_results, tuple, value_in, parts, Deep, outcome, number_in, is_true, names_of, run};
+ghost use Rattle.gib_syntax.specs.Declarations.{table_of_program};
 ghost use Rattle.gib_syntax.specs.Parts.{program_of};
 ghost use Rattle.gib_syntax.specs.Arena.{tree_of};
-ghost use Rattle.gib_plain.specs.Running.{Waiting, Entering, Leaving, Ended, doing_for, IsScalar, IsMadeBy, with_done, value_at, is_over, IsReady, ComesTo, Goes, owes, complete, finished, finished_cost, complete_cost, frame_at, code_of, Code};
+ghost use Rattle.gib_plain.specs.Running.{Waiting, Entering, Leaving, Ended, doing_for, IsScalar, IsMadeBy, with_done, value_at, is_over, IsReady, ComesTo, Goes, owes, complete, finished, finished_cost, complete_cost, frame_at, types_in, code_of, Code};
 ghost use Rattle.gib_base.specs.declared.Span.{Span};
 ghost use Rattle.gib_syntax.specs.declared.tree.Ident.{Ident};
 ghost use Rattle.gib_syntax.specs.Tree.{Arguments, Call, Make, Case};
@@ -17,14 +18,16 @@ ghost use Rattle.gib_value.specs.Heap.{IsWithin};
 ghost use Rattle.gib_plain.specs.Told.{told};
 ghost use Rattle.gib_plain.specs.Turns.{in_place};
 
-use crate::lookup::{arm, function, next_part};
+use crate::lookup::{arm, function, next_part, push_types};
 use crate::operators::{operated, truth_of};
 use crate::outcome::Outcome;
-use crate::stack::{Binding, between, newest, node_at, push_bindings, push_parameters};
+use crate::stack::{
+    Binding, between, newest, node_at, push_bindings, push_parameters, push_results,
+};
 use crate::turns::put_in_place;
 use gib_base::{Memory, Name};
 use gib_check::Typed;
-use gib_syntax::{Arm, ExprId, Ident, Node as Syntax, Operator, Parameter};
+use gib_syntax::{Arm, ExprId, Ident, Node as Syntax, Operator, Parameter, TypeName};
 use gib_types::{ConId, Ty};
 use gib_value::{Heap, Node, Value};
 use std::alloc::{AllocError, Global};
@@ -52,13 +55,38 @@ pub enum Now {
     ByZero,
 }
 
-/// The machine. In `placed` a constructor's fields are put in declared order, each time anew.
+/// Makes a constructor of the values of its fields, where these have the types and come in turn. In `placed` they are put in
+/// declared order.
+fn make(
+    heap: &mut Heap,
+    placed: &mut Vec<Node>,
+    con: ConId,
+    types: &[Ty],
+    values: &[Node],
+) -> Result<Node, Memory>
+    requires { AllByRecursion (IsWithin (length heap.old)) values.now }
+    ensures made { IfOk result (λ node. value_of heap.new node ≡ con_of con.0 (data_of (in_place types.now (map (value_of heap.old) values.now)))) }
+    ensures within { IfOk result (λ node. IsWithin (length heap.new) node) }
+    ensures kept { (later : List Datum) × (heap.new ≡ heap.old ++ later) }
+    ensures refused { OnErr result (heap.new ≡ heap.old) }
+{
+    put_in_place(placed, types, values)?;
+    // A node counts its fields by 32 bits; so many are more than memory holds.
+    if placed.len() > u32::MAX as usize {
+        return Err(AllocError);
+    }
+    heap.make(con, placed)
+}
+
+/// The machine. In `placed` a constructor's fields are put in declared order, in `types` the types of a tuple's parts, each
+/// time anew.
 #[derive(Drop)]
 pub struct Machine {
     heap: Heap,
     vars: Vec<Binding>,
     temps: Vec<Node>,
     placed: Vec<Node>,
+    types: Vec<Ty>,
     frames: Vec<Frame>,
     base: usize,
     left: u32,
@@ -259,18 +287,76 @@ impl Machine {
         let Some(frame) = self.frames.pop() else {
             return Ok(());
         };
-        put_in_place(
+        let value = make(
+            &mut self.heap,
             &mut self.placed,
+            con,
             types,
             between(&self.temps, frame.start, frame.temps_len),
         )?;
-        // A node counts its fields by 32 bits; so many are more than memory holds.
-        if self.placed.len() > u32::MAX as usize {
-            return Err(AllocError);
-        }
-        let value = self.heap.make(con, &self.placed)?;
         self.temps.truncate(frame.start);
         self.next = Now::Leave(value);
+        Ok(())
+    }
+
+    // Makes a tuple of the parts of the newest frame, where these are their types.
+    fn build_tuple(&mut self, typed: &Typed, names: &[TypeName]) -> Result<(), Memory>
+        ensures { OnOk result ((fs : List Waiting) (f : Waiting) → self.old.frames ≡ fs ++ f ∷ [] →
+            self.new ≡ record self.old { frames = fs; doing = Leaving (tuple (in_place (types_in (table_of_program (program_of typed.now)) names.now) f.finished)) }) }
+    {
+        self.types.clear();
+        push_types(&mut self.types, typed, names)?;
+        let Some(frame) = self.frames.pop() else {
+            return Ok(());
+        };
+        let value = make(
+            &mut self.heap,
+            &mut self.placed,
+            ConId(0),
+            &self.types,
+            between(&self.temps, frame.start, frame.temps_len),
+        )?;
+        self.temps.truncate(frame.start);
+        self.next = Now::Leave(value);
+        Ok(())
+    }
+
+    // Binds the variables of a `let` to the one part of the newest frame, and goes to a body.
+    fn bind_one(&mut self, variables: &[Parameter], body: ExprId) -> Result<(), Memory>
+        ensures { OnOk result ((fs : List Waiting) (f : Waiting) → self.old.frames ≡ fs ++ f ∷ [] →
+            self.new ≡ record self.old { frames = fs; env = bind_results (names_of variables.now) (value_at f.finished 0) self.old.env; doing = Entering body.0 }) }
+    {
+        let Some(frame) = self.frames.pop() else {
+            return Ok(());
+        };
+        let done = between(&self.temps, frame.start, frame.temps_len);
+        let value = node_at(done, 0);
+        push_results(&mut self.vars, &self.heap, variables, value)?;
+        self.temps.truncate(frame.start);
+        self.next = Now::Enter(body);
+        Ok(())
+    }
+
+    // Binds the variables of both sides of a `let par` to the two parts of the newest frame, and goes to a body.
+    fn bind_two(
+        &mut self,
+        left: &[Parameter],
+        right: &[Parameter],
+        body: ExprId,
+    ) -> Result<(), Memory>
+        ensures { OnOk result ((fs : List Waiting) (f : Waiting) → self.old.frames ≡ fs ++ f ∷ [] →
+            self.new ≡ record self.old { frames = fs; env = bind_results (names_of right.now) (value_at f.finished 1) (bind_results (names_of left.now) (value_at f.finished 0) self.old.env); doing = Entering body.0 }) }
+    {
+        let Some(frame) = self.frames.pop() else {
+            return Ok(());
+        };
+        let done = between(&self.temps, frame.start, frame.temps_len);
+        let first = node_at(done, 0);
+        let second = node_at(done, 1);
+        push_results(&mut self.vars, &self.heap, left, first)?;
+        push_results(&mut self.vars, &self.heap, right, second)?;
+        self.temps.truncate(frame.start);
+        self.next = Now::Enter(body);
         Ok(())
     }
 
@@ -382,6 +468,14 @@ impl Machine {
                 self.choose(*then_part, *else_part);
                 Ok(())
             }
+            Syntax::Tuple { types, .. } => self.build_tuple(typed, types),
+            Syntax::LetSeveral { names, body, .. } => self.bind_one(names, *body),
+            Syntax::ParSeveral {
+                left_names,
+                right_names,
+                body,
+                ..
+            } => self.bind_two(left_names, right_names, *body),
         }
     }
 
@@ -393,7 +487,8 @@ impl Machine {
         let Some((id, at)) = self.top() else {
             return Ok(());
         };
-        match next_part(typed, id, at) {
+        let part = next_part(typed, &mut self.types, id, at)?;
+        match part {
             Some(next) => {
                 self.enter_next(next);
                 Ok(())
@@ -489,6 +584,9 @@ impl Machine {
             Syntax::Case { variable, arms, .. } => {
                 self.enter_case(typed, id, variable.name, arms)
             }
+            Syntax::Tuple { .. } => self.begin(typed, id),
+            Syntax::LetSeveral { .. } => self.begin(typed, id),
+            Syntax::ParSeveral { .. } => self.begin(typed, id),
         }
     }
 
@@ -538,6 +636,7 @@ impl Machine {
             vars,
             temps: Vec::new(alloc),
             placed: Vec::new(alloc),
+            types: Vec::new(alloc),
             frames: Vec::new(alloc),
             base: 0,
             left: depth,

@@ -4,13 +4,13 @@ ghost use Rattle.std.specs.Prelude.{◌≡◌, ◌≤◌, ◌++◌, ℕ, List, l
 ghost use Rattle.std.specs.List.{AllByRecursion};
 ghost use Rattle.gib_types.specs.Tree.{Datum};
 ghost use Rattle.gib_value.specs.Heap.{value_of, IsWithin};
-ghost use Rattle.gib_syntax.specs.Meaning.{value_in, names_of};
+ghost use Rattle.gib_syntax.specs.Meaning.{bind, bind_results, parts, value_in, names_of};
 ghost use Rattle.gib_plain.specs.Running.{value_at};
-ghost use Rattle.gib_plain.specs.Stacks.{cut, bindings_of, env_of, IsBound};
+ghost use Rattle.gib_plain.specs.Stacks.{cut, bindings_of, env_of, Adds, IsBound};
 
 use gib_base::{Memory, Name};
 use gib_syntax::{Ident, Parameter};
-use gib_value::Node;
+use gib_value::{Heap, Node};
 use std::alloc::AllocError;
 
 /// A variable in scope, with its value.
@@ -89,6 +89,43 @@ pub fn push_parameters(
         i += 1;
     }
     Ok(())
+}
+
+/// Binds variables to the parts of a value, as `push_parameters` does.
+fn push_parts(
+    vars: &mut Vec<Binding>,
+    heap: &Heap,
+    parameters: &[Parameter],
+    value: Node,
+) -> Result<(), Memory>
+    requires { IsWithin (length heap.now) value }
+    ensures { Adds result heap.now vars.old.items vars.new.items (bind (names_of parameters.now) (parts (value_of heap.now value))) }
+{
+    match value {
+        Node::Whole(_) => Ok(()),
+        Node::Truth(_) => Ok(()),
+        Node::Con { count, first, .. } => {
+            push_parameters(vars, parameters, heap.fields(first, count))
+        }
+    }
+}
+
+/// Binds one variable to a value, any other number of them to its parts, as far as both go; where memory runs out nothing
+/// changes.
+pub fn push_results(
+    vars: &mut Vec<Binding>,
+    heap: &Heap,
+    parameters: &[Parameter],
+    value: Node,
+) -> Result<(), Memory>
+    requires { IsWithin (length heap.now) value }
+    ensures { Adds result heap.now vars.old.items vars.new.items (bind_results (names_of parameters.now) (value_of heap.now value)) }
+{
+    if parameters.len() == 1 {
+        push_parameters(vars, parameters, &[value])
+    } else {
+        push_parts(vars, heap, parameters, value)
+    }
 }
 
 /// The value of the newest variable of a name among those from a place on, 0 where there is none.

@@ -1,12 +1,10 @@
 use Rattle.std.proofs.Common.{◌≡◌, ◌++◌, ◌∷◌, [], ◌∙◌, ap, map, length, List}
-use Rattle.std.specs.List.{AllByRecursion}
 use Rattle.gib_types.specs.Tree.{Datum, con, data_of}
 use Rattle.gib_value.specs.declared.node.Node.{Node}
-use Rattle.gib_value.specs.Heap.{value_of, IsWithin}
+use Rattle.gib_value.specs.Heap.{value_of}
 use Rattle.gib_plain.specs.Running.{State, Waiting, Leaving}
 use Rattle.gib_plain.specs.Stacks.{cut}
 use Rattle.gib_plain.specs.Turns.{in_place}
-use Rattle.gib_plain.proofs.InTurn.{place_all, place_map}
 use Rattle.gib_plain.proofs.Moves.{held_at, held_pop, held_drop, within_parts, seen_at, dropped, state_eq, frames_popped, popped, grown}
 use Rattle.gib_plain.proofs.machine.Machine.build.Goals as goal
 
@@ -22,24 +20,11 @@ between-requires-clause-end c =
     let held = held_at m.heap m.vars.items m.temps.items m.frames.items c.pop.new.self.items _ m.base c.in-Some.ensures.items c.self.invariant.held in
     rw c.deref.ensures.value (popped _ _ _ _ _ _ held).temps
 
-pub invariant_of-self-in_err-put_in_place : goal.invariant_of-self-in_err-put_in_place
-invariant_of-self-in_err-put_in_place c =
+pub make-requires : goal.make-requires
+make-requires c =
     let m = c.self.inside in
     let held = held_at m.heap m.vars.items m.temps.items m.frames.items c.pop.new.self.items _ m.base c.in-Some.ensures.items c.self.invariant.held in
-    record { held = held_pop _ _ _ _ _ _ held; next = c.self.invariant.next }
-
-pub invariant_of-self-then-len : goal.invariant_of-self-then-len
-invariant_of-self-then-len c =
-    let m = c.self.inside in
-    let held = held_at m.heap m.vars.items m.temps.items m.frames.items c.pop.new.self.items _ m.base c.in-Some.ensures.items c.self.invariant.held in
-    record { held = held_pop _ _ _ _ _ _ held; next = c.self.invariant.next }
-
-pub make-requires-clause-within : goal.make-requires-clause-within
-make-requires-clause-within c =
-    let m = c.self.inside in
-    let held = held_at m.heap m.vars.items m.temps.items m.frames.items c.pop.new.self.items _ m.base c.in-Some.ensures.items c.self.invariant.held in
-    let within : AllByRecursion (IsWithin (length m.heap)) c.between.result.now = rw (c.between.ensures, c.deref.ensures.value) (within_parts _ _ _ _ _ _ held) in
-    rw (c.deref-2.ensures.value, c.in_ok-put_in_place.ensures) (place_all (IsWithin (length m.heap)) c.args.types.now c.between.result.now within)
+    rw (c.between.ensures, c.deref.ensures.value) (within_parts _ _ _ _ _ _ held)
 
 pub invariant_of-self-in_err-value : goal.invariant_of-self-in_err-value
 invariant_of-self-in_err-value c =
@@ -60,7 +45,6 @@ returns c = λ fs f e.
     let seen = seen_at m.heap m.vars.items m.temps.items m.frames.items c.pop.new.self.items c.in-Some.frame (fs ++ f ∷ []) c.in-Some.ensures.items (ap (λ (s : State). s.frames) c.self.view_is ∙ e) in
     let r = frames_popped _ _ _ _ _ fs f seen in
     let d : map (value_of m.heap) c.between.result.now ≡ f.finished = ap (map (value_of m.heap)) (c.between.ensures ∙ ap (λ (ts : List Node). cut ts c.in-Some.frame.start c.in-Some.frame.temps_len) c.deref.ensures.value) ∙ ap (λ (a : Waiting). a.finished) r.1 in
-    let fields : map (value_of m.heap) c.deref-2.result.now ≡ in_place c.args.types.now f.finished = ap (map (value_of m.heap)) (c.deref-2.ensures.value ∙ c.in_ok-put_in_place.ensures) ∙ place_map (value_of m.heap) c.args.types.now c.between.result.now ∙ ap (in_place c.args.types.now) d in
-    let made = c.in_ok-value.ensures.made ∙ ap (λ (vs : List Datum). con c.args.con.0 (data_of vs)) fields in
+    let made = c.in_ok-value.ensures.made ∙ ap (λ (vs : List Datum). con c.args.con.0 (data_of (in_place c.args.types.now vs))) d in
     let g = grown _ _ _ _ _ _ _ c.in_ok-value.ensures.kept.1 (held_drop _ _ _ _ _ _ held) in
     state_eq _ _ _ _ _ _ _ _ (rw c.truncate.ensures.items (g.1 ∙ dropped _ _ _ _ _ _ fs f held seen)) (ap (λ (s : State). s.left) c.self.view_is) (g.2 ∙ ap (λ (s : State). s.env) c.self.view_is) (ap Leaving made)

@@ -19,3 +19,9 @@ returns-in-Call c =
     let nodes = c.args.typed.now.exprs in
     let tree = opened nodes c.exprs-exprs.result.now c.args.id.0 _ _ (c.exprs-exprs.ensures.value ∙ ap (λ (p : Parts). p.exprs) c.program.ensures.value) c.node.ensures.0 c.in-Call.is in
     on_ok c.begin-in-Call.result (λ h. goes_begin (code_of c.args.typed.now) c.args.self.now c.begin-in-Call.new.self c.args.id.0 (Call c.in-Call.field-0 (arguments_from (tree_of nodes) c.in-Call.field-1.items)) c.requires tree tt h) c.begin-in-Call.ensures
+
+pub returns-in-Tuple : goal.returns-in-Tuple
+returns-in-Tuple c =
+    let nodes = c.args.typed.now.exprs in
+    let tree = opened nodes c.exprs-exprs.result.now c.args.id.0 _ _ (c.exprs-exprs.ensures.value ∙ ap (λ (p : Parts). p.exprs) c.program.ensures.value) c.node.ensures.0 c.in-Tuple.is in
+    on_ok c.begin-in-Tuple.result (λ h. goes_begin (code_of c.args.typed.now) c.args.self.now c.begin-in-Tuple.new.self c.args.id.0 _ c.requires tree tt h) c.begin-in-Tuple.ensures
