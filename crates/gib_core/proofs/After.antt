@@ -1,10 +1,11 @@
 -- What stands behind a term is told by its entries, whatever the term is met with.
-use Rattle.std.proofs.Common.{◌≡◌, refl, ap, ◌∙◌}
-use Rattle.gib_types.specs.Table.{Table}
-use Rattle.gib_core.specs.Tree.{Term, Then, Write, Point, CallTerm, Give, CaseTerm, IfTerm, Bind, Past, One, Both, Prim, Reach, Side, On, Branches, NoBranch, BranchThen}
-use Rattle.gib_core.specs.Met.{Setting, SideLine, CaseLine, IfLine, behind, in_side, in_arm, in_branch, left_of, right_of, arms_of, met, met_bind, met_side, met_branches}
+use Rattle.std.proofs.Common.{◌≡◌, List, refl, ap, ◌∙◌}
+use Rattle.gib_types.specs.declared.table.Ty.{Ty}
+use Rattle.gib_types.specs.Table.{Table, first_type, further_types, tree_types}
+use Rattle.gib_core.specs.Tree.{Term, Then, Write, Point, CallTerm, Give, CaseTerm, IfTerm, Tuple, PartTerms, NoPart, PartThen, parts_count, Bind, Past, One, Both, Prim, Reach, Side, On, Several, Branches, NoBranch, BranchThen}
+use Rattle.gib_core.specs.Met.{Setting, SideLine, CaseLine, IfLine, SeveralLine, TupleLine, PartLine, behind, in_side, in_several, in_part, in_arm, in_branch, left_of, right_of, arms_of, met, met_bind, met_side, met_parts, met_branches}
 use Rattle.gib_core.specs.Rules.{Before, next, next_all}
-use Rattle.gib_core.specs.Walk.{Entry, AtLine, AtArm, walk, walk_bind, walk_side, walk_branches}
+use Rattle.gib_core.specs.Walk.{Entry, AtLine, AtArm, walk, walk_bind, walk_side, walk_parts, walk_branches}
 use Rattle.gib_core.proofs.Along.{next_append}
 
 -- One after the other.
@@ -35,6 +36,7 @@ module _ (tb : Table) where
     after_is (IfTerm x t u) s b =
         let c = next tb b (IfLine x) in
         next_append tb c (met tb (in_branch s) t) (met tb (in_branch s) u) ∙ after_is u (in_branch s) (next_all tb c (met tb (in_branch s) t)) ∙ ap (after tb u) (after_is t (in_branch s) c)
+    after_is (Tuple tys ss ps) s b = parts_after ps (tree_types tys) s (next tb b (TupleLine tys ss (parts_count ps)))
 
     pub bind_after : (x : Bind) (s : Setting) (b : Before) → next_all tb b (met_bind tb s x) ≡ walk_bind in_turn (λ c. c) (step tb) x b
     bind_after (Past h k) s b = refl
@@ -47,6 +49,15 @@ module _ (tb : Table) where
 
     pub side_after : (x : Side) (s : Setting) (b : Before) → next_all tb b (met_side tb s x) ≡ after_side tb x b
     side_after (On kind x ty t) s b = after_is t (in_side tb s kind ty) (next tb b (SideLine kind x ty))
+    side_after (Several xs tys t) s b = after_is t (in_several s tys) (next tb b (SeveralLine xs tys))
+
+    pub parts_after : (ps : PartTerms) (tys : List Ty) (s : Setting) (b : Before) → next_all tb b (met_parts tb s tys ps) ≡ walk_parts in_turn (λ c. c) (step tb) ps b
+    parts_after NoPart tys s b = refl
+    parts_after (PartThen t ps) tys s b =
+        let inner : Setting = in_part s (first_type tys) in
+        let c = next tb b PartLine in
+        next_append tb c (met tb inner t) (met_parts tb s (further_types tys) ps) ∙ parts_after ps (further_types tys) s (next_all tb c (met tb inner t))
+        ∙ ap (walk_parts in_turn (λ d. d) (step tb) ps) (after_is t inner c)
 
     pub branches_after : (bs : Branches) (s : Setting) (b : Before) → next_all tb b (met_branches tb s bs) ≡ walk_branches in_turn (λ c. c) (step tb) bs b
     branches_after NoBranch s b = refl

@@ -7,7 +7,7 @@ use Rattle.gib_types.specs.Table.{Table, fields_at}
 use Rattle.gib_core.specs.declared.atom.Variable.{Variable}
 use Rattle.gib_core.specs.declared.atom.Kind.TheVariants.{Here, Region, Scalar}
 use Rattle.gib_core.specs.Tree.{CoreTree}
-use Rattle.gib_core.specs.Met.{Setting, Line, PastLine, SideLine, ParLine, PrimLine, ReachLine, WriteLine, PointLine, CallLine, GiveLine, CaseLine, IfLine, Met}
+use Rattle.gib_core.specs.Met.{Setting, Line, PastLine, SideLine, ParLine, PrimLine, ReachLine, WriteLine, PointLine, CallLine, GiveLine, CaseLine, IfLine, SeveralLine, TupleLine, PartLine, Met}
 use Rattle.gib_core.specs.Rules.{Bound, Before, Judgement, is_among, is_bound, bind_fields, bind_arms, any_bound, arm_variables, rules, least, binds_new, next, next_all, LinesAreBuilt}
 use Rattle.gib_core.specs.Inferring.{first_type, further_types}
 use Rattle.gib_core.specs.Reachable.{all_reached, LinesAreReachable}
@@ -115,6 +115,9 @@ line_binds (CallLine f xs) y = false
 line_binds (GiveLine x) y = false
 line_binds (CaseLine x arms) y = is_among (arm_variables arms) y
 line_binds (IfLine x) y = false
+line_binds (SeveralLine xs tys) y = is_among xs y
+line_binds (TupleLine tys ss packed) y = false
+line_binds PartLine y = false
 
 -- None of the lines binds a variable.
 abbrev pub NoneBinds : Variable → List Met → Type 0
@@ -162,6 +165,9 @@ line_bound tb (CallLine f xs) bound y = refl
 line_bound tb (GiveLine x) bound y = refl
 line_bound tb (CaseLine x arms) bound y = arms_bound tb arms bound y
 line_bound tb (IfLine x) bound y = refl
+line_bound tb (SeveralLine xs tys) bound y = fields_bound xs tys bound y
+line_bound tb (TupleLine tys ss packed) bound y = refl
+line_bound tb PartLine bound y = refl
 
 -- What was bound stays bound.
 pub stays_bound : (tb : Table) (ms : List Met) (b : Before) (y : Variable) → is_bound b.bound y ≡ true → is_bound (next_all tb b ms).bound y ≡ true
@@ -194,6 +200,11 @@ module _ (core : CoreTree) where
       let new = (or_parts _ (any_bound (arm_variables arms) [] b.bound) (none_broken (rules core b s (CaseLine x arms)) e).1.1.0).1 in
       false_from_ne_true (is_among (arm_variables arms) y) (λ h. both_ways (is_bound b.bound y) (arms_unbound (arm_variables arms) b.bound y new h) known)
   line_new b s (IfLine x) y e known = refl
+  line_new b s (SeveralLine xs tys) y e known =
+      let new = (none_broken (rules core b s (SeveralLine xs tys)) e).0 in
+      false_from_ne_true (is_among xs y) (λ h. both_ways (is_bound b.bound y) (arms_unbound xs b.bound y new h) known)
+  line_new b s (TupleLine tys ss packed) y e known = refl
+  line_new b s PartLine y e known = refl
 
   -- What was bound is bound by no line again.
   pub bound_once : (b : Before) (ms : List Met) (y : Variable) → LinesAreReachable core b ms → is_bound b.bound y ≡ true → NoneBinds y ms

@@ -188,7 +188,7 @@ module _ (core : CoreTree) (s : Setting) (b : Before) (used : Variable → Bool)
 
 -- The fields that were not used are still awaited.
 pub waiting : (es : List Ended) (s : Setting) (used : Variable → Bool) (fs : List Later) (all : List Later) (ks new : List Known) → Stepped used all ks new → AreAwaited es s ks fs → AreAwaited es s new (not_now used fs)
-waiting es s used [] all ks new q a = tt
+waiting _ s used [] all ks new q a = tt
 waiting es s used (f ∷ fs) all ks new q a = cases (used f.field) refl (waiting es s used fs all ks new q a.1)
   where
     cases : (c : Bool) → used f.field ≡ c → AreAwaited es s new (not_now used fs) → AreAwaited es s new (if c then not_now used fs else f ∷ not_now used fs)

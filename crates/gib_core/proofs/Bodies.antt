@@ -7,6 +7,9 @@ use Rattle.gib_types.specs.declared.table.Ty.{Ty}
 use Rattle.gib_types.specs.declared.table.Ty.TheVariants.{Whole, Truth, Tree}
 use Rattle.gib_types.specs.Table.{IsTable}
 use Rattle.gib_core.specs.declared.scope.Known.{Known}
+use Rattle.gib_syntax.specs.Results as results
+use Rattle.gib_syntax.specs.Results.{Results}
+use Rattle.gib_syntax.specs.Typing.{one_type}
 use Rattle.gib_core.specs.Tree.{FunctionTerm, CoreTree}
 use Rattle.gib_core.specs.Meaning.{function_at}
 use Rattle.gib_core.specs.Inferring.{numbers_from}
@@ -104,10 +107,11 @@ parameters_vars n ts le =
     vars_same n (record { bound = bind_parameters 0 ts []; cased = [] }) (with_parameters 0 ts []) (puts 0 ts (body_scope n [])) (body_scope n ts)
     (λ y. scope_at n ts y le ∙ sym (puts_at ts 0 y y (body_scope n []) (omega arith))) all
 
-opening_dest : (core : CoreTree) (b : Before) (sc : Scope) (ty : Ty) → IsDest core.table b sc (result_place ty) ty (dest_of ty)
-opening_dest core b sc Whole = (refl, refl)
-opening_dest core b sc Truth = (refl, refl)
-opening_dest core b sc (Tree t) = (t, refl, refl)
+opening_dest : (core : CoreTree) (b : Before) (sc : Scope) (r : Results Ty) → IsDest core.table b sc (result_place r) (one_type r) (dest_of r)
+opening_dest core b sc (results.One Whole) = (refl, refl)
+opening_dest core b sc (results.One Truth) = (refl, refl)
+opening_dest core b sc (results.One (Tree t)) = (t, refl, refl)
+opening_dest core b sc (results.Several tys) = refl
 
 -- A body fits, with a slot for each variable.
 abbrev BodyFits : CoreTree → Needs → Body → Line → Type 0
@@ -126,7 +130,7 @@ abbrev body_of : FunctionTerm → Body
 body_of g = record { parameters = g.parameters; result = g.result; term = g.body }
 
 abbrev main_body : CoreTree → Body
-main_body core = record { parameters = core.main.parameter ∷ []; result = core.main.result; term = core.main.body }
+main_body core = record { parameters = core.main.parameter ∷ []; result = results.One core.main.result; term = core.main.body }
 
 abbrev function_bodies : CoreTree → List FunctionTerm → List Body
 function_bodies core gs = map (λ (g : FunctionTerm). record { parameters = g.parameters; result = g.result; term = g.body }) gs ++ main_body core ∷ []

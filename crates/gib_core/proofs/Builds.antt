@@ -1,11 +1,14 @@
 -- Each term that meets the build rules fits.
-use Rattle.std.proofs.Common.{◌≡◌, ℕ, ◌<◌, ◌==◌, Bool, true, false, ◌||◌, ◌&&◌, not, if◌then◌else◌, List, [], ◌∷◌, ◌++◌, map, length, Option, Some, None, refl, sym, ap, ◌∙◌, subst}
-use Rattle.std.proofs.lemmas.Bool.{eqb-true, ltb-true, not-true, or_left, not-false, both_ways, and_parts}
+use Rattle.std.proofs.Common.{◌≡◌, ℕ, suc, ◌<◌, ◌≤◌, arith, ◌==◌, Bool, true, false, ◌||◌, ◌&&◌, not, if◌then◌else◌, List, [], ◌∷◌, ◌++◌, map, length, Option, Some, None, refl, sym, ap, ◌∙◌, subst}
+use Rattle.std.proofs.lemmas.Bool.{eqb-true, ltb-true, not-true, or_left, or_right, not-false, both_ways, and_parts, and_from}
 use Rattle.gib_types.specs.declared.table.Ty.{Ty}
 use Rattle.gib_types.specs.declared.table.Ty.TheVariants.{Whole, Truth, Tree}
 use Rattle.gib_types.specs.declared.table.TyId.{TyId}
 use Rattle.gib_types.specs.declared.table.ConId.{ConId}
-use Rattle.gib_types.specs.Table.{fields_at, con_at, IsTable}
+use Rattle.gib_types.specs.Table.{fields_at, con_at, scalar_types, tree_types, IsTable}
+use Rattle.gib_syntax.specs.Results as results
+use Rattle.gib_syntax.specs.Results.{AreSeveral}
+use Rattle.std.specs.List.{AllByRecursion}
 use Rattle.gib_types.specs.Layout.{is_among as is_number_among, numbers_of}
 use Rattle.gib_syntax.specs.declared.tree.Operator.{Operator}
 use Rattle.gib_syntax.specs.declared.tree.Operator.TheVariants as o
@@ -20,26 +23,27 @@ use Rattle.gib_core.specs.declared.atom.Access.TheVariants.{Offset, Skip, End}
 use Rattle.gib_core.specs.declared.scope.Bound.{Bound as BoundVariable}
 use Rattle.gib_core.specs.declared.scope.Behind.{Behind}
 use Rattle.gib_core.specs.declared.scope.Known.{Known}
-use Rattle.gib_core.specs.Tree.{Term, Then, Write, Point, CallTerm, Give, CaseTerm, IfTerm, Bind, Past, One, Both, Prim, Reach, Side, On, Branches, NoBranch, BranchThen, variable_of, CoreTree}
-use Rattle.gib_core.specs.Meaning.{function_at}
-use Rattle.gib_core.specs.Numbering.{binders, bind_binders, side_binders, branch_binders}
-use Rattle.gib_core.specs.Met.{Destination, Nowhere, Empty, Open, Setting, PastLine, SideLine, ParLine, PrimLine, ReachLine, CaseLine, known, reached, field_due, packed_types, with_field, stands_too, in_side, behind, left_of, right_of, in_arm, in_branch, arms_of, met, met_bind, met_side, met_branches, reached_too}
-use Rattle.gib_core.specs.Rules.{Before, is_among, is_bound, type_bound, rules, least, next, next_all, LinesAreBuilt, has_room, same_type, is_empty, is_nowhere, is_of_type, is_usable, all_usable, is_other, any_other, has_type, may_write, are_scalars, may_reach, by_access, one_tells, is_outside, is_one_of, is_reached, type_of, arm_variables}
+use Rattle.gib_core.specs.Tree.{Term, Then, Write, Point, CallTerm, Give, CaseTerm, IfTerm, Tuple, PartTerms, NoPart, PartThen, parts_count, Bind, Past, One, Both, Prim, Reach, Side, On, Several, Branches, NoBranch, BranchThen, variables_of, CoreTree}
+use Rattle.gib_core.specs.Numbering.{binders, bind_binders, side_binders, part_binders, branch_binders}
+use Rattle.gib_core.specs.Met.{Destination, Nowhere, Empty, Open, InParts, Setting, PastLine, SideLine, ParLine, PrimLine, ReachLine, CaseLine, SeveralLine, known, reached, field_due, packed_types, with_field, stands_behind, with_variables, in_side, in_several, in_part, behind, left_of, right_of, in_arm, in_branch, arms_of, met, met_bind, met_side, met_parts, met_branches, reached_too}
+use Rattle.gib_core.specs.Rules.{Before, is_among, is_bound, type_bound, rules, least, next, next_all, LinesAreBuilt, has_room, same_type, is_empty, is_nowhere, is_of_type, is_usable, all_usable, is_other, any_other, has_type, may_write, are_scalars, may_reach, by_access, one_tells, is_outside, is_one_of, is_reached, type_of, arm_variables, any_bound, are_several, are_parts, is_in_parts, have_types, is_type}
 use Rattle.gib_core.specs.Fits as f
-use Rattle.gib_core.specs.Fits.{Sort, Absent, Held, Placed, AtHead, Field, Scope, put, tree_type, loosen, cased, side_cased, Dest, packed_due, more, IsDue, AtomsFit, FurtherPlaced, IsTree, CallFits, by_call, arm_scope, Line, Needs, Inner, none_of, new_line, tell_line, arm_line, side_tells, Fits, BindFits, SideFits, AloneFits, BranchesFit}
+use Rattle.gib_core.specs.Fits.{Sort, Absent, Held, Placed, AtHead, Field, Scope, put, tree_type, loosen, cased, side_cased, Dest, packed_due, more, IsDue, AtomsFit, FurtherPlaced, IsTree, CallFits, by_call, arm_scope, Line, Needs, Inner, none_of, new_line, tell_line, arm_line, side_tells, AreNew, AreApart, bound_scope, hold_all, Fits, PartsFit, BindFits, SideFits, AloneFits, BranchesFit}
 use Rattle.gib_core.specs.Ending.{Within, within_par, ended, is_known, all_known, lasts_known, last_packed, if_some}
-use Rattle.gib_core.proofs.Owing.{Owes, Tells, MayTell, side_line, bind_line, owes_leaf, owes_call, owes_if, owes_arm, owes_side, owes_none, owes_behind, tells_new, tells_inner, tells_behind, left_may, right_may}
-use Rattle.gib_core.specs.Literals.{LiteralsFit, BindLiterals, SideLiterals, BranchLiterals}
+use Rattle.gib_core.proofs.Owing.{Owes, Tells, MayTell, BindsSome, side_line, bind_line, owes_leaf, owes_call, owes_if, owes_arm, owes_side, owes_none, owes_behind, tells_new, tells_inner, tells_behind, left_may, right_may}
+use Rattle.gib_core.specs.Literals.{LiteralsFit, BindLiterals, SideLiterals, PartLiterals, BranchLiterals}
 use Rattle.gib_core.proofs.Facts.{least2, least3, least4, same_type_is, is_type_is, same_variable, itself, Test, holds, fails, test}
-use Rattle.gib_core.proofs.Later.{later_on, bound_arms, fresh_arms, line_later, lines_later, built_apart, its_type, prim_facts, case_facts, ArmsHaveTypes, arms_have_on, typed_bound}
+use Rattle.gib_core.proofs.Later.{Later, HaveTypes, have_on, fields_typed, later_on, bound_arms, fresh_arms, line_later, lines_later, built_apart, its_type, prim_facts, case_facts, ArmsHaveTypes, arms_have_on, typed_bound}
+use Rattle.gib_core.specs.Reaching.{side_uses}
 use Rattle.gib_core.proofs.Unused.{side_unused, cased_before}
-use Rattle.gib_core.proofs.Vars.{named, Tracked, Behinds, IsKnown, Vars, vars_on, vars_hold, vars_scope, put_there, put_elsewhere, known_bound, IsUsable, vars_over, vars_at, tracked_cased}
-use Rattle.gib_core.proofs.Dests.{IsDest, Keeps, dest_kept, here_due, next_of, stand_too, tracked_as, atom_fits, usable_first, tree_fits, con_there, stand_kept}
-use Rattle.gib_core.proofs.Entering.{AllBelow, below_apart, ArmsAreNew, arms_new, enter}
+use Rattle.gib_core.proofs.Vars.{named, Tracked, Behinds, IsKnown, Vars, vars_on, vars_later, vars_hold, vars_scope, tracked_later, put_there, put_elsewhere, known_bound, IsUsable, vars_over, vars_at, tracked_cased}
+use Rattle.gib_core.proofs.Dests.{IsDest, Keeps, dest_kept, here_due, next_of, stand_too, tracked_as, atom_fits, atoms_fit, usable_first, tree_fits, con_there, stand_kept}
+use Rattle.gib_core.proofs.Entering.{AllBelow, below_apart, ArmsAreNew, arms_new, new_same, fresh_new, enter}
+use Rattle.gib_core.proofs.Severals.{tracked_on, vars_all, hold_vars, bound_vars}
 use Rattle.gib_core.proofs.Covering.{covers, arms_below}
-use Rattle.gib_core.proofs.Fitted.{IsPart, is_part, behind_part, keep_later, SideDone, bind_sort, placed_own, scalar_own, packed_type, call_facts, scalar_call_fits, packed_place, empty_place, no_place, write_fits}
-use Rattle.gib_core.proofs.Along.{next_append}
-use Rattle.gib_core.proofs.Orders.{known_name}
+use Rattle.gib_core.proofs.Fitted.{IsPart, is_part, behind_part, keep_later, SideDone, side_types, absent_loose, bind_sort, placed_own, scalar_own, packed_type, due_parts, call_in_place, scalar_call_fits, empty_place, no_place, write_fits}
+use Rattle.gib_core.proofs.Along.{next_append, among_append}
+use Rattle.gib_core.proofs.Orders.{known_name, several_facts, parts_facts}
 
 one_by : (same q r : Bool) → (q ≡ true → r ≡ true) → same || q ≡ true → (if same then true else r) ≡ true
 one_by true q r f e = refl
@@ -127,6 +131,7 @@ here_facts : (core : CoreTree) (b : Before) (s : Setting) (sc : Scope) (x : Vari
     → IsDest core.table b sc e s.due d → HereFacts core b s sc x ty d
 here_facts core b s sc x ty d Nowhere e r t i = absurd cc
 here_facts core b s sc x ty d Empty e r t i = absurd cc
+here_facts core b s sc x ty d (InParts tys) e r t i = absurd cc
 here_facts core b s sc x ty d (Open h k standing) e r t i =
     let next = here_due core.table b sc h k standing i.0.0 d x i.2 (ltb-true (length standing) (length (packed_types core.table k)) r) in
     let typed = same_type_is ty (field_due core.table (Open h k standing)) t in
@@ -150,26 +155,99 @@ abbrev pub goes : CoreTree → After → Scope → Dest → Line → Type 0
 goes core (AfterBind ns t) sc d ln = Fits core ns t sc d ln
 goes core (AfterLeft v r go) sc d ln = SideFits core (v ln) r sc d ln (goes core go)
 
--- What a side leaves.
-abbrev pub SideLeft : CoreTree → ℕ → Before → Setting → Side → Scope → Before → Scope → Dest → Type 0
-SideLeft core n b s (On kind x ty t) sc c tc d = SideDone core n b s kind x ty sc c tc d
-
-one_left : (core : CoreTree) (n : ℕ) (b : Before) (s : Setting) (side : Side) (sc : Scope) (c : Before) (tc : Scope) (d : Dest) → SideLeft core n b s side sc c tc d
+-- What a side leaves, by itself, before the right side, and behind both.
+one_left : (core : CoreTree) (n : ℕ) (b : Before) (s : Setting) (side : Side) (sc : Scope) (c : Before) (tc : Scope) (d : Dest) → SideDone core n b s side sc c tc d
     → Vars n c (behind s (One side)).scope tc × IsDest core.table c tc (behind s (One side)).destination (behind s (One side)).due d
-one_left core n b s (On kind x ty t) sc c tc d dn = (vars_scope n c s.scope tc (reached x) (ty, dn.own) dn.vars, dn.dest)
+one_left core n b s side sc c tc d dn = (vars_all n c s.scope tc (variables_of side) (side_types side) dn.own dn.vars, dn.dest)
 
-right_among : (s : Setting) (l : Side) → is_among (right_of s l).others (variable_of l) ≡ true
-right_among s (On kind x ty t) = or_left (x.0 == x.0) (is_among s.others x) (itself x.0)
-
-right_start : (core : CoreTree) (n : ℕ) (b : Before) (s : Setting) (l r : Side) (sc : Scope) (c : Before) (tc : Scope) (d : Dest) → SideLeft core n b (left_of s r) l sc c tc d
+right_start : (core : CoreTree) (n : ℕ) (b : Before) (s : Setting) (l r : Side) (sc : Scope) (c : Before) (tc : Scope) (d : Dest) → SideDone core n b (left_of s r) l sc c tc d
     → Vars n c (right_of s l).scope tc × IsDest core.table c tc (right_of s l).destination (right_of s l).due d
-right_start core n b s (On kind x ty t) r sc c tc d dl = (dl.vars, dl.dest)
+right_start core n b s l r sc c tc d dl = (dl.vars, dl.dest)
 
 both_left : (core : CoreTree) (n : ℕ) (b : Before) (s : Setting) (marked : Bool) (l r : Side) (sc : Scope) (m : Before) (tc : Scope) (d : Dest) (z : Before) (uc : Scope) (e : Dest)
-    → SideLeft core n b (left_of s r) l sc m tc d → SideLeft core n m (right_of s l) r tc z uc e
+    → SideDone core n b (left_of s r) l sc m tc d → SideDone core n m (right_of s l) r tc z uc e
     → Vars n z (behind s (Both marked l r)).scope uc × IsDest core.table z uc (behind s (Both marked l r)).destination (behind s (Both marked l r)).due e
-both_left core n b s marked (On kl x ty t) (On kr y uy u) sc m tc d z uc e dl dr =
-    (vars_scope n z (reached x ∷ s.scope) uc (reached y) (uy, dr.own) (vars_scope n z s.scope uc (reached x) (ty, dr.keep x.0 ty dl.own) dr.vars), dr.dest)
+both_left core n b s marked l r sc m tc d z uc e dl dr = (
+  vars_all n z (with_variables (variables_of l) s.scope) uc (variables_of r) (side_types r) dr.own
+      (vars_all n z s.scope uc (variables_of l) (side_types l) (tracked_on m z tc uc (variables_of l) (side_types l) dr.keep dl.own) dr.vars),
+  dr.dest,
+)
+
+-- The right side uses no variable of the left one.
+side_apart : (core : CoreTree) (l r : Side) (m : Before) (s : Setting) → LinesAreBuilt core m (met_side core.table (right_of s l) r) → AreApart l r
+side_apart core (On kind x ty t) r m s h = side_unused core r m (right_of s (On kind x ty t)) x (or_left (x.0 == x.0) (is_among s.others x) (itself x.0)) h
+side_apart core (Several xs tys t) r m s h = each xs (λ y i. among_append xs s.others y ∙ or_left (is_among xs y) (is_among s.others y) i)
+  where
+    each : (ys : List Variable) → ((y : Variable) → is_among ys y ≡ true → is_among (xs ++ s.others) y ≡ true) → AllByRecursion (λ (x : Variable). side_uses r x ≡ false) ys
+    each [] f = tt
+    each (y ∷ ys) f =
+        (side_unused core r m (right_of s (Several xs tys t)) y (f y (or_left (y.0 == y.0) (is_among ys y) (itself y.0))) h, each ys (λ z i. f z (or_right (y.0 == z.0) (is_among ys z) i)))
+
+-- A side binds some variable.
+side_some : (core : CoreTree) (x : Side) (b : Before) (s : Setting) → LinesAreBuilt core b (met_side core.table s x) → BindsSome x
+side_some core (On kind x ty t) b s h = λ e. absurd cc
+side_some core (Several xs tys t) b s h = none (several_facts xs tys (not-false (are_several xs tys) (least2 8 11 (any_bound xs [] b.bound) (not (are_several xs tys)) h.0).1)).0
+  where
+    none : AreSeveral xs → xs ≡ [] → ⊥
+    none several e = subst AreSeveral e several
+
+-- Atoms have their types later on.
+later_typed : (b c : Before) (xs : List Atom) (ts : List Ty) → Later b c → have_types b xs ts ≡ true → have_types c xs ts ≡ true
+later_typed b c [] [] l e = refl
+later_typed b c [] (t ∷ ts) l e = absurd cc
+later_typed b c (x ∷ xs) [] l e = absurd cc
+later_typed b c (x ∷ xs) (t ∷ ts) l e =
+    let p = and_parts (has_type b x t) (have_types b xs ts) e in
+    and_from (has_type c x t) (have_types c xs ts) (one x p.0) (later_typed b c xs ts l p.1)
+  where
+    one : (y : Atom) → has_type b y t ≡ true → has_type c y t ≡ true
+    one (a.Variable y) h = let q = is_type_is (type_bound b.bound y) t h in ap (λ w. is_type w t) (l.bound.types y t q ∙ sym q) ∙ h
+    one (a.Whole z) h = h
+    one (a.Truth z) h = h
+
+-- Where several variables are bound: they are new, and their values are being made.
+record SeveralStart (core : CoreTree) (n : ℕ) (b : Before) (s : Setting) (sc : Scope) (xs : List Variable) (tys : List Ty) : Type 0 where
+  few : AreSeveral tys × (length tys ≤ 8)
+  new : AreNew sc tys xs
+  types : HaveTypes xs tys (next core.table b (SeveralLine xs tys)).bound
+  held : Vars n (next core.table b (SeveralLine xs tys)) s.scope (hold_all xs sc)
+
+-- There are as many types.
+as_many : (xs : List Variable) (tys : List Ty) → AreSeveral xs → length xs ≡ length tys → AreSeveral tys
+as_many [] tys h e = absurd h
+as_many (x ∷ []) tys h e = absurd h
+as_many (x ∷ y ∷ xs) [] h e = absurd (omega (arith, e))
+as_many (x ∷ y ∷ xs) (t ∷ []) h e = absurd (omega (arith, e))
+as_many (x ∷ y ∷ xs) (t ∷ u ∷ tys) h e = tt
+
+several_start : (core : CoreTree) (n : ℕ) (b : Before) (s other : Setting) (sc : Scope) (xs : List Variable) (tys : List Ty) → AllBelow n (map (λ (x : Variable). x.0) xs) → Vars n b s.scope sc
+    → least (rules core b other (SeveralLine xs tys)) ≡ None → SeveralStart core n b s sc xs tys
+several_start core n b s other sc xs tys below v e =
+    let r = least2 8 11 (any_bound xs [] b.bound) (not (are_several xs tys)) e in
+    let facts = several_facts xs tys (not-false (are_several xs tys) r.1) in
+    let fresh = fresh_arms xs b.bound r.0 in
+    let m = next core.table b (SeveralLine xs tys) in
+    let new = fresh_new n tys xs sc (is_bound b.bound) fresh (λ z no lt. v.new z no lt) below (sym facts.1) in
+    let types = fields_typed xs tys b.bound fresh in
+    record { few = (as_many xs tys facts.0 facts.1, facts.2); new = new; types = types; held = hold_vars n m s.scope tys xs sc new types (vars_on n b m s.scope sc (line_later core b other (SeveralLine xs tys) e) v) }
+
+suc_same : (m n : ℕ) → suc m ≡ suc n → n ≡ m
+suc_same m n e = omega (arith, e)
+
+-- Trees, and the numbers of their types.
+abbrev pub ArePaired : List Ty → List ℕ → Type 0
+ArePaired [] [] = Unit {0}
+ArePaired [] (s ∷ ss) = ⊥
+ArePaired (Whole ∷ ts) ss = ⊥
+ArePaired (Truth ∷ ts) ss = ⊥
+ArePaired (Tree t ∷ ts) [] = ⊥
+ArePaired (Tree t ∷ ts) (s ∷ ss) = (t.0 ≡ s) × ArePaired ts ss
+
+paired : (tys : List Ty) → ArePaired (tree_types tys) (packed_due tys)
+paired [] = tt
+paired (Whole ∷ tys) = paired tys
+paired (Truth ∷ tys) = paired tys
+paired (Tree t ∷ tys) = (refl, paired tys)
 
 unbound_apart : (bs : List BoundVariable) (x : Variable) (z : ℕ) → is_bound bs x ≡ true → is_bound bs (named z) ≡ false → Test (z == x.0) → z == x.0 ≡ false
 unbound_apart bs x z bx bz (fails ne) = ne
@@ -198,8 +276,8 @@ scalar_vars core n b s sc x ty t h v = vars_on n b (next core.table b (SideLine 
 
 scalar_side : (core : CoreTree) (n : ℕ) (w : Within) (x : Variable) (ty : Ty) (t : Term) (b : Before) (s : Setting) (sc : Scope) (d : Dest) (ln : Line) (go : After) → AllBelow n (side_binders (On Scalar x ty t))
     → Vars n b s.scope sc → IsDest core.table b sc s.destination s.due d → LinesAreBuilt core b (met_side core.table s (On Scalar x ty t))
-    → ((tc : Scope) (d' : Dest) → SideLeft core n b s (On Scalar x ty t) sc (next_all core.table b (met_side core.table s (On Scalar x ty t))) tc d' → goes core go tc d' (tell_line (side_tells w core t) ln))
-    → by_call t (Fits core (Inner (side_tells w core t)) t sc (f.Nowhere ty) (new_line w)) (λ g xs. CallFits core sc g xs ty) → SideFits core w (On Scalar x ty t) sc d ln (goes core go)
+    → ((tc : Scope) (d' : Dest) → SideDone core n b s (On Scalar x ty t) sc (next_all core.table b (met_side core.table s (On Scalar x ty t))) tc d' → goes core go tc d' (tell_line (side_tells w core t) ln))
+    → by_call t (Fits core (Inner (side_tells w core t)) t sc (f.Nowhere ty) (new_line w)) (λ g xs. CallFits core sc g xs (results.One ty)) → SideFits core w (On Scalar x ty t) sc d ln (goes core go)
 scalar_side core n w x ty t b s sc d ln go below v e h on inside =
     let r = least2 8 9 (is_bound b.bound x) (not (is_scalar ty)) h.0 in
     let scalar = not-false (is_scalar ty) r.1 in
@@ -216,18 +294,19 @@ scalar_side core n w x ty t b s sc d ln go below v e h on inside =
       scalar,
       v.new x.0 r.0 below.0,
       inside,
-      on tc d (record { vars = z.vars; keep = z.keep; own = scalar_own c (loosen (cased t) sc) x ty scalar typed; dest = dest_kept core.table b c sc tc s.destination s.due d z.keep e }),
+      on tc d (record { vars = z.vars; keep = z.keep; own = (scalar_own c (loosen (cased t) sc) x ty scalar typed, tt); dest = dest_kept core.table b c sc tc s.destination s.due d z.keep e }),
     )
 
 -- Where an open head has room, a packed field is due.
 due_there : (core : CoreTree) (e : Destination) → has_room core.table e ≡ true → (t : TyId) × (field_due core.table e ≡ Tree t)
 due_there core Nowhere r = absurd cc
 due_there core Empty r = absurd cc
+due_there core (InParts tys) r = absurd cc
 due_there core (Open h k standing) r = (let n = next_of (fields_at core.table k.0) (length standing) (ltb-true (length standing) (length (packed_types core.table k)) r) in (n.ty, n.due))
 
 -- A scalar by itself.
 alone_scalar : (core : CoreTree) (n : ℕ) (w : Within) (x : Variable) (ty : Ty) (t : Term) (b : Before) (s : Setting) (sc : Scope) → AllBelow n (side_binders (On Scalar x ty t))
-    → Vars n b s.scope sc → LinesAreBuilt core b (met_side core.table s (On Scalar x ty t)) → by_call t (Fits core (Inner (side_tells w core t)) t sc (f.Nowhere ty) (new_line w)) (λ g xs. CallFits core sc g xs ty) → AloneFits core w (On Scalar x ty t) sc
+    → Vars n b s.scope sc → LinesAreBuilt core b (met_side core.table s (On Scalar x ty t)) → by_call t (Fits core (Inner (side_tells w core t)) t sc (f.Nowhere ty) (new_line w)) (λ g xs. CallFits core sc g xs (results.One ty)) → AloneFits core w (On Scalar x ty t) sc
 alone_scalar core n w x ty t b s sc below v h inside =
     let r = least2 8 9 (is_bound b.bound x) (not (is_scalar ty)) h.0 in (not-false (is_scalar ty) r.1, v.new x.0 r.0 below.0, inside)
 
@@ -249,10 +328,8 @@ mutual
       let typed : type_of b x ≡ Some (Tree place.0) = is_type_is (type_of b x) s.due (not-false (has_type b x s.due) r.3) ∙ ap Some place.1 in
       (place.0.0, place.2, tree_fits n b s sc x place.0 (not-false (is_usable s x) r.2) typed v, owes_leaf core ns (Point x) ln refl (λ z. refl) owes)
   term_fits core n is ns (CallTerm g xs) b s sc d ln owes tells part below lits v e h =
-      let c = call_facts core b s g xs h.0 in
-      let place = empty_place core.table b sc s.destination s.due d (packed_place core b s xs (function_at core.functions g.0) part c.place c.fits) e in
-      let fit = scalar_call_fits core n b s sc g xs h lits v in
-      (place.0.0, place.2, subst (λ ty. CallFits core sc g xs ty) place.1 fit, owes_call core ns g xs ln owes)
+      let fit = call_in_place core n b s sc d g xs part h lits v e in
+      (fit.0, fit.1, owes_call core ns g xs ln owes)
   term_fits core n is ns (Give x) b s sc d ln owes tells part below lits v e h =
       let r = least3 4 8 9 (is_other s x) (not (is_usable s x)) (not (is_nowhere s.destination && has_type b x s.due)) h.0 in
       let both = and_parts (is_nowhere s.destination) (has_type b x s.due) (not-false (is_nowhere s.destination && has_type b x s.due) r.2) in
@@ -291,6 +368,40 @@ mutual
         term_fits core n is ns t b (in_branch s) sc d ln (owes_if core ns x t u ln owes).0 (tells_inner core s (in_branch s) ln ln refl refl refl tells) (is_part (in_branch s) t refl) low.0 lits.1.0 v e parts.0,
         term_fits core n is ns u c (in_branch s) sc d ln (owes_if core ns x t u ln owes).1 (tells_inner core s (in_branch s) ln ln refl refl refl tells) (is_part (in_branch s) u refl) low.1 lits.1.1 (vars_on n b c s.scope sc later v) (dest_kept core.table b c sc sc s.destination s.due d (keep_later b c sc later) e) parts.1,
       )
+  term_fits core n is ns (Tuple tys ss ps) b s sc d ln owes tells part below lits v e h =
+      let r = least4 4 8 9 10 (any_other s ss) (not (all_usable s ss)) (not (are_parts core.table b s.destination tys ss (parts_count ps))) (not (is_in_parts s.destination)) h.0 in
+      let facts = parts_facts core.table b s.destination tys ss (parts_count ps) (not-false (is_in_parts s.destination) r.3) (not-false (are_parts core.table b s.destination tys ss (parts_count ps)) r.2) in
+      let lines = met_parts core.table s (tree_types tys) ps in
+      let c = next_all core.table b lines in (
+        due_parts core.table b sc s.destination s.due d tys facts.due e,
+        parts_fit core n is ln.within ps (tree_types tys) (packed_due tys) b s sc tells.par below lits.1 v h.1 (paired tys) facts.count ss (scalar_types tys)
+            (λ tc v'. atoms_fit n c s tc ss (scalar_types tys) (not-false (all_usable s ss) r.1) (later_typed b c ss (scalar_types tys) (lines_later core b lines h.1) facts.scalars) lits.0 v'),
+        owes_leaf core ns (Tuple tys ss ps) ln refl (λ z. refl) owes,
+      )
+
+  parts_fit : (core : CoreTree) (n : ℕ) → IsTable core.table → (w : Within) (ps : PartTerms) (ts : List Ty) (dues : List ℕ) (b : Before) (s : Setting) (sc : Scope) → MayTell s w → AllBelow n (part_binders ps) → PartLiterals ps
+      → Vars n b s.scope sc → LinesAreBuilt core b (met_parts core.table s ts ps) → ArePaired ts dues → parts_count ps ≡ length ts → (ss : List Atom) (us : List Ty)
+      → ((tc : Scope) → Vars n (next_all core.table b (met_parts core.table s ts ps)) s.scope tc → AtomsFit tc ss us) → PartsFit core w ps dues sc (λ tc. AtomsFit tc ss us)
+  parts_fit core n is w NoPart [] [] b s sc may below lits v h pair count ss us on = on sc v
+  parts_fit core n is w NoPart [] (u ∷ dues) b s sc may below lits v h pair count ss us on = absurd pair
+  parts_fit core n is w NoPart (t ∷ ts) dues b s sc may below lits v h pair count ss us on = absurd cc
+  parts_fit core n is w (PartThen u ps) [] dues b s sc may below lits v h pair count ss us on = absurd cc
+  parts_fit core n is w (PartThen u ps) (Whole ∷ ts) dues b s sc may below lits v h pair count ss us on = absurd pair
+  parts_fit core n is w (PartThen u ps) (Truth ∷ ts) dues b s sc may below lits v h pair count ss us on = absurd pair
+  parts_fit core n is w (PartThen u ps) (Tree t ∷ ts) [] b s sc may below lits v h pair count ss us on = absurd pair
+  parts_fit core n is w (PartThen u ps) (Tree t ∷ ts) (q ∷ dues) b s sc may below lits v h pair count ss us on =
+      let inner = in_part s (Tree t) in
+      let lines = met core.table inner u in
+      let rest = met_parts core.table s ts ps in
+      let parts = built_apart core b lines rest h.1 in
+      let low = below_apart n (binders u) (part_binders ps) below in
+      let c = next_all core.table b lines in
+      let later = lines_later core b lines parts.0 in
+      let more' : length ts ≡ parts_count ps = suc_same (parts_count ps) (length ts) count in (
+        term_fits core n is (Inner none_of) u b inner sc (f.Empty q) (new_line w) (owes_none core w u) (tells_new core inner w refl may) (is_part inner u refl) low.0 lits.1.0 v (t, refl, ap f.Empty (sym pair.0)) parts.0,
+        parts_fit core n is w ps ts dues c s (loosen (cased u) sc) may low.1 lits.1.1 (vars_later n b c s.scope sc (cased u) later (λ z i. cased_before core.table u b inner (named z) i) v) parts.1 pair.1 (sym more') ss us
+            (λ tc v'. on tc (subst (λ (z : Before). Vars n z s.scope tc) (sym (next_append core.table b lines rest)) v')),
+      )
 
   bind_fits : (core : CoreTree) (n : ℕ) → IsTable core.table → (k : Bind) (b : Before) (s : Setting) (sc : Scope) (d : Dest) (ln : Line) → Tells core s ln → (go : After) → AllBelow n (bind_binders k) → BindLiterals k
       → Vars n b s.scope sc → IsDest core.table b sc s.destination s.due d → LinesAreBuilt core b (met_bind core.table s k)
@@ -326,9 +437,9 @@ mutual
       let m = next_all core.table c lines in
       let z = next_all core.table m (met_side core.table rs r) in
       let all : z ≡ next_all core.table c (lines ++ met_side core.table rs r) = sym (next_append core.table c lines (met_side core.table rs r)) in (
-        side_unused core r m rs (variable_of l) (right_among s l) parts.1,
-        side_fits core n is (within_par ln.within) l c ls sc d ln (left_may s r (within_par ln.within)) (AfterLeft (λ ln'. within_par ln.within) r go) low.0 lits.1.0 v e parts.0
-            (λ tc d' dl. let start = right_start core n c s l r sc m tc d' dl in side_fits core n is (within_par ln.within) r m rs tc d' (side_line (within_par ln.within) core l ln) (right_may s l (within_par ln.within)) go low.1 lits.1.1 start.0 start.1 parts.1
+        side_apart core l r m s parts.1,
+        side_fits core n is (within_par ln.within) l c ls sc d ln (left_may s r (within_par ln.within) (side_some core r m rs parts.1)) (AfterLeft (λ ln'. within_par ln.within) r go) low.0 lits.1.0 v e parts.0
+            (λ tc d' dl. let start = right_start core n c s l r sc m tc d' dl in side_fits core n is (within_par ln.within) r m rs tc d' (side_line (within_par ln.within) core l ln) (right_may s l (within_par ln.within) (side_some core l c ls parts.0)) go low.1 lits.1.1 start.0 start.1 parts.1
             (λ uc d'' dr.
             let P : Before → Type 0 = λ y. Vars n y (behind s (Both false l r)).scope uc × IsDest core.table y uc (behind s (Both false l r)).destination (behind s (Both false l r)).due d'' in
             let there = subst P all (both_left core n c s false l r sc m tc d' z uc d'' dl dr) in
@@ -344,10 +455,10 @@ mutual
       let m = next_all core.table c lines in
       let z = next_all core.table m (met_side core.table rs r) in
       let all : z ≡ next_all core.table c (lines ++ met_side core.table rs r) = sym (next_append core.table c lines (met_side core.table rs r)) in (
-        side_unused core r m rs (variable_of l) (right_among s l) parts.1,
-        alone_fits core n is (within_par ln.within) r m s l sc low.1 lits.1.1 (vars_on n b m s.scope sc (later_on b c m (line_later core b s ParLine h.0) (lines_later core c lines parts.0)) v) parts.1,
-        side_fits core n is (within_par ln.within) l c ls sc d ln (left_may s r (within_par ln.within)) (AfterLeft (λ ln'. within_par ln'.within) r go) low.0 lits.1.0 v e parts.0
-            (λ tc d' dl. let start = right_start core n c s l r sc m tc d' dl in side_fits core n is (within_par (side_line (within_par ln.within) core l ln).within) r m rs tc d' (side_line (within_par ln.within) core l ln) (right_may s l (within_par (side_line (within_par ln.within) core l ln).within)) go low.1 lits.1.1 start.0 start.1 parts.1
+        side_apart core l r m s parts.1,
+        alone_fits core n is (within_par ln.within) r m s l (side_some core l c ls parts.0) sc low.1 lits.1.1 (vars_on n b m s.scope sc (later_on b c m (line_later core b s ParLine h.0) (lines_later core c lines parts.0)) v) parts.1,
+        side_fits core n is (within_par ln.within) l c ls sc d ln (left_may s r (within_par ln.within) (side_some core r m rs parts.1)) (AfterLeft (λ ln'. within_par ln'.within) r go) low.0 lits.1.0 v e parts.0
+            (λ tc d' dl. let start = right_start core n c s l r sc m tc d' dl in side_fits core n is (within_par (side_line (within_par ln.within) core l ln).within) r m rs tc d' (side_line (within_par ln.within) core l ln) (right_may s l (within_par (side_line (within_par ln.within) core l ln).within) (side_some core l c ls parts.0)) go low.1 lits.1.1 start.0 start.1 parts.1
             (λ uc d'' dr.
             let P : Before → Type 0 = λ y. Vars n y (behind s (Both true l r)).scope uc × IsDest core.table y uc (behind s (Both true l r)).destination (behind s (Both true l r)).due d'' in
             let there = subst P all (both_left core n c s true l r sc m tc d' z uc d'' dl dr) in
@@ -439,7 +550,7 @@ mutual
 
   side_fits : (core : CoreTree) (n : ℕ) → IsTable core.table → (w : Within) (side : Side) (b : Before) (s : Setting) (sc : Scope) (d : Dest) (ln : Line) → MayTell s w → (go : After) → AllBelow n (side_binders side) → SideLiterals side
       → Vars n b s.scope sc → IsDest core.table b sc s.destination s.due d → LinesAreBuilt core b (met_side core.table s side)
-      → ((tc : Scope) (d' : Dest) → SideLeft core n b s side sc (next_all core.table b (met_side core.table s side)) tc d' → goes core go tc d' (side_line w core side ln))
+      → ((tc : Scope) (d' : Dest) → SideDone core n b s side sc (next_all core.table b (met_side core.table s side)) tc d' → goes core go tc d' (side_line w core side ln))
       → SideFits core w side sc d ln (goes core go)
   side_fits core n is w (On Here x ty t) b s sc d ln may go below lits v e h on =
       let r = least3 2 8 9 (not (has_room core.table s.destination)) (is_bound b.bound x) (not (same_type ty (field_due core.table s.destination))) h.0 in
@@ -462,7 +573,7 @@ mutual
         facts.is,
         absent,
         term_fits core n is (Inner (side_tells w core t)) t m inner (put sc x.0 Held) (f.Empty facts.tree.0) (new_line w) (owes_side core w t) (tells_new core inner w refl may) (is_part inner t refl) below.1 lits.1 (vars_hold n m s.scope sc x.0 Held absent bound (vars_on n b m s.scope sc l1 v)) (facts.tree, facts.due, refl) h.1,
-        on tc (more d x.0) (record { vars = z.vars; keep = z.keep; own = subst (λ u. Tracked c tc x.0 u) (sym facts.typed) own; dest = facts.after c tc z.keep own }),
+        on tc (more d x.0) (record { vars = z.vars; keep = z.keep; own = (subst (λ u. Tracked c tc x.0 u) (sym facts.typed) own, tt); dest = facts.after c tc z.keep own }),
       )
   side_fits core n is w (On Region x ty t) b s sc d ln may go below lits v e h on =
       let r = least2 3 8 (is_scalar ty) (is_bound b.bound x) h.0 in
@@ -484,13 +595,13 @@ mutual
         packed.1,
         absent,
         term_fits core n is (Inner (side_tells w core t)) t m inner (put sc x.0 Held) (f.Empty packed.0.0) (new_line w) (owes_side core w t) (tells_new core inner w refl may) (is_part inner t refl) below.1 lits.1 (vars_hold n m s.scope sc x.0 Held absent bound (vars_on n b m s.scope sc l1 v)) (packed.0, packed.1, refl) h.1,
-        on tc d (record { vars = z.vars; keep = z.keep; own = subst (λ u. Tracked c tc x.0 u) (sym packed.1) own; dest = dest_kept core.table b c sc tc s.destination s.due d z.keep e }),
+        on tc d (record { vars = z.vars; keep = z.keep; own = (subst (λ u. Tracked c tc x.0 u) (sym packed.1) own, tt); dest = dest_kept core.table b c sc tc s.destination s.due d z.keep e }),
       )
   side_fits core n is w (On Scalar x ty (CallTerm g xs)) b s sc d ln may go below lits v e h on =
       let line = SideLine Scalar x ty in
       let l1 = line_later core b s line h.0 in
       let m = next core.table b line in
-      scalar_side core n w x ty (CallTerm g xs) b s sc d ln go below v e h on (scalar_call_fits core n m (in_side core.table s Scalar ty) sc g xs h.1 lits.1 (vars_on n b m s.scope sc l1 v))
+      scalar_side core n w x ty (CallTerm g xs) b s sc d ln go below v e h on (scalar_call_fits core n m (in_side core.table s Scalar ty) sc g xs refl h.1 lits.1 (vars_on n b m s.scope sc l1 v))
   side_fits core n is w (On Scalar x ty (Then k t)) b s sc d ln may go below lits v e h on =
       scalar_side core n w x ty (Then k t) b s sc d ln go below v e h on (term_fits core n is (Inner (side_tells w core (Then k t))) (Then k t) (next core.table b (SideLine Scalar x ty)) (in_side core.table s Scalar ty) sc (f.Nowhere ty) (new_line w) (owes_side core w (Then k t)) (tells_new core (in_side core.table s Scalar ty) w refl may) tt below.1 lits.1 (scalar_vars core n b s sc x ty (Then k t) h v) (scalar_due core b s x ty (Then k t) h, refl) h.1)
   side_fits core n is w (On Scalar x ty (Write q k ss ps)) b s sc d ln may go below lits v e h on =
@@ -503,14 +614,36 @@ mutual
       scalar_side core n w x ty (CaseTerm y bs) b s sc d ln go below v e h on (term_fits core n is (Inner (side_tells w core (CaseTerm y bs))) (CaseTerm y bs) (next core.table b (SideLine Scalar x ty)) (in_side core.table s Scalar ty) sc (f.Nowhere ty) (new_line w) (owes_side core w (CaseTerm y bs)) (tells_new core (in_side core.table s Scalar ty) w refl may) tt below.1 lits.1 (scalar_vars core n b s sc x ty (CaseTerm y bs) h v) (scalar_due core b s x ty (CaseTerm y bs) h, refl) h.1)
   side_fits core n is w (On Scalar x ty (IfTerm y t u)) b s sc d ln may go below lits v e h on =
       scalar_side core n w x ty (IfTerm y t u) b s sc d ln go below v e h on (term_fits core n is (Inner (side_tells w core (IfTerm y t u))) (IfTerm y t u) (next core.table b (SideLine Scalar x ty)) (in_side core.table s Scalar ty) sc (f.Nowhere ty) (new_line w) (owes_side core w (IfTerm y t u)) (tells_new core (in_side core.table s Scalar ty) w refl may) tt below.1 lits.1 (scalar_vars core n b s sc x ty (IfTerm y t u) h v) (scalar_due core b s x ty (IfTerm y t u) h, refl) h.1)
+  side_fits core n is w (On Scalar x ty (Tuple tys ss ps)) b s sc d ln may go below lits v e h on =
+      scalar_side core n w x ty (Tuple tys ss ps) b s sc d ln go below v e h on (term_fits core n is (Inner (side_tells w core (Tuple tys ss ps))) (Tuple tys ss ps) (next core.table b (SideLine Scalar x ty)) (in_side core.table s Scalar ty) sc (f.Nowhere ty) (new_line w) (owes_side core w (Tuple tys ss ps)) (tells_new core (in_side core.table s Scalar ty) w refl may) tt below.1 lits.1 (scalar_vars core n b s sc x ty (Tuple tys ss ps) h v) (scalar_due core b s x ty (Tuple tys ss ps) h, refl) h.1)
+  side_fits core n is w (Several xs tys t) b s sc d ln may go below lits v e h on =
+      let low = below_apart n (map (λ (x : Variable). x.0) xs) (binders t) below in
+      let start = several_start core n b s s sc xs tys low.0 v h.0 in
+      let m = next core.table b (SeveralLine xs tys) in
+      let inner = in_several s tys in
+      let lines = met core.table inner t in
+      let c = next_all core.table m lines in
+      let l2 = lines_later core m lines h.1 in
+      let later = later_on b m c (line_later core b s (SeveralLine xs tys) h.0) l2 in
+      let cases : (q : ℕ) → cased t q ≡ true → is_among c.cased (named q) ≡ true = λ q i. cased_before core.table t m inner (named q) i in
+      let base = vars_later n b c s.scope sc (cased t) later cases v in
+      let absent = new_same tys xs sc (loosen (cased t) sc) (λ z i. ap (f.loosen_one (cased t z)) i ∙ absent_loose (cased t z)) start.new in
+      let done' = bound_vars n c s.scope tys xs (loosen (cased t) sc) absent (have_on xs tys m.bound c.bound l2.bound start.types) base in
+      let tc = bound_scope tys xs (loosen (cased t) sc) in
+      let keep : Keeps b sc c tc = λ y ty k. done'.keep y ty (tracked_later b c sc (cased t) y ty later cases k) in (
+        start.few,
+        start.new,
+        term_fits core n is (Inner none_of) t m inner (hold_all xs sc) (f.InParts tys) (new_line w) (owes_none core w t) (tells_new core inner w refl may) (is_part inner t refl) low.1 lits.1 start.held refl h.1,
+        on tc d (record { vars = done'.vars; keep = keep; own = done'.own; dest = dest_kept core.table b c sc tc s.destination s.due d keep e }),
+      )
 
   -- The right side of a par by itself, in the scope before the par: what the left side bound stands before it, and its
   -- variable is not in scope.
-  alone_fits : (core : CoreTree) (n : ℕ) → IsTable core.table → (w : Within) (r : Side) (b : Before) (s : Setting) (l : Side) (sc : Scope) → AllBelow n (side_binders r) → SideLiterals r
+  alone_fits : (core : CoreTree) (n : ℕ) → IsTable core.table → (w : Within) (r : Side) (b : Before) (s : Setting) (l : Side) → BindsSome l → (sc : Scope) → AllBelow n (side_binders r) → SideLiterals r
       → Vars n b s.scope sc → LinesAreBuilt core b (met_side core.table (right_of s l) r) → AloneFits core w r sc
-  alone_fits core n is w (On Here x ty t) b s (On kl xl tl l) sc below lits v h =
-      let d = stands_too kl xl s.destination in
-      let rs = right_of s (On kl xl tl l) in
+  alone_fits core n is w (On Here x ty t) b s l some sc below lits v h =
+      let d = stands_behind l s.destination in
+      let rs = right_of s l in
       let r = least3 2 8 9 (not (has_room core.table d)) (is_bound b.bound x) (not (same_type ty (field_due core.table d))) h.0 in
       let typed = same_type_is ty (field_due core.table d) (not-false (same_type ty (field_due core.table d)) r.2) in
       let due = due_there core d (not-false (has_room core.table d) r.0) in
@@ -521,10 +654,10 @@ mutual
         due.0.0,
         typed ∙ due.1,
         absent,
-        term_fits core n is (Inner none_of) t m inner (put sc x.0 Held) (f.Empty due.0.0) (new_line w) (owes_none core w t) (tells_new core inner w refl (right_may s (On kl xl tl l) w)) (is_part inner t refl) below.1 lits.1 (vars_hold n m s.scope sc x.0 Held absent bound (vars_on n b m s.scope sc (line_later core b rs (SideLine Here x ty) h.0) v)) (due.0, due.1, refl) h.1,
+        term_fits core n is (Inner none_of) t m inner (put sc x.0 Held) (f.Empty due.0.0) (new_line w) (owes_none core w t) (tells_new core inner w refl (right_may s l w some)) (is_part inner t refl) below.1 lits.1 (vars_hold n m s.scope sc x.0 Held absent bound (vars_on n b m s.scope sc (line_later core b rs (SideLine Here x ty) h.0) v)) (due.0, due.1, refl) h.1,
       )
-  alone_fits core n is w (On Region x ty t) b s (On kl xl tl l) sc below lits v h =
-      let rs = right_of s (On kl xl tl l) in
+  alone_fits core n is w (On Region x ty t) b s l some sc below lits v h =
+      let rs = right_of s l in
       let r = least2 3 8 (is_scalar ty) (is_bound b.bound x) h.0 in
       let packed = packed_type ty r.0 in
       let m = next core.table b (SideLine Region x ty) in
@@ -534,30 +667,42 @@ mutual
         packed.0.0,
         packed.1,
         absent,
-        term_fits core n is (Inner (side_tells w core t)) t m inner (put sc x.0 Held) (f.Empty packed.0.0) (new_line w) (owes_side core w t) (tells_new core inner w refl (right_may s (On kl xl tl l) w)) (is_part inner t refl) below.1 lits.1 (vars_hold n m s.scope sc x.0 Held absent bound (vars_on n b m s.scope sc (line_later core b rs (SideLine Region x ty) h.0) v)) (packed.0, packed.1, refl) h.1,
+        term_fits core n is (Inner (side_tells w core t)) t m inner (put sc x.0 Held) (f.Empty packed.0.0) (new_line w) (owes_side core w t) (tells_new core inner w refl (right_may s l w some)) (is_part inner t refl) below.1 lits.1 (vars_hold n m s.scope sc x.0 Held absent bound (vars_on n b m s.scope sc (line_later core b rs (SideLine Region x ty) h.0) v)) (packed.0, packed.1, refl) h.1,
       )
-  alone_fits core n is w (On Scalar x ty (CallTerm g xs)) b s (On kl xl tl l) sc below lits v h =
-      let rs = right_of s (On kl xl tl l) in
+  alone_fits core n is w (On Scalar x ty (CallTerm g xs)) b s l some sc below lits v h =
+      let rs = right_of s l in
       let m = next core.table b (SideLine Scalar x ty) in
-      alone_scalar core n w x ty (CallTerm g xs) b rs sc below v h (scalar_call_fits core n m (in_side core.table rs Scalar ty) sc g xs h.1 lits.1 (vars_on n b m s.scope sc (line_later core b rs (SideLine Scalar x ty) h.0) v))
-  alone_fits core n is w (On Scalar x ty (Then k t)) b s (On kl xl tl l) sc below lits v h =
-      let rs = right_of s (On kl xl tl l) in
-      alone_scalar core n w x ty (Then k t) b rs sc below v h (term_fits core n is (Inner (side_tells w core (Then k t))) (Then k t) (next core.table b (SideLine Scalar x ty)) (in_side core.table rs Scalar ty) sc (f.Nowhere ty) (new_line w) (owes_side core w (Then k t)) (tells_new core (in_side core.table rs Scalar ty) w refl (right_may s (On kl xl tl l) w)) tt below.1 lits.1 (scalar_vars core n b rs sc x ty (Then k t) h v) (scalar_due core b rs x ty (Then k t) h, refl) h.1)
-  alone_fits core n is w (On Scalar x ty (Write q k ss ps)) b s (On kl xl tl l) sc below lits v h =
-      let rs = right_of s (On kl xl tl l) in
-      alone_scalar core n w x ty (Write q k ss ps) b rs sc below v h (term_fits core n is (Inner (side_tells w core (Write q k ss ps))) (Write q k ss ps) (next core.table b (SideLine Scalar x ty)) (in_side core.table rs Scalar ty) sc (f.Nowhere ty) (new_line w) (owes_side core w (Write q k ss ps)) (tells_new core (in_side core.table rs Scalar ty) w refl (right_may s (On kl xl tl l) w)) tt below.1 lits.1 (scalar_vars core n b rs sc x ty (Write q k ss ps) h v) (scalar_due core b rs x ty (Write q k ss ps) h, refl) h.1)
-  alone_fits core n is w (On Scalar x ty (Point y)) b s (On kl xl tl l) sc below lits v h =
-      let rs = right_of s (On kl xl tl l) in
-      alone_scalar core n w x ty (Point y) b rs sc below v h (term_fits core n is (Inner (side_tells w core (Point y))) (Point y) (next core.table b (SideLine Scalar x ty)) (in_side core.table rs Scalar ty) sc (f.Nowhere ty) (new_line w) (owes_side core w (Point y)) (tells_new core (in_side core.table rs Scalar ty) w refl (right_may s (On kl xl tl l) w)) tt below.1 lits.1 (scalar_vars core n b rs sc x ty (Point y) h v) (scalar_due core b rs x ty (Point y) h, refl) h.1)
-  alone_fits core n is w (On Scalar x ty (Give y)) b s (On kl xl tl l) sc below lits v h =
-      let rs = right_of s (On kl xl tl l) in
-      alone_scalar core n w x ty (Give y) b rs sc below v h (term_fits core n is (Inner (side_tells w core (Give y))) (Give y) (next core.table b (SideLine Scalar x ty)) (in_side core.table rs Scalar ty) sc (f.Nowhere ty) (new_line w) (owes_side core w (Give y)) (tells_new core (in_side core.table rs Scalar ty) w refl (right_may s (On kl xl tl l) w)) tt below.1 lits.1 (scalar_vars core n b rs sc x ty (Give y) h v) (scalar_due core b rs x ty (Give y) h, refl) h.1)
-  alone_fits core n is w (On Scalar x ty (CaseTerm y bs)) b s (On kl xl tl l) sc below lits v h =
-      let rs = right_of s (On kl xl tl l) in
-      alone_scalar core n w x ty (CaseTerm y bs) b rs sc below v h (term_fits core n is (Inner (side_tells w core (CaseTerm y bs))) (CaseTerm y bs) (next core.table b (SideLine Scalar x ty)) (in_side core.table rs Scalar ty) sc (f.Nowhere ty) (new_line w) (owes_side core w (CaseTerm y bs)) (tells_new core (in_side core.table rs Scalar ty) w refl (right_may s (On kl xl tl l) w)) tt below.1 lits.1 (scalar_vars core n b rs sc x ty (CaseTerm y bs) h v) (scalar_due core b rs x ty (CaseTerm y bs) h, refl) h.1)
-  alone_fits core n is w (On Scalar x ty (IfTerm y t u)) b s (On kl xl tl l) sc below lits v h =
-      let rs = right_of s (On kl xl tl l) in
-      alone_scalar core n w x ty (IfTerm y t u) b rs sc below v h (term_fits core n is (Inner (side_tells w core (IfTerm y t u))) (IfTerm y t u) (next core.table b (SideLine Scalar x ty)) (in_side core.table rs Scalar ty) sc (f.Nowhere ty) (new_line w) (owes_side core w (IfTerm y t u)) (tells_new core (in_side core.table rs Scalar ty) w refl (right_may s (On kl xl tl l) w)) tt below.1 lits.1 (scalar_vars core n b rs sc x ty (IfTerm y t u) h v) (scalar_due core b rs x ty (IfTerm y t u) h, refl) h.1)
+      alone_scalar core n w x ty (CallTerm g xs) b rs sc below v h (scalar_call_fits core n m (in_side core.table rs Scalar ty) sc g xs refl h.1 lits.1 (vars_on n b m s.scope sc (line_later core b rs (SideLine Scalar x ty) h.0) v))
+  alone_fits core n is w (On Scalar x ty (Then k t)) b s l some sc below lits v h =
+      let rs = right_of s l in
+      alone_scalar core n w x ty (Then k t) b rs sc below v h (term_fits core n is (Inner (side_tells w core (Then k t))) (Then k t) (next core.table b (SideLine Scalar x ty)) (in_side core.table rs Scalar ty) sc (f.Nowhere ty) (new_line w) (owes_side core w (Then k t)) (tells_new core (in_side core.table rs Scalar ty) w refl (right_may s l w some)) tt below.1 lits.1 (scalar_vars core n b rs sc x ty (Then k t) h v) (scalar_due core b rs x ty (Then k t) h, refl) h.1)
+  alone_fits core n is w (On Scalar x ty (Write q k ss ps)) b s l some sc below lits v h =
+      let rs = right_of s l in
+      alone_scalar core n w x ty (Write q k ss ps) b rs sc below v h (term_fits core n is (Inner (side_tells w core (Write q k ss ps))) (Write q k ss ps) (next core.table b (SideLine Scalar x ty)) (in_side core.table rs Scalar ty) sc (f.Nowhere ty) (new_line w) (owes_side core w (Write q k ss ps)) (tells_new core (in_side core.table rs Scalar ty) w refl (right_may s l w some)) tt below.1 lits.1 (scalar_vars core n b rs sc x ty (Write q k ss ps) h v) (scalar_due core b rs x ty (Write q k ss ps) h, refl) h.1)
+  alone_fits core n is w (On Scalar x ty (Point y)) b s l some sc below lits v h =
+      let rs = right_of s l in
+      alone_scalar core n w x ty (Point y) b rs sc below v h (term_fits core n is (Inner (side_tells w core (Point y))) (Point y) (next core.table b (SideLine Scalar x ty)) (in_side core.table rs Scalar ty) sc (f.Nowhere ty) (new_line w) (owes_side core w (Point y)) (tells_new core (in_side core.table rs Scalar ty) w refl (right_may s l w some)) tt below.1 lits.1 (scalar_vars core n b rs sc x ty (Point y) h v) (scalar_due core b rs x ty (Point y) h, refl) h.1)
+  alone_fits core n is w (On Scalar x ty (Give y)) b s l some sc below lits v h =
+      let rs = right_of s l in
+      alone_scalar core n w x ty (Give y) b rs sc below v h (term_fits core n is (Inner (side_tells w core (Give y))) (Give y) (next core.table b (SideLine Scalar x ty)) (in_side core.table rs Scalar ty) sc (f.Nowhere ty) (new_line w) (owes_side core w (Give y)) (tells_new core (in_side core.table rs Scalar ty) w refl (right_may s l w some)) tt below.1 lits.1 (scalar_vars core n b rs sc x ty (Give y) h v) (scalar_due core b rs x ty (Give y) h, refl) h.1)
+  alone_fits core n is w (On Scalar x ty (CaseTerm y bs)) b s l some sc below lits v h =
+      let rs = right_of s l in
+      alone_scalar core n w x ty (CaseTerm y bs) b rs sc below v h (term_fits core n is (Inner (side_tells w core (CaseTerm y bs))) (CaseTerm y bs) (next core.table b (SideLine Scalar x ty)) (in_side core.table rs Scalar ty) sc (f.Nowhere ty) (new_line w) (owes_side core w (CaseTerm y bs)) (tells_new core (in_side core.table rs Scalar ty) w refl (right_may s l w some)) tt below.1 lits.1 (scalar_vars core n b rs sc x ty (CaseTerm y bs) h v) (scalar_due core b rs x ty (CaseTerm y bs) h, refl) h.1)
+  alone_fits core n is w (On Scalar x ty (IfTerm y t u)) b s l some sc below lits v h =
+      let rs = right_of s l in
+      alone_scalar core n w x ty (IfTerm y t u) b rs sc below v h (term_fits core n is (Inner (side_tells w core (IfTerm y t u))) (IfTerm y t u) (next core.table b (SideLine Scalar x ty)) (in_side core.table rs Scalar ty) sc (f.Nowhere ty) (new_line w) (owes_side core w (IfTerm y t u)) (tells_new core (in_side core.table rs Scalar ty) w refl (right_may s l w some)) tt below.1 lits.1 (scalar_vars core n b rs sc x ty (IfTerm y t u) h v) (scalar_due core b rs x ty (IfTerm y t u) h, refl) h.1)
+  alone_fits core n is w (On Scalar x ty (Tuple tys ss ps)) b s l some sc below lits v h =
+      let rs = right_of s l in
+      alone_scalar core n w x ty (Tuple tys ss ps) b rs sc below v h (term_fits core n is (Inner (side_tells w core (Tuple tys ss ps))) (Tuple tys ss ps) (next core.table b (SideLine Scalar x ty)) (in_side core.table rs Scalar ty) sc (f.Nowhere ty) (new_line w) (owes_side core w (Tuple tys ss ps)) (tells_new core (in_side core.table rs Scalar ty) w refl (right_may s l w some)) tt below.1 lits.1 (scalar_vars core n b rs sc x ty (Tuple tys ss ps) h v) (scalar_due core b rs x ty (Tuple tys ss ps) h, refl) h.1)
+  alone_fits core n is w (Several xs tys t) b s l some sc below lits v h =
+      let low = below_apart n (map (λ (x : Variable). x.0) xs) (binders t) below in
+      let rs = right_of s l in
+      let start = several_start core n b s rs sc xs tys low.0 v h.0 in
+      let inner = in_several rs tys in (
+        start.few,
+        start.new,
+        term_fits core n is (Inner none_of) t (next core.table b (SeveralLine xs tys)) inner (hold_all xs sc) (f.InParts tys) (new_line w) (owes_none core w t) (tells_new core inner w refl (right_may s l w some)) (is_part inner t refl) low.1 lits.1 start.held refl h.1,
+      )
 
   branches_fit : (core : CoreTree) (n : ℕ) → IsTable core.table → (ns : Needs) (whole bs : Branches) (x : Variable) (ln : Line) → Owes core ns (CaseTerm (a.Variable x) whole) ln
       → ((q : ℕ) → all_known core.table (ended core) whole (named q) ≡ true → all_known core.table (ended core) bs (named q) ≡ true) → (lasts_known core.table (ended core) whole ≡ true → lasts_known core.table (ended core) bs ≡ true)

@@ -4,16 +4,16 @@ use Rattle.std.proofs.lemmas.Bool.{both_ways, not-false, or_parts, or_from, fals
 use Rattle.gib_types.specs.declared.table.Ty.{Ty}
 use Rattle.gib_types.specs.declared.table.Ty.TheVariants.{Whole, Truth, Tree}
 use Rattle.gib_types.specs.declared.table.ConId.{ConId}
-use Rattle.gib_types.specs.Table.{Table, fields_at}
+use Rattle.gib_types.specs.Table.{Table, fields_at, tree_types}
 use Rattle.gib_core.specs.declared.atom.Variable.{Variable}
 use Rattle.gib_core.specs.declared.atom.Atom.{Atom}
 use Rattle.gib_core.specs.declared.atom.Atom.TheVariants as atomic
 use Rattle.gib_core.specs.declared.atom.Access.{Access}
 use Rattle.gib_core.specs.declared.atom.Kind.{Kind}
 use Rattle.gib_core.specs.declared.atom.Kind.TheVariants.{Here, Region, Scalar}
-use Rattle.gib_core.specs.Tree.{Term, Then, Write, Point, CallTerm, Give, CaseTerm, IfTerm, Bind, Past, One, Both, Prim, Reach, Side, On, Branches, NoBranch, BranchThen, CoreTree}
+use Rattle.gib_core.specs.Tree.{Term, Then, Write, Point, CallTerm, Give, CaseTerm, IfTerm, Tuple, PartTerms, NoPart, PartThen, Bind, Past, One, Both, Prim, Reach, Side, On, Several, Branches, NoBranch, BranchThen, CoreTree}
 use Rattle.gib_core.specs.Inferring.{first_type, further_types}
-use Rattle.gib_core.specs.Met.{Known, Setting, ReachLine, SideLine, CaseLine, Met, known, with_arm, field, packed_before, in_side, in_arm, in_branch, left_of, right_of, behind, arms_of, met, met_bind, met_side, met_branches}
+use Rattle.gib_core.specs.Met.{Known, Setting, ReachLine, SideLine, CaseLine, SeveralLine, Met, known, with_arm, with_variables, reached, in_several, in_part, behind_side, field, packed_before, in_side, in_arm, in_branch, left_of, right_of, behind, arms_of, met, met_bind, met_side, met_parts, met_branches}
 use Rattle.gib_core.specs.Rules.{Before, is_among, is_reached, is_usable, any_bound, arm_variables, may_reach, rules, least, next, next_all, cases_on}
 use Rattle.gib_core.specs.Reachable.{as_reached, all_reached, LinesAreReachable}
 use Rattle.gib_core.proofs.Along.{same_variable, none_broken, next_append, reachable_split, among_append, NoneBinds, none_split}
@@ -54,6 +54,16 @@ has_arm k (x ∷ xs) types before ks y =
     go false true = refl
     go false false = refl
 
+pub has_variables : (xs : List Variable) (ks : List Known) (y : Variable) → has (with_variables xs ks) y ≡ (is_among xs y || has ks y)
+has_variables [] ks y = refl
+has_variables (x ∷ xs) ks y = has_variables xs (reached x ∷ ks) y ∙ go (is_among xs y) (x.0 == y.0)
+  where
+    go : (a b : Bool) → (a || (b || has ks y)) ≡ ((b || a) || has ks y)
+    go true true = refl
+    go true false = refl
+    go false true = refl
+    go false false = refl
+
 pub in_side_scope : (tb : Table) (s : Setting) (kind : Kind) (ty : Ty) → (in_side tb s kind ty).scope ≡ s.scope
 in_side_scope tb s Here ty = refl
 in_side_scope tb s Region ty = refl
@@ -66,6 +76,7 @@ in_side_others tb s Scalar ty = refl
 
 pub right_of_scope : (s : Setting) (left : Side) → (right_of s left).scope ≡ s.scope
 right_of_scope s (On kind x ty t) = refl
+right_of_scope s (Several xs tys t) = refl
 
 module _ (core : CoreTree) where
   -- What is reached already is not reached again.
@@ -93,13 +104,17 @@ module _ (core : CoreTree) where
   case_keeps b s (atomic.Whole z) arms y e out c = c
   case_keeps b s (atomic.Truth t) arms y e out c = c
 
-  -- A variable that is not bound in a binding is out of scope behind it too.
+  -- A variable that is not bound in a side is out of scope behind it too; so it is behind a binding.
+  side_out : (y : Variable) (x : Side) (s other : Setting) → NoneBinds y (met_side core.table other x) → has s.scope y ≡ false → has (behind_side s x).scope y ≡ false
+  side_out y (On kind x ty t) s other n out = or_from (x.0 == y.0) (has s.scope y) n.0 out
+  side_out y (Several xs tys t) s other n out = has_variables xs s.scope y ∙ or_from (is_among xs y) (has s.scope y) n.0 out
+
   pub out_behind : (y : Variable) (bind : Bind) (s : Setting) (b : Before) → LinesAreReachable core b (met_bind core.table s bind) → NoneBinds y (met_bind core.table s bind) → has s.scope y ≡ false → has (behind s bind).scope y ≡ false
   out_behind y (Past h k) s b r n out = out
-  out_behind y (One (On kind x ty t)) s b r n out = or_from (x.0 == y.0) (has s.scope y) n.0 out
-  out_behind y (Both fork (On kind x ty t) (On other z uy u)) s b r n out =
-      let right = (none_split y (met_side core.table (left_of s (On other z uy u)) (On kind x ty t)) (met_side core.table (right_of s (On kind x ty t)) (On other z uy u)) n.1).1 in
-      or_from (z.0 == y.0) (x.0 == y.0 || has s.scope y) right.0 (or_from (x.0 == y.0) (has s.scope y) n.1.0 out)
+  out_behind y (One x) s b r n out = side_out y x s s n out
+  out_behind y (Both fork left right) s b r n out =
+      let ns = none_split y (met_side core.table (left_of s right) left) (met_side core.table (right_of s left) right) n.1 in
+      side_out y right (behind_side s left) (right_of s left) ns.1 (side_out y left s (left_of s right) ns.0 out)
   out_behind y (Prim x f v w) s b r n out = or_from (x.0 == y.0) (has s.scope y) n.0 out
   out_behind y (Reach x by) s b r n out = absurd (reaches_none b s x by r.0)
 
@@ -130,6 +145,7 @@ module _ (core : CoreTree) where
         let rs = reachable_split core b xs ys r.1 in
         let ns = none_split y xs ys n.1 in
         both_uncased y b xs ys (uncased y u (in_branch s) (next_all core.table b xs) rs.1 ns.1 out (uncased y t (in_branch s) b rs.0 ns.0 out c))
+    uncased y (Tuple tys ss ps) s b r n out c = parts_uncased y ps (tree_types tys) s b r.1 n.1 out c
 
     pub bind_uncased : (y : Variable) (bind : Bind) (s : Setting) (b : Before) → LinesAreReachable core b (met_bind core.table s bind) → NoneBinds y (met_bind core.table s bind) → has s.scope y ≡ false → is_among b.cased y ≡ false → StaysUncased y b (met_bind core.table s bind)
     bind_uncased y (Past h k) s b r n out c = c
@@ -146,6 +162,17 @@ module _ (core : CoreTree) where
     pub side_uncased : (y : Variable) (side : Side) (s : Setting) (b : Before) → LinesAreReachable core b (met_side core.table s side) → NoneBinds y (met_side core.table s side) → has s.scope y ≡ false → is_among b.cased y ≡ false → StaysUncased y b (met_side core.table s side)
     side_uncased y (On kind x ty t) s b r n out c =
         uncased y t (in_side core.table s kind ty) (next core.table b (SideLine kind x ty)) r.1 n.1 (ap (λ (ks : List Known). has ks y) (in_side_scope core.table s kind ty) ∙ out) c
+    side_uncased y (Several xs tys t) s b r n out c = uncased y t (in_several s tys) (next core.table b (SeveralLine xs tys)) r.1 n.1 out c
+
+    parts_uncased : (y : Variable) (ps : PartTerms) (tys : List Ty) (s : Setting) (b : Before) → LinesAreReachable core b (met_parts core.table s tys ps) → NoneBinds y (met_parts core.table s tys ps) → has s.scope y ≡ false → is_among b.cased y ≡ false → StaysUncased y b (met_parts core.table s tys ps)
+    parts_uncased y NoPart tys s b r n out c = c
+    parts_uncased y (PartThen t ps) tys s b r n out c =
+        let inner = in_part s (first_type tys) in
+        let xs = met core.table inner t in
+        let ys = met_parts core.table s (further_types tys) ps in
+        let rs = reachable_split core b xs ys r.1 in
+        let ns = none_split y xs ys n.1 in
+        both_uncased y b xs ys (parts_uncased y ps (further_types tys) s (next_all core.table b xs) rs.1 ns.1 out (uncased y t inner b rs.0 ns.0 out c))
 
     pub branches_uncased : (y : Variable) (branches : Branches) (s : Setting) (b : Before) → LinesAreReachable core b (met_branches core.table s branches) → NoneBinds y (met_branches core.table s branches) → is_among (arm_variables (arms_of branches)) y ≡ false → has s.scope y ≡ false → is_among b.cased y ≡ false → StaysUncased y b (met_branches core.table s branches)
     branches_uncased y NoBranch s b r n differs out c = c

@@ -18,7 +18,7 @@ use Rattle.gib_core.specs.declared.atom.Atom.TheVariants as a
 use Rattle.gib_core.specs.declared.scope.Behind.{Behind}
 use Rattle.gib_core.specs.declared.scope.Known.{Known}
 use Rattle.gib_core.specs.Tree.{var}
-use Rattle.gib_core.specs.Met.{Destination, Nowhere, Empty, Open, Setting, known, field_due, packed_types}
+use Rattle.gib_core.specs.Met.{Destination, Nowhere, Empty, Open, InParts, Setting, known, field_due, packed_types}
 use Rattle.gib_core.specs.Rules.{Before, is_among, type_bound, type_of, has_type, have_types, is_reached, is_usable, all_usable, any_cased, further, are_variables, is_there}
 use Rattle.gib_core.specs.Fits as f
 use Rattle.gib_core.specs.Fits.{Sort, Placed, Scope, tree_type, Dest, packed_due, more, IsDue, AtomFits, AtomsFit, ArePlaced, FurtherPlaced, IsTree}
@@ -44,6 +44,7 @@ abbrev pub IsDest : Table → Before → Scope → Destination → Ty → Dest �
 IsDest table b sc Nowhere due d = (is_scalar due ≡ true) × (d ≡ f.Nowhere due)
 IsDest table b sc Empty due d = (t : TyId) × (due ≡ Tree t) × (d ≡ f.Empty t.0)
 IsDest table b sc (Open h k standing) due d = (t : TyId) × (due ≡ Tree t) × OpenAt table b sc h k standing t.0 d
+IsDest table b sc (InParts tys) due d = d ≡ f.InParts tys
 
 -- What is tracked stays so.
 abbrev pub Keeps : Before → Scope → Before → Scope → Type 0
@@ -57,6 +58,7 @@ pub dest_kept : (table : Table) (b c : Before) (sc tc : Scope) (e : Destination)
 dest_kept table b c sc tc Nowhere due d keep h = h
 dest_kept table b c sc tc Empty due d keep h = h
 dest_kept table b c sc tc (Open q k standing) due d keep h = (h.0, h.1, record { dest = h.2.dest; stand = stand_kept b c sc tc standing keep h.2.stand })
+dest_kept table b c sc tc (InParts tys) due d keep h = h
 
 -- The next field that is due.
 pub record NextOf (ts : List Ty) (n : ℕ) : Type 0 where

@@ -3,10 +3,10 @@ use Rattle.std.proofs.Common.{◌≡◌, Bool, ◌||◌, ◌&&◌, List, [], Opt
 use Rattle.gib_types.specs.Table.{Table, fields_at}
 use Rattle.gib_core.specs.declared.atom.Variable.{Variable}
 use Rattle.gib_core.specs.declared.atom.AccessMode.{AccessMode}
-use Rattle.gib_core.specs.Tree.{Term, Then, Write, Point, CallTerm, Give, CaseTerm, IfTerm, Bind, Past, One, Both, Prim, Reach, On, Branches, NoBranch, BranchThen, prepend, is_variable, CoreTree}
+use Rattle.gib_core.specs.Tree.{Term, Then, Write, Point, CallTerm, Give, CaseTerm, IfTerm, Tuple, Bind, Past, One, Both, Prim, Reach, On, Several, Branches, NoBranch, BranchThen, prepend, is_variable, CoreTree}
 use Rattle.gib_core.specs.Met.{Body, bodies}
 use Rattle.gib_core.specs.Ending.{Ended, is_telling, is_known, all_known, lasts_known, last_packed, if_some, ended}
-use Rattle.gib_core.specs.Reaching.{uses, Later, reaches, laters, ends_now, not_now, bind_uses, packed_variables, reach, reach_bind, reach_branches, tells_ends, ended_by, offsets_by, reach_core}
+use Rattle.gib_core.specs.Reaching.{uses, Later, reaches, laters, ends_now, not_now, bind_uses, packed_variables, reach, reach_bind, reach_parts, reach_branches, tells_ends, ended_by, offsets_by, reach_core}
 use Rattle.gib_core.proofs.Alike.{alike_tells}
 use Rattle.gib_core.proofs.PastReaches.{ends_past, reaches_past, reach_alike}
 use Rattle.gib_core.proofs.Remade.{all_of, KnowsSame, remade_ended}
@@ -15,6 +15,7 @@ module _ (tb : Table) (es gs : List Ended) where
   pub telling_same : (m : AccessMode) (b : Bind) (z : Variable) → is_telling gs (reach_bind m tb es b) z ≡ is_telling gs b z
   telling_same m (Past h k) z = refl
   telling_same m (One (On kind x ty t)) z = alike_tells (reach_alike m tb es t) gs z
+  telling_same m (One (Several xs tys t)) z = refl
   telling_same m (Both fork l r) z = refl
   telling_same m (Prim x f v w) z = refl
   telling_same m (Reach y by) z = refl
@@ -45,6 +46,7 @@ module _ (tb : Table) (es gs : List Ended) where
     known_same m fs (IfTerm x t u) z =
         ends_known (uses (IfTerm x t u)) fs (IfTerm x (reach m tb es [] t) (reach m tb es [] u)) z
         ∙ (λ i. known_same m [] t z i && known_same m [] u z i)
+    known_same m fs (Tuple tys ss ps) z = ends_known (uses (Tuple tys ss ps)) fs (Tuple tys ss (reach_parts m tb es ps)) z
 
     all_same : (m : AccessMode) (branches : Branches) (z : Variable) → all_known tb gs (reach_branches m tb es branches) z ≡ all_known tb gs branches z
     all_same m NoBranch z = refl

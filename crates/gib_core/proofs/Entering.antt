@@ -45,7 +45,7 @@ held_absent : (sc : Scope) (y z : ℕ) → Test (z == y) → put sc y Held z ≡
 held_absent sc y z (fails ne) e = (ne, sym (put_elsewhere sc y z Held ne) ∙ e)
 held_absent sc y z (holds eq) e = absurd (held_no (sym (put_there sc y Held) ∙ ap (put sc y Held) (sym (eqb-true z y eq)) ∙ e))
 
-new_same : (ts : List Ty) (ys : List Variable) (sc tc : Scope) → ((z : ℕ) → sc z ≡ Absent → tc z ≡ Absent) → AreNew sc ts ys → AreNew tc ts ys
+pub new_same : (ts : List Ty) (ys : List Variable) (sc tc : Scope) → ((z : ℕ) → sc z ≡ Absent → tc z ≡ Absent) → AreNew sc ts ys → AreNew tc ts ys
 new_same [] [] sc tc f h = tt
 new_same [] (y ∷ ys) sc tc f h = absurd h
 new_same (t ∷ ts) [] sc tc f h = absurd h
@@ -53,10 +53,10 @@ new_same (t ∷ ts) (y ∷ ys) sc tc f h =
     (f y.0 h.0, new_same ts ys (put sc y.0 Held) (put tc y.0 Held) (λ z e. let k = held_absent sc y.0 z (test (z == y.0)) e in put_elsewhere tc y.0 z Held k.0 ∙ f z k.1) h.1)
 
 -- Behind a field that got another sort.
-new_put : (ts : List Ty) (ys : List Variable) (sc : Scope) (y : ℕ) (i : Sort) → AreNew (put sc y Held) ts ys → AreNew (put sc y i) ts ys
+pub new_put : (ts : List Ty) (ys : List Variable) (sc : Scope) (y : ℕ) (i : Sort) → AreNew (put sc y Held) ts ys → AreNew (put sc y i) ts ys
 new_put ts ys sc y i h = new_same ts ys (put sc y Held) (put sc y i) (λ z e. let k = held_absent sc y z (test (z == y)) e in put_elsewhere sc y z i k.0 ∙ k.1) h
 
-fresh_new : (n : ℕ) (ts : List Ty) (ys : List Variable) (sc : Scope) (m : Variable → Bool) → AreFresh ys m → ((z : ℕ) → m (named z) ≡ false → z < n → sc z ≡ Absent) → AllBelow n (map (λ (y : Variable). y.0) ys)
+pub fresh_new : (n : ℕ) (ts : List Ty) (ys : List Variable) (sc : Scope) (m : Variable → Bool) → AreFresh ys m → ((z : ℕ) → m (named z) ≡ false → z < n → sc z ≡ Absent) → AllBelow n (map (λ (y : Variable). y.0) ys)
     → length ts ≡ length ys → AreNew sc ts ys
 fresh_new n [] [] sc m h f below e = tt
 fresh_new n [] (y ∷ ys) sc m h f below e = absurd (omega (arith, e))

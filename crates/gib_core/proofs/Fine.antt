@@ -8,23 +8,25 @@ use Rattle.gib_base.specs.declared.name.Name.{Name}
 use Rattle.gib_types.specs.declared.table.Ty.{Ty}
 use Rattle.gib_types.specs.declared.table.Ty.TheVariants.{Whole, Truth, Tree}
 use Rattle.gib_types.specs.Layout.{LaidOut, layout_at}
-use Rattle.gib_types.specs.Table.{Row, Table, IsTable, fields_at, fields_of, con_at, if_owned}
+use Rattle.gib_types.specs.Table.{Row, Table, IsTable, scalar_types, fields_at, fields_of, con_at, if_owned}
 use Rattle.gib_code.specs.declared.instruction.Arm.{Arm}
 use Rattle.gib_code.specs.declared.instruction.Entry.{Entry}
 use Rattle.gib_code.specs.declared.instruction.Operand.{Operand}
-use Rattle.gib_code.specs.Instruction.{Instruction, Return, Give, Got, IsFine}
+use Rattle.gib_code.specs.Instruction.{Instruction, Return, Give, GiveParts, Jump, Got, IsFine}
 use Rattle.gib_code.specs.Program.{CodeTree, IsAt, AreAt, none, one_more, Runs}
 use Rattle.gib_core.specs.declared.atom.Atom.{Atom}
 use Rattle.gib_core.specs.declared.atom.Access.{Access}
 use Rattle.gib_core.specs.declared.atom.Access.TheVariants as by
 use Rattle.gib_core.specs.declared.atom.Kind.TheVariants as kind
 use Rattle.gib_core.specs.declared.atom.Variable.{Variable}
-use Rattle.gib_core.specs.Fits.{Scope, Dest, Nowhere, Empty, Open, AtHead, Line, Needs, Inner, new_line, side_tells, Fits, BindFits, SideFits, BranchesFit, CallFits, OwnFits, MainFits, AllFit, EachFits, more, packed_due, dest_of, by_call, put}
+use Rattle.gib_core.specs.Fits.{Scope, Dest, Nowhere, Empty, Open, InParts, AtHead, Line, Needs, Inner, none_of, new_line, side_tells, hold_all, loosen, cased, AtomsFit, Fits, PartsFit, BindFits, SideFits, BranchesFit, CallFits, OwnFits, MainFits, AllFit, EachFits, more, packed_due, dest_of, by_call, put}
 use Rattle.gib_core.specs.Ending.{Ended, Within, within_par, ended, has_ended}
 use Rattle.gib_core.specs.declared.atom.Atom.TheVariants as a
 use Rattle.gib_core.specs.Low as low
-use Rattle.gib_core.specs.Low.{Low, LowArms, LowBind, LowSide, LowFunctions, LeafAt, IsLowered, IsNoCall, End, Returns, To, Over, Field, laid_of, slots_of, arm_opening, scalar_reads, first_reach, over_all, got_from, gots, giving, ending, reaching}
+use Rattle.gib_core.specs.Low.{Low, LowParts, LowArms, LowBind, LowSide, LowFunctions, LeafAt, IsLowered, IsNoCall, End, Returns, To, ToParts, Over, Field, laid_of, slots_of, arm_opening, scalar_reads, first_reach, over_all, got_from, gots, giving, ending, moves, giving_parts, takes_parts, call_ending, begin_all, done_all, packed_slots, operands, reaching}
 use Rattle.gib_core.specs.Numbering.{binders}
+use Rattle.gib_syntax.specs.Results as results
+use Rattle.gib_syntax.specs.Results.{Results}
 use Rattle.gib_core.specs.Tree as t
 use Rattle.gib_core.specs.Tree.{Term, CoreTree, Side, FunctionTerm, var}
 
@@ -68,10 +70,39 @@ fine_overs (o ∷ os) = (tt, fine_overs os)
 fine_ending : (e : End) → AreFine (ending e)
 fine_ending (Returns os) = fine_append (over_all os) (Return ∷ []) (fine_overs os) (tt, tt)
 fine_ending (To l d) = (tt, tt)
+fine_ending (ToParts l ds) = (tt, tt)
 
 fine_giving : (s : Operand) (e : End) → AreFine (giving s e)
 fine_giving s (Returns os) = fine_append (over_all os) (Give s ∷ []) (fine_overs os) (tt, tt)
 fine_giving s (To l d) = (tt, (tt, tt))
+fine_giving s (ToParts l ds) = (tt, tt)
+
+fine_moves : (ds : List ℕ) (ss : List Operand) → AreFine (moves ds ss)
+fine_moves [] ss = tt
+fine_moves (d ∷ ds) [] = tt
+fine_moves (d ∷ ds) (s ∷ ss) = (tt, fine_moves ds ss)
+
+fine_parts : (ss : List Operand) (e : End) → AreFine (giving_parts ss e)
+fine_parts ss (Returns os) = fine_append (over_all os) (GiveParts ss ∷ []) (fine_overs os) (tt, tt)
+fine_parts ss (To l d) = (tt, tt)
+fine_parts ss (ToParts l ds) = fine_append (moves ds ss) (Jump l ∷ []) (fine_moves ds ss) (tt, tt)
+
+fine_takes : (i : ℕ) (ds : List ℕ) → AreFine (takes_parts i ds)
+fine_takes i [] = tt
+fine_takes i (d ∷ ds) = (tt, fine_takes (suc i) ds)
+
+fine_calls : (e : End) → AreFine (call_ending e)
+fine_calls (Returns os) = fine_append (over_all os) (Return ∷ []) (fine_overs os) (tt, tt)
+fine_calls (To l d) = (tt, tt)
+fine_calls (ToParts l ds) = fine_append (takes_parts 0 ds) (Jump l ∷ []) (fine_takes 0 ds) (tt, tt)
+
+fine_begins : (xs : List ℕ) → AreFine (begin_all xs)
+fine_begins [] = tt
+fine_begins (x ∷ xs) = (tt, fine_begins xs)
+
+fine_dones : (xs : List ℕ) → AreFine (done_all xs)
+fine_dones [] = tt
+fine_dones (x ∷ xs) = (tt, fine_dones xs)
 
 fine_got : (es : List Ended) (f k : ℕ) (xs : List Atom) → AreFine (got_from es f k xs)
 fine_got es f k [] = tt
@@ -123,17 +154,20 @@ abbrev IsOpen : Dest → Type 0
 IsOpen (Nowhere ty) = Unit {0}
 IsOpen (Empty s) = Unit {0}
 IsOpen (Open s h k xs dues) = (k < 256) × (length xs + length dues ≤ 8)
+IsOpen (InParts tys) = Unit {0}
 
 one_further : (d : Dest) (x : ℕ) → IsOpen d → IsOpen (more d x)
 one_further (Nowhere ty) x o = tt
 one_further (Empty s) x o = tt
+one_further (InParts tys) x o = tt
 one_further (Open s h k xs []) x o = o
 one_further (Open s h k xs (u ∷ dues)) x o = (o.0, let e = length-append xs (x ∷ []) in let l = o.1 in omega (arith, e, l))
 
-result_open : (ty : Ty) → IsOpen (dest_of ty)
-result_open Whole = tt
-result_open Truth = tt
-result_open (Tree s) = tt
+result_open : (r : Results Ty) → IsOpen (dest_of r)
+result_open (results.One Whole) = tt
+result_open (results.One Truth) = tt
+result_open (results.One (Tree s)) = tt
+result_open (results.Several tys) = tt
 
 few_due : (ts : List Ty) → length (packed_due ts) ≤ length ts
 few_due [] = omega arith
@@ -170,17 +204,20 @@ pub side_alone : (core : CoreTree) (w : Within) (s : Side) (sc : Scope) (d : Des
 side_alone core w (t.On kind.Here x ty u) sc d ln P f = (f.0, f.1, f.2, f.3, f.4, tt)
 side_alone core w (t.On kind.Region x ty u) sc d ln P f = (f.0, f.1, f.2, f.3, tt)
 side_alone core w (t.On kind.Scalar x ty u) sc d ln P f = (f.0, f.1, f.2, tt)
+side_alone core w (t.Several xs tys u) sc d ln P f = (f.0, f.1, f.2, tt)
 
 side_goes : (core : CoreTree) (w : Within) (s : Side) (sc : Scope) (d : Dest) (ln : Line) (P : Scope → Dest → Line → Type 0) → IsOpen d → SideFits core w s sc d ln P → GoesOn P
 side_goes core w (t.On kind.Here x ty u) sc d ln P o f = (_, _, _, one_further d x.0 o, f.5)
 side_goes core w (t.On kind.Region x ty u) sc d ln P o f = (_, d, _, o, f.4)
 side_goes core w (t.On kind.Scalar x ty u) sc d ln P o f = (_, d, _, o, f.3)
+side_goes core w (t.Several xs tys u) sc d ln P o f = (_, d, _, o, f.3)
 
 side_both : (core : CoreTree) (w : Within) (v : Line → Within) (l r : Side) (sc : Scope) (d : Dest) (ln : Line) (P : Scope → Dest → Line → Type 0) → SideFits core w l sc d ln (λ sc' d' ln'. SideFits core (v ln') r sc' d' ln' P)
     → SideFits core w l sc d ln (λ sc' d' ln'. SideFits core (v ln') r sc' d' ln' anywhere)
 side_both core w v (t.On kind.Here x ty u) r sc d ln P f = (f.0, f.1, f.2, f.3, f.4, side_alone core _ r _ _ _ P f.5)
 side_both core w v (t.On kind.Region x ty u) r sc d ln P f = (f.0, f.1, f.2, f.3, side_alone core _ r _ _ _ P f.4)
 side_both core w v (t.On kind.Scalar x ty u) r sc d ln P f = (f.0, f.1, f.2, side_alone core _ r _ _ _ P f.3)
+side_both core w v (t.Several xs tys u) r sc d ln P f = (f.0, f.1, f.2, side_alone core _ r _ _ _ P f.3)
 
 pub bind_alone : (core : CoreTree) (b : t.Bind) (sc : Scope) (d : Dest) (ln : Line) (P : Scope → Dest → Line → Type 0) → BindFits core b sc d ln P → BindFits core b sc d ln anywhere
 bind_alone core (t.Past h k) sc d ln P f = (f.0, f.1, f.2, f.3, tt)
@@ -220,6 +257,7 @@ no_call A B (t.CallTerm f xs) n h = absurd n
 no_call A B (t.Give x) n h = h
 no_call A B (t.CaseTerm x bs) n h = h
 no_call A B (t.IfTerm x u v) n h = h
+no_call A B (t.Tuple tys ss ps) n h = h
 
 module _ (core : CoreTree) (code : CodeTree) (is : IsTable core.table) where
   mutual
@@ -231,13 +269,21 @@ module _ (core : CoreTree) (code : CodeTree) (is : IsTable core.table) where
         let n = p.1 in
         fine_list ar ((p.0, omega (arith, l, m, n)), fine_ending e)
     term_fine (low.point {e = e} ar) ns sc d ln o f = fine_list ar (tt, fine_ending e)
-    term_fine (low.call {w = w} {f = g} {xs = xs} {e = e} ar) ns sc d ln o f = fine_list ar (tt, fine_append (gots w core g.0 xs) (ending e) (fine_gots w core g.0 xs) (fine_ending e))
+    term_fine (low.call {w = w} {f = g} {xs = xs} {e = e} ar) ns sc d ln o f = fine_list ar (tt, fine_append (gots w core g.0 xs) (call_ending e) (fine_gots w core g.0 xs) (fine_calls e))
     term_fine (low.give ar) ns sc d ln o f = fine_list ar (fine_giving _ _)
     term_fine (low.branch at lu lv) ns sc d ln o f = fine_join (fine_one at tt) (fine_join (term_fine lu ns sc d ln o f.1) (term_fine lv ns sc d ln o f.2))
     term_fine (low.case at la) ns sc d ln o f = fine_join (fine_one at tt) (arms_fine la ns f.1.variable.0 (put sc f.1.variable.0 (AtHead f.0)) d ln o f.3)
     term_fine (low.binding {b = b} {u = u} lb lu) ns sc d ln o f =
         let r = bind_goes core is b sc d ln (λ sc' d' ln'. Fits core ns u sc' d' ln') o f in
         fine_join (bind_fine lb sc d ln o (bind_alone core b sc d ln (λ sc' d' ln'. Fits core ns u sc' d' ln') f)) (term_fine lu ns r.0 r.1 r.2 r.3 r.4)
+    term_fine (low.tuple {tys = tys} {ss = ss} {e = e} lp ar) ns sc d ln o f =
+        fine_join (parts_fine lp ln.within (packed_due tys) sc ss (scalar_types tys) f.1) (fine_list ar (fine_parts (operands ss) e))
+
+    parts_fine : {w : Within} {fs : List Field} {a i k z : ℕ} {ps : t.PartTerms} → LowParts core code w fs a i k ps z → (v : Within) (dues : List ℕ) (sc : Scope) (ss : List Atom) (us : List Ty) → PartsFit core v ps dues sc (λ tc. AtomsFit tc ss us) → Fine code a z
+    parts_fine low.no_part v dues sc ss us f = fine_none
+    parts_fine (low.part at lt out rest) v [] sc ss us f = absurd f
+    parts_fine (low.part {u = u} at lt out rest) v (s ∷ dues) sc ss us f =
+        fine_join (fine_one at tt) (fine_join (term_fine lt (Inner none_of) sc (Empty s) (new_line v) tt f.0) (fine_join (fine_one out tt) (parts_fine rest v dues (loosen (cased u) sc) ss us f.1)))
 
     arms_fine : {w : Within} {fs : List Field} {x a z : ℕ} {arms : List Arm} {bs : t.Branches} {e : End} → LowArms core code w fs x a arms bs e z → (ns : Needs) (y : ℕ) (sc : Scope) (d : Dest) (ln : Line) → IsOpen d → BranchesFit core ns bs y sc d ln → Fine code a z
     arms_fine low.no_arm ns y sc d ln o f = fine_none
@@ -251,9 +297,9 @@ module _ (core : CoreTree) (code : CodeTree) (is : IsTable core.table) where
         let v = within_par ln.within in
         let x = side_goes core v l sc d ln (λ sc' d' ln'. SideFits core v r sc' d' ln' anywhere) o f.1 in
         fine_join (side_fine ll v sc d ln o (side_alone core v l sc d ln (λ sc' d' ln'. SideFits core v r sc' d' ln' anywhere) f.1)) (side_fine lr v x.0 x.1 x.2 x.3 x.4)
-    bind_fine (low.forked {l = l} {c = c} {x = v} {ty = ty} {u = u} at ll ej lr eb) sc d ln o f =
-        let x = side_goes core (within_par ln.within) l sc d ln (λ sc' d' ln'. SideFits core (within_par ln'.within) (t.On c v ty u) sc' d' ln' anywhere) o f.2 in
-        fine_join (fine_one at tt) (fine_join (side_fine ll (within_par ln.within) sc d ln o (side_alone core (within_par ln.within) l sc d ln (λ sc' d' ln'. SideFits core (within_par ln'.within) (t.On c v ty u) sc' d' ln' anywhere) f.2))
+    bind_fine (low.forked {l = l} {r = r} at ll ej lr eb) sc d ln o f =
+        let x = side_goes core (within_par ln.within) l sc d ln (λ sc' d' ln'. SideFits core (within_par ln'.within) r sc' d' ln' anywhere) o f.2 in
+        fine_join (fine_one at tt) (fine_join (side_fine ll (within_par ln.within) sc d ln o (side_alone core (within_par ln.within) l sc d ln (λ sc' d' ln'. SideFits core (within_par ln'.within) r sc' d' ln' anywhere) f.2))
         (fine_join (fine_one ej tt) (fine_join (side_fine lr (within_par x.2.within) x.0 x.1 x.2 x.3 x.4) (fine_one eb tt))))
     bind_fine (low.prim at) sc d ln o f = fine_one at tt
     bind_fine (low.reach {fs = fs} {y = y} {access = access} at) sc d ln o f = fine_one at (fine_reaching fs y access)
@@ -263,11 +309,13 @@ module _ (core : CoreTree) (code : CodeTree) (is : IsTable core.table) where
     side_fine (low.region at lt dn) v sc d ln o f = fine_join (fine_one at tt) (fine_join (term_fine lt _ _ (Empty f.0) _ tt f.3) (fine_one dn tt))
     side_fine (low.scalar_call {w = w} {f = g} {xs = xs} at) v sc d ln o f = fine_list at (tt, fine_gots w core g.0 xs)
     side_fine (low.scalar {ty = ty} {u = u} nc lt) v sc d ln o f =
-        term_fine lt (Inner (side_tells v core u)) sc (Nowhere ty) (new_line v) tt (no_call (Fits core (Inner (side_tells v core u)) u sc (Nowhere ty) (new_line v)) (λ g xs. CallFits core sc g xs ty) u nc f.2)
+        term_fine lt (Inner (side_tells v core u)) sc (Nowhere ty) (new_line v) tt (no_call (Fits core (Inner (side_tells v core u)) u sc (Nowhere ty) (new_line v)) (λ g xs. CallFits core sc g xs (results.One ty)) u nc f.2)
+    side_fine (low.several {xs = xs} {tys = tys} {u = u} bg lt dn) v sc d ln o f =
+        fine_join (fine_list bg (fine_begins (packed_slots tys xs))) (fine_join (term_fine lt (Inner none_of) (hold_all xs sc) (InParts tys) (new_line v) tt f.2) (fine_list dn (fine_dones (packed_slots tys xs))))
 
   functions_fine : (a : ℕ) (gs : List FunctionTerm) (es : List Entry) → LowFunctions core code a gs es → AllByRecursion (λ (g : FunctionTerm). OwnFits core g (length g.parameters + length (binders g.body))) gs
       → MainFits core (1 + length (binders core.main.body)) → Fine code a (length code.instructions)
-  functions_fine a _ _ (low.main nm rs st sl lo) f m = term_fine lo _ _ _ _ (result_open core.main.result) m.fits
+  functions_fine a _ _ (low.main nm rs st sl lo) f m = term_fine lo _ _ _ _ (result_open (results.One core.main.result)) m.fits
   functions_fine a _ _ (low.function {z = z} {g = g} {gs = gs} {es = es} nm rs st sl lo later) f m = fine_join (term_fine lo _ _ _ _ (result_open g.result) f.0.fits) (functions_fine z gs es later f.1 m)
 
 pub code_runs : (core : CoreTree) (code : CodeTree) → IsLowered core code → AllFit core → EachFits core → length code.instructions < 2 ^ 32 → Runs code

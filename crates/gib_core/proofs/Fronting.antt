@@ -7,8 +7,8 @@ use Rattle.gib_core.specs.declared.node.Node.{Node}
 use Rattle.gib_core.specs.declared.node.Node.TheVariants as n
 use Rattle.gib_core.specs.declared.node.Binding.{Binding}
 use Rattle.gib_core.specs.declared.node.Branch.{Branch}
-use Rattle.gib_core.specs.Arena.{Grows, Makes, IsBindingBelow, IsBranchBelow, bind_from, binds_from, branches_from, layer, term_of}
-use Rattle.gib_core.proofs.Layers.{binds_same_below, branches_same_below}
+use Rattle.gib_core.specs.Arena.{Grows, Makes, IsBindingBelow, IsBranchBelow, IsPartBelow, bind_from, binds_from, parts_from, branches_from, layer, term_of}
+use Rattle.gib_core.proofs.Layers.{binds_same_below, parts_same_below, branches_same_below}
 use Rattle.gib_core.proofs.Lining.{binding_below_more}
 
 -- Some of the bindings stand in front already.
@@ -34,6 +34,14 @@ pub branches_below_push : (n : ℕ) (bs : List Branch) (x : Branch) → AllByRec
 branches_below_push n [] x p q = (q, tt)
 branches_below_push n (y ∷ bs) x p q = (p.0, branches_below_push n bs x p.1 q)
 
+pub parts_below_more : (n m : ℕ) (ts : List TermId) → n ≤ m → AllByRecursion (IsPartBelow n) ts → AllByRecursion (IsPartBelow m) ts
+parts_below_more n m [] le p = tt
+parts_below_more n m (t ∷ ts) le p = (let q = p.0 in omega arith, parts_below_more n m ts le p.1)
+
+pub parts_below_push : (n : ℕ) (ts : List TermId) (t : TermId) → AllByRecursion (IsPartBelow n) ts → IsPartBelow n t → AllByRecursion (IsPartBelow n) (ts ++ t ∷ [])
+parts_below_push n [] t p q = (q, tt)
+parts_below_push n (u ∷ ts) t p q = (p.0, parts_below_push n ts t p.1 q)
+
 prepend-last : (f : ℕ → Term) (bs : List Binding) (x : Binding) (t : Term) → prepend (binds_from f (bs ++ x ∷ [])) t ≡ prepend (binds_from f bs) (Then (bind_from f x) t)
 prepend-last f [] x t = refl
 prepend-last f (y ∷ bs) x t = ap (Then (bind_from f y)) (prepend-last f bs x t)
@@ -45,6 +53,10 @@ binds_same old new bs g p = binds_same_below (term_of new) (term_of old) (length
 -- Branches keep their terms.
 pub branches_same : (old new : List Node) (bs : List Branch) → Grows old new → AllByRecursion (IsBranchBelow (length old)) bs → branches_from (term_of new) bs ≡ branches_from (term_of old) bs
 branches_same old new bs g p = branches_same_below (term_of new) (term_of old) (length old) bs p g.same
+
+-- Parts keep their terms.
+pub parts_same : (old new : List Node) (ts : List TermId) → Grows old new → AllByRecursion (IsPartBelow (length old)) ts → parts_from (term_of new) ts ≡ parts_from (term_of old) ts
+parts_same old new ts g p = parts_same_below (term_of new) (term_of old) (length old) ts p g.same
 
 pub grows_more : (a b c : List Node) → Grows a b → Grows b c → Grows a c
 grows_more a b c p q = record { longer = (let l = p.longer in let m = q.longer in omega arith); same = λ id lt. (let l = p.longer in q.same id (omega arith)) ∙ p.same id lt }

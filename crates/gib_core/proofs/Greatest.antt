@@ -4,7 +4,7 @@ use Rattle.std.proofs.lemmas.Bool.{eqb-true, false≢true}
 use Rattle.gib_types.specs.Table.{Table, fields_at}
 use Rattle.gib_core.specs.declared.atom.Variable.{Variable}
 use Rattle.gib_core.specs.declared.atom.Atom.{Atom}
-use Rattle.gib_core.specs.Tree.{Term, Then, Write, Point, CallTerm, Give, CaseTerm, IfTerm, Bind, Past, One, Both, Prim, Reach, On, Branches, NoBranch, BranchThen, FunctionTerm, CoreTree}
+use Rattle.gib_core.specs.Tree.{Term, Then, Write, Point, CallTerm, Give, CaseTerm, IfTerm, Tuple, Bind, Past, One, Both, Prim, Reach, On, Several, Branches, NoBranch, BranchThen, FunctionTerm, CoreTree}
 use Rattle.gib_core.specs.Meaning.{function_at}
 use Rattle.gib_core.specs.Reaching.{is_variable}
 use Rattle.gib_core.specs.Ending.{Ended, has_ended, call_ends, tells, is_telling, is_known, all_known, lasts_known, if_some, last_packed, known_in, stays_ended, narrowed, settled}
@@ -36,10 +36,12 @@ tells_grow es fs p (CallTerm f xs) z h = call_grows es fs p f.0 0 xs z h
 tells_grow es fs p (Give x) z h = h
 tells_grow es fs p (CaseTerm x bs) z h = h
 tells_grow es fs p (IfTerm x t u) z h = h
+tells_grow es fs p (Tuple tys ss ps) z h = h
 
 telling_grows : (es fs : List Ended) → Part es fs → (b : Bind) (z : Variable) → is_telling es b z ≡ true → is_telling fs b z ≡ true
 telling_grows es fs p (Past h' k) z h = h
 telling_grows es fs p (One (On kind x ty t)) z h = tells_grow es fs p t z h
+telling_grows es fs p (One (Several xs tys t)) z h = h
 telling_grows es fs p (Both fork l r) z h = h
 telling_grows es fs p (Prim x f v w) z h = h
 telling_grows es fs p (Reach y by) z h = h
@@ -59,6 +61,7 @@ mutual
       or_grows (all_known table es bs z) (all_known table fs bs z) (is_variable z x && lasts_known table es bs) (is_variable z x && lasts_known table fs bs) (all_grow table es fs p bs z)
       (and_grows (is_variable z x) (is_variable z x) (lasts_known table es bs) (lasts_known table fs bs) (λ q. q) (lasts_grow table es fs p bs)) h
   known_grows table es fs p (IfTerm x t u) z h = and_grows (is_known table es t z) (is_known table fs t z) (is_known table es u z) (is_known table fs u z) (known_grows table es fs p t z) (known_grows table es fs p u z) h
+  known_grows table es fs p (Tuple tys ss ps) z h = h
 
   all_grow : (table : Table) (es fs : List Ended) → Part es fs → (bs : Branches) (z : Variable) → all_known table es bs z ≡ true → all_known table fs bs z ≡ true
   all_grow table es fs p NoBranch z h = h

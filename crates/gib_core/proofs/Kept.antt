@@ -15,7 +15,7 @@ use Rattle.gib_core.specs.declared.atom.Kind.{Kind}
 use Rattle.gib_core.specs.declared.atom.Kind.TheVariants.{Here, Region, Scalar}
 use Rattle.gib_core.specs.Tree.{FunctionTerm, CoreTree}
 use Rattle.gib_core.specs.Meaning.{function_at}
-use Rattle.gib_core.specs.Met.{Known, Setting, Line, PastLine, SideLine, PrimLine, WriteLine, PointLine, CallLine, GiveLine, CaseLine, IfLine}
+use Rattle.gib_core.specs.Met.{Known, Setting, Line, PastLine, SideLine, PrimLine, WriteLine, PointLine, CallLine, GiveLine, CaseLine, IfLine, SeveralLine, TupleLine}
 use Rattle.gib_core.specs.Reaching.{is_variable, has_variable, ended_by, reach, reach_function, reach_core}
 use Rattle.gib_core.specs.Ending.{Ended}
 use Rattle.gib_core.specs.Rules.{Before, is_bound, is_usable, all_usable, gives_packed, call_fits, any_bound, arm_variables, rules, least}
@@ -141,3 +141,12 @@ module _ (mode : AccessMode) (core : CoreTree) (b : Before) (s : Setting) (ks : 
       let n = none_broken (rules core b (all_reached s) (IfLine x)) e in
       least_none (rules (reach_core mode core) b (scoped s ks) (IfLine x))
       (n.0, (ap not (usable_kept s ks x h (not-false (is_usable (all_reached s) x) n.1.0)), (n.1.1.0, tt)))
+
+  pub several_kept : (xs : List Variable) (tys : List Ty) → IsGiven (SeveralLine xs tys) → IsFine (SeveralLine xs tys)
+  several_kept xs tys e = e
+
+  pub tuple_kept : (tys : List Ty) (ss : List Atom) (packed : ℕ) → Serves (λ v. has_variable v ss) s.scope ks → IsGiven (TupleLine tys ss packed) → IsFine (TupleLine tys ss packed)
+  tuple_kept tys ss packed h e =
+      let n = none_broken (rules core b (all_reached s) (TupleLine tys ss packed)) e in
+      least_none (rules (reach_core mode core) b (scoped s ks) (TupleLine tys ss packed))
+      (n.0, (ap not (all_kept s ks ss h (not-false (all_usable (all_reached s) ss) n.1.0)), (n.1.1.0, (n.1.1.1.0, tt))))

@@ -16,8 +16,8 @@ use Rattle.gib_core.specs.declared.atom.Kind.TheVariants.{Here, Region, Scalar}
 use Rattle.gib_core.specs.declared.scope.Bound.{Bound}
 use Rattle.gib_core.specs.Tree.{CoreTree}
 use Rattle.gib_core.specs.Inferring.{first_type, further_types}
-use Rattle.gib_core.specs.Met.{Line, PastLine, SideLine, ParLine, PrimLine, ReachLine, WriteLine, PointLine, CallLine, GiveLine, CaseLine, IfLine, Met, Setting, field_due}
-use Rattle.gib_core.specs.Rules.{Before, is_among, is_bound, type_bound, bound_too, bind_fields, bind_arms, any_bound, arm_variables, least, rules, next, next_all, LinesAreBuilt, any_other, all_usable, have_types, is_empty, is_of_type, is_other, is_usable, cover, type_of, has_room, same_type, type_made}
+use Rattle.gib_core.specs.Met.{Line, PastLine, SideLine, ParLine, PrimLine, ReachLine, WriteLine, PointLine, CallLine, GiveLine, CaseLine, IfLine, SeveralLine, TupleLine, PartLine, Met, Setting, field_due}
+use Rattle.gib_core.specs.Rules.{Before, is_among, is_bound, type_bound, bound_too, bind_fields, bind_arms, any_bound, are_several, arm_variables, least, rules, next, next_all, LinesAreBuilt, any_other, all_usable, have_types, is_empty, is_of_type, is_other, is_usable, cover, type_of, has_room, same_type, type_made}
 use Rattle.gib_core.proofs.Facts.{Test, holds, fails, test, least2, least3, same_variable, itself}
 
 -- What was bound, later on: types stay, and what is still new was new.
@@ -84,7 +84,7 @@ pub fresh_apart : (xs ys : List Variable) (m : Variable → Bool) → AreFresh (
 fresh_apart [] ys m h = (tt, h)
 fresh_apart (x ∷ xs) ys m h = let k = fresh_apart xs ys (λ y. x.0 == y.0 || m y) h.1 in ((h.0, k.0), k.1)
 
-or_none : (a : Bool) → a || false ≡ a
+pub or_none : (a : Bool) → a || false ≡ a
 or_none true = refl
 or_none false = refl
 
@@ -121,7 +121,7 @@ pub have_on : (xs : List Variable) (ts : List Ty) (bs cs : List Bound) → Later
 have_on [] ts bs cs l h = tt
 have_on (x ∷ xs) ts bs cs l h = (l.types x (first_type ts) h.0, have_on xs (further_types ts) bs cs l h.1)
 
-fields_typed : (xs : List Variable) (ts : List Ty) (bs : List Bound) → AreFresh xs (is_bound bs) → HaveTypes xs ts (bind_fields xs ts bs)
+pub fields_typed : (xs : List Variable) (ts : List Ty) (bs : List Bound) → AreFresh xs (is_bound bs) → HaveTypes xs ts (bind_fields xs ts bs)
 fields_typed [] ts bs h = tt
 fields_typed (x ∷ xs) ts bs h =
     let cs = bound_too x (first_type ts) bs in
@@ -216,6 +216,10 @@ line_later core b s (CaseLine (a.Whole z) arms) e =
 line_later core b s (CaseLine (a.Truth z) arms) e =
     record { bound = (bound_arms core.table arms b.bound (fresh_arms (arm_variables arms) b.bound (case_facts core b s (a.Truth z) arms e).new)).0; cased = λ y h. h }
 line_later core b s (IfLine x) e = later_same b
+line_later core b s (SeveralLine xs tys) e =
+    record { bound = bound_fields xs tys b.bound (fresh_arms xs b.bound (least2 8 11 (any_bound xs [] b.bound) (not (are_several xs tys)) e).0); cased = λ y h. h }
+line_later core b s (TupleLine tys ss packed) e = later_same b
+line_later core b s PartLine e = later_same b
 
 pub lines_later : (core : CoreTree) (b : Before) (ms : List Met) → LinesAreBuilt core b ms → Later b (next_all core.table b ms)
 lines_later core b [] h = later_same b

@@ -4,6 +4,7 @@ use Rattle.std.specs.List.{AllByRecursion}
 use Rattle.gib_types.specs.declared.table.Ty.{Ty}
 use Rattle.gib_types.specs.Table.{Table}
 use Rattle.gib_types.specs.Tree.{Datum}
+use Rattle.gib_syntax.specs.Results as results
 use Rattle.gib_syntax.specs.Tree.{DataTree}
 use Rattle.gib_syntax.specs.Declarations.{function_named, table_of_program}
 use Rattle.gib_syntax.specs.Meaning.{bind, eval, names_of, of_function as of_source, calls, run}
@@ -49,7 +50,7 @@ calls_left datas c e h zero = refl
 calls_left datas c e h (suc n) = λ i f vs. (
     ap (λ k. of_source (function_named (erase_core datas c).functions f) (λ g. eval (table_of_program (erase_core datas c)) k g.body (bind (names_of g.parameters) vs []))) (calls_left datas c e h n)
     ∙ ap (λ tb. of_source (function_named (erase_core datas c).functions f) (λ g. eval tb (core_calls c n) g.body (bind (names_of g.parameters) vs []))) e
-    ∙ functions_left c.table (core_calls c n) c.functions (record { parameters = c.main.parameter ∷ []; result = c.main.result; term = c.main.body } ∷ []) f vs h) i
+    ∙ functions_left c.table (core_calls c n) c.functions (record { parameters = c.main.parameter ∷ []; result = results.One c.main.result; term = c.main.body } ∷ []) f vs h) i
 
 main_ordered : (tb : Table) (fs : List FunctionTerm) (b : Body)
     → AllByRecursion (λ (b : Body). IsOrdered tb (length b.parameters) b.term) (map (λ (g : FunctionTerm). record { parameters = g.parameters; result = g.result; term = g.body }) fs ++ b ∷ []) → IsOrdered tb (length b.parameters) b.term
@@ -58,7 +59,7 @@ main_ordered tb (g ∷ fs) b h = main_ordered tb fs b h.1
 
 pub run_left : (datas : List DataTree) (c : CoreTree) → table_of_program (erase_core datas c) ≡ c.table → AreOrdered c → (depth : ℕ) (v : Datum) → run (erase_core datas c) depth v ≡ core_run c depth v
 run_left datas c e h depth v =
-    let main : Body = record { parameters = c.main.parameter ∷ []; result = c.main.result; term = c.main.body } in
+    let main : Body = record { parameters = c.main.parameter ∷ []; result = results.One c.main.result; term = c.main.body } in
     ap (λ k. eval (table_of_program (erase_core datas c)) k (erase c.table [] c.main.body) ((0, v) ∷ [])) (calls_left datas c e h depth)
     ∙ ap (λ tb. eval tb (core_calls c depth) (erase c.table [] c.main.body) ((0, v) ∷ [])) e
     ∙ body_left c.table (core_calls c depth) (c.main.parameter ∷ []) c.main.body (v ∷ []) (main_ordered c.table c.functions main h)

@@ -4,6 +4,8 @@ pub mod Lining
 pub mod Fronting
 pub mod Inside
 pub mod Marks
+-- The types of several parts.
+pub mod Eight
 -- The walk on terms, terms changed place by place, and cores whose bodies are made anew.
 pub mod Walks
 pub mod Alike
@@ -54,6 +56,7 @@ mod Owing
 mod Vars
 pub mod Dests
 mod Entering
+mod Severals
 mod Covering
 mod Fitted
 mod Builds

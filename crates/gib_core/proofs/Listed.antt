@@ -1,14 +1,17 @@
 -- What the walk that lists mentions leaves behind.
-use Rattle.std.proofs.Common.{◌≡◌, ℕ, zero, suc, ◌+◌, ◌<◌, ◌≤◌, List, [], ◌∷◌, ◌++◌, map, length, drop, get_or, sym, ap, ◌∙◌, subst, arith}
+use Rattle.std.proofs.Common.{◌≡◌, ℕ, zero, suc, ◌+◌, ◌<◌, ◌≤◌, List, [], ◌∷◌, ◌++◌, map, length, drop, get_or, refl, sym, ap, ◌∙◌, subst, arith}
 use Rattle.std.specs.List.{AllByRecursion}
 use Rattle.std.proofs.lemmas.List.{append-nil, append_assoc, drop_more, drop_all}
 use Rattle.gib_core.specs.declared.node.Binding.{Binding}
 use Rattle.gib_core.specs.declared.node.Branch.{Branch}
 use Rattle.gib_core.specs.declared.node.Node.{Node}
-use Rattle.gib_core.specs.Tree.{Term, prepend}
-use Rattle.gib_core.specs.Arena.{IsBindingBelow, IsLine, term_of, bind_from, binds_from, branches_from}
+use Rattle.gib_core.specs.declared.node.TermId.{TermId}
+use Rattle.gib_core.specs.declared.atom.Variable.{Variable}
+use Rattle.gib_core.specs.Tree.{Term, variables_from, prepend}
+use Rattle.gib_core.specs.Arena.{IsBindingBelow, IsLine, term_of, bind_from, binds_from, parts_from, branches_from}
 use Rattle.gib_core.specs.declared.mentions.Mention.{Mention}
-use Rattle.gib_core.specs.Mentioned.{all_bound, mentions, bind_mentions, branch_mentions, binder, binders_in}
+use Rattle.gib_core.specs.declared.mentions.Mention.TheVariants.{Bound}
+use Rattle.gib_core.specs.Mentioned.{all_bound, mentions, bind_mentions, part_mentions, branch_mentions, binder, binders_in}
 
 all_at : {A : Type 0} (P : A → Type 0) (xs : List A) (i : ℕ) (d : A) → AllByRecursion P xs → i < length xs → P (get_or xs i d)
 all_at P [] i d h lt = absurd (omega arith)
@@ -52,6 +55,42 @@ items_next {A} f xs i x d old now new lt e h a =
 
 pub items_end : {A : Type 0} (f : A → Mention) (xs : List A) (i : ℕ) (old now : List Mention) → length xs ≤ i → now ++ map f (drop i xs) ≡ old ++ map f xs → now ≡ old ++ map f xs
 items_end f xs i old now le h = sym (append-nil now) ∙ (ap (λ l. now ++ map f l) (sym (drop_all i xs le)) ∙ h)
+
+-- Variables one behind another, a variable for each item.
+pub variables_more : {A : Type 0} (xs : List A) (i n : ℕ) → i < length xs → variables_from n (drop i xs) ≡ record { 0 = n } ∷ variables_from (n + 1) (drop (i + 1) xs)
+variables_more [] i n lt = absurd (omega arith)
+variables_more (x ∷ xs) zero n lt = refl
+variables_more (x ∷ xs) (suc i) n lt =
+    let e : suc (i + 1) ≡ suc i + 1 = omega arith in
+    variables_more xs i n (omega arith) ∙ ap (λ k. record { 0 = n } ∷ variables_from (n + 1) (drop k (x ∷ xs))) e
+
+pub variables_next : {A : Type 0} (xs : List A) (first i number : ℕ) (old now new : List Mention) → i < length xs → number ≡ first + i
+    → now ++ all_bound (variables_from (first + i) (drop i xs)) ≡ old ++ all_bound (variables_from first xs)
+    → new ≡ now ++ Bound (record { 0 = number }) ∷ [] → new ++ all_bound (variables_from (first + (i + 1)) (drop (i + 1) xs)) ≡ old ++ all_bound (variables_from first xs)
+variables_next xs first i number old now new lt e h a =
+    let rest = all_bound (variables_from (first + (i + 1)) (drop (i + 1) xs)) in
+    let there : first + i + 1 ≡ first + (i + 1) = omega arith in
+    let left : variables_from (first + i) (drop i xs) ≡ record { 0 = number } ∷ variables_from (first + (i + 1)) (drop (i + 1) xs) =
+    variables_more xs i (first + i) lt ∙ (λ k. record { 0 = sym e k } ∷ variables_from (there k) (drop (i + 1) xs)) in
+    ap (λ l. l ++ rest) a ∙ (append_assoc now (Bound (record { 0 = number }) ∷ []) rest ∙ (sym (ap (λ l. now ++ all_bound l) left) ∙ h))
+
+pub variables_start : {A : Type 0} (xs : List A) (first : ℕ) (old : List Mention) → old ++ all_bound (variables_from (first + 0) (drop 0 xs)) ≡ old ++ all_bound (variables_from first xs)
+variables_start xs first old = let e : first + 0 ≡ first = omega arith in ap (λ n. old ++ all_bound (variables_from n xs)) e
+
+pub variables_end : {A : Type 0} (xs : List A) (first i : ℕ) (old now : List Mention) → length xs ≤ i
+    → now ++ all_bound (variables_from (first + i) (drop i xs)) ≡ old ++ all_bound (variables_from first xs) → now ≡ old ++ all_bound (variables_from first xs)
+variables_end xs first i old now le h = sym (append-nil now) ∙ (ap (λ l. now ++ all_bound (variables_from (first + i) l)) (sym (drop_all i xs le)) ∙ h)
+
+-- Parts that are listed one after another.
+pub parts_next : (f : ℕ → Term) (ts : List TermId) (i : ℕ) (t d : TermId) (old now new : List Mention) → i < length ts → t ≡ get_or ts i d → now ++ part_mentions (parts_from f (drop i ts)) ≡ old ++ part_mentions (parts_from f ts)
+    → new ≡ now ++ mentions (f t.0) → new ++ part_mentions (parts_from f (drop (i + 1) ts)) ≡ old ++ part_mentions (parts_from f ts)
+parts_next f ts i t d old now new lt e h a =
+    let left : drop i ts ≡ t ∷ drop (i + 1) ts = drop_more ts i d lt ∙ ap (λ (z : TermId). z ∷ drop (i + 1) ts) (sym e) in
+    let rest = part_mentions (parts_from f (drop (i + 1) ts)) in
+    ap (λ l. l ++ rest) a ∙ (append_assoc now (mentions (f t.0)) rest ∙ (sym (ap (λ l. now ++ part_mentions (parts_from f l)) left) ∙ h))
+
+pub parts_end : (f : ℕ → Term) (ts : List TermId) (i : ℕ) (old now : List Mention) → length ts ≤ i → now ++ part_mentions (parts_from f (drop i ts)) ≡ old ++ part_mentions (parts_from f ts) → now ≡ old ++ part_mentions (parts_from f ts)
+parts_end f ts i old now le h = sym (append-nil now) ∙ (ap (λ l. now ++ part_mentions (parts_from f l)) (sym (drop_all i ts le)) ∙ h)
 
 pub branches_next : (f : ℕ → Term) (bs : List Branch) (i : ℕ) (b d : Branch) (old now new : List Mention) → i < length bs → b ≡ get_or bs i d → now ++ branch_mentions (branches_from f (drop i bs)) ≡ old ++ branch_mentions (branches_from f bs)
     → new ≡ now ++ (all_bound b.variables.items ++ mentions (f b.term.0)) → new ++ branch_mentions (branches_from f (drop (i + 1) bs)) ≡ old ++ branch_mentions (branches_from f bs)

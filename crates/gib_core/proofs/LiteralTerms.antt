@@ -5,23 +5,32 @@ use Rattle.std.proofs.str.Laws.{order}
 use Rattle.gib_core.specs.declared.node.Binding.{Binding}
 use Rattle.gib_core.specs.declared.node.Binding.TheVariants as b
 use Rattle.gib_core.specs.declared.node.Branch.{Branch}
+use Rattle.gib_core.specs.declared.node.TermId.{TermId}
+use Rattle.gib_core.specs.declared.node.BoundSide.{BoundSide}
+use Rattle.gib_core.specs.declared.node.BoundSide.TheVariants as s
+use Rattle.gib_syntax.specs.Results as results
 use Rattle.gib_core.specs.declared.node.Node.{Node}
 use Rattle.gib_core.specs.declared.node.Node.TheVariants as n
 use Rattle.gib_core.specs.declared.program.CoreFunction.{CoreFunction}
 use Rattle.gib_core.specs.Tree.{Term, FunctionTerm}
-use Rattle.gib_core.specs.Arena.{IsBindingBelow, IsBranchBelow, PartsBelow, Opens, bind_from, branches_from, layer, term_of}
+use Rattle.gib_core.specs.Arena.{IsBindingBelow, IsBranchBelow, IsPartBelow, PartsBelow, Opens, term_in, side_from, bind_from, parts_from, branches_from, layer, term_of}
 use Rattle.gib_core.specs.Parts.{Parts, AreInside, IsFunctionInside, function_term, core_of}
 use Rattle.gib_core.specs.Met.{Body}
-use Rattle.gib_core.specs.Literals.{LiteralsFit, BindLiterals, BranchLiterals, AllLiteralsFit, BindingLiterals, NodeLiterals}
+use Rattle.gib_core.specs.Literals.{LiteralsFit, BindLiterals, SideLiterals, PartLiterals, BranchLiterals, AllLiteralsFit, BindingLiterals, NodeLiterals}
 
 Fit : (ℕ → Term) → ℕ → Type 0
 Fit f id = (other : ℕ) → other < id → LiteralsFit (f other)
 
+side_fits : (f : ℕ → Term) (id : ℕ) (x : BoundSide) → Fit f id → (term_in x).0 < id → SideLiterals (side_from f x)
+unfolding Fit
+side_fits f id (s.One x) fit below = (tt, fit x.term.0 below)
+side_fits f id (s.Several x) fit below = (tt, fit x.term.0 below)
+
 binding_fits : (f : ℕ → Term) (id : ℕ) (x : Binding) → Fit f id → IsBindingBelow id x → BindingLiterals x → BindLiterals (bind_from f x)
 unfolding Fit
 binding_fits f id (b.Past h k) fit below l = tt
-binding_fits f id (b.One s) fit below l = (tt, fit s.term.0 below)
-binding_fits f id (b.Par fork s r) fit below l = (tt, ((tt, fit s.term.0 below.0), (tt, fit r.term.0 below.1)))
+binding_fits f id (b.One x) fit below l = side_fits f id x fit below
+binding_fits f id (b.Par fork x y) fit below l = (tt, (side_fits f id x fit below.0, side_fits f id y fit below.1))
 binding_fits f id (b.Prim x g y z) fit below l = l
 binding_fits f id (b.Reach y by) fit below l = tt
 
@@ -29,6 +38,11 @@ branches_fit : (f : ℕ → Term) (id : ℕ) (bs : List Branch) → Fit f id →
 unfolding Fit
 branches_fit f id [] fit below = tt
 branches_fit f id (x ∷ bs) fit below = (tt, (fit x.term.0 below.0, branches_fit f id bs fit below.1))
+
+parts_fit : (f : ℕ → Term) (id : ℕ) (ts : List TermId) → Fit f id → AllByRecursion (IsPartBelow id) ts → PartLiterals (parts_from f ts)
+unfolding Fit
+parts_fit f id [] fit below = tt
+parts_fit f id (t ∷ ts) fit below = (tt, (fit t.0 below.0, parts_fit f id ts fit below.1))
 
 node_fits : (f : ℕ → Term) (id : ℕ) (x : Node) → Fit f id → PartsBelow x id → NodeLiterals x → LiteralsFit (layer f (Some x))
 unfolding Fit
@@ -39,6 +53,7 @@ node_fits f id (n.Call g xs) fit below l = l
 node_fits f id (n.Give x) fit below l = l
 node_fits f id (n.Case x bs) fit below l = (tt, branches_fit f id bs.items fit below)
 node_fits f id (n.If x t u) fit below l = (tt, (fit t.0 below.0, fit u.0 below.1))
+node_fits f id (n.Tuple tys ss ps) fit below l = (l, parts_fit f id ps.items fit below)
 
 pub next_fits : (nodes : List Node) (id next : ℕ) (x : Node) → ((other : ℕ) → other < id → LiteralsFit (term_of nodes other)) → Opens nodes id x → NodeLiterals x → next ≡ id + 1
     → (other : ℕ) → other < next → LiteralsFit (term_of nodes other)
@@ -60,5 +75,5 @@ functions_fit f count (d ∷ ds) rest fit inside r = (fit d.body.0 inside.0, fun
 pub core_fits : (parts : Parts) → AreInside parts → ((id : ℕ) → id < length parts.terms → LiteralsFit (term_of parts.terms id)) → AllLiteralsFit (core_of parts)
 unfolding Fit
 core_fits parts inside fit =
-    let main : Body = record { parameters = parts.main.parameter ∷ []; result = parts.main.result; term = term_of parts.terms parts.main.body.0 } in
+    let main : Body = record { parameters = parts.main.parameter ∷ []; result = results.One parts.main.result; term = term_of parts.terms parts.main.body.0 } in
     functions_fit (term_of parts.terms) (length parts.terms) parts.functions (main ∷ []) fit inside.functions (fit parts.main.body.0 inside.main, tt)

@@ -9,12 +9,15 @@ use Rattle.std.proofs.lemmas.List.{length-set}
 use Rattle.gib_core.specs.declared.node.Binding.{Binding}
 use Rattle.gib_core.specs.declared.node.Binding.TheVariants as b
 use Rattle.gib_core.specs.declared.node.Branch.{Branch}
+use Rattle.gib_core.specs.declared.node.BoundSide.{BoundSide}
+use Rattle.gib_core.specs.declared.node.BoundSide.TheVariants as s
+use Rattle.gib_core.specs.PartTypes.{types_in}
 use Rattle.gib_core.specs.declared.node.Node.{Node}
 use Rattle.gib_core.specs.declared.node.Node.TheVariants as n
-use Rattle.gib_core.specs.Tree.{Term, Then, CaseTerm, IfTerm, One, Both, On, BranchThen}
-use Rattle.gib_core.specs.Arena.{IsBindingBelow, IsBranchBelow, PartsBelow, IsArena, Opens, bind_from, branches_from, layer, term_at, term_of}
-use Rattle.gib_core.specs.Marking.{has_call, bind_has_call, may_fork, mark_one, mark, with_fork, node_with_fork, IsSet}
-use Rattle.gib_core.specs.Walk.{map_bind, map_branches, as_it_is}
+use Rattle.gib_core.specs.Tree.{Term, Then, CaseTerm, IfTerm, Tuple, PartThen, One, Both, On, Several, BranchThen, variables_from}
+use Rattle.gib_core.specs.Arena.{IsBindingBelow, IsBranchBelow, IsPartBelow, PartsBelow, IsArena, Opens, term_in, side_from, bind_from, parts_from, branches_from, layer, term_at, term_of}
+use Rattle.gib_core.specs.Marking.{has_call, side_has_call, bind_has_call, may_fork, mark_one, mark, with_fork, node_with_fork, IsSet}
+use Rattle.gib_core.specs.Walk.{map_bind, map_side, map_parts, map_branches, as_it_is}
 use Rattle.gib_core.specs.declared.node.TermId.{TermId}
 use Rattle.gib_core.proofs.Facts.{Test, holds, fails, test}
 use Rattle.gib_core.proofs.Layers.{layer_same_if, term_of-node}
@@ -48,16 +51,24 @@ branches_marked : (f g : ℕ → Term) (id : ℕ) (bs : List Branch) → AllByRe
 branches_marked f g id [] h e = refl
 branches_marked f g id (x ∷ bs) h e = (λ k. BranchThen x.constructor x.variables.items (e x.term.0 h.0 k) (branches_marked f g id bs h.1 e k))
 
+side_marked : (f g : ℕ → Term) (id : ℕ) (x : BoundSide) → (term_in x).0 < id → ((a : ℕ) → a < id → g a ≡ mark (f a)) → side_from g x ≡ map_side mark_one as_it_is (side_from f x)
+side_marked f g id (s.One x) below e = (λ k. On x.kind x.variable x.ty (e x.term.0 below k))
+side_marked f g id (s.Several x) below e = ap (Several (variables_from x.first.0 (types_in x.types)) (types_in x.types)) (e x.term.0 below)
+
+parts_marked : (f g : ℕ → Term) (id : ℕ) (ts : List TermId) → AllByRecursion (IsPartBelow id) ts → ((a : ℕ) → a < id → g a ≡ mark (f a)) → parts_from g ts ≡ map_parts mark_one as_it_is (parts_from f ts)
+parts_marked f g id [] h e = refl
+parts_marked f g id (t ∷ ts) h e = (λ k. PartThen (e t.0 h.0 k) (parts_marked f g id ts h.1 e k))
+
 bind_marked : (f g : ℕ → Term) (id : ℕ) (x : Binding) (fork : Bool) → IsBindingBelow id x → ((a : ℕ) → a < id → g a ≡ mark (f a)) → fork ≡ Rattle.gib_core.specs.Marking.bind_may_fork (bind_from g x)
     → bind_from g (with_fork fork x) ≡ mark_one (map_bind mark_one as_it_is (bind_from f x))
 bind_marked f g id (b.Past h k) fork below e m = refl
-bind_marked f g id (b.One s) fork below e m = (λ k. One (On s.kind s.variable s.ty (e s.term.0 below k)))
-bind_marked f g id (b.Par old s r) fork below e m =
-    ap (λ c. Both c (On s.kind s.variable s.ty (g s.term.0)) (On r.kind r.variable r.ty (g r.term.0))) m
+bind_marked f g id (b.One x) fork below e m = ap One (side_marked f g id x below e)
+bind_marked f g id (b.Par old x y) fork below e m =
+    ap (λ c. Both c (side_from g x) (side_from g y)) m
     ∙ (λ k.
-    let t = e s.term.0 below.0 k in
-    let u = e r.term.0 below.1 k in
-    Both (has_call t && has_call u) (On s.kind s.variable s.ty t) (On r.kind r.variable r.ty u))
+    let l = side_marked f g id x below.0 e k in
+    let r = side_marked f g id y below.1 e k in
+    Both (side_has_call l && side_has_call r) l r)
 bind_marked f g id (b.Prim x op y z) fork below e m = refl
 bind_marked f g id (b.Reach y by) fork below e m = refl
 
@@ -70,6 +81,7 @@ layer_marked f g id (n.Call x v) fork below e m = refl
 layer_marked f g id (n.Give x) fork below e m = refl
 layer_marked f g id (n.Case x v) fork below e m = ap (CaseTerm x) (branches_marked f g id v.items below e)
 layer_marked f g id (n.If x t u) fork below e m = (λ k. IfTerm x (e t.0 below.0 k) (e u.0 below.1 k))
+layer_marked f g id (n.Tuple tys ss ps) fork below e m = ap (Tuple (types_in tys) ss.items) (parts_marked f g id ps.items below e)
 
 -- Terms below a place are marked, and nodes from there on are as they were.
 pub record MarkedBelow (old now : List Node) (place : ℕ) : Type 0 where

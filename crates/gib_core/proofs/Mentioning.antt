@@ -4,7 +4,7 @@ use Rattle.std.proofs.lemmas.List.{append_assoc}
 use Rattle.gib_core.specs.declared.atom.Variable.{Variable}
 use Rattle.gib_core.specs.declared.atom.Atom.{Atom}
 use Rattle.gib_core.specs.Tree.{Term}
-use Rattle.gib_core.specs.Met.{PastLine, SideLine, ParLine, PrimLine, ReachLine, WriteLine, PointLine, CallLine, GiveLine, CaseLine, IfLine}
+use Rattle.gib_core.specs.Met.{PastLine, SideLine, ParLine, PrimLine, ReachLine, WriteLine, PointLine, CallLine, GiveLine, CaseLine, IfLine, SeveralLine, TupleLine, PartLine}
 use Rattle.gib_core.specs.Walk.{Entry, AtLine, AtArm}
 use Rattle.gib_core.proofs.Walks.{walk_of}
 use Rattle.gib_core.specs.Numbering.{numbers_in, binders}
@@ -49,6 +49,9 @@ entry_binds (AtLine (CallLine f xs)) = atoms_bind xs
 entry_binds (AtLine (GiveLine x)) = refl
 entry_binds (AtLine (CaseLine x arms)) = refl
 entry_binds (AtLine (IfLine x)) = refl
+entry_binds (AtLine (SeveralLine xs tys)) = variables_bind xs
+entry_binds (AtLine (TupleLine tys ss packed)) = atoms_bind ss
+entry_binds (AtLine PartLine) = refl
 entry_binds (AtArm k xs) = variables_bind xs
 
 entry_use : (x : Variable) (l : Entry) → uses_in (says l) x ≡ entry_counts x l
@@ -63,6 +66,9 @@ entry_use x (AtLine (CallLine f ys)) = atoms_use ys x
 entry_use x (AtLine (GiveLine y)) = omega arith
 entry_use x (AtLine (CaseLine y arms)) = omega arith
 entry_use x (AtLine (IfLine y)) = omega arith
+entry_use x (AtLine (SeveralLine xs tys)) = variables_use xs x
+entry_use x (AtLine (TupleLine tys ss packed)) = atoms_use ss x
+entry_use x (AtLine PartLine) = refl
 entry_use x (AtArm k xs) = variables_use xs x
 
 pub term_binds : (t : Term) → binders_in (mentions t) ≡ binders t

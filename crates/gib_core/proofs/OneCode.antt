@@ -3,16 +3,16 @@ use Rattle.std.proofs.Common.{◌≡◌, ℕ, suc, ◌+◌, ◌<◌, ◌≤◌, 
 use Rattle.std.proofs.lemmas.Bool.Decides.{nat_tests}
 use Rattle.std.proofs.lemmas.Option.{same_Some}
 use Rattle.gib_base.specs.declared.name.Name.{Name}
-use Rattle.gib_types.specs.declared.table.Ty.{Ty}
+use Rattle.gib_code.specs.declared.instruction.AnswerType.{AnswerType}
 use Rattle.gib_types.specs.Layout.{LaidOut}
 use Rattle.gib_types.specs.Table.{fields_at}
 use Rattle.gib_code.specs.declared.instruction.Arm.{Arm}
 use Rattle.gib_code.specs.declared.instruction.Entry.{Entry}
 use Rattle.gib_code.specs.declared.instruction.Operand.{Operand}
-use Rattle.gib_code.specs.Instruction.{Instruction, Fill, Point, Call, Unless, Switch, Fork, Join, Back, Done, LeafEnd}
+use Rattle.gib_code.specs.Instruction.{Instruction, Fill, Point, Call, Unless, Switch, Fork, Join, Back, Done, LeafEnd, Jump, Out}
 use Rattle.gib_code.specs.Program.{CodeTree, IsAt, AreAt, none, one_more}
 use Rattle.gib_core.specs.Low as low
-use Rattle.gib_core.specs.Low.{Low, LowArms, LowBind, LowSide, LowFunctions, IsLowered, LeafAt, End, Returns, To, Over, Field, laid_of, slot_of, slots_of, operand, operands, function_number, kind_of, giving, ending, gots, arm_end, arm_overs, with_fields}
+use Rattle.gib_core.specs.Low.{Low, LowParts, LowArms, LowBind, LowSide, LowFunctions, IsLowered, LeafAt, End, Returns, To, ToParts, Over, Field, laid_of, slot_of, slots_of, operand, operands, function_number, side_kind, side_slots, side_type, giving, ending, moves, giving_parts, takes_parts, call_ending, done_all, packed_slots, scalar_slots, gots, arm_end, arm_overs, with_fields}
 use Rattle.gib_core.specs.Ending.{Within, within_par}
 use Rattle.gib_core.specs.declared.atom.Variable.{Variable}
 use Rattle.gib_types.specs.declared.table.ConId.{ConId}
@@ -21,35 +21,87 @@ use Rattle.gib_core.specs.Tree.{Term, CoreTree, Side, FunctionTerm}
 
 -- Where the code ends.
 
--- Both ends return, once the same ends were told, or both go to a label.
+-- Both ends return, once the same ends were told, or both go to a label, with the same slots for parts.
 abbrev Alike : End → End → Type 0
 Alike (Returns os) (Returns ps) = os ≡ ps
 Alike (Returns os) (To l d) = ⊥
 Alike (To l d) (Returns os) = ⊥
 Alike (To l d) (To m f) = Unit {0}
+Alike (Returns os) (ToParts l ds) = ⊥
+Alike (To l d) (ToParts m ds) = ⊥
+Alike (ToParts l ds) (Returns os) = ⊥
+Alike (ToParts l ds) (To m f) = ⊥
+Alike (ToParts l ds) (ToParts m fs) = ds ≡ fs
 
 alike_itself : (e : End) → Alike e e
 alike_itself (Returns os) = refl
 alike_itself (To l d) = tt
+alike_itself (ToParts l ds) = refl
 
 alike_arm : (w : Within) (core : CoreTree) (x : ℕ) (c : ConId) (ys : List Variable) (u : Term) (e f : End) → Alike e f → Alike (arm_end w core x c ys u e) (arm_end w core x c ys u f)
 alike_arm w core x c ys u (Returns os) (Returns ps) h = ap (arm_overs w core x c ys u) h
 alike_arm w core x c ys u (Returns os) (To l d) h = absurd h
 alike_arm w core x c ys u (To l d) (Returns os) h = absurd h
 alike_arm w core x c ys u (To l d) (To m f) h = tt
+alike_arm w core x c ys u (Returns os) (ToParts l ds) h = absurd h
+alike_arm w core x c ys u (To l d) (ToParts m ds) h = absurd h
+alike_arm w core x c ys u (ToParts l ds) (Returns os) h = absurd h
+alike_arm w core x c ys u (ToParts l ds) (To m f) h = absurd h
+alike_arm w core x c ys u (ToParts l ds) (ToParts m fs) h = h
+
+behind_long : (is js ks : List Instruction) → length js ≡ length ks → length (is ++ js) ≡ length (is ++ ks)
+behind_long [] js ks h = h
+behind_long (i ∷ is) js ks h = ap suc (behind_long is js ks h)
 
 giving_length : (o : Operand) (e f : End) → Alike e f → length (giving o e) ≡ length (giving o f)
 giving_length o (Returns os) (Returns ps) h = ap (λ (qs : List Over). length (giving o (Returns qs))) h
-giving_length o (Returns os) (To l d) h = absurd h
-giving_length o (To l d) (Returns os) h = absurd h
 giving_length o (To l d) (To m f) h = refl
+giving_length o (ToParts l ds) (ToParts m fs) h = refl
+giving_length o (Returns os) (To l d) h = absurd h
+giving_length o (Returns os) (ToParts l ds) h = absurd h
+giving_length o (To l d) (Returns os) h = absurd h
+giving_length o (To l d) (ToParts m ds) h = absurd h
+giving_length o (ToParts l ds) (Returns os) h = absurd h
+giving_length o (ToParts l ds) (To m f) h = absurd h
+
+ending_long : (e f : End) → Alike e f → length (ending e) ≡ length (ending f)
+ending_long (Returns os) (Returns ps) h = ap (λ (qs : List Over). length (ending (Returns qs))) h
+ending_long (To l d) (To m f) h = refl
+ending_long (ToParts l ds) (ToParts m fs) h = refl
+ending_long (Returns os) (To l d) h = absurd h
+ending_long (Returns os) (ToParts l ds) h = absurd h
+ending_long (To l d) (Returns os) h = absurd h
+ending_long (To l d) (ToParts m ds) h = absurd h
+ending_long (ToParts l ds) (Returns os) h = absurd h
+ending_long (ToParts l ds) (To m f) h = absurd h
+
+calling_long : (e f : End) → Alike e f → length (call_ending e) ≡ length (call_ending f)
+calling_long (Returns os) (Returns ps) h = ap (λ (qs : List Over). length (call_ending (Returns qs))) h
+calling_long (To l d) (To m f) h = refl
+calling_long (ToParts l ds) (ToParts m fs) h = ap (λ (qs : List ℕ). length (call_ending (ToParts l qs))) h ∙ behind_long (takes_parts 0 fs) (Jump l ∷ []) (Jump m ∷ []) refl
+calling_long (Returns os) (To l d) h = absurd h
+calling_long (Returns os) (ToParts l ds) h = absurd h
+calling_long (To l d) (Returns os) h = absurd h
+calling_long (To l d) (ToParts m ds) h = absurd h
+calling_long (ToParts l ds) (Returns os) h = absurd h
+calling_long (ToParts l ds) (To m f) h = absurd h
+
+parts_long : (ss : List Operand) (e f : End) → Alike e f → length (giving_parts ss e) ≡ length (giving_parts ss f)
+parts_long ss (Returns os) (Returns ps) h = ap (λ (qs : List Over). length (giving_parts ss (Returns qs))) h
+parts_long ss (To l d) (To m f) h = refl
+parts_long ss (ToParts l ds) (ToParts m fs) h = ap (λ (qs : List ℕ). length (giving_parts ss (ToParts l qs))) h ∙ behind_long (moves fs ss) (Jump l ∷ []) (Jump m ∷ []) refl
+parts_long ss (Returns os) (To l d) h = absurd h
+parts_long ss (Returns os) (ToParts l ds) h = absurd h
+parts_long ss (To l d) (Returns os) h = absurd h
+parts_long ss (To l d) (ToParts m ds) h = absurd h
+parts_long ss (ToParts l ds) (Returns os) h = absurd h
+parts_long ss (ToParts l ds) (To m f) h = absurd h
 
 ending_length : (i : Instruction) (is : List Instruction) (e f : End) → Alike e f → length (i ∷ is ++ ending e) ≡ length (i ∷ is ++ ending f)
-ending_length i is (Returns os) (Returns ps) h = ap (λ (qs : List Over). length (i ∷ is ++ ending (Returns qs))) h
-ending_length i is (Returns os) (To l d) h = absurd h
-ending_length i is (To l d) (Returns os) h = absurd h
-ending_length i [] (To l d) (To m f) h = refl
-ending_length i (j ∷ is) (To l d) (To m f) h = ap suc (ending_length j is (To l d) (To m f) h)
+ending_length i is e f h = ap suc (behind_long is (ending e) (ending f) (ending_long e f h))
+
+calling_length : (i : Instruction) (is : List Instruction) (e f : End) → Alike e f → length (i ∷ is ++ call_ending e) ≡ length (i ∷ is ++ call_ending f)
+calling_length i is e f h = ap suc (behind_long is (call_ending e) (call_ending f) (calling_long e f h))
 
 list_end : {code : CodeTree} {a z : ℕ} {is : List Instruction} → AreAt code a is z → z ≡ a + length is
 list_end none = omega arith
@@ -69,13 +121,20 @@ module _ (core : CoreTree) (r s : CodeTree) where
     term_ends : {wi : Within} {fs : List Field} {a z z' : ℕ} {u : Term} {e e' : End} → Low core r wi fs a u e z → Low core s wi fs a u e' z' → Alike e e' → z ≡ z'
     term_ends (low.write {h = v} {c = c} {ss = ss} {ps = ps} {e = e} p) (low.write {e = e'} q) k = same_end p q (ending_length (Fill v.0 c.0 (operands ss) (slots_of ps)) [] e e' k)
     term_ends (low.point {x = x} {e = e} p) (low.point {e = e'} q) k = same_end p q (ending_length (Point (slot_of x)) [] e e' k)
-    term_ends (low.call {w = wi} {f = f} {xs = xs} {e = e} p) (low.call {e = e'} q) k = same_end p q (ending_length (Call (function_number core.functions f.0) (operands xs)) (gots wi core f.0 xs) e e' k)
+    term_ends (low.call {w = wi} {f = f} {xs = xs} {e = e} p) (low.call {e = e'} q) k = same_end p q (calling_length (Call (function_number core.functions f.0) (operands xs)) (gots wi core f.0 xs) e e' k)
     term_ends (low.give {x = w} {e = e} p) (low.give {e = e'} q) k = same_end p q (giving_length (operand w) e e' k)
     term_ends (low.branch {w = wi} {fs = fs} {v = v} at lu lv) (low.branch {z = z'} {e = e'} at' lu' lv') k =
         term_ends lv (subst (λ (n : ℕ). Low core s wi fs n v e' z') (sym (term_ends lu lu' k)) lv') k
     term_ends (low.case at la) (low.case at' la') k = (arms_end la la' k).0
     term_ends (low.binding {w = wi} {fs = fs} {u = u} lb lu) (low.binding {z = z'} {e = e'} lb' lu') k =
         term_ends lu (subst (λ (n : ℕ). Low core s wi fs n u e' z') (sym (bind_ends lb lb')) lu') k
+    term_ends (low.tuple {ss = ss} {e = e} lp ar) (low.tuple {z = z'} {e = e'} lp' ar') k =
+        same_end ar (subst (λ (n : ℕ). AreAt s n (giving_parts (operands ss) e') z') (sym (parts_end lp lp')) ar') (parts_long (operands ss) e e' k)
+
+    parts_end : {wi : Within} {fs : List Field} {a i k z z' : ℕ} {ps : t.PartTerms} → LowParts core r wi fs a i k ps z → LowParts core s wi fs a i k ps z' → z ≡ z'
+    parts_end low.no_part low.no_part = refl
+    parts_end (low.part {w = wi} {fs = fs} {i = i} {k = k} {ps = ps} at lt out rest) (low.part {z = z'} at' lt' out' rest') =
+        parts_end rest (subst (λ (n : ℕ). LowParts core s wi fs (n + 1) (suc i) k ps z') (sym (term_ends lt lt' tt)) rest')
 
     arms_end : {wi : Within} {fs : List Field} {w a z z' : ℕ} {arms arms' : List Arm} {bs : t.Branches} {e e' : End} → LowArms core r wi fs w a arms bs e z → LowArms core s wi fs w a arms' bs e' z' → Alike e e' → (z ≡ z') × (arms ≡ arms')
     arms_end low.no_arm low.no_arm k = (refl, refl)
@@ -89,8 +148,8 @@ module _ (core : CoreTree) (r s : CodeTree) where
     bind_ends (low.past at) (low.past at') = refl
     bind_ends (low.one ls) (low.one ls') = side_ends ls ls'
     bind_ends (low.in_turn {w = wi} {fs = fs} {r = v} ll lr) (low.in_turn {z = z'} ll' lr') = side_ends lr (subst (λ (n : ℕ). LowSide core s (within_par wi) fs n v z') (sym (side_ends ll ll')) lr')
-    bind_ends (low.forked {w = wi} {fs = fs} {c = c} {x = v} {ty = ty} {u = u} at ll ej lr eb) (low.forked {z = z'} at' ll' ej' lr' eb') =
-        ap (λ (n : ℕ). n + 1) (side_ends lr (subst (λ (n : ℕ). LowSide core s (within_par wi) fs (n + 1) (t.On c v ty u) z') (sym (side_ends ll ll')) lr'))
+    bind_ends (low.forked {w = wi} {fs = fs} {r = v} at ll ej lr eb) (low.forked {z = z'} at' ll' ej' lr' eb') =
+        ap (λ (n : ℕ). n + 1) (side_ends lr (subst (λ (n : ℕ). LowSide core s (within_par wi) fs (n + 1) v z') (sym (side_ends ll ll')) lr'))
     bind_ends (low.prim at) (low.prim at') = refl
     bind_ends (low.reach at) (low.reach at') = refl
 
@@ -101,6 +160,9 @@ module _ (core : CoreTree) (r s : CodeTree) where
     side_ends (low.scalar_call at) (low.scalar nc lt') = absurd nc
     side_ends (low.scalar nc lt) (low.scalar_call at') = absurd nc
     side_ends (low.scalar nc lt) (low.scalar nc' lt') = term_ends lt lt' tt
+    side_ends (low.several {w = wi} {fs = fs} {xs = xs} {tys = tys} {u = u} bg lt dn) (low.several {l = l'} {z = z'} bg' lt' dn') =
+        let el = term_ends lt (subst (λ (n : ℕ). Low core s wi fs n u (ToParts l' (scalar_slots tys xs)) l') (sym (same_end bg bg' refl)) lt') refl in
+        same_end dn (subst (λ (n : ℕ). AreAt s n (done_all (packed_slots tys xs)) z') (sym el) dn') refl
 
 -- What stands there.
 
@@ -150,6 +212,15 @@ module _ (core : CoreTree) (r s : CodeTree) where
         same_join (same_one at (subst (λ (q : List Arm). IsAt s a (Switch (slot_of w) q)) (sym (arms_end core r s la la' (alike_itself e)).1) at')) (arms_same la la')
     term_same (low.binding {w = wi} {fs = fs} {u = u} {e = e} lb lu) (low.binding {z = z'} lb' lu') =
         same_join (bind_same lb lb') (term_same lu (subst (λ (n : ℕ). Low core s wi fs n u e z') (sym (bind_ends core r s lb lb')) lu'))
+    term_same (low.tuple {ss = ss} {e = e} lp ar) (low.tuple {z = z'} lp' ar') =
+        same_join (parts_same lp lp') (same_list ar (subst (λ (n : ℕ). AreAt s n (giving_parts (operands ss) e) z') (sym (parts_end core r s lp lp')) ar'))
+
+    parts_same : {wi : Within} {fs : List Field} {a i k z z' : ℕ} {ps : t.PartTerms} → LowParts core r wi fs a i k ps z → LowParts core s wi fs a i k ps z' → Same r s a z
+    parts_same low.no_part low.no_part = same_none
+    parts_same (low.part {w = wi} {fs = fs} {a = a} {i = i} {k = k} {u = u} {ps = ps} at lt out rest) (low.part {m = m'} {z = z'} at' lt' out' rest') =
+        let em = term_ends core r s lt lt' tt in
+        same_join (same_one at at') (same_join (term_same lt (subst (λ (n : ℕ). Low core s wi fs (a + 1) u (To n 0) m') (sym em) lt'))
+        (same_join (same_one out (subst (λ (n : ℕ). IsAt s n (Out i k)) (sym em) out')) (parts_same rest (subst (λ (n : ℕ). LowParts core s wi fs (n + 1) (suc i) k ps z') (sym em) rest'))))
 
     arms_same : {wi : Within} {fs : List Field} {w a z z' : ℕ} {arms arms' : List Arm} {bs : t.Branches} {e : End} → LowArms core r wi fs w a arms bs e z → LowArms core s wi fs w a arms' bs e z' → Same r s a z
     arms_same low.no_arm low.no_arm = same_none
@@ -164,11 +235,11 @@ module _ (core : CoreTree) (r s : CodeTree) where
     bind_same (low.one ls) (low.one ls') = side_same ls ls'
     bind_same (low.in_turn {w = wi} {fs = fs} {r = v} ll lr) (low.in_turn {z = z'} ll' lr') =
         same_join (side_same ll ll') (side_same lr (subst (λ (n : ℕ). LowSide core s (within_par wi) fs n v z') (sym (side_ends core r s ll ll')) lr'))
-    bind_same (low.forked {w = wi} {fs = fs} {a = a} {m = m} {z = z} {c = c} {x = v} {ty = ty} {u = u} at ll ej lr eb) (low.forked {m = m'} {z = z'} at' ll' ej' lr' eb') =
+    bind_same (low.forked {w = wi} {fs = fs} {a = a} {m = m} {z = z} {r = v} at ll ej lr eb) (low.forked {m = m'} {z = z'} at' ll' ej' lr' eb') =
         let em = side_ends core r s ll ll' in
-        let lr'' = subst (λ (n : ℕ). LowSide core s (within_par wi) fs (n + 1) (t.On c v ty u) z') (sym em) lr' in
+        let lr'' = subst (λ (n : ℕ). LowSide core s (within_par wi) fs (n + 1) v z') (sym em) lr' in
         let ez = side_ends core r s lr lr'' in
-        let at'' = subst (λ (n : ℕ). IsAt s a (Fork (n + 1) (z + 1) (kind_of c) v.0 ty)) (sym em) (subst (λ (n : ℕ). IsAt s a (Fork (m' + 1) (n + 1) (kind_of c) v.0 ty)) (sym ez) at') in
+        let at'' = subst (λ (n : ℕ). IsAt s a (Fork (n + 1) (z + 1) (side_kind v) (side_slots v) (side_type v))) (sym em) (subst (λ (n : ℕ). IsAt s a (Fork (m' + 1) (n + 1) (side_kind v) (side_slots v) (side_type v))) (sym ez) at') in
         same_join (same_one at at'') (same_join (side_same ll ll') (same_join (same_one ej (subst (λ (n : ℕ). IsAt s n Join) (sym em) ej'))
         (same_join (side_same lr lr'') (same_one eb (subst (λ (n : ℕ). IsAt s n Back) (sym ez) eb')))))
     bind_same (low.prim at) (low.prim at') = same_one at at'
@@ -185,6 +256,11 @@ module _ (core : CoreTree) (r s : CodeTree) where
     side_same (low.scalar nc lt) (low.scalar_call at') = absurd nc
     side_same (low.scalar {w = wi} {fs = fs} {a = a} {x = v} {u = u} nc lt) (low.scalar {z = z'} nc' lt') =
         term_same lt (subst (λ (n : ℕ). Low core s wi fs a u (To n v.0) z') (sym (term_ends core r s lt lt' tt)) lt')
+    side_same (low.several {w = wi} {fs = fs} {b = b} {xs = xs} {tys = tys} {u = u} bg lt dn) (low.several {l = l'} {z = z'} bg' lt' dn') =
+        let begun = subst (λ (n : ℕ). Low core s wi fs n u (ToParts l' (scalar_slots tys xs)) l') (sym (same_end bg bg' refl)) lt' in
+        let el = term_ends core r s lt begun refl in
+        same_join (same_list bg bg') (same_join (term_same lt (subst (λ (n : ℕ). Low core s wi fs b u (ToParts n (scalar_slots tys xs)) l') (sym el) begun))
+        (same_list dn (subst (λ (n : ℕ). AreAt s n (done_all (packed_slots tys xs)) z') (sym el) dn')))
 
 -- The functions.
 
@@ -193,7 +269,7 @@ same_entry d e name start slots result =
     ap (λ (n : Option Name). record { name = n; start = d.start; slots = d.slots; result = d.result }) name
     ∙ ap (λ (n : ℕ). record { name = e.name; start = n; slots = d.slots; result = d.result }) start
     ∙ ap (λ (n : ℕ). record { name = e.name; start = e.start; slots = n; result = d.result }) slots
-    ∙ ap (λ (ty : Ty). record { name = e.name; start = e.start; slots = e.slots; result = ty }) result
+    ∙ ap (λ (q : AnswerType). record { name = e.name; start = e.start; slots = e.slots; result = q }) result
 
 functions_same : (core : CoreTree) (r s : CodeTree) (a : ℕ) (gs : List FunctionTerm) (es es' : List Entry) → LowFunctions core r a gs es → LowFunctions core s a gs es'
     → Same r s a (length r.instructions) × (length r.instructions ≡ length s.instructions) × (es ≡ es')

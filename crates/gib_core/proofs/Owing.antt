@@ -1,5 +1,5 @@
 -- What a line owes of ends by its end, and what the build rules know of it: how both go on from a term to its parts.
-use Rattle.std.proofs.Common.{◌≡◌, inl, inr, ⊎_elim, ℕ, Bool, true, false, not, ◌||◌, ◌&&◌, ◌==◌, List, [], ◌∷◌, Option, Some, None, refl, sym, ap, subst, ◌∙◌}
+use Rattle.std.proofs.Common.{◌≡◌, inl, inr, ⊎_elim, ℕ, Bool, true, false, not, ◌||◌, ◌&&◌, ◌==◌, List, [], ◌∷◌, ◌++◌, Option, Some, None, refl, sym, ap, subst, ◌∙◌}
 use Rattle.std.proofs.lemmas.Bool.{or_cases, or_left, or_right, both_ways, and_parts}
 use Rattle.gib_types.specs.declared.table.Ty.{Ty}
 use Rattle.gib_types.specs.declared.table.ConId.{ConId}
@@ -10,7 +10,7 @@ use Rattle.gib_core.specs.declared.atom.Atom.{Atom}
 use Rattle.gib_core.specs.declared.atom.Atom.TheVariants as a
 use Rattle.gib_core.specs.declared.atom.Kind.{Kind}
 use Rattle.gib_core.specs.Tree as t
-use Rattle.gib_core.specs.Tree.{Term, Bind, Side, On, Branches, CoreTree, FunctionTerm, variable_of}
+use Rattle.gib_core.specs.Tree.{Term, Bind, Side, On, Several, Branches, CoreTree, FunctionTerm, variables_of}
 use Rattle.gib_core.specs.Meaning.{function_at}
 use Rattle.gib_core.specs.Met.{Setting, behind, left_of, right_of}
 use Rattle.gib_core.specs.Rules.{is_outside, one_tells}
@@ -35,6 +35,7 @@ IsCall (t.CallTerm f xs) = true
 IsCall (t.Give x) = false
 IsCall (t.CaseTerm x bs) = false
 IsCall (t.IfTerm x u v) = false
+IsCall (t.Tuple tys ss ps) = false
 
 pub no_side : (w : Within) (core : CoreTree) (u : Term) (q : ℕ) → IsCall u ≡ false → side_tells w core u q ≡ false
 no_side w core (t.Then b u) q e = refl
@@ -44,6 +45,7 @@ no_side w core (t.CallTerm f xs) q e = absurd cc
 no_side w core (t.Give x) q e = refl
 no_side w core (t.CaseTerm x bs) q e = refl
 no_side w core (t.IfTerm x u v) q e = refl
+no_side w core (t.Tuple tys ss ps) q e = refl
 
 by_ends : (b : Bool) (P : Type 0) → (b ≡ true → P) → (b ≡ false → P) → P
 by_ends true P f g = f refl
@@ -154,6 +156,7 @@ side_call core w kd x ty (t.CallTerm f xs) z np i = subst (λ (b : Bool). Rattle
 side_call core w kd x ty (t.Give y) z np i = i
 side_call core w kd x ty (t.CaseTerm y bs) z np i = i
 side_call core w kd x ty (t.IfTerm y r v) z np i = i
+side_call core w kd x ty (t.Tuple tys ss ps) z np i = i
 
 -- Behind a binding.
 pub tells_then : (core : CoreTree) (s : Setting) (kd : Kind) (x : Variable) (ty : Ty) (u : Term) (ln : Line) → Tells core s ln → Tells core (behind s (t.One (On kd x ty u))) (tell_line (side_tells ln.within core u) ln)
@@ -173,9 +176,13 @@ tells_on core s b ln ln' w more none h = record {
     other true y e i = absurd cc
     other false y e i = i
 
--- The line behind a side, and behind a binding.
+-- What a side tells; the line behind it, and behind a binding.
+abbrev pub tells_of : Within → CoreTree → Side → ℕ → Bool
+tells_of w core (On kd x ty u) = side_tells w core u
+tells_of w core (Several xs tys u) = none_of
+
 abbrev pub side_line : Within → CoreTree → Side → Line → Line
-side_line w core (On kd x ty u) ln = tell_line (side_tells w core u) ln
+side_line w core x ln = tell_line (tells_of w core x) ln
 
 abbrev pub bind_line : CoreTree → Bind → Line → Line
 bind_line core (t.Past h k) ln = ln
@@ -188,28 +195,30 @@ bind_line core (t.Reach y by) ln = ln
 pub owes_behind : (core : CoreTree) (ns : Needs) (b : Bind) (u : Term) (ln : Line) → Owes core ns (t.Then b u) ln → Owes core ns u (bind_line core b ln)
 owes_behind core ns (t.Past h k) u ln o = owes_on core ns (t.Past h k) u ln ln refl refl (λ q e. e) (λ z. refl) o
 owes_behind core ns (t.One (On kd x ty s)) u ln o = owes_then core ns kd x ty s u ln o
-owes_behind core ns (t.Both false (On kl x tx l) (On kr y ty r)) u ln o =
+owes_behind core ns (t.One (Several xs tys s)) u ln o = owes_on core ns (t.One (Several xs tys s)) u ln (tell_line none_of ln) refl refl (λ q e. or_left (ln.told q) false e) (λ z. refl) o
+owes_behind core ns (t.Both false l r) u ln o =
     let w = within_par ln.within in
-    owes_on core ns (t.Both false (On kl x tx l) (On kr y ty r)) u ln (tell_line (side_tells w core r) (tell_line (side_tells w core l) ln)) refl refl
-    (λ q e. or_left (ln.told q || side_tells w core l q) (side_tells w core r q) (or_left (ln.told q) (side_tells w core l q) e)) (λ z. refl) o
-owes_behind core ns (t.Both true (On kl x tx l) (On kr y ty r)) u ln o =
+    owes_on core ns (t.Both false l r) u ln (tell_line (tells_of w core r) (tell_line (tells_of w core l) ln)) refl refl
+    (λ q e. or_left (ln.told q || tells_of w core l q) (tells_of w core r q) (or_left (ln.told q) (tells_of w core l q) e)) (λ z. refl) o
+owes_behind core ns (t.Both true l r) u ln o =
     let w = within_par ln.within in
-    owes_on core ns (t.Both true (On kl x tx l) (On kr y ty r)) u ln (tell_line (side_tells w core r) (tell_line (side_tells w core l) ln)) refl refl
-    (λ q e. or_left (ln.told q || side_tells w core l q) (side_tells w core r q) (or_left (ln.told q) (side_tells w core l q) e)) (λ z. refl) o
+    owes_on core ns (t.Both true l r) u ln (tell_line (tells_of w core r) (tell_line (tells_of w core l) ln)) refl refl
+    (λ q e. or_left (ln.told q || tells_of w core l q) (tells_of w core r q) (or_left (ln.told q) (tells_of w core l q) e)) (λ z. refl) o
 owes_behind core ns (t.Prim x f y z) u ln o = owes_on core ns (t.Prim x f y z) u ln ln refl refl (λ q e. e) (λ v. refl) o
 owes_behind core ns (t.Reach y by) u ln o = owes_on core ns (t.Reach y by) u ln ln refl refl (λ q e. e) (λ v. refl) o
 
 pub tells_behind : (core : CoreTree) (s : Setting) (b : Bind) (ln : Line) → Tells core s ln → Tells core (behind s b) (bind_line core b ln)
 tells_behind core s (t.Past h k) ln o = tells_on core s (t.Past h k) ln ln refl (λ q e. e) (λ z. refl) o
 tells_behind core s (t.One (On kd x ty u)) ln o = tells_then core s kd x ty u ln o
-tells_behind core s (t.Both false (On kl x tx l) (On kr y ty r)) ln o =
+tells_behind core s (t.One (Several xs tys u)) ln o = tells_on core s (t.One (Several xs tys u)) ln (tell_line none_of ln) refl (λ q e. or_left (ln.told q) false e) (λ z. refl) o
+tells_behind core s (t.Both false l r) ln o =
     let w = within_par ln.within in
-    tells_on core s (t.Both false (On kl x tx l) (On kr y ty r)) ln (tell_line (side_tells w core r) (tell_line (side_tells w core l) ln)) refl
-    (λ q e. or_left (ln.told q || side_tells w core l q) (side_tells w core r q) (or_left (ln.told q) (side_tells w core l q) e)) (λ z. refl) o
-tells_behind core s (t.Both true (On kl x tx l) (On kr y ty r)) ln o =
+    tells_on core s (t.Both false l r) ln (tell_line (tells_of w core r) (tell_line (tells_of w core l) ln)) refl
+    (λ q e. or_left (ln.told q || tells_of w core l q) (tells_of w core r q) (or_left (ln.told q) (tells_of w core l q) e)) (λ z. refl) o
+tells_behind core s (t.Both true l r) ln o =
     let w = within_par ln.within in
-    tells_on core s (t.Both true (On kl x tx l) (On kr y ty r)) ln (tell_line (side_tells w core r) (tell_line (side_tells w core l) ln)) refl
-    (λ q e. or_left (ln.told q || side_tells w core l q) (side_tells w core r q) (or_left (ln.told q) (side_tells w core l q) e)) (λ z. refl) o
+    tells_on core s (t.Both true l r) ln (tell_line (tells_of w core r) (tell_line (tells_of w core l) ln)) refl
+    (λ q e. or_left (ln.told q || tells_of w core l q) (tells_of w core r q) (or_left (ln.told q) (tells_of w core l q) e)) (λ z. refl) o
 tells_behind core s (t.Prim x f y z) ln o = tells_on core s (t.Prim x f y z) ln ln refl (λ q e. e) (λ v. refl) o
 tells_behind core s (t.Reach y by) ln o = tells_on core s (t.Reach y by) ln ln refl (λ q e. e) (λ v. refl) o
 
@@ -217,8 +226,16 @@ tells_behind core s (t.Reach y by) ln o = tells_on core s (t.Reach y by) ln ln r
 abbrev pub MayTell : Setting → Within → Type 0
 MayTell s w = is_outside s.others ≡ true → w.par ≡ false
 
-pub left_may : (s : Setting) (r : Side) (w : Within) → MayTell (left_of s r) w
-left_may s r w = λ e. absurd (both_ways false refl e)
+outside_none : (xs ys : List Variable) → is_outside (xs ++ ys) ≡ true → xs ≡ []
+outside_none [] ys e = refl
+outside_none (x ∷ xs) ys e = absurd (both_ways false refl e)
 
-pub right_may : (s : Setting) (l : Side) (w : Within) → MayTell (right_of s l) w
-right_may s (On kd x ty u) w = λ e. absurd (both_ways false refl e)
+-- A side binds some variable.
+abbrev pub BindsSome : Side → Type 0
+BindsSome x = variables_of x ≡ [] → ⊥
+
+pub left_may : (s : Setting) (r : Side) (w : Within) → BindsSome r → MayTell (left_of s r) w
+left_may s r w some = λ e. absurd (some (outside_none (variables_of r) s.others e))
+
+pub right_may : (s : Setting) (l : Side) (w : Within) → BindsSome l → MayTell (right_of s l) w
+right_may s l w some = λ e. absurd (some (outside_none (variables_of l) s.others e))

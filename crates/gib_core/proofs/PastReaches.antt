@@ -1,5 +1,5 @@
 -- To reach fields: what passes over each `reach` says the same of a term whose fields are reached.
-use Rattle.std.proofs.Common.{◌≡◌, Bool, true, false, if◌then◌else◌, List, [], ◌∷◌, refl, ap, ◌∙◌}
+use Rattle.std.proofs.Common.{◌≡◌, suc, Bool, true, false, if◌then◌else◌, List, [], ◌∷◌, refl, ap, ◌∙◌}
 use Rattle.gib_types.specs.declared.table.ConId.{ConId}
 use Rattle.gib_types.specs.Table.{Table}
 use Rattle.gib_core.specs.declared.atom.Variable.{Variable}
@@ -8,11 +8,11 @@ use Rattle.gib_core.specs.declared.atom.Access.TheVariants.{Offset, Skip, End}
 use Rattle.gib_core.specs.declared.atom.AccessMode.{AccessMode}
 use Rattle.gib_core.specs.declared.atom.AccessMode.TheVariants.{Skips, Offsets, Ends}
 use Rattle.gib_core.specs.declared.atom.Ended.{Ended}
-use Rattle.gib_core.specs.Tree.{Term, Then, Write, Point, CallTerm, Give, CaseTerm, IfTerm, Bind, Past, One, Both, Prim, Reach, Side, On, Branches, NoBranch, BranchThen, prepend}
-use Rattle.gib_core.specs.Met.{ParLine, SideLine, ReachLine, CaseLine, IfLine, arms_of}
-use Rattle.gib_core.specs.Walk.{Entry, AtLine, AtArm, walk, walk_bind, walk_side, walk_branches}
-use Rattle.gib_core.specs.Reaching.{uses, uses_any, Later, skips_from, offsets_from, untold_from, reaches, laters, ends_now, not_now, in_par, bind_uses, packed_variables, reach, reach_bind, reach_side, reach_branches}
-use Rattle.gib_core.proofs.Alike.{Alike, Lines, Cases, Ifs, Same}
+use Rattle.gib_core.specs.Tree.{Term, Then, Write, Point, CallTerm, Give, CaseTerm, IfTerm, Tuple, PartTerms, NoPart, PartThen, parts_count, Bind, Past, One, Both, Prim, Reach, Side, On, Several, Branches, NoBranch, BranchThen, prepend}
+use Rattle.gib_core.specs.Met.{ParLine, SideLine, ReachLine, CaseLine, IfLine, SeveralLine, TupleLine, PartLine, arms_of}
+use Rattle.gib_core.specs.Walk.{Entry, AtLine, AtArm, walk, walk_bind, walk_side, walk_parts, walk_branches}
+use Rattle.gib_core.specs.Reaching.{uses, uses_any, Later, skips_from, offsets_from, untold_from, reaches, laters, ends_now, not_now, in_par, bind_uses, packed_variables, reach, reach_bind, reach_side, reach_parts, reach_branches}
+use Rattle.gib_core.proofs.Alike.{Alike, Lines, Cases, Ifs, Tuples, Same}
 
 -- What passes over each `reach` passes over those that are put before a term.
 module _ {X : Type 0} (F : Term → X) (past : (y : Variable) (by : Access) (t : Term) → F (Then (Reach y by) t) ≡ F t) where
@@ -55,11 +55,17 @@ reach_alike m tb es (CallTerm f xs) = Same
 reach_alike m tb es (Give x) = Same
 reach_alike m tb es (CaseTerm x bs) = Cases
 reach_alike m tb es (IfTerm x t u) = Ifs
+reach_alike m tb es (Tuple tys ss ps) = Tuples
 
 -- The heads of arms stay.
 pub arms_same : (m : AccessMode) (tb : Table) (es : List Ended) (bs : Branches) → arms_of (reach_branches m tb es bs) ≡ arms_of bs
 arms_same m tb es NoBranch = refl
 arms_same m tb es (BranchThen k xs t rest) = ap (λ (arms : List (ConId × List Variable)). (k, xs) ∷ arms) (arms_same m tb es rest)
+
+-- There are as many parts.
+pub count_same : (m : AccessMode) (tb : Table) (es : List Ended) (ps : PartTerms) → parts_count (reach_parts m tb es ps) ≡ parts_count ps
+count_same m tb es NoPart = refl
+count_same m tb es (PartThen t ps) = ap suc (count_same m tb es ps)
 
 -- A walk to which a `reach` says nothing is the same once fields are reached.
 module _ {A : Type 0} (op : A → A → A) (e : A) (g : Entry → A) (past : (y : Variable) (by : Access) (a : A) → op (g (AtLine (ReachLine y by))) a ≡ a) (tb : Table) (es : List Ended) where
@@ -78,6 +84,8 @@ module _ {A : Type 0} (op : A → A → A) (e : A) (g : Entry → A) (past : (y 
         none_said (uses (CaseTerm x bs)) fs (CaseTerm x (reach_branches m tb es bs)) ∙ (λ i. op (g (AtLine (CaseLine x (arms_same m tb es bs i)))) (branches_walk m bs i))
     reach_walk m fs (IfTerm x t u) =
         none_said (uses (IfTerm x t u)) fs (IfTerm x (reach m tb es [] t) (reach m tb es [] u)) ∙ (λ i. op (g (AtLine (IfLine x))) (op (reach_walk m [] t i) (reach_walk m [] u i)))
+    reach_walk m fs (Tuple tys ss ps) =
+        none_said (uses (Tuple tys ss ps)) fs (Tuple tys ss (reach_parts m tb es ps)) ∙ (λ i. op (g (AtLine (TupleLine tys ss (count_same m tb es ps i)))) (parts_walk m ps i))
 
     pub bind_walk : (m : AccessMode) (b : Bind) → walk_bind op e g (reach_bind m tb es b) ≡ walk_bind op e g b
     bind_walk m (Past h k) = refl
@@ -88,6 +96,11 @@ module _ {A : Type 0} (op : A → A → A) (e : A) (g : Entry → A) (past : (y 
 
     pub side_walk : (m : AccessMode) (s : Side) → walk_side op e g (reach_side m tb es s) ≡ walk_side op e g s
     side_walk m (On kind x ty t) = λ i. op (g (AtLine (SideLine kind x ty))) (reach_walk m [] t i)
+    side_walk m (Several xs tys t) = λ i. op (g (AtLine (SeveralLine xs tys))) (reach_walk m [] t i)
+
+    parts_walk : (m : AccessMode) (ps : PartTerms) → walk_parts op e g (reach_parts m tb es ps) ≡ walk_parts op e g ps
+    parts_walk m NoPart = refl
+    parts_walk m (PartThen t ps) = λ i. op (g (AtLine PartLine)) (op (reach_walk m [] t i) (parts_walk m ps i))
 
     branches_walk : (m : AccessMode) (bs : Branches) → walk_branches op e g (reach_branches m tb es bs) ≡ walk_branches op e g bs
     branches_walk m NoBranch = refl

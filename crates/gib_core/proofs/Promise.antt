@@ -73,6 +73,7 @@ module _ (core : CoreTree) (ns : Needs) where
       told_by (t.Give y) q i = i
       told_by (t.CaseTerm y bs) q i = i
       told_by (t.IfTerm y r v) q i = i
+      told_by (t.Tuple tys ss ps) q i = i
 
   -- the two sides of an `if`
   pub promise_if : (x : Atom) (u v : Term) (ln : Line) → Promised core ns (t.IfTerm x u v) ln → Promised core ns u ln × Promised core ns v ln
@@ -134,6 +135,7 @@ promise_side core w (t.CallTerm f xs) np = record { meets = λ q h. subst (λ (b
 promise_side core w (t.Give x) np = record { meets = λ q h. absurd (true≢false (sym h)) }
 promise_side core w (t.CaseTerm x bs) np = record { meets = λ q h. absurd (true≢false (sym h)) }
 promise_side core w (t.IfTerm x u v) np = record { meets = λ q h. absurd (true≢false (sym h)) }
+promise_side core w (t.Tuple tys ss ps) np = record { meets = λ q h. absurd (true≢false (sym h)) }
 
 -- Each ended parameter is known at the end of its function's body.
 

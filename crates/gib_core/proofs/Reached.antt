@@ -4,14 +4,16 @@ use Rattle.std.specs.List.{AllByRecursion, flat_map}
 use Rattle.std.proofs.lemmas.Bool.{both_ways, or_left, or_right, or_cases}
 use Rattle.gib_types.specs.declared.table.Ty.{Ty}
 use Rattle.gib_types.specs.declared.table.ConId.{ConId}
-use Rattle.gib_types.specs.Table.{fields_at}
+use Rattle.gib_types.specs.Table.{fields_at, first_type, further_types, tree_types}
+use Rattle.gib_syntax.specs.Results as results
+use Rattle.gib_syntax.specs.Results.{Results}
 use Rattle.gib_core.specs.declared.atom.Variable.{Variable}
 use Rattle.gib_core.specs.declared.atom.Atom.{Atom}
 use Rattle.gib_core.specs.declared.atom.AccessMode.{AccessMode}
 use Rattle.gib_core.specs.declared.atom.AccessMode.TheVariants.{Skips, Offsets, Ends}
-use Rattle.gib_core.specs.Tree.{Term, Then, Write, Point, CallTerm, Give, CaseTerm, IfTerm, Bind, Past, One, Both, Prim, Reach, On, Branches, NoBranch, BranchThen, prepend, FunctionTerm, CoreTree}
-use Rattle.gib_core.specs.Met.{Known, Setting, at, CaseLine, known, reached, in_arm, in_branch, behind, arms_of, met, met_bind, met_branches, Body, with_parameters, opening}
-use Rattle.gib_core.specs.Reaching.{is_variable, has_variable, uses, Later, not_now, laters, in_par, offset_of, offsets_in, bind_offsets, side_offsets, branch_offsets, all_offsets, bind_uses, branches_use, reaches, packed_variables, ended_by, reach, reach_bind, reach_branches, reach_function, reach_core}
+use Rattle.gib_core.specs.Tree.{Term, Then, Write, Point, CallTerm, Give, CaseTerm, IfTerm, Tuple, PartTerms, NoPart, PartThen, parts_count, Bind, Past, One, Both, Prim, Reach, Side, On, Several, Branches, NoBranch, BranchThen, prepend, FunctionTerm, CoreTree}
+use Rattle.gib_core.specs.Met.{Known, Setting, at, CaseLine, TupleLine, PartLine, known, reached, in_arm, in_branch, in_part, behind, arms_of, met, met_bind, met_parts, met_branches, Body, with_parameters, opening}
+use Rattle.gib_core.specs.Reaching.{is_variable, has_variable, uses, Later, not_now, laters, in_par, offset_of, offsets_in, bind_offsets, side_offsets, part_offsets, branch_offsets, all_offsets, bind_uses, parts_use, branches_use, reaches, packed_variables, ended_by, reach, reach_bind, reach_parts, reach_branches, reach_function, reach_core}
 use Rattle.gib_core.specs.Ending.{Ended}
 use Rattle.gib_core.specs.Rules.{Before, Bound, is_among, is_bound, is_reached, arm_variables, rules, least, next, next_all, bind_parameters, before_body, IsBuilt, AreBuilt}
 use Rattle.gib_core.specs.Reachable.{LinesAreReachable, IsReachable, AreReachable}
@@ -21,10 +23,10 @@ use Rattle.gib_core.proofs.Offered.{AreListed, listed_left, listed_right, listed
 use Rattle.gib_core.proofs.Awaits.{is_later, but, AreTold, Awaits, awaits_none, told_then, told_end, Stepped, step, waiting, left_there}
 use Rattle.gib_core.proofs.EndedSame.{ended_same}
 use Rattle.gib_core.proofs.Skipped.{Serves}
-use Rattle.gib_core.proofs.PastReaches.{arms_same}
+use Rattle.gib_core.proofs.PastReaches.{arms_same, count_same}
 use Rattle.gib_core.proofs.Onward.{next_same, arm_next, bind_next}
-use Rattle.gib_core.proofs.Kept.{scoped, past_kept, prim_kept, write_kept, point_kept, call_kept, give_kept, case_kept, if_kept}
-use Rattle.gib_core.proofs.Suited.{Suits, ArmsSuit, AreFine, IsKept, IsOut, out_of, others_behind, awaits_behind, serves_more, scoped_behind, cased_after, then_built, rest_suits, side_from, both_from, arm_from, rest_arms, first_arm, case_arms}
+use Rattle.gib_core.proofs.Kept.{scoped, past_kept, prim_kept, write_kept, point_kept, call_kept, give_kept, case_kept, if_kept, tuple_kept}
+use Rattle.gib_core.proofs.Suited.{Suits, ArmsSuit, AreFine, IsKept, IsOut, out_of, others_behind, awaits_behind, serves_more, scoped_behind, cased_after, then_built, rest_suits, term_of_side, side_from, both_from, arm_from, rest_arms, first_arm, case_arms}
 
 module _ (mode : AccessMode) (core : CoreTree) where
   abbrev Listed : AccessMode → List ConId → Type 0
@@ -128,6 +130,29 @@ module _ (mode : AccessMode) (core : CoreTree) where
         kept s ks b' out suits (case_arms core x arms s b (uses (CaseTerm x branches)) ks ms h r.0) r.1,
       )
 
+  -- The parts of a tuple with their fields reached break no rule.
+  abbrev ArePartsKept : AccessMode → PartTerms → Type 0
+  ArePartsKept m ps = (tys : List Ty) (s : Setting) (ks : List Known) (b : Before) → IsOut m s → Suits (parts_use ps) s ks b (met_parts core.table s tys ps)
+      → LinesAreReachable core b (met_parts core.table s tys ps) → AreFine mode core b (met_parts core.table (scoped s ks) tys (reach_parts m core.table es ps))
+
+  tuple_from : (m : AccessMode) (tys : List Ty) (ss : List Atom) (ps : PartTerms) (s : Setting) (ks : List Known) (b : Before) → IsOut m s
+      → Suits (uses (Tuple tys ss ps)) s ks b (met core.table s (Tuple tys ss ps)) → LinesAreReachable core b (met core.table s (Tuple tys ss ps)) → ArePartsKept m ps
+      → AreFine mode core b (met core.table (scoped s ks) (Tuple tys ss (reach_parts m core.table es ps)))
+  tuple_from m tys ss ps s ks b out h r kept =
+      let line = TupleLine tys ss (parts_count ps) in
+      let ms = met_parts core.table s (tree_types tys) ps in
+      let suits : Suits (parts_use ps) s ks (next core.table b line) ms = record {
+        serves = λ y u n. h.serves y (or_right (has_variable y ss) (parts_use ps y) u) n;
+        bound = h.bound;
+        cased = h.cased;
+        differs = λ y n. (h.differs y n).1;
+      } in
+      subst (λ (n : ℕ). (least (rules (reach_core mode core) b (scoped s ks) (TupleLine tys ss n)) ≡ None) × AreFine mode core (next core.table b (TupleLine tys ss n)) (met_parts core.table (scoped s ks) (tree_types tys) (reach_parts m core.table es ps)))
+      (sym (count_same m core.table es ps)) (
+        tuple_kept mode core b s ks tys ss (parts_count ps) (λ y u n. h.serves y (or_left (has_variable y ss) (parts_use ps y) u) n) r.0,
+        kept (tree_types tys) s ks (next core.table b line) out suits r.1,
+      )
+
   if_from : (m : AccessMode) (x : Atom) (t u : Term) (s : Setting) (ks : List Known) (b : Before) → IsOut m s
       → Suits (uses (IfTerm x t u)) s ks b (met core.table s (IfTerm x t u)) → LinesAreReachable core b (met core.table s (IfTerm x t u)) → IsKept mode core m [] t → IsKept mode core m [] u
       → AreFine mode core b (met core.table (scoped s ks) (IfTerm x (reach m core.table es [] t) (reach m core.table es [] u)))
@@ -185,18 +210,54 @@ module _ (mode : AccessMode) (core : CoreTree) where
         if_from m x t u s new b out (with_serves (uses v) fs s ks new b (met core.table s v) q h) r
         (built m w [] t (listed_left m (all_offsets mode core) (offsets_in m core.table es t) (offsets_in m core.table es u) l))
         (built m w [] u (listed_right m (all_offsets mode core) (offsets_in m core.table es t) (offsets_in m core.table es u) l)))
+    built m w fs (Tuple tys ss ps) l s ks b out a h r =
+        let t = Tuple tys ss ps in
+        go_on (uses t) fs s ks b t (Tuple tys ss (reach_parts m core.table es ps)) a (told_end es s t (uses t) fs (λ told z y. refl) a.first) (λ new q.
+        tuple_from m tys ss ps s new b out (with_serves (uses t) fs s ks new b (met core.table s t) q h) r (parts_built m w ps l))
 
     bind_built : (m : AccessMode) → IsWithin mode m → (bind : Bind) → Listed m (bind_offsets m core.table es bind) → IsKeptBind m bind
     bind_built m w (Past c k) l s ks b out h r = (past_kept mode core b s ks c k r.0, tt)
-    bind_built m w (One (On kind x ty t)) l s ks b out h r = side_from mode core m kind x ty t s ks b h r out (built m w [] t l)
-    bind_built m w (Both fork (On kind x ty t) (On other z uy u)) l s ks b out h r =
+    bind_built m w (One x) l s ks b out h r = side_from mode core m x s ks b h r out (side_built m w x l)
+    bind_built m w (Both fork x y) l s ks b out h r =
         let n = in_par m in
-        let l' = listed_par m (all_offsets mode core) (offsets_in n core.table es t ++ offsets_in n core.table es u) l in
-        both_from mode core m fork kind x ty t other z uy u s ks b h r
-        (built n (within_par mode m w) [] t (listed_left n (all_offsets mode core) (offsets_in n core.table es t) (offsets_in n core.table es u) l'))
-        (built n (within_par mode m w) [] u (listed_right n (all_offsets mode core) (offsets_in n core.table es t) (offsets_in n core.table es u) l'))
+        let l' = listed_par m (all_offsets mode core) (side_offsets n core.table es x ++ side_offsets n core.table es y) l in
+        both_from mode core m fork x y s ks b h r
+        (side_built n (within_par mode m w) x (listed_left n (all_offsets mode core) (side_offsets n core.table es x) (side_offsets n core.table es y) l'))
+        (side_built n (within_par mode m w) y (listed_right n (all_offsets mode core) (side_offsets n core.table es x) (side_offsets n core.table es y) l'))
     bind_built m w (Prim x f v z) l s ks b out h r = (prim_kept mode core b s ks x f v z h.serves r.0, tt)
     bind_built m w (Reach y by) l s ks b out h r = absurd (reaches_none core b s y by r.0)
+
+    side_built : (m : AccessMode) → IsWithin mode m → (x : Side) → Listed m (side_offsets m core.table es x) → IsKept mode core m [] (term_of_side mode core x)
+    side_built m w (On kind x ty t) l = built m w [] t l
+    side_built m w (Several xs tys t) l = built m w [] t l
+
+    parts_built : (m : AccessMode) → IsWithin mode m → (ps : PartTerms) → Listed m (part_offsets m core.table es ps) → ArePartsKept m ps
+    parts_built m w NoPart l tys s ks b out h r = tt
+    parts_built m w (PartThen t ps) l tys s ks b out h r =
+        let inner = in_part s (first_type tys) in
+        let b' = next core.table b PartLine in
+        let xs = met core.table inner t in
+        let ys = met_parts core.table s (further_types tys) ps in
+        let rs = reachable_split core b' xs ys r.1 in
+        let after = next_all core.table b' xs in
+        let first : Suits (uses t) inner ks b' xs = record {
+          serves = λ y v n. h.serves y (or_left (uses t y) (parts_use ps y) v) n;
+          bound = h.bound;
+          cased = h.cased;
+          differs = λ y n. (none_split y xs ys (h.differs y n).1).0;
+        } in
+        let second : Suits (parts_use ps) s ks after ys = record {
+          serves = λ y v n. h.serves y (or_right (uses t y) (parts_use ps y) v) n;
+          bound = λ y n. stays_bound core.table xs b' y (h.bound y n);
+          cased = cased_after core inner b' xs h.bound h.cased (λ y n o c. uncased core y t inner b' rs.0 n o c);
+          differs = λ y n. (none_split y xs ys (h.differs y n).1).1;
+        } in (
+          refl,
+          then_built mode core b' xs (met core.table (scoped inner ks) (reach m core.table es [] t)) (met_parts core.table (scoped s ks) (further_types tys) (reach_parts m core.table es ps))
+              (next_same core.table es m [] t inner (scoped inner ks) b')
+              (built m w [] t (listed_left m (all_offsets mode core) (offsets_in m core.table es t) (part_offsets m core.table es ps) l) inner ks b' (out_of m s inner refl out) (awaits_none es t inner ks) first rs.0)
+              (parts_built m w ps (listed_right m (all_offsets mode core) (offsets_in m core.table es t) (part_offsets m core.table es ps) l) (further_types tys) s ks after out second rs.1),
+        )
 
     branches_built : (m : AccessMode) → IsWithin mode m → (branches : Branches) → Listed m (branch_offsets m core.table es branches) → AreKept m branches
     branches_built m w NoBranch l s ks b out h arms r = tt
@@ -257,7 +318,7 @@ out_start Offsets b = tt
 out_start Ends b = refl
 
 module _ (mode : AccessMode) (core : CoreTree) where
-  body_built : (types : List Ty) (result : Ty) (t : Term) → AreListed mode (all_offsets mode core) (offsets_in mode core.table (ended_by mode core) t) → IsReachable core (record { parameters = types; result = result; term = t }) → IsBuilt (reach_core mode core) (record { parameters = types; result = result; term = reach mode core.table (ended_by mode core) [] t })
+  body_built : (types : List Ty) (result : Results Ty) (t : Term) → AreListed mode (all_offsets mode core) (offsets_in mode core.table (ended_by mode core) t) → IsReachable core (record { parameters = types; result = result; term = t }) → IsBuilt (reach_core mode core) (record { parameters = types; result = result; term = reach mode core.table (ended_by mode core) [] t })
   body_built types result t listed h =
       let body : Body = record { parameters = types; result = result; term = t } in
       let s = opening body in
@@ -284,7 +345,7 @@ module _ (mode : AccessMode) (core : CoreTree) where
       let functions = flat_map (λ (f : FunctionTerm). offsets_in mode core.table (ended_by mode core) f.body) core.functions in
       let main = offsets_in mode core.table (ended_by mode core) core.main.body in
       bodies_built core.functions
-      (record { parameters = core.main.parameter ∷ []; result = core.main.result; term = core.main.body })
-      (record { parameters = core.main.parameter ∷ []; result = core.main.result; term = reach mode core.table (ended_by mode core) [] core.main.body })
+      (record { parameters = core.main.parameter ∷ []; result = results.One core.main.result; term = core.main.body })
+      (record { parameters = core.main.parameter ∷ []; result = results.One core.main.result; term = reach mode core.table (ended_by mode core) [] core.main.body })
       (listed_left mode all functions main (listed_all mode all))
-      (body_built (core.main.parameter ∷ []) core.main.result core.main.body (listed_right mode all functions main (listed_all mode all))) h
+      (body_built (core.main.parameter ∷ []) (results.One core.main.result) core.main.body (listed_right mode all functions main (listed_all mode all))) h

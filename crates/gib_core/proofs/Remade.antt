@@ -15,13 +15,13 @@ use Rattle.gib_core.specs.declared.node.Node.{Node}
 use Rattle.gib_core.specs.declared.program.CoreFunction.{CoreFunction}
 use Rattle.gib_core.specs.declared.program.CoreMain.{CoreMain}
 use Rattle.gib_core.specs.Arena.{term_of}
-use Rattle.gib_core.specs.Parts.{Parts, AreInside, IsFunctionInside, function_term, core_of}
+use Rattle.gib_core.specs.Parts.{Parts, AreInside, IsFunctionInside, results_of, function_term, core_of}
 use Rattle.gib_core.specs.Tree.{Term, variables_from, FunctionTerm, CoreTree}
 use Rattle.gib_core.specs.Meaning.{Calls, bind, mean, function_at, of_function, core_calls, core_run}
 use Rattle.gib_core.specs.Erasing.{erase, erase_function, erase_core}
 use Rattle.gib_core.specs.Ending.{Ended, is_known, known_in, stays_ended, narrowed, packed_from, all_packed, settled, ended}
 use Rattle.gib_core.specs.declared.scope.Behind.{Behind}
-use Rattle.gib_core.specs.Met.{Known, known, Setting, Line, PastLine, SideLine, ParLine, PrimLine, ReachLine, WriteLine, PointLine, CallLine, GiveLine, CaseLine, IfLine, Met, Body, bodies, met, met_body, opening}
+use Rattle.gib_core.specs.Met.{Known, known, Setting, Line, PastLine, SideLine, ParLine, PrimLine, ReachLine, WriteLine, PointLine, CallLine, GiveLine, CaseLine, IfLine, SeveralLine, TupleLine, PartLine, Met, Body, bodies, met, met_body, opening}
 use Rattle.gib_core.specs.Rules.{Before, is_among, is_reached, is_outside, one_tells, by_access, may_reach, gives_packed, call_fits, rules, least, next, before_body, LinesAreBuilt, IsBuilt, AreBuilt, any_other, is_empty, all_usable}
 use Rattle.gib_core.specs.Walk.{body_of, body_of_main, with_body, remade, with_bodies}
 
@@ -175,6 +175,9 @@ module _ (h : Body → Term) (core : CoreTree) (e : ended (with_bodies h core) �
   same_rules b s (GiveLine x) = refl
   same_rules b s (CaseLine x arms) = refl
   same_rules b s (IfLine x) = refl
+  same_rules b s (SeveralLine xs tys) = refl
+  same_rules b s (TupleLine tys ss packed) = refl
+  same_rules b s PartLine = refl
 
   same_lines : (b : Before) (ms : List Met) → LinesAreBuilt core b ms → LinesAreBuilt (with_bodies h core) b ms
   same_lines b [] p = tt
@@ -191,7 +194,7 @@ functions_made : (h : Term → Term) (n : ℕ) (f g : ℕ → Term) (fs : List C
     → map (function_term g) fs ≡ map (with_body (λ b. h b.term)) (map (function_term f) fs)
 functions_made h n f g [] inside e = refl
 functions_made h n f g (d ∷ fs) inside e =
-    λ i. record { name = d.name; parameters = d.parameters.items; result = d.result; body = e d.body.0 inside.0 i } ∷ functions_made h n f g fs inside.1 e i
+    λ i. record { name = d.name; parameters = d.parameters.items; result = results_of d.result; body = e d.body.0 inside.0 i } ∷ functions_made h n f g fs inside.1 e i
 
 -- Where each term becomes another, the core is made anew.
 pub parts_made : (h : Term → Term) (core made : Parts) (table : Table) (terms new : List Node) (functions : List CoreFunction) (main : CoreMain) (offsets : List ConId) (marked : Bool)

@@ -2,12 +2,12 @@
 use Rattle.std.proofs.Common.{ℕ, zero, suc, ◌≤◌, Bool, true, false, List, [], ◌∷◌, map, Option, Some, None, arith}
 use Rattle.gib_types.specs.Table.{Table}
 use Rattle.gib_types.specs.Tree.{Datum}
-use Rattle.gib_syntax.specs.Meaning.{Environment, is_true, is_made_by, parts}
+use Rattle.gib_syntax.specs.Meaning.{Outcome, Gives, Stops, Environment, is_true, is_made_by, parts}
 use Rattle.gib_core.specs.declared.atom.Kind.{Kind}
 use Rattle.gib_core.specs.declared.atom.Kind.TheVariants.{Here, Region, Scalar}
-use Rattle.gib_core.specs.Tree.{Term, Then, Write, Point, CallTerm, Give, CaseTerm, IfTerm, Bind, Past, One, Both, Prim, Reach, Side, On, Branches, NoBranch, BranchThen, variables_from, FunctionTerm, CoreTree}
-use Rattle.gib_core.specs.Meaning.{Calls, value, bind, Reached, Went, Halted, run, function_at, core_calls}
-use Rattle.gib_core.specs.Cost.{Cost, Costs, IsAtMost, plus, cost_from, choose_cost, inside, own_of_right, kind_of, cost, cost_bind, cost_side, cost_branches, cost_of_function, call_costs, run_cost}
+use Rattle.gib_core.specs.Tree.{Term, Then, Write, Point, CallTerm, Give, CaseTerm, IfTerm, Tuple, PartTerms, NoPart, PartThen, Bind, Past, One, Both, Prim, Reach, Side, On, Several, Branches, NoBranch, BranchThen, variables_from, FunctionTerm, CoreTree}
+use Rattle.gib_core.specs.Meaning.{Calls, value, bind, Reached, Went, Halted, mean, run, function_at, core_calls}
+use Rattle.gib_core.specs.Cost.{Cost, Costs, IsAtMost, plus, cost_from, choose_cost, inside, own_of_right, own_right, cost_with, cost, cost_bind, cost_side, cost_parts, cost_branches, cost_of_function, call_costs, run_cost}
 
 alike : (a : Cost) → IsAtMost a a
 alike a = (omega arith, omega arith)
@@ -34,6 +34,10 @@ more_on_the_right true (suc m) (suc n) Here h = (omega arith, omega arith)
 more_on_the_right true (suc m) (suc n) Region h = (omega arith, omega arith)
 more_on_the_right true (suc m) (suc n) Scalar h = (omega arith, omega arith)
 
+right_rises : (fork : Bool) (m n : ℕ) (s : Side) → m ≤ n → IsAtMost (own_right fork m s) (own_right fork n s)
+right_rises fork m n (On kind x ty t) h = more_on_the_right fork m n kind h
+right_rises fork m n (Several xs tys t) h = (omega arith, omega arith)
+
 -- What calls cost does not fall.
 abbrev Rises : Costs → Type 0
 Rises costs = (m n f : ℕ) (vs : List Datum) → m ≤ n → IsAtMost (costs m f vs) (costs n f vs)
@@ -41,6 +45,10 @@ Rises costs = (m n f : ℕ) (vs : List Datum) → m ≤ n → IsAtMost (costs m 
 from_rises : (x : Reached) (go go' : Environment → Cost) → ((env : Environment) → IsAtMost (go env) (go' env)) → IsAtMost (cost_from x go) (cost_from x go')
 from_rises (Halted why) go go' h = (omega arith, omega arith)
 from_rises (Went env) go go' h = h env
+
+with_rises : (o : Outcome) (a c : Cost) → IsAtMost a c → IsAtMost (cost_with o a) (cost_with o c)
+with_rises (Stops why) a c h = (omega arith, omega arith)
+with_rises (Gives v) a c h = h
 
 choice_rises : (b : Bool) (a a' c c' : Cost) → IsAtMost a a' → IsAtMost c c' → IsAtMost (choose_cost b a c) (choose_cost b a' c')
 choice_rises true a a' c c' h g = h
@@ -58,17 +66,23 @@ module _ (tb : Table) (call : Calls) (costs : Costs) (rising : Rises costs) wher
     term_rises m n (CaseTerm x bs) env h = branches_rise m n bs (value env x) env h
     term_rises m n (IfTerm x u v) env h =
         choice_rises (is_true (value env x)) (cost tb call costs m u env) (cost tb call costs n u env) (cost tb call costs m v env) (cost tb call costs n v env) (term_rises m n u env h) (term_rises m n v env h)
+    term_rises m n (Tuple tys ss ps) env h = parts_rise m n ps env h
 
     bind_rises : (m n : ℕ) (b : Bind) (env : Environment) → m ≤ n → IsAtMost (cost_bind tb call costs m b env) (cost_bind tb call costs n b env)
     bind_rises m n (Past x k) env h = (omega arith, omega arith)
     bind_rises m n (One s) env h = both (alike _) (side_rises m n s env h)
     bind_rises m n (Both fork l r) env h =
-        both (both (alike _) (side_rises (inside fork m) (inside fork n) l env (more_inside fork m n h))) (both (more_on_the_right fork m n (kind_of r) h) (side_rises (inside fork m) (inside fork n) r env (more_inside fork m n h)))
+        both (both (alike _) (side_rises (inside fork m) (inside fork n) l env (more_inside fork m n h))) (both (right_rises fork m n r h) (side_rises (inside fork m) (inside fork n) r env (more_inside fork m n h)))
     bind_rises m n (Prim x f y z) env h = (omega arith, omega arith)
     bind_rises m n (Reach y by) env h = (omega arith, omega arith)
 
     side_rises : (m n : ℕ) (s : Side) (env : Environment) → m ≤ n → IsAtMost (cost_side tb call costs m s env) (cost_side tb call costs n s env)
     side_rises m n (On kind x ty u) env h = term_rises m n u env h
+    side_rises m n (Several xs tys u) env h = term_rises m n u env h
+
+    parts_rise : (m n : ℕ) (ps : PartTerms) (env : Environment) → m ≤ n → IsAtMost (cost_parts tb call costs m ps env) (cost_parts tb call costs n ps env)
+    parts_rise m n NoPart env h = (omega arith, omega arith)
+    parts_rise m n (PartThen u ps) env h = both (term_rises m n u env h) (with_rises (mean tb call u env) (cost_parts tb call costs m ps env) (cost_parts tb call costs n ps env) (parts_rise m n ps env h))
 
     branches_rise : (m n : ℕ) (bs : Branches) (v : Datum) (env : Environment) → m ≤ n → IsAtMost (cost_branches tb call costs m bs v env) (cost_branches tb call costs n bs v env)
     branches_rise m n NoBranch v env h = (omega arith, omega arith)

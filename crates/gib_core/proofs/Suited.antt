@@ -11,21 +11,22 @@ use Rattle.gib_core.specs.declared.atom.AccessMode.{AccessMode}
 use Rattle.gib_core.specs.declared.atom.AccessMode.TheVariants.{Skips, Offsets, Ends}
 use Rattle.gib_core.specs.declared.atom.Kind.{Kind}
 use Rattle.gib_core.specs.declared.atom.Kind.TheVariants.{Here, Region, Scalar}
-use Rattle.gib_core.specs.Tree.{Term, Then, Write, Point, CallTerm, Give, CaseTerm, IfTerm, Bind, Past, One, Both, Prim, Reach, On, prepend, CoreTree}
+use Rattle.gib_core.specs.Tree.{Term, Then, Write, Point, CallTerm, Give, CaseTerm, IfTerm, Tuple, variables_of, Bind, Past, One, Both, Prim, Reach, Side, On, Several, prepend, CoreTree}
 use Rattle.gib_core.specs.Ending.{Ended, is_telling, has_ended, call_ends}
-use Rattle.gib_core.specs.Met.{Known, Setting, at, SideLine, CaseLine, Met, known, reached, with_arm, in_side, in_arm, left_of, right_of, behind, packed_field, met, met_bind, met_side}
-use Rattle.gib_core.specs.Reaching.{is_variable, has_variable, uses, bind_uses, Later, told_first, not_now, laters, ends_from, in_par, reaches, offset_of, all_offsets, packed_variables, ended_by, reach, reach_bind, reach_side, reach_core}
+use Rattle.gib_core.specs.Met.{Known, Setting, at, SideLine, CaseLine, SeveralLine, Line, Met, known, reached, with_arm, with_variables, in_side, in_several, in_arm, left_of, right_of, behind, packed_field, met, met_bind, met_side}
+use Rattle.gib_core.specs.Reaching.{is_variable, has_variable, uses, bind_uses, side_uses, Later, told_first, not_now, laters, ends_from, in_par, reaches, offset_of, all_offsets, packed_variables, ended_by, reach, reach_bind, reach_side, reach_core}
 use Rattle.gib_core.specs.Rules.{Before, further, is_among, is_bound, is_outside, is_reached, one_tells, arm_variables, any_bound, rules, least, next, next_all, LinesAreBuilt}
 use Rattle.gib_core.specs.Reachable.{all_reached, LinesAreReachable}
 use Rattle.gib_core.proofs.Alike.{alike_call}
 use Rattle.gib_core.proofs.PastReaches.{reach_alike}
 use Rattle.gib_core.proofs.Along.{same_variable, AreDistinct, arms_unbound, arms_distinct, distinct_split, none_broken, built_append, reachable_split, among_append, line_bound, NoneBinds, none_split, stays_bound, never_bound, bound_once}
-use Rattle.gib_core.proofs.Cased.{has, has_arm, in_side_scope, in_side_others, reaches_none, case_keeps, StaysUncased, out_behind, uncased, bind_uncased, side_uncased}
+use Rattle.gib_core.proofs.Cased.{has, has_variables, has_arm, in_side_scope, in_side_others, reaches_none, case_keeps, StaysUncased, out_behind, uncased, bind_uncased, side_uncased}
 use Rattle.gib_core.proofs.Skipped.{arm_started, ReachedOr, arm_reached, known_past, known_past_arm, Serves, inside}
 use Rattle.gib_core.proofs.Offered.{AreListed, IsWithin, AreBehind, offered, reaches_built, ends_first, later_apart}
 use Rattle.gib_core.proofs.Awaits.{but, AreAwaited, AreApart, AreFirst, Awaits, awaits_none, left_apart}
 use Rattle.gib_core.proofs.Onward.{side_next}
-use Rattle.gib_core.proofs.Kept.{scoped, side_kept}
+use Rattle.gib_core.proofs.Kept.{scoped, side_kept, several_kept}
+use Rattle.gib_core.proofs.Later.{or_none}
 
 fields_among : (types : List Ty) (xs : List Variable) (y : Variable) → is_among (at_fields false types xs) y ≡ true → is_among xs y ≡ true
 fields_among [] xs y m = absurd cc
@@ -52,17 +53,40 @@ serves_more used x from ks h y u m = go (x.0 == y.0) m
     go true n = refl
     go false n = h y u n
 
+-- Variables that come into scope are reached, and all else is as it was.
+pub serves_all : (used : Variable → Bool) (xs : List Variable) (from ks : List Known) → Serves used from ks → Serves used (with_variables xs from) (with_variables xs ks)
+serves_all used [] from ks h = h
+serves_all used (x ∷ xs) from ks h = serves_all used xs (reached x ∷ from) (reached x ∷ ks) (serves_more used x from ks h)
+
+known_past_all : (xs : List Variable) (ks : List Known) (y : Variable) → is_among xs y ≡ false → known (with_variables xs ks) y ≡ known ks y
+known_past_all [] ks y e = refl
+known_past_all (x ∷ xs) ks y e =
+    let parts = or_parts (x.0 == y.0) (is_among xs y) e in
+    known_past_all xs (reached x ∷ ks) y parts.1 ∙ known_past (reached x) ks y parts.0
+
+has_all : (xs : List Variable) (ks : List Known) (y : Variable) → has ks y ≡ true → has (with_variables xs ks) y ≡ true
+has_all xs ks y h = has_variables xs ks y ∙ or_right (is_among xs y) (has ks y) h
+
+-- What a side does not bind is none of its variables.
+pub side_binds_none : (tb : Table) (x : Side) (s : Setting) (y : Variable) → NoneBinds y (met_side tb s x) → is_among (variables_of x) y ≡ false
+side_binds_none tb (On kind x ty t) s y n = or_from (x.0 == y.0) false n.0 refl
+side_binds_none tb (Several xs tys t) s y n = n.0
+
 pub others_behind : (bind : Bind) (s : Setting) → (behind s bind).others ≡ s.others
 others_behind (Past h k) s = refl
-others_behind (One (On kind x ty t)) s = refl
-others_behind (Both fork (On kind x ty t) (On other z uy u)) s = refl
+others_behind (One x) s = refl
+others_behind (Both fork l r) s = refl
 others_behind (Prim x f v w) s = refl
 others_behind (Reach y by) s = refl
 
 pub scoped_behind : (m : AccessMode) (tb : Table) (es : List Ended) (bind : Bind) (s : Setting) (ks : List Known) → behind (scoped s ks) (reach_bind m tb es bind) ≡ scoped (behind s bind) (behind (scoped s ks) bind).scope
 scoped_behind m tb es (Past h k) s ks = refl
 scoped_behind m tb es (One (On kind x ty t)) s ks = λ i. record (scoped (behind s (One (On kind x ty t))) (reached x ∷ ks)) { calls = alike_call (reach_alike m tb es t) s.calls i }
+scoped_behind m tb es (One (Several xs tys t)) s ks = refl
 scoped_behind m tb es (Both fork (On kind x ty t) (On other z uy u)) s ks = refl
+scoped_behind m tb es (Both fork (On kind x ty t) (Several ys tys u)) s ks = refl
+scoped_behind m tb es (Both fork (Several xs tys t) (On other z uy u)) s ks = refl
+scoped_behind m tb es (Both fork (Several xs tys t) (Several ys uys u)) s ks = refl
 scoped_behind m tb es (Prim x f v w) s ks = refl
 scoped_behind m tb es (Reach y by) s ks = refl
 
@@ -122,8 +146,9 @@ module _ (core : CoreTree) where
 
   serves_behind : (used : Variable → Bool) (bind : Bind) (s : Setting) (ks : List Known) (b : Before) → LinesAreReachable core b (met_bind core.table s bind) → Serves used s.scope ks → Serves used (behind s bind).scope (behind (scoped s ks) bind).scope
   serves_behind used (Past h k) s ks b r g = g
-  serves_behind used (One (On kind x ty t)) s ks b r g = serves_more used x s.scope ks g
-  serves_behind used (Both fork (On kind x ty t) (On other z uy u)) s ks b r g = serves_more used z (reached x ∷ s.scope) (reached x ∷ ks) (serves_more used x s.scope ks g)
+  serves_behind used (One x) s ks b r g = serves_all used (variables_of x) s.scope ks g
+  serves_behind used (Both fork x z) s ks b r g =
+      serves_all used (variables_of z) (with_variables (variables_of x) s.scope) (with_variables (variables_of x) ks) (serves_all used (variables_of x) s.scope ks g)
   serves_behind used (Prim x f v w) s ks b r g = serves_more used x s.scope ks g
   serves_behind used (Reach y by) s ks b r g = absurd (reaches_none core b s y by r.0)
 
@@ -154,6 +179,8 @@ module _ (core : CoreTree) where
   telling_uses es (One (On kind x ty (Give y))) z e = absurd cc
   telling_uses es (One (On kind x ty (CaseTerm y branches))) z e = absurd cc
   telling_uses es (One (On kind x ty (IfTerm y t u))) z e = absurd cc
+  telling_uses es (One (On kind x ty (Tuple tys ss ps))) z e = absurd cc
+  telling_uses es (One (Several xs tys t)) z e = absurd cc
   telling_uses es (Both fork l r) z e = absurd cc
   telling_uses es (Prim x f v w) z e = absurd cc
   telling_uses es (Reach y by) z e = absurd cc
@@ -168,22 +195,24 @@ module _ (core : CoreTree) where
   told_behind es (One (On kind x ty (Give y))) s z = refl
   told_behind es (One (On kind x ty (CaseTerm y branches))) s z = refl
   told_behind es (One (On kind x ty (IfTerm y t u))) s z = refl
-  told_behind es (Both fork (On kind x ty t) (On other y uy u)) s z = refl
+  told_behind es (One (On kind x ty (Tuple tys ss ps))) s z = refl
+  told_behind es (One (Several xs tys t)) s z = refl
+  told_behind es (Both fork l r) s z = refl
   told_behind es (Prim x f v w) s z = refl
   told_behind es (Reach y by) s z = refl
 
   whole_behind : (bind : Bind) (s : Setting) → (behind s bind).whole ≡ false
   whole_behind (Past h k) s = refl
-  whole_behind (One (On kind x ty t)) s = refl
-  whole_behind (Both fork (On kind x ty t) (On other z uy u)) s = refl
+  whole_behind (One x) s = refl
+  whole_behind (Both fork l r) s = refl
   whole_behind (Prim x f v w) s = refl
   whole_behind (Reach y by) s = refl
 
   -- What is in scope stays so, and is what it was, but for what a binding binds.
   has_behind : (bind : Bind) (s : Setting) (y : Variable) → has s.scope y ≡ true → has (behind s bind).scope y ≡ true
   has_behind (Past h k) s y m = m
-  has_behind (One (On kind x ty t)) s y m = or_right (x.0 == y.0) (has s.scope y) m
-  has_behind (Both fork (On kind x ty t) (On other z uy u)) s y m = or_right (z.0 == y.0) (x.0 == y.0 || has s.scope y) (or_right (x.0 == y.0) (has s.scope y) m)
+  has_behind (One x) s y m = has_all (variables_of x) s.scope y m
+  has_behind (Both fork x z) s y m = has_all (variables_of z) (with_variables (variables_of x) s.scope) y (has_all (variables_of x) s.scope y m)
   has_behind (Prim x f v w) s y m = or_right (x.0 == y.0) (has s.scope y) m
   has_behind (Reach z by) s y m = go (known s.scope z)
     where
@@ -198,19 +227,24 @@ module _ (core : CoreTree) where
       go true = refl
       go false = r
 
+  reached_all : (xs : List Variable) (y : Variable) (ks : List Known) → is_reached (known ks y) ≡ true → is_reached (known (with_variables xs ks) y) ≡ true
+  reached_all [] y ks r = r
+  reached_all (x ∷ xs) y ks r = reached_all xs y (reached x ∷ ks) (reached_more x y ks r)
+
   reached_behind : (bind : Bind) (s : Setting) (ks : List Known) (b : Before) → LinesAreReachable core b (met_bind core.table s bind) → (y : Variable) → is_reached (known ks y) ≡ true → is_reached (known (behind (scoped s ks) bind).scope y) ≡ true
   reached_behind (Past h k) s ks b r y m = m
-  reached_behind (One (On kind x ty t)) s ks b r y m = reached_more x y ks m
-  reached_behind (Both fork (On kind x ty t) (On other z uy u)) s ks b r y m = reached_more z y (reached x ∷ ks) (reached_more x y ks m)
+  reached_behind (One x) s ks b r y m = reached_all (variables_of x) y ks m
+  reached_behind (Both fork x z) s ks b r y m = reached_all (variables_of z) y (with_variables (variables_of x) ks) (reached_all (variables_of x) y ks m)
   reached_behind (Prim x f v w) s ks b r y m = reached_more x y ks m
   reached_behind (Reach z by) s ks b r y m = absurd (reaches_none core b s z by r.0)
 
   known_behind : (bind : Bind) (s : Setting) (ks : List Known) (b : Before) → LinesAreReachable core b (met_bind core.table s bind) → (y : Variable) → NoneBinds y (met_bind core.table s bind) → known (behind (scoped s ks) bind).scope y ≡ known ks y
   known_behind (Past h k) s ks b r y n = refl
-  known_behind (One (On kind x ty t)) s ks b r y n = known_past (reached x) ks y n.0
-  known_behind (Both fork (On kind x ty t) (On other z uy u)) s ks b r y n =
-      let parts = none_split y (met_side core.table (left_of s (On other z uy u)) (On kind x ty t)) (met_side core.table (right_of s (On kind x ty t)) (On other z uy u)) n.1 in
-      known_past (reached z) (reached x ∷ ks) y parts.1.0 ∙ known_past (reached x) ks y parts.0.0
+  known_behind (One x) s ks b r y n = known_past_all (variables_of x) ks y (side_binds_none core.table x s y n)
+  known_behind (Both fork x z) s ks b r y n =
+      let parts = none_split y (met_side core.table (left_of s z) x) (met_side core.table (right_of s x) z) n.1 in
+      known_past_all (variables_of z) (with_variables (variables_of x) ks) y (side_binds_none core.table z (right_of s x) y parts.1)
+      ∙ known_past_all (variables_of x) ks y (side_binds_none core.table x (left_of s z) y parts.0)
   known_behind (Prim x f v w) s ks b r y n = known_past (reached x) ks y n.0
   known_behind (Reach z by) s ks b r y n = absurd (reaches_none core b s z by r.0)
 
@@ -318,59 +352,94 @@ module _ (mode : AccessMode) (core : CoreTree) where
   pub then_built : (b : Before) (xs xs' ys' : List Met) → next_all core.table b xs' ≡ next_all core.table b xs → AreFine b xs' → AreFine (next_all core.table b xs) ys' → AreFine b (xs' ++ ys')
   then_built b xs xs' ys' e p q = built_append (reach_core mode core) b xs' ys' p (subst (λ (c : Before). AreFine c ys') (sym e) q)
 
-  -- A side: its line, and its term.
-  pub side_from : (m : AccessMode) (kind : Kind) (x : Variable) (ty : Ty) (t : Term) (s : Setting) (ks : List Known) (b : Before) → Suits (uses t) s ks b (met_side core.table s (On kind x ty t)) → LinesAreReachable core b (met_side core.table s (On kind x ty t))
-      → IsOut m s → IsKept m [] t → AreFine b (met_side core.table (scoped s ks) (On kind x ty (reach m core.table es [] t)))
-  side_from m kind x ty t s ks b h r out kept =
-      let line = SideLine kind x ty in
-      let inner = in_side core.table s kind ty in
+  -- A term behind a line that binds variables.
+  inner_from : (m : AccessMode) (line : Line) (t : Term) (s inner : Setting) (ks : List Known) (b : Before) → inner.scope ≡ s.scope → inner.others ≡ s.others
+      → next core.table b line ≡ record { bound = (next core.table b line).bound; cased = b.cased }
+      → Suits (uses t) s ks b (at s line ∷ met core.table inner t) → LinesAreReachable core (next core.table b line) (met core.table inner t)
+      → IsOut m s → IsKept m [] t → AreFine (next core.table b line) (met core.table (scoped inner ks) (reach m core.table es [] t))
+  inner_from m line t s inner ks b scope others cases h r out kept =
       let b' = next core.table b line in
+      let stays : (y : Variable) → is_bound b.bound y ≡ true → is_bound b'.bound y ≡ true = λ y e. stays_bound core.table (at s line ∷ []) b y e in
       let suits : Suits (uses t) inner ks b' (met core.table inner t) = record {
-        serves = λ y u m. h.serves y u (ap (λ (o : List Known). has o y) (sym (in_side_scope core.table s kind ty)) ∙ m);
-        bound = λ y m. or_right (x.0 == y.0) (is_bound b.bound y) (h.bound y (ap (λ (o : List Known). has o y) (sym (in_side_scope core.table s kind ty)) ∙ m));
-        cased = λ y m. or_right (x.0 == y.0) (is_bound b.bound y) (h.cased y m);
-        differs = λ y m. (h.differs y (ap (λ (o : List Variable). is_among o y) (sym (in_side_others core.table s kind ty)) ∙ m)).1;
-      } in (
-        side_kept mode core b s ks kind x ty r.0,
-        subst (λ (z : Setting). AreFine b' (met core.table z (reach m core.table es [] t))) (sym (scoped_side core.table s ks kind ty))
-            (kept inner ks b' (out_of m s inner (in_side_others core.table s kind ty) out) (awaits_none es t inner ks) suits r.1),
-      )
+        serves = λ y u m. h.serves y u (ap (λ (o : List Known). has o y) (sym scope) ∙ m);
+        bound = λ y m. stays y (h.bound y (ap (λ (o : List Known). has o y) (sym scope) ∙ m));
+        cased = λ y m. stays y (h.cased y (ap (λ (c : Before). is_among c.cased y) (sym cases) ∙ m));
+        differs = λ y m. (h.differs y (ap (λ (o : List Variable). is_among o y) (sym others) ∙ m)).1;
+      } in
+      kept inner ks b' (out_of m s inner others out) (awaits_none es t inner ks) suits r
 
-  -- Two sides: the variable of each is another one's while the other is met.
-  pub both_from : (m : AccessMode) (fork : Bool) (kind : Kind) (x : Variable) (ty : Ty) (t : Term) (other : Kind) (z : Variable) (uy : Ty) (u : Term) (s : Setting) (ks : List Known) (b : Before)
-      → Suits (bind_uses (Both fork (On kind x ty t) (On other z uy u))) s ks b (met_bind core.table s (Both fork (On kind x ty t) (On other z uy u)))
-      → LinesAreReachable core b (met_bind core.table s (Both fork (On kind x ty t) (On other z uy u)))
-      → IsKept (in_par m) [] t → IsKept (in_par m) [] u → AreFine b (met_bind core.table (scoped s ks) (reach_bind m core.table es (Both fork (On kind x ty t) (On other z uy u))))
-  both_from m fork kind x ty t other z uy u s ks b h r kept kept' =
-      let left = On kind x ty t in
-      let right = On other z uy u in
+  -- The term of a side.
+  abbrev pub term_of_side : Side → Term
+  term_of_side (On kind x ty t) = t
+  term_of_side (Several xs tys t) = t
+
+  -- A side: its line, and its term.
+  pub side_from : (m : AccessMode) (x : Side) (s : Setting) (ks : List Known) (b : Before) → Suits (side_uses x) s ks b (met_side core.table s x) → LinesAreReachable core b (met_side core.table s x)
+      → IsOut m s → IsKept m [] (term_of_side x) → AreFine b (met_side core.table (scoped s ks) (reach_side m core.table es x))
+  side_from m (On kind x ty t) s ks b h r out kept =
+      let line = SideLine kind x ty in
+      let inner = in_side core.table s kind ty in (
+        side_kept mode core b s ks kind x ty r.0,
+        subst (λ (z : Setting). AreFine (next core.table b line) (met core.table z (reach m core.table es [] t))) (sym (scoped_side core.table s ks kind ty))
+            (inner_from m line t s inner ks b (in_side_scope core.table s kind ty) (in_side_others core.table s kind ty) refl h r.1 out kept),
+      )
+  side_from m (Several xs tys t) s ks b h r out kept =
+      (several_kept mode core b s ks xs tys r.0, inner_from m (SeveralLine xs tys) t s (in_several s tys) ks b refl refl refl h r.1 out kept)
+
+  -- The variables of a side were not bound before it, and are bound behind it.
+  side_fresh : (x : Side) (s : Setting) (b : Before) (y : Variable) → LinesAreReachable core b (met_side core.table s x) → is_among (variables_of x) y ≡ true → is_bound b.bound y ≡ false
+  side_fresh (On kind x ty t) s b y r m =
+      let new = side_new core b (all_reached s) kind x ty r.0 in
+      ⊎_elim (λ same. ap (is_bound b.bound) (sym (same_variable x y same)) ∙ new) (λ none. absurd (both_ways false refl none)) (or_cases (x.0 == y.0) false m)
+  side_fresh (Several xs tys t) s b y r m = arms_unbound xs b.bound y (none_broken (rules core b (all_reached s) (SeveralLine xs tys)) r.0).0 m
+
+  side_bound : (x : Side) (s : Setting) (b : Before) (y : Variable) → is_among (variables_of x) y ≡ true → is_bound (next_all core.table b (met_side core.table s x)).bound y ≡ true
+  side_bound (On kind x ty t) s b y m =
+      stays_bound core.table (met core.table (in_side core.table s kind ty) t) (next core.table b (SideLine kind x ty)) y
+      (line_bound core.table (SideLine kind x ty) b.bound y ∙ or_left (x.0 == y.0) (is_bound b.bound y) (sym (or_none (x.0 == y.0)) ∙ m))
+  side_bound (Several xs tys t) s b y m =
+      stays_bound core.table (met core.table (in_several s tys) t) (next core.table b (SeveralLine xs tys)) y
+      (line_bound core.table (SeveralLine xs tys) b.bound y ∙ or_left (is_among xs y) (is_bound b.bound y) m)
+
+  -- A side whose fields are reached has the same variables.
+  left_reached : (m : AccessMode) (s : Setting) (ks : List Known) (r : Side) → left_of (scoped s ks) (reach_side m core.table es r) ≡ scoped (left_of s r) ks
+  left_reached m s ks (On kind x ty t) = refl
+  left_reached m s ks (Several xs tys t) = refl
+
+  right_reached : (m : AccessMode) (s : Setting) (ks : List Known) (l : Side) → right_of (scoped s ks) (reach_side m core.table es l) ≡ scoped (right_of s l) ks
+  right_reached m s ks (On kind x ty t) = refl
+  right_reached m s ks (Several xs tys t) = refl
+
+  -- Two sides: the variables of each are another one's while the other is met.
+  pub both_from : (m : AccessMode) (fork : Bool) (left right : Side) (s : Setting) (ks : List Known) (b : Before) → Suits (bind_uses (Both fork left right)) s ks b (met_bind core.table s (Both fork left right))
+      → LinesAreReachable core b (met_bind core.table s (Both fork left right))
+      → IsKept (in_par m) [] (term_of_side left) → IsKept (in_par m) [] (term_of_side right) → AreFine b (met_bind core.table (scoped s ks) (reach_bind m core.table es (Both fork left right)))
+  both_from m fork left right s ks b h r kept kept' =
       let first = left_of s right in
       let second = right_of s left in
       let xs = met_side core.table first left in
       let ys = met_side core.table second right in
       let after = next_all core.table b xs in
       let rs = reachable_split core b xs ys r.1 in
-      let new : is_bound after.bound z ≡ false = side_new core after (all_reached second) other z uy rs.1.0 in
-      let known : is_bound after.bound x ≡ true = stays_bound core.table (met core.table (in_side core.table first kind ty) t) (next core.table b (SideLine kind x ty)) x (ap (λ c. c || is_bound b.bound x) (eq-eqb x.0 x.0 refl)) in
-      let suits : Suits (uses t) first ks b xs = record {
-        serves = λ y m. h.serves y (or_left (uses t y) (uses u y) m);
+      let suits : Suits (side_uses left) first ks b xs = record {
+        serves = λ y m. h.serves y (or_left (side_uses left y) (side_uses right y) m);
         bound = h.bound;
         cased = h.cased;
-        differs = λ y m. ⊎_elim (λ same. subst (λ (v : Variable). NoneBinds v xs) (same_variable z y same) (never_bound core.table xs b z new))
-            (λ l. (none_split y xs ys (h.differs y l).1).0) (or_cases (z.0 == y.0) (is_among s.others y) m);
+        differs = λ y m. ⊎_elim (λ own. never_bound core.table xs b y (side_fresh right second after y rs.1 own))
+            (λ l. (none_split y xs ys (h.differs y l).1).0) (or_cases (is_among (variables_of right) y) (is_among s.others y) (sym (among_append (variables_of right) s.others y) ∙ m));
       } in
-      let suits' : Suits (uses u) second ks after ys = record {
-        serves = λ y m. h.serves y (or_right (uses t y) (uses u y) m);
+      let suits' : Suits (side_uses right) second ks after ys = record {
+        serves = λ y m. h.serves y (or_right (side_uses left y) (side_uses right y) m);
         bound = λ y m. stays_bound core.table xs b y (h.bound y m);
         cased = cased_after core first b xs h.bound h.cased (λ y n out c. side_uncased core y left first b rs.0 n out c);
-        differs = λ y m. ⊎_elim (λ same. subst (λ (v : Variable). NoneBinds v ys) (same_variable x y same) (bound_once core after ys x rs.1 known))
-            (λ l. (none_split y xs ys (h.differs y l).1).1) (or_cases (x.0 == y.0) (is_among s.others y) m);
+        differs = λ y m. ⊎_elim (λ own. bound_once core after ys y rs.1 (side_bound left first b y own))
+            (λ l. (none_split y xs ys (h.differs y l).1).1) (or_cases (is_among (variables_of left) y) (is_among s.others y) (sym (among_append (variables_of left) s.others y) ∙ m));
       } in (
         refl,
-        then_built b xs (met_side core.table (scoped first ks) (reach_side (in_par m) core.table es left)) (met_side core.table (scoped second ks) (reach_side (in_par m) core.table es right))
-            (side_next core.table es (in_par m) left first (scoped first ks) b)
-            (side_from (in_par m) kind x ty t first ks b suits rs.0 (out_par m first) kept)
-            (side_from (in_par m) other z uy u second ks after suits' rs.1 (out_par m second) kept'),
+        then_built b xs (met_side core.table (left_of (scoped s ks) (reach_side (in_par m) core.table es right)) (reach_side (in_par m) core.table es left)) (met_side core.table (right_of (scoped s ks) (reach_side (in_par m) core.table es left)) (reach_side (in_par m) core.table es right))
+            (side_next core.table es (in_par m) left first (left_of (scoped s ks) (reach_side (in_par m) core.table es right)) b)
+            (subst (λ (z : Setting). AreFine b (met_side core.table z (reach_side (in_par m) core.table es left))) (sym (left_reached (in_par m) s ks right)) (side_from (in_par m) left first ks b suits rs.0 (out_par m first) kept))
+            (subst (λ (z : Setting). AreFine after (met_side core.table z (reach_side (in_par m) core.table es right))) (sym (right_reached (in_par m) s ks left)) (side_from (in_par m) right second ks after suits' rs.1 (out_par m second) kept')),
       )
 
   -- An arm: its fields are reached, and then its term comes.

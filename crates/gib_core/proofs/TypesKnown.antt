@@ -4,7 +4,7 @@ use Rattle.std.specs.List.{AllByRecursion}
 use Rattle.gib_base.specs.declared.name.Name.{Name}
 use Rattle.gib_types.specs.declared.table.Ty.{Ty}
 use Rattle.gib_types.specs.declared.table.Ty.TheVariants.{Whole, Truth, Tree}
-use Rattle.gib_types.specs.Table.{Row, Table, IsTable, IsTyBelow, fields_at, fields_of, con_at, if_owned}
+use Rattle.gib_types.specs.Table.{Row, Table, scalar_types, IsTable, IsTyBelow, fields_at, fields_of, con_at, if_owned}
 use Rattle.gib_syntax.specs.Meaning.{is_scalar}
 use Rattle.gib_syntax.specs.Typing.{operator_type}
 use Rattle.std.proofs.lemmas.Bool.Decides.{nat_tests}
@@ -12,19 +12,21 @@ use Rattle.gib_core.specs.declared.atom.Atom.{Atom}
 use Rattle.gib_core.specs.declared.atom.Access.TheVariants as by
 use Rattle.gib_core.specs.declared.atom.Kind.TheVariants as kind
 use Rattle.gib_core.specs.declared.atom.Variable.{Variable}
-use Rattle.gib_core.specs.Fits.{Sort, Outside, Absent, Scalar, Held, Placed, Loose, AtHead, Field, Scope, Dest, Nowhere, Empty, Open, Fits, BindFits, SideFits, BranchesFit, Line, Needs, Inner, AtEnd, none_of, new_line, tell_line, arm_line, side_tells, CallFits, OwnFits, MainFits, AllFit, EachFits, put, tree_type, packed_due, dest_of, dest_type, more, by_call, cased, loosen, loosen_one, has_branch, arm_scope, field_sort, param_sort, body_scope}
+use Rattle.gib_core.specs.Fits.{Sort, Outside, Absent, Scalar, Held, Placed, Loose, AtHead, Field, Scope, Dest, Nowhere, Empty, Open, InParts, AtomsFit, hold_all, bound_scope, Fits, PartsFit, BindFits, SideFits, BranchesFit, Line, Needs, Inner, AtEnd, none_of, new_line, tell_line, arm_line, side_tells, CallFits, OwnFits, MainFits, AllFit, EachFits, put, tree_type, packed_due, dest_of, dest_type, more, by_call, cased, loosen, loosen_one, has_branch, arm_scope, field_sort, param_sort, body_scope}
 use Rattle.gib_core.specs.Meaning.{function_at}
 use Rattle.gib_core.specs.Numbering.{binders, AreNumbered}
 use Rattle.gib_core.specs.Met.{Body}
-use Rattle.gib_core.specs.Parts.{AreDeclared}
+use Rattle.gib_core.specs.Parts.{AreDeclared, IsResultDeclared}
+use Rattle.gib_syntax.specs.Results as results
+use Rattle.gib_syntax.specs.Results.{Results}
 use Rattle.gib_core.specs.Tree as t
-use Rattle.gib_core.specs.Tree.{Term, Bind, Side, Branches, FunctionTerm, CoreTree}
+use Rattle.gib_core.specs.Tree.{Term, Bind, Side, PartTerms, Branches, FunctionTerm, CoreTree}
 use Rattle.gib_core.proofs.Bodies.{built_fits, each_fits}
 use Rattle.gib_core.specs.Ending.{Within, within_par, within_main, within_function}
 use Rattle.gib_core.proofs.Fine.{anywhere, side_alone, bind_alone}
 use Rattle.gib_core.specs.Literals.{AllLiteralsFit}
 use Rattle.gib_core.specs.Rules.{AreBuilt}
-use Rattle.gib_core.specs.TypesNamed.{SignaturesDeclared, TypesDeclared, BindDeclared, SideDeclared, BranchesDeclared, AllTypesDeclared}
+use Rattle.gib_core.specs.TypesNamed.{SignaturesDeclared, TypesDeclared, BindDeclared, SideDeclared, PartsDeclared, BranchesDeclared, AllTypesDeclared}
 
 -- What is known of a variable names declared types alone.
 abbrev IsSortBelow : ℕ → Sort → Type 0
@@ -113,31 +115,59 @@ abbrev IsDestBelow : ℕ → Dest → Type 0
 IsDestBelow n (Nowhere ty) = Unit {0}
 IsDestBelow n (Empty s) = Unit {0}
 IsDestBelow n (Open s h k xs dues) = s < n
+IsDestBelow n (InParts tys) = Unit {0}
 
 more_below : (n : ℕ) (d : Dest) (x : ℕ) → IsDestBelow n d → IsDestBelow n (more d x)
 more_below n (Nowhere ty) x h = tt
 more_below n (Empty s) x h = tt
+more_below n (InParts tys) x h = tt
 more_below n (Open s g k xs []) x h = h
 more_below n (Open s g k xs (u ∷ dues)) x h = h
 
 pub dest_more : (d : Dest) (x : ℕ) → dest_type (more d x) ≡ dest_type d
 dest_more (Nowhere ty) x = refl
 dest_more (Empty s) x = refl
+dest_more (InParts tys) x = refl
 dest_more (Open s g k xs []) x = refl
 dest_more (Open s g k xs (u ∷ dues)) x = refl
 
-named_declared : (n : ℕ) (fs : List FunctionTerm) → AllByRecursion (λ (f : FunctionTerm). AreDeclared n f.parameters f.result) fs → (f : ℕ) (g : FunctionTerm) → function_at fs f ≡ Some g → IsTyBelow n g.result
+named_declared : (n : ℕ) (fs : List FunctionTerm) → AllByRecursion (λ (f : FunctionTerm). AreDeclared n f.parameters f.result) fs → (f : ℕ) (g : FunctionTerm) → function_at fs f ≡ Some g → IsResultDeclared n g.result
 named_declared n [] h f g e = absurd cc
 named_declared n (x ∷ fs) h f g e = go (λ q. named_declared n fs h.1 f g q) (x.name.0 == f) e
   where
-    go : (function_at fs f ≡ Some g → IsTyBelow n g.result) → (b : Bool) → (if b then Some x else function_at fs f) ≡ Some g → IsTyBelow n g.result
-    go later true q = let r : x ≡ g = cc in subst (λ (y : FunctionTerm). IsTyBelow n y.result) r h.0.1
+    go : (function_at fs f ≡ Some g → IsResultDeclared n g.result) → (b : Bool) → (if b then Some x else function_at fs f) ≡ Some g → IsResultDeclared n g.result
+    go later true q = let r : x ≡ g = cc in subst (λ (y : FunctionTerm). IsResultDeclared n y.result) r h.0.1
     go later false q = later q
 
+-- The scopes of several variables.
+held_below : (n : ℕ) (xs : List Variable) (sc : Scope) → IsScopeBelow n sc → IsScopeBelow n (hold_all xs sc)
+held_below n [] sc h = h
+held_below n (x ∷ xs) sc h = held_below n xs (put sc x.0 Held) (put_below n sc x.0 Held h tt)
+
+param_below : (n : ℕ) (ty : Ty) → IsTyBelow n ty → IsSortBelow n (param_sort ty)
+param_below n Whole h = tt
+param_below n Truth h = tt
+param_below n (Tree s) h = h
+
+bound_below : (n : ℕ) (tys : List Ty) (xs : List Variable) (sc : Scope) → AllByRecursion (IsTyBelow n) tys → IsScopeBelow n sc → IsScopeBelow n (bound_scope tys xs sc)
+bound_below n [] xs sc h g = g
+bound_below n (t ∷ ts) [] sc h g = g
+bound_below n (t ∷ ts) (x ∷ xs) sc h g = bound_below n ts xs (put sc x.0 (param_sort t)) h.1 (put_below n sc x.0 (param_sort t) g (param_below n t h.0))
+
+-- Types of which the packed ones are declared.
+abbrev AreNumbersBelow : ℕ → List ℕ → Type 0
+AreNumbersBelow n ss = AllByRecursion (λ (s : ℕ). s < n) ss
+
+types_below : (n : ℕ) (tys : List Ty) → AreNumbersBelow n (packed_due tys) → AllByRecursion (IsTyBelow n) tys
+types_below n [] h = tt
+types_below n (Whole ∷ tys) h = (tt, types_below n tys h)
+types_below n (Truth ∷ tys) h = (tt, types_below n tys h)
+types_below n (Tree s ∷ tys) h = (h.0, types_below n tys h.1)
+
 -- What follows from a term: its types are declared, and so is the type of what it makes.
-record Told (n : ℕ) (u : Term) (ty : Ty) : Type 0 where
+record Told (n : ℕ) (u : Term) (r : Results Ty) : Type 0 where
   pub types : TypesDeclared n u
-  pub due : IsTyBelow n ty
+  pub due : IsResultDeclared n r
 
 -- Where a line goes on behind a binding.
 record Goes (n : ℕ) (d : Dest) (P : Scope → Dest → Line → Type 0) : Type 0 where
@@ -173,6 +203,15 @@ side_on core n w (t.On kind.Scalar x ty u) sc d ln P h f g k = record {
   scope = put (loosen (cased u) sc) x.0 (Scalar ty);
   dest = d;
   scope_below = behind_below n (cased u) sc x.0 (Scalar ty) g tt;
+  dest_below = k;
+  same = refl;
+  rest = f.3;
+}
+side_on core n w (t.Several xs tys u) sc d ln P h f g k = record {
+  line = tell_line none_of ln;
+  scope = bound_scope tys xs (loosen (cased u) sc);
+  dest = d;
+  scope_below = bound_below n tys xs (loosen (cased u) sc) h.0 (λ y. loosen_below n (cased u y) (sc y) (g y));
   dest_below = k;
   same = refl;
   rest = f.3;
@@ -244,9 +283,10 @@ told_call n (t.CallTerm f xs) A B go h = tt
 told_call n (t.Give x) A B go h = go h
 told_call n (t.CaseTerm x bs) A B go h = go h
 told_call n (t.IfTerm x u v) A B go h = go h
+told_call n (t.Tuple tys ss ps) A B go h = go h
 
-same_due : (n : ℕ) (d e : Dest) → d ≡ e → IsTyBelow n (dest_type e) → IsTyBelow n (dest_type d)
-same_due n d e q h = subst (λ (x : Dest). IsTyBelow n (dest_type x)) (sym q) h
+same_due : (n : ℕ) (d e : Dest) → d ≡ e → IsResultDeclared n (dest_type e) → IsResultDeclared n (dest_type d)
+same_due n d e q h = subst (λ (x : Dest). IsResultDeclared n (dest_type x)) (sym q) h
 
 module _ (core : CoreTree) (is : IsTable core.table) (sg : AllByRecursion (λ (f : FunctionTerm). AreDeclared (length core.table.types) f.parameters f.result) core.functions) where
   abbrev many : ℕ
@@ -258,7 +298,7 @@ module _ (core : CoreTree) (is : IsTable core.table) (sg : AllByRecursion (λ (f
         let h = bind_told b sc d ln (bind_alone core b sc d ln (λ sc' d' ln'. Fits core ns u sc' d' ln') f) g k in
         let r = bind_on core is b sc d ln (λ sc' d' ln'. Fits core ns u sc' d' ln') h f g k in
         let q = term_told ns u r.scope r.dest r.line r.rest r.scope_below r.dest_below in
-        record { types = (h, q.types); due = subst (IsTyBelow many) r.same q.due }
+        record { types = (h, q.types); due = subst (IsResultDeclared many) r.same q.due }
     term_told ns (t.Write x c ss ps) sc d ln f g k = record {
       types = tt;
       due = same_due many d (Open f.0 x.0 c.0 f.1 []) f.2 (subst (IsDestBelow many) f.2 k);
@@ -266,7 +306,7 @@ module _ (core : CoreTree) (is : IsTable core.table) (sg : AllByRecursion (λ (f
     term_told ns (t.Point x) sc d ln f g k = record { types = tt; due = same_due many d (Empty f.0) f.1 (tree_below many (sc f.2.variable.0) f.0 (g f.2.variable.0) f.2.sort) }
     term_told ns (t.CallTerm x xs) sc d ln f g k = record {
       types = tt;
-      due = same_due many d (Empty f.0) f.1 (subst (IsTyBelow many) f.2.result (named_declared many core.functions sg x.0 f.2.function f.2.named));
+      due = subst (IsResultDeclared many) f.1.result (named_declared many core.functions sg x.0 f.1.function f.1.named);
     }
     term_told ns (t.Give x) sc d ln f g k = record { types = tt; due = same_due many d (Nowhere f.0) f.1 (scalar_below many f.0 f.2) }
     term_told ns (t.CaseTerm x bs) sc d ln f g k =
@@ -278,6 +318,19 @@ module _ (core : CoreTree) (is : IsTable core.table) (sg : AllByRecursion (λ (f
         let a = term_told ns u sc d ln f.1 g k in
         let b = term_told ns v sc d ln f.2 g k in
         record { types = (tt, (a.types, b.types)); due = a.due }
+    term_told ns (t.Tuple tys ss ps) sc d ln f g k =
+        let q = parts_told ln.within ps (packed_due tys) sc ss (scalar_types tys) f.1 g in
+        let known = types_below many tys q.1 in
+        record { types = (known, q.0); due = same_due many d (InParts tys) f.0 known }
+
+    parts_told : (w : Within) (ps : PartTerms) (dues : List ℕ) (sc : Scope) (ss : List Atom) (us : List Ty) → PartsFit core w ps dues sc (λ tc. AtomsFit tc ss us) → IsScopeBelow many sc → PartsDeclared many ps × AreNumbersBelow many dues
+    parts_told w t.NoPart [] sc ss us f g = (tt, tt)
+    parts_told w t.NoPart (s ∷ dues) sc ss us f g = absurd f
+    parts_told w (t.PartThen u ps) [] sc ss us f g = absurd f
+    parts_told w (t.PartThen u ps) (s ∷ dues) sc ss us f g =
+        let a = term_told (Inner none_of) u sc (Empty s) (new_line w) f.0 g tt in
+        let b = parts_told w ps dues (loosen (cased u) sc) ss us f.1 (λ y. loosen_below many (cased u y) (sc y) (g y)) in
+        ((tt, (a.types, b.0)), (a.due, b.1))
 
     bind_told : (b : Bind) (sc : Scope) (d : Dest) (ln : Line) → BindFits core b sc d ln anywhere → IsScopeBelow many sc → IsDestBelow many d → BindDeclared many b
     bind_told (t.Past x c) sc d ln f g k = tt
@@ -304,25 +357,24 @@ module _ (core : CoreTree) (is : IsTable core.table) (sg : AllByRecursion (λ (f
         (subst (IsTyBelow many) (sym f.1) q.due, q.types)
     side_told w (t.On kind.Scalar x ty u) sc d ln f g k =
         let ns = Inner (side_tells w core u) in
-        (scalar_below many ty f.0, told_call many u (Fits core ns u sc (Nowhere ty) (new_line w)) (λ q xs. CallFits core sc q xs ty) (λ h. (term_told ns u sc (Nowhere ty) (new_line w) h g tt).types) f.2)
+        (scalar_below many ty f.0, told_call many u (Fits core ns u sc (Nowhere ty) (new_line w)) (λ q xs. CallFits core sc q xs (results.One ty)) (λ h. (term_told ns u sc (Nowhere ty) (new_line w) h g tt).types) f.2)
+    side_told w (t.Several xs tys u) sc d ln f g k =
+        let q = term_told (Inner none_of) u (hold_all xs sc) (InParts tys) (new_line w) f.2 (held_below many xs sc g) tt in
+        (q.due, q.types)
 
     branches_told : (ns : Needs) (bs : Branches) (x : ℕ) (sc : Scope) (d : Dest) (ln : Line) → BranchesFit core ns bs x sc d ln → IsScopeBelow many sc → IsDestBelow many d
-        → BranchesDeclared many bs × ((k : ℕ) → has_branch bs k ≡ true → IsTyBelow many (dest_type d))
+        → BranchesDeclared many bs × ((k : ℕ) → has_branch bs k ≡ true → IsResultDeclared many (dest_type d))
     branches_told ns t.NoBranch x sc d ln f g k = (tt, λ c e. absurd cc)
     branches_told ns (t.BranchThen c ys u bs) x sc d ln f g k =
         let a = term_told ns u (arm_scope x c.0 1 None (fields_at core.table c.0) ys sc) d (arm_line core x c ys u ln) f.1 (arm_below many x c.0 1 None (fields_at core.table c.0) ys sc (fields_below core.table is c.0) g) k in
         let b = branches_told ns bs x sc d ln f.2 g k in
         ((tt, (a.types, b.0)), λ c' e. a.due)
 
-result_below : (n : ℕ) (ty : Ty) → IsDestBelow n (dest_of ty)
-result_below n Whole = tt
-result_below n Truth = tt
-result_below n (Tree s) = tt
-
-param_below : (n : ℕ) (ty : Ty) → IsTyBelow n ty → IsSortBelow n (param_sort ty)
-param_below n Whole h = tt
-param_below n Truth h = tt
-param_below n (Tree s) h = h
+result_below : (n : ℕ) (r : Results Ty) → IsDestBelow n (dest_of r)
+result_below n (results.One Whole) = tt
+result_below n (results.One Truth) = tt
+result_below n (results.One (Tree s)) = tt
+result_below n (results.Several tys) = tt
 
 parameters_below : (n m : ℕ) (ts : List Ty) → AllByRecursion (IsTyBelow n) ts → IsScopeBelow n (body_scope m ts)
 parameters_below n zero ts h y = tt
@@ -334,11 +386,11 @@ parameters_below n (suc m) (ty ∷ ts) h (suc y) = parameters_below n m ts h.1 y
 bodies_told : (core : CoreTree) (fs : List FunctionTerm) → IsTable core.table → SignaturesDeclared core → AllByRecursion (λ (f : FunctionTerm). AreDeclared (length core.table.types) f.parameters f.result) fs
     → AllByRecursion (λ (g : FunctionTerm). OwnFits core g (length g.parameters + length (binders g.body))) fs → MainFits core (1 + length (binders core.main.body))
     → AllByRecursion (λ (b : Body). TypesDeclared (length core.table.types) b.term)
-    (map (λ (f : FunctionTerm). record { parameters = f.parameters; result = f.result; term = f.body }) fs ++ record { parameters = core.main.parameter ∷ []; result = core.main.result; term = core.main.body } ∷ [])
+    (map (λ (f : FunctionTerm). record { parameters = f.parameters; result = f.result; term = f.body }) fs ++ record { parameters = core.main.parameter ∷ []; result = results.One core.main.result; term = core.main.body } ∷ [])
 bodies_told core [] is sg h f m =
     let n = length core.table.types in
     let slots = 1 + length (binders core.main.body) in
-    ((term_told core is sg.functions (AtEnd none_of) core.main.body (body_scope slots (core.main.parameter ∷ [])) (dest_of core.main.result) (new_line (within_main core)) m.fits (parameters_below n slots (core.main.parameter ∷ []) sg.main.0) (result_below n core.main.result)).types, tt)
+    ((term_told core is sg.functions (AtEnd none_of) core.main.body (body_scope slots (core.main.parameter ∷ [])) (dest_of (results.One core.main.result)) (new_line (within_main core)) m.fits (parameters_below n slots (core.main.parameter ∷ []) sg.main.0) (result_below n (results.One core.main.result))).types, tt)
 bodies_told core (g ∷ fs) is sg h f m =
     let n = length core.table.types in
     let slots = length g.parameters + length (binders g.body) in

@@ -4,17 +4,17 @@ use Rattle.std.proofs.lemmas.Bool.{eqb-true, eq-eqb, or_right, both_ways, or_lef
 use Rattle.gib_types.specs.declared.table.Ty.{Ty}
 use Rattle.gib_types.specs.declared.table.Ty.TheVariants.{Truth}
 use Rattle.gib_types.specs.declared.table.ConId.{ConId}
-use Rattle.gib_types.specs.Table.{Table}
+use Rattle.gib_types.specs.Table.{Table, first_type, further_types, tree_types}
 use Rattle.gib_core.specs.declared.atom.Variable.{Variable}
 use Rattle.gib_core.specs.declared.atom.Atom.{Atom}
 use Rattle.gib_core.specs.declared.atom.Atom.TheVariants as a
 use Rattle.gib_core.specs.declared.atom.Kind.{Kind}
 use Rattle.gib_core.specs.declared.atom.Kind.TheVariants.{Here, Region, Scalar}
-use Rattle.gib_core.specs.Tree.{Term, Then, Write, Point, CallTerm, Give, CaseTerm, IfTerm, Bind, Past, One, Both, Prim, Reach, Side, On, Branches, NoBranch, BranchThen, variable_of, CoreTree}
+use Rattle.gib_core.specs.Tree.{Term, Then, Write, Point, CallTerm, Give, CaseTerm, IfTerm, Tuple, PartTerms, NoPart, PartThen, parts_count, Bind, Past, One, Both, Prim, Reach, Side, On, Several, Branches, NoBranch, BranchThen, variables_of, CoreTree}
 use Rattle.gib_core.specs.Meaning.{function_at}
-use Rattle.gib_core.specs.Reaching.{is_variable, has_variable, uses, bind_uses, side_uses, branches_use}
-use Rattle.gib_core.specs.Met.{Line, CaseLine, ParLine, SideLine, PrimLine, IfLine, Setting, at, behind, in_side, in_arm, in_branch, left_of, right_of, arms_of, met, met_bind, met_side, met_branches, behind_side}
-use Rattle.gib_core.specs.Rules.{Before, is_among, next, next_all, cases_on, LinesAreBuilt, any_other, is_other, all_usable, may_write, are_scalars, is_empty, is_usable, has_type, gives_packed, call_fits, is_nowhere}
+use Rattle.gib_core.specs.Reaching.{is_variable, has_variable, uses, bind_uses, side_uses, parts_use, branches_use}
+use Rattle.gib_core.specs.Met.{Line, CaseLine, ParLine, SideLine, PrimLine, IfLine, SeveralLine, TupleLine, PartLine, Setting, at, behind, in_side, in_several, in_part, in_arm, in_branch, left_of, right_of, arms_of, met, met_bind, met_side, met_parts, met_branches, behind_side}
+use Rattle.gib_core.specs.Rules.{Before, is_among, next, next_all, cases_on, LinesAreBuilt, any_other, is_other, all_usable, may_write, are_scalars, is_empty, is_usable, has_type, gives_packed, call_fits, is_nowhere, are_parts, is_in_parts}
 use Rattle.gib_core.specs.Fits.{entry_cased, cased, is_of}
 use Rattle.gib_core.specs.Walk.{Entry, AtLine, AtArm}
 use Rattle.gib_core.proofs.Walks.{walk_joins}
@@ -51,10 +51,14 @@ any_second s x (y ∷ ys) zs o e = any_second s x ys zs o (or_parts (is_other s 
 
 -- Settings of nested terms have the others.
 
+others_side : (s : Setting) (l : Side) (x : Variable) → is_among s.others x ≡ true → is_among (behind_side s l).others x ≡ true
+others_side s (On kind y ty t) x o = o
+others_side s (Several xs tys t) x o = o
+
 others_behind : (s : Setting) (b : Bind) (x : Variable) → is_among s.others x ≡ true → is_among (behind s b).others x ≡ true
 others_behind s (Past h k) x o = o
-others_behind s (One (On kind y ty t)) x o = o
-others_behind s (Both fork (On kind y ty t) (On other z uy u)) x o = o
+others_behind s (One l) x o = others_side s l x o
+others_behind s (Both fork l r) x o = others_side (behind_side s l) r x (others_side s l x o)
 others_behind s (Prim y f v w) x o = o
 others_behind s (Reach y by) x o = o
 
@@ -63,8 +67,13 @@ others_inside table s Here ty x o = o
 others_inside table s Region ty x o = o
 others_inside table s Scalar ty x o = o
 
+among_more : (xs ys : List Variable) (x : Variable) → is_among ys x ≡ true → is_among (xs ++ ys) x ≡ true
+among_more [] ys x o = o
+among_more (y ∷ xs) ys x o = or_right (y.0 == x.0) (is_among (xs ++ ys) x) (among_more xs ys x o)
+
 others_right : (s : Setting) (l : Side) (x : Variable) → is_among s.others x ≡ true → is_among (right_of s l).others x ≡ true
 others_right s (On kind y ty t) x o = or_right (y.0 == x.0) (is_among s.others x) o
+others_right s (Several xs tys t) x o = among_more xs s.others x o
 
 -- Terms.
 
@@ -90,6 +99,10 @@ mutual
       or_from (is_variable x y) (uses t x || uses u x)
       (one_unused s x y o (least_none 4 (is_other s y) ((8, not (is_usable s y)) ∷ (9, not (has_type b y Truth)) ∷ []) e.0).0)
       (or_from (uses t x) (uses u x) (unused core t c (in_branch s) x o parts.0) (unused core u (next_all core.table c (met core.table (in_branch s) t)) (in_branch s) x o parts.1))
+  unused core (Tuple tys ss ps) b s x o e =
+      or_from (has_variable x ss) (parts_use ps x)
+      (any_unused s x ss o (least_none 4 (any_other s ss) ((8, not (all_usable s ss)) ∷ (9, not (are_parts core.table b s.destination tys ss (parts_count ps))) ∷ (10, not (is_in_parts s.destination)) ∷ []) e.0).0)
+      (parts_unused core ps (tree_types tys) b s x o e.1)
 
   bind_unused : (core : CoreTree) (k : Bind) (b : Before) (s : Setting) (x : Variable) → is_among s.others x ≡ true → LinesAreBuilt core b (met_bind core.table s k) → bind_uses k x ≡ false
   bind_unused core (Past h k) b s x o e = refl
@@ -98,7 +111,7 @@ mutual
       let c = next core.table b ParLine in
       let parts = built_apart core c (met_side core.table (left_of s r) l) (met_side core.table (right_of s l) r) e.1 in
       or_from (side_uses l x) (side_uses r x)
-      (side_unused core l c (left_of s r) x (or_right ((variable_of r).0 == x.0) (is_among s.others x) o) parts.0)
+      (side_unused core l c (left_of s r) x (among_more (variables_of r) s.others x o) parts.0)
       (side_unused core r (next_all core.table c (met_side core.table (left_of s r) l)) (right_of s l) x (others_right s l x o) parts.1)
   bind_unused core (Prim y f v w) b s x o e =
       let h = or_parts (is_other s v) (is_other s w || false) (prim_facts core b s y f v w e.0).apart in
@@ -108,6 +121,15 @@ mutual
   pub side_unused : (core : CoreTree) (side : Side) (b : Before) (s : Setting) (x : Variable) → is_among s.others x ≡ true → LinesAreBuilt core b (met_side core.table s side) → side_uses side x ≡ false
   side_unused core (On kind y ty t) b s x o e =
       unused core t (next core.table b (SideLine kind y ty)) (in_side core.table s kind ty) x (others_inside core.table s kind ty x o) e.1
+  side_unused core (Several xs tys t) b s x o e = unused core t (next core.table b (SeveralLine xs tys)) (in_several s tys) x o e.1
+
+  parts_unused : (core : CoreTree) (ps : PartTerms) (tys : List Ty) (b : Before) (s : Setting) (x : Variable) → is_among s.others x ≡ true → LinesAreBuilt core b (met_parts core.table s tys ps) → parts_use ps x ≡ false
+  parts_unused core NoPart tys b s x o e = refl
+  parts_unused core (PartThen t ps) tys b s x o e =
+      let inner = in_part s (first_type tys) in
+      let c = next core.table b PartLine in
+      let parts = built_apart core c (met core.table inner t) (met_parts core.table s (further_types tys) ps) e.1 in
+      or_from (uses t x) (parts_use ps x) (unused core t c inner x o parts.0) (parts_unused core ps (further_types tys) (next_all core.table c (met core.table inner t)) s x o parts.1)
 
   branches_unused : (core : CoreTree) (bs : Branches) (b : Before) (s : Setting) (x : Variable) → is_among s.others x ≡ true → LinesAreBuilt core b (met_branches core.table s bs) → branches_use bs x ≡ false
   branches_unused core NoBranch b s x o e = refl
@@ -132,6 +154,9 @@ cased_kept (Rattle.gib_core.specs.Met.PointLine x) cs y h = h
 cased_kept (Rattle.gib_core.specs.Met.CallLine f xs) cs y h = h
 cased_kept (Rattle.gib_core.specs.Met.GiveLine x) cs y h = h
 cased_kept (IfLine x) cs y h = h
+cased_kept (SeveralLine xs tys) cs y h = h
+cased_kept (TupleLine tys ss packed) cs y h = h
+cased_kept PartLine cs y h = h
 
 -- Which of two.
 pub data Either (p q : Bool) : Type 0 where
@@ -167,6 +192,9 @@ entry_marks table q (AtLine (Rattle.gib_core.specs.Met.PointLine x)) e b = absur
 entry_marks table q (AtLine (Rattle.gib_core.specs.Met.CallLine f xs)) e b = absurd cc
 entry_marks table q (AtLine (Rattle.gib_core.specs.Met.GiveLine x)) e b = absurd cc
 entry_marks table q (AtLine (IfLine x)) e b = absurd cc
+entry_marks table q (AtLine (SeveralLine xs tys)) e b = absurd cc
+entry_marks table q (AtLine (TupleLine tys ss packed)) e b = absurd cc
+entry_marks table q (AtLine PartLine) e b = absurd cc
 entry_marks table q (AtArm k xs) e b = absurd cc
 
 entry_keeps : (table : Table) (q : Variable) (l : Entry) (b : Before) → is_among b.cased q ≡ true → is_among (step table l b).cased q ≡ true

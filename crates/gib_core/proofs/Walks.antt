@@ -1,10 +1,10 @@
 -- Laws of the walk on terms.
-use Rattle.std.proofs.Common.{◌≡◌, List, ◌∷◌, refl, sym, ap, ◌∙◌, subst}
+use Rattle.std.proofs.Common.{◌≡◌, ℕ, suc, List, ◌∷◌, refl, sym, ap, ◌∙◌, subst}
 use Rattle.gib_types.specs.declared.table.ConId.{ConId}
 use Rattle.gib_core.specs.declared.atom.Variable.{Variable}
-use Rattle.gib_core.specs.Tree.{Term, Then, Write, Point, CallTerm, Give, CaseTerm, IfTerm, Bind, Past, One, Both, Prim, Reach, Side, On, Branches, NoBranch, BranchThen}
-use Rattle.gib_core.specs.Met.{PastLine, SideLine, ParLine, PrimLine, ReachLine, WriteLine, PointLine, CallLine, GiveLine, CaseLine, IfLine, arms_of}
-use Rattle.gib_core.specs.Walk.{Entry, AtLine, AtArm, walk, walk_bind, walk_side, walk_branches, Nested, InSide, InArm, InIf, map_term, map_bind, map_side, map_branches}
+use Rattle.gib_core.specs.Tree.{Term, Then, Write, Point, CallTerm, Give, CaseTerm, IfTerm, Tuple, PartTerms, NoPart, PartThen, parts_count, Bind, Past, One, Both, Prim, Reach, Side, On, Several, Branches, NoBranch, BranchThen}
+use Rattle.gib_core.specs.Met.{PastLine, SideLine, ParLine, PrimLine, ReachLine, WriteLine, PointLine, CallLine, GiveLine, CaseLine, IfLine, SeveralLine, TupleLine, PartLine, arms_of}
+use Rattle.gib_core.specs.Walk.{Entry, AtLine, AtArm, walk, walk_bind, walk_side, walk_parts, walk_branches, Nested, InSide, InArm, InIf, InPart, map_term, map_bind, map_side, map_parts, map_branches}
 
 -- A relation that joins what two walks say: of nothing, of two, and of each entry.
 pub record Joins {ℓ ℓ'} {A : Type ℓ} {B : Type ℓ'} (R : A → B → Type 0) (op : A → A → A) (e : A) (g : Entry → A) (op' : B → B → B) (e' : B) (g' : Entry → B) : Type (ℓ ⊔ ℓ') where
@@ -23,6 +23,7 @@ mutual
   walk_joins j (Give x) = j.one (AtLine (GiveLine x))
   walk_joins j (CaseTerm x bs) = j.two _ _ _ _ (j.one (AtLine (CaseLine x (arms_of bs)))) (branches_join j bs)
   walk_joins j (IfTerm x t u) = j.two _ _ _ _ (j.one (AtLine (IfLine x))) (j.two _ _ _ _ (walk_joins j t) (walk_joins j u))
+  walk_joins j (Tuple tys ss ps) = j.two _ _ _ _ (j.one (AtLine (TupleLine tys ss (parts_count ps)))) (parts_join j ps)
 
   pub bind_joins {ℓ ℓ'} : {A : Type ℓ} {B : Type ℓ'} {R : A → B → Type 0} {op : A → A → A} {e : A} {g : Entry → A} {op' : B → B → B} {e' : B} {g' : Entry → B}
       → Joins R op e g op' e' g' → (b : Bind) → R (walk_bind op e g b) (walk_bind op' e' g' b)
@@ -35,6 +36,12 @@ mutual
   pub side_joins {ℓ ℓ'} : {A : Type ℓ} {B : Type ℓ'} {R : A → B → Type 0} {op : A → A → A} {e : A} {g : Entry → A} {op' : B → B → B} {e' : B} {g' : Entry → B}
       → Joins R op e g op' e' g' → (s : Side) → R (walk_side op e g s) (walk_side op' e' g' s)
   side_joins j (On kind x ty t) = j.two _ _ _ _ (j.one (AtLine (SideLine kind x ty))) (walk_joins j t)
+  side_joins j (Several xs tys t) = j.two _ _ _ _ (j.one (AtLine (SeveralLine xs tys))) (walk_joins j t)
+
+  pub parts_join {ℓ ℓ'} : {A : Type ℓ} {B : Type ℓ'} {R : A → B → Type 0} {op : A → A → A} {e : A} {g : Entry → A} {op' : B → B → B} {e' : B} {g' : Entry → B}
+      → Joins R op e g op' e' g' → (ps : PartTerms) → R (walk_parts op e g ps) (walk_parts op' e' g' ps)
+  parts_join j NoPart = j.none
+  parts_join j (PartThen t ps) = j.two _ _ _ _ (j.one (AtLine PartLine)) (j.two _ _ _ _ (walk_joins j t) (parts_join j ps))
 
   pub branches_join {ℓ ℓ'} : {A : Type ℓ} {B : Type ℓ'} {R : A → B → Type 0} {op : A → A → A} {e : A} {g : Entry → A} {op' : B → B → B} {e' : B} {g' : Entry → B}
       → Joins R op e g op' e' g' → (bs : Branches) → R (walk_branches op e g bs) (walk_branches op' e' g' bs)
@@ -59,6 +66,11 @@ pub same_arms : (f : Bind → Bind) (g : Nested → Term → Term) (bs : Branche
 same_arms f g NoBranch = refl
 same_arms f g (BranchThen k xs t rest) = ap (λ l. (k, xs) ∷ l) (same_arms f g rest)
 
+-- There are as many parts.
+pub same_count : (f : Bind → Bind) (g : Nested → Term → Term) (ps : PartTerms) → parts_count (map_parts f g ps) ≡ parts_count ps
+same_count f g NoPart = refl
+same_count f g (PartThen t ps) = ap suc (same_count f g ps)
+
 -- So whole terms keep it.
 mutual
   pub map_joins {ℓ} : {A : Type ℓ} (R : A → A → Type 0) (op : A → A → A) (e : A) (l : Entry → A) (f : Bind → Bind) (g : Nested → Term → Term) → Maps R op e l f g → (t : Term) → R (walk op e l (map_term f g t)) (walk op e l t)
@@ -71,6 +83,8 @@ mutual
       m.two _ _ _ _ (subst (λ (arms : List (ConId × List Variable)). R (l (AtLine (CaseLine x arms))) (l (AtLine (CaseLine x (arms_of bs))))) (sym (same_arms f g bs)) (m.same _)) (map_branches_joins R op e l f g m bs)
   map_joins R op e l f g m (IfTerm x t u) =
       m.two _ _ _ _ (m.same _) (m.two _ _ _ _ (m.chain _ _ _ (m.nested InIf (map_term f g t)) (map_joins R op e l f g m t)) (m.chain _ _ _ (m.nested InIf (map_term f g u)) (map_joins R op e l f g m u)))
+  map_joins R op e l f g m (Tuple tys ss ps) =
+      m.two _ _ _ _ (subst (λ (n : ℕ). R (l (AtLine (TupleLine tys ss n))) (l (AtLine (TupleLine tys ss (parts_count ps))))) (sym (same_count f g ps)) (m.same _)) (map_parts_join R op e l f g m ps)
 
   pub map_bind_joins {ℓ} : {A : Type ℓ} (R : A → A → Type 0) (op : A → A → A) (e : A) (l : Entry → A) (f : Bind → Bind) (g : Nested → Term → Term) → Maps R op e l f g → (b : Bind) → R (walk_bind op e l (map_bind f g b)) (walk_bind op e l b)
   map_bind_joins R op e l f g m (Past h c) = m.same _
@@ -81,6 +95,11 @@ mutual
 
   map_side_joins {ℓ} : {A : Type ℓ} (R : A → A → Type 0) (op : A → A → A) (e : A) (l : Entry → A) (f : Bind → Bind) (g : Nested → Term → Term) → Maps R op e l f g → (s : Side) → R (walk_side op e l (map_side f g s)) (walk_side op e l s)
   map_side_joins R op e l f g m (On kind x ty t) = m.two _ _ _ _ (m.same _) (m.chain _ _ _ (m.nested InSide (map_term f g t)) (map_joins R op e l f g m t))
+  map_side_joins R op e l f g m (Several xs tys t) = m.two _ _ _ _ (m.same _) (m.chain _ _ _ (m.nested InSide (map_term f g t)) (map_joins R op e l f g m t))
+
+  map_parts_join {ℓ} : {A : Type ℓ} (R : A → A → Type 0) (op : A → A → A) (e : A) (l : Entry → A) (f : Bind → Bind) (g : Nested → Term → Term) → Maps R op e l f g → (ps : PartTerms) → R (walk_parts op e l (map_parts f g ps)) (walk_parts op e l ps)
+  map_parts_join R op e l f g m NoPart = m.same _
+  map_parts_join R op e l f g m (PartThen t ps) = m.two _ _ _ _ (m.same _) (m.two _ _ _ _ (m.chain _ _ _ (m.nested InPart (map_term f g t)) (map_joins R op e l f g m t)) (map_parts_join R op e l f g m ps))
 
   map_branches_joins {ℓ} : {A : Type ℓ} (R : A → A → Type 0) (op : A → A → A) (e : A) (l : Entry → A) (f : Bind → Bind) (g : Nested → Term → Term) → Maps R op e l f g → (bs : Branches) → R (walk_branches op e l (map_branches f g bs)) (walk_branches op e l bs)
   map_branches_joins R op e l f g m NoBranch = m.same _

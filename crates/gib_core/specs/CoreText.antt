@@ -19,8 +19,10 @@ use Rattle.gib_core.specs.declared.piece.Keyword.{Keyword}
 use Rattle.gib_core.specs.declared.piece.Keyword.TheVariants as k
 use Rattle.gib_core.specs.declared.piece.Piece.{Piece}
 use Rattle.gib_core.specs.declared.piece.Piece.TheVariants as p
+use Rattle.gib_syntax.specs.Results as results
+use Rattle.gib_syntax.specs.Results.{Results}
 use Rattle.gib_core.specs.Ending.{Ended, has_ended, ended}
-use Rattle.gib_core.specs.Tree.{Term, Then, Write, Point, CallTerm, Give, CaseTerm, IfTerm, Bind, Past, One, Both, Prim, Reach, Side, On, Branches, NoBranch, BranchThen, FunctionTerm, MainTerm, CoreTree}
+use Rattle.gib_core.specs.Tree.{Term, Then, Write, Point, CallTerm, Give, CaseTerm, IfTerm, Tuple, PartTerms, NoPart, PartThen, Bind, Past, One, Both, Prim, Reach, Side, On, Several, Branches, NoBranch, BranchThen, FunctionTerm, MainTerm, CoreTree}
 
 -- The pieces of variables, and then the rest.
 abbrev pub spell_variables : List Variable → List Piece → List Piece
@@ -72,6 +74,7 @@ abbrev mutual
   spell_term es d (CaseTerm x branches) rest = p.Line d k.Case ∷ p.Atom x ∷ p.End ∷ spell_branches es (d + 1) branches rest
   spell_term es d (IfTerm x t u) rest =
       p.Line d k.If ∷ p.Atom x ∷ p.End ∷ spell_term es (d + 1) t (p.Line d k.Else ∷ p.End ∷ spell_term es (d + 1) u rest)
+  spell_term es d (Tuple tys ss ps) rest = p.Line d k.Tuple ∷ spell_atoms ss (p.End ∷ spell_parts es (d + 1) ps rest)
 
   -- A binding, with the sides of a `par` one level deeper: calls in them tell no ends.
   pub spell_bind : List Ended → ℕ → Bind → List Piece → List Piece
@@ -81,9 +84,15 @@ abbrev mutual
   spell_bind es d (Prim x f y z) rest = p.Line d k.Prim ∷ p.Variable x ∷ p.Equals ∷ p.Atom y ∷ p.Operator f ∷ p.Atom z ∷ p.End ∷ rest
   spell_bind es d (Reach y by) rest = p.Line d k.Reach ∷ p.Variable y ∷ spell_access by ∷ p.End ∷ rest
 
-  -- A variable that is bound, and its term on the level below.
+  -- The line of each part, and its term on the level below it.
+  pub spell_parts : List Ended → ℕ → PartTerms → List Piece → List Piece
+  spell_parts es d NoPart rest = rest
+  spell_parts es d (PartThen t ps) rest = p.Line d k.To ∷ p.End ∷ spell_term es (d + 1) t (spell_parts es d ps rest)
+
+  -- What is bound, and its term on the level below.
   pub spell_side : List Ended → ℕ → Side → List Piece → List Piece
   spell_side es d (On kind x ty t) rest = p.Line d (kind_word kind) ∷ p.Variable x ∷ p.End ∷ spell_term es (d + 1) t rest
+  spell_side es d (Several xs tys t) rest = p.Line d k.Several ∷ spell_variables xs (p.End ∷ spell_term es (d + 1) t rest)
 
   -- Each arm's line, and its term on the level below it.
   pub spell_branches : List Ended → ℕ → Branches → List Piece → List Piece
@@ -96,10 +105,25 @@ abbrev pub spell_parameters : ℕ → List Ty → List Piece → List Piece
 spell_parameters n [] rest = rest
 spell_parameters n (t ∷ ts) rest = p.Parameter (record { 0 = n }) t ∷ spell_parameters (n + 1) ts rest
 
+-- The types of further parts.
+abbrev pub spell_further : List Ty → List Piece → List Piece
+spell_further [] rest = rest
+spell_further (t ∷ ts) rest = p.FurtherPart t ∷ spell_further ts rest
+
+-- The types of the parts of a result.
+abbrev pub spell_result_parts : List Ty → List Piece → List Piece
+spell_result_parts [] rest = rest
+spell_result_parts (t ∷ ts) rest = p.FirstPart t ∷ spell_further ts (p.PartsEnd ∷ rest)
+
+-- The type of a result, or those of its parts.
+abbrev pub spell_result : Results Ty → List Piece → List Piece
+spell_result (results.One t) rest = p.Result t ∷ rest
+spell_result (results.Several ts) rest = spell_result_parts ts rest
+
 -- A function: its line, and its body.
 abbrev pub spell_function : List Ended → FunctionTerm → List Piece → List Piece
 spell_function es f rest =
-    p.Line 0 k.Fun ∷ p.Function f.name ∷ spell_parameters 0 f.parameters (p.Result f.result ∷ p.End ∷ spell_term es 1 f.body rest)
+    p.Line 0 k.Fun ∷ p.Function f.name ∷ spell_parameters 0 f.parameters (spell_result f.result (p.End ∷ spell_term es 1 f.body rest))
 
 -- The functions, in the order of the text.
 abbrev pub spell_functions : List Ended → List FunctionTerm → List Piece → List Piece
@@ -133,6 +157,9 @@ keyword_text k.Scalar = codes "scalar"
 keyword_text k.Prim = codes "prim"
 keyword_text k.Par = codes "par"
 keyword_text k.Reach = codes "reach"
+keyword_text k.Several = codes "several"
+keyword_text k.Tuple = codes "tuple"
+keyword_text k.To = codes "to"
 
 -- How an operator is written.
 abbrev pub operator_text : Operator → List ℕ
@@ -177,6 +204,9 @@ piece_text names table (p.Variable x) = 32 ∷ variable_text x
 piece_text names table (p.Atom x) = 32 ∷ atom_text x
 piece_text names table (p.Parameter x t) = 32 ∷ (variable_text x ++ 58 ∷ type_text names table t)
 piece_text names table (p.Result t) = codes " : " ++ type_text names table t
+piece_text names table (p.FirstPart t) = codes " : (" ++ type_text names table t
+piece_text names table (p.FurtherPart t) = codes ", " ++ type_text names table t
+piece_text names table p.PartsEnd = codes ")"
 piece_text names table (p.Operator f) = 32 ∷ operator_text f
 piece_text names table p.Equals = codes " ="
 piece_text names table p.Fork = codes " fork"

@@ -7,7 +7,7 @@ use Rattle.gib_core.specs.declared.atom.Variable.{Variable}
 pub use Rattle.gib_core.specs.declared.atom.Ended.{Ended}
 use Rattle.gib_core.specs.declared.atom.Atom.{Atom}
 use Rattle.gib_core.specs.declared.atom.Atom.TheVariants as a
-use Rattle.gib_core.specs.Tree.{Term, Then, Write, Point, CallTerm, Give, CaseTerm, IfTerm, Bind, Past, One, Both, Prim, Reach, Side, On, Branches, NoBranch, BranchThen, is_variable, FunctionTerm, CoreTree}
+use Rattle.gib_core.specs.Tree.{Term, Then, Write, Point, CallTerm, Give, CaseTerm, IfTerm, Tuple, PartTerms, NoPart, PartThen, Bind, Past, One, Both, Prim, Reach, Side, On, Several, Branches, NoBranch, BranchThen, is_variable, FunctionTerm, CoreTree}
 use Rattle.gib_core.specs.Meaning.{function_at}
 
 -- The parameter is among them.
@@ -29,11 +29,13 @@ tells es (CallTerm f xs) z = call_ends es f.0 0 xs z
 tells es (Give x) z = false
 tells es (CaseTerm x bs) z = false
 tells es (IfTerm x t u) z = false
+tells es (Tuple tys ss ps) z = false
 
--- A binding tells the end of z: outside any `par`.
+-- A binding of one variable tells the end of z: outside any `par`.
 abbrev pub is_telling : List Ended → Bind → Variable → Bool
 is_telling es (Past h k) z = false
 is_telling es (One (On kind x ty t)) z = tells es t z
+is_telling es (One (Several xs tys t)) z = false
 is_telling es (Both fork l r) z = false
 is_telling es (Prim x f v w) z = false
 is_telling es (Reach y by) z = false
@@ -61,6 +63,7 @@ abbrev mutual
   is_known table es (Give x) z = false
   is_known table es (CaseTerm x bs) z = all_known table es bs z || (is_variable z x && lasts_known table es bs)
   is_known table es (IfTerm x t u) z = is_known table es t z && is_known table es u z
+  is_known table es (Tuple tys ss ps) z = false
 
   -- In each branch.
   pub all_known : Table → List Ended → Branches → Variable → Bool
@@ -123,6 +126,7 @@ abbrev mutual
   has_telling es (Give x) = false
   has_telling es (CaseTerm x bs) = branches_telling es bs
   has_telling es (IfTerm x t u) = has_telling es t || has_telling es u
+  has_telling es (Tuple tys ss ps) = parts_telling es ps
 
   pub bind_telling : List Ended → Bind → Bool
   bind_telling es (Past h k) = false
@@ -133,6 +137,11 @@ abbrev mutual
 
   pub side_telling : List Ended → Side → Bool
   side_telling es (On kind x ty t) = has_telling es t
+  side_telling es (Several xs tys t) = has_telling es t
+
+  pub parts_telling : List Ended → PartTerms → Bool
+  parts_telling es NoPart = false
+  parts_telling es (PartThen t ps) = has_telling es t || parts_telling es ps
 
   pub branches_telling : List Ended → Branches → Bool
   branches_telling es NoBranch = false

@@ -7,6 +7,8 @@ use Rattle.gib_types.specs.declared.table.Ty.{Ty}
 use Rattle.gib_types.specs.declared.table.Ty.TheVariants.{Whole, Truth, Tree}
 use Rattle.gib_types.specs.Table.{fields_at, con_at, scalar_types, IsTable, is_scalar}
 use Rattle.gib_types.specs.Layout.{is_among}
+use Rattle.gib_syntax.specs.Results as results
+use Rattle.gib_syntax.specs.Results.{Results, AreSeveral}
 use Rattle.gib_syntax.specs.Typing.{operator_type}
 use Rattle.gib_types.specs.declared.table.ConId.{ConId}
 use Rattle.gib_core.specs.declared.atom.Variable.{Variable}
@@ -15,10 +17,10 @@ use Rattle.gib_core.specs.declared.atom.Atom.TheVariants as a
 use Rattle.gib_core.specs.declared.atom.Kind.TheVariants as kind
 use Rattle.gib_core.specs.declared.atom.Access.TheVariants as by
 use Rattle.gib_core.specs.Tree as t
-use Rattle.gib_core.specs.Tree.{Term, Bind, Side, Branches, FunctionTerm, CoreTree, var, variable_of}
+use Rattle.gib_core.specs.Tree.{Term, Bind, Side, Branches, PartTerms, FunctionTerm, CoreTree, var}
 use Rattle.gib_core.specs.Meaning.{function_at}
 use Rattle.gib_core.specs.Met.{CaseLine}
-use Rattle.gib_core.specs.Walk.{Entry, AtLine, some, walk_bind, walk_side, walk_branches}
+use Rattle.gib_core.specs.Walk.{Entry, AtLine, some, walk_bind, walk_side, walk_parts, walk_branches}
 use Rattle.gib_core.specs.Reaching.{side_uses}
 use Rattle.gib_core.specs.Numbering.{binders}
 use Rattle.gib_core.specs.Ending.{Within, within_par, within_function, within_main, ended, has_ended, call_ends, last_packed}
@@ -82,23 +84,26 @@ tree_type (AtHead t) = Some t
 tree_type (Field t z x k p) = None
 
 -- A scalar of the type is due; a tree of the type at an empty place; a tree of the type t whose head h of the constructor
--- k is open, where the fields xs stand and fields of these types are due.
+-- k is open, where the fields xs stand and fields of these types are due; parts of these types, each packed one in a region of its own.
 pub data Dest : Type 0 where
   Nowhere : (ty : Ty) → Dest
   Empty : (t : ℕ) → Dest
   Open : (t h k : ℕ) (xs dues : List ℕ) → Dest
+  InParts : (tys : List Ty) → Dest
 
--- The type that is due at a destination.
-abbrev pub dest_type : Dest → Ty
-dest_type (Nowhere ty) = ty
-dest_type (Empty t) = Tree (record { 0 = t })
-dest_type (Open t h k xs dues) = Tree (record { 0 = t })
+-- What is due at a destination.
+abbrev pub dest_type : Dest → Results Ty
+dest_type (Nowhere ty) = results.One ty
+dest_type (Empty t) = results.One (Tree (record { 0 = t }))
+dest_type (Open t h k xs dues) = results.One (Tree (record { 0 = t }))
+dest_type (InParts tys) = results.Several tys
 
--- The destination of a result of the type.
-abbrev pub dest_of : Ty → Dest
-dest_of Whole = Nowhere Whole
-dest_of Truth = Nowhere Truth
-dest_of (Tree t) = Empty t.0
+-- The destination of a result.
+abbrev pub dest_of : Results Ty → Dest
+dest_of (results.One Whole) = Nowhere Whole
+dest_of (results.One Truth) = Nowhere Truth
+dest_of (results.One (Tree t)) = Empty t.0
+dest_of (results.Several tys) = InParts tys
 
 -- After a case on it a tree may be at another place.
 abbrev pub loosen_one : Bool → Sort → Sort
@@ -127,16 +132,23 @@ abbrev pub entry_cased : ℕ → Entry → Bool
 entry_cased q (AtLine (CaseLine x arms)) = is_of x q
 entry_cased q l = false
 
--- A term has a case on the variable, itself or in a term that is nested in it; so has a binding, a side, branches.
+-- A term has a case on the variable, itself or in a term that is nested in it; so has a binding, a side, so have parts, branches.
 abbrev pub cased : Term → ℕ → Bool
 cased t q = some (entry_cased q) t
 
+-- A binding has a case on it.
 abbrev pub bind_cased : Bind → ℕ → Bool
 bind_cased b q = walk_bind (◌||◌) false (entry_cased q) b
 
+-- A side has a case on it.
 abbrev pub side_cased : Side → ℕ → Bool
 side_cased s q = walk_side (◌||◌) false (entry_cased q) s
 
+-- Parts have a case on it.
+abbrev pub parts_cased : PartTerms → ℕ → Bool
+parts_cased ps q = walk_parts (◌||◌) false (entry_cased q) ps
+
+-- Branches have a case on it.
 abbrev pub branches_cased : Branches → ℕ → Bool
 branches_cased bs q = walk_branches (◌||◌) false (entry_cased q) bs
 
@@ -172,6 +184,7 @@ more (Nowhere ty) x = Nowhere ty
 more (Empty t) x = Empty t
 more (Open t h k xs []) x = Open t h k xs []
 more (Open t h k xs (s ∷ dues)) x = Open t h k (xs ++ x ∷ []) dues
+more (InParts tys) x = InParts tys
 
 -- A field of the type is due.
 abbrev pub IsDue : Dest → ℕ → Type 0
@@ -179,6 +192,7 @@ IsDue (Nowhere ty) s = ⊥
 IsDue (Empty t) s = ⊥
 IsDue (Open t h k xs []) s = ⊥
 IsDue (Open t h k xs (u ∷ dues)) s = u ≡ s
+IsDue (InParts tys) s = ⊥
 
 -- All but the first stand where they were bound.
 abbrev pub ArePlaced : Scope → List ℕ → Type 0
@@ -199,12 +213,20 @@ by_call (t.CallTerm f xs) A B = B f xs
 by_call (t.Give x) A B = A
 by_call (t.CaseTerm x bs) A B = A
 by_call (t.IfTerm x u v) A B = A
+by_call (t.Tuple tys ss ps) A B = A
+
+-- A call that is no right side of a `scalar` stands where a tree is due, or parts.
+abbrev pub IsCallPlace : Dest → Type 0
+IsCallPlace (Nowhere ty) = ⊥
+IsCallPlace (Empty t) = Unit {0}
+IsCallPlace (Open t h k xs dues) = ⊥
+IsCallPlace (InParts tys) = Unit {0}
 
 -- A call of a function with the result.
-pub record CallFits (core : CoreTree) (sc : Scope) (f : Name) (xs : List Atom) (ty : Ty) : Type 0 where
+pub record CallFits (core : CoreTree) (sc : Scope) (f : Name) (xs : List Atom) (due : Results Ty) : Type 0 where
   pub function : FunctionTerm
   pub named : function_at core.functions f.0 ≡ Some function
-  pub result : function.result ≡ ty
+  pub result : function.result ≡ due
   pub arguments : AtomsFit sc xs function.parameters
 
 -- A packed field of the tree x of the constructor k: the first one stands, a further one is behind z and its address is stored at p.
@@ -231,6 +253,28 @@ AreNew sc [] [] = Unit {0}
 AreNew sc [] (y ∷ ys) = ⊥
 AreNew sc (ty ∷ ts) [] = ⊥
 AreNew sc (ty ∷ ts) (y ∷ ys) = (sc y.0 ≡ Absent) × AreNew (put sc y.0 Held) ts ys
+
+-- What is known of a parameter of the type, or of a part.
+abbrev pub param_sort : Ty → Sort
+param_sort Whole = Scalar Whole
+param_sort Truth = Scalar Truth
+param_sort (Tree t) = Placed t.0
+
+-- The scope with variables of these types.
+abbrev pub bound_scope : List Ty → List Variable → Scope → Scope
+bound_scope [] ys sc = sc
+bound_scope (ty ∷ ts) [] sc = sc
+bound_scope (ty ∷ ts) (y ∷ ys) sc = bound_scope ts ys (put sc y.0 (param_sort ty))
+
+-- The scope where the values of all of these are being made.
+abbrev pub hold_all : List Variable → Scope → Scope
+hold_all [] sc = sc
+hold_all (y ∷ ys) sc = hold_all ys (put sc y.0 Held)
+
+-- A side uses no variable of another one.
+abbrev pub AreApart : Side → Side → Type 0
+AreApart (t.On kind x ty u) r = side_uses r x ≡ false
+AreApart (t.Several xs tys u) r = AllByRecursion (λ (x : Variable). side_uses r x ≡ false) xs
 
 -- There is a branch for the constructor.
 abbrev pub has_branch : Branches → ℕ → Bool
@@ -298,6 +342,7 @@ side_tells w core (t.CallTerm f xs) q = call_tells w core f.0 xs q
 side_tells w core (t.Give x) q = false
 side_tells w core (t.CaseTerm x bs) q = false
 side_tells w core (t.IfTerm x u v) q = false
+side_tells w core (t.Tuple tys ss ps) q = false
 
 -- An arm without packed fields tells its tree's end.
 abbrev pub is_leaf : Option Variable → Bool
@@ -350,19 +395,28 @@ abbrev mutual
   Fits core ns (t.Write h k ss ps) sc d ln =
       (s : ℕ) × (xs : List ℕ) × (d ≡ Open s h.0 k.0 xs []) × (ps ≡ map var xs) × AtomsFit sc ss (scalar_types (fields_at core.table k.0)) × FurtherPlaced sc xs × Meets ns ln.told ln.overs
   Fits core ns (t.Point x) sc d ln = (s : ℕ) × (d ≡ Empty s) × IsTree sc x s × Meets ns ln.told ln.overs
-  Fits core ns (t.CallTerm f xs) sc d ln = (s : ℕ) × (d ≡ Empty s) × CallFits core sc f xs (Tree (record { 0 = s })) × Meets ns (λ q. ln.told q || call_tells ln.within core f.0 xs q) ln.overs
+  Fits core ns (t.CallTerm f xs) sc d ln = IsCallPlace d × CallFits core sc f xs (dest_type d) × Meets ns (λ q. ln.told q || call_tells ln.within core f.0 xs q) ln.overs
   Fits core ns (t.Give x) sc d ln = (ty : Ty) × (d ≡ Nowhere ty) × (is_scalar ty ≡ true) × AtomFits sc x ty × Meets ns ln.told ln.overs
   Fits core ns (t.CaseTerm x bs) sc d ln =
       (s : ℕ) × (tree : IsTree sc x s) × ((k : ℕ) → con_at core.table s k ≡ Some k → has_branch bs k ≡ true) × BranchesFit core ns bs tree.variable.0 (put sc tree.variable.0 (AtHead s)) d ln
   Fits core ns (t.IfTerm x u v) sc d ln = AtomFits sc x Truth × Fits core ns u sc d ln × Fits core ns v sc d ln
+  Fits core ns (t.Tuple tys ss ps) sc d ln =
+      (d ≡ InParts tys) × PartsFit core ln.within ps (packed_due tys) sc (λ sc'. AtomsFit sc' ss (scalar_types tys)) × Meets ns ln.told ln.overs
+
+  -- Each part fits where a tree of its type is due; go says the rest of the scope behind them.
+  pub PartsFit : CoreTree → Within → PartTerms → List ℕ → Scope → (Scope → Type 0) → Type 0
+  PartsFit core w t.NoPart [] sc go = go sc
+  PartsFit core w t.NoPart (s ∷ ss) sc go = ⊥
+  PartsFit core w (t.PartThen u ps) [] sc go = ⊥
+  PartsFit core w (t.PartThen u ps) (s ∷ ss) sc go = Fits core (Inner none_of) u sc (Empty s) (new_line w) × PartsFit core w ps ss (loosen (cased u) sc) go
 
   -- go says that the rest of the line fits the scope and the destination behind the binding.
   pub BindFits : CoreTree → Bind → Scope → Dest → Line → (Scope → Dest → Line → Type 0) → Type 0
   BindFits core (t.Past h k) sc d ln go =
       (s : ℕ) × (d ≡ Empty s) × (con_at core.table s k.0 ≡ Some k.0) × (sc h.0 ≡ Absent) × go (put sc h.0 Held) (Open s h.0 k.0 [] (packed_due (fields_at core.table k.0))) ln
   BindFits core (t.One side) sc d ln go = SideFits core ln.within side sc d ln go
-  BindFits core (t.Both false l r) sc d ln go = (side_uses r (variable_of l) ≡ false) × SideFits core (within_par ln.within) l sc d ln (λ sc' d' ln'. SideFits core (within_par ln.within) r sc' d' ln' go)
-  BindFits core (t.Both true l r) sc d ln go = (side_uses r (variable_of l) ≡ false) × AloneFits core (within_par ln.within) r sc × SideFits core (within_par ln.within) l sc d ln (λ sc' d' ln'. SideFits core (within_par ln'.within) r sc' d' ln' go)
+  BindFits core (t.Both false l r) sc d ln go = AreApart l r × SideFits core (within_par ln.within) l sc d ln (λ sc' d' ln'. SideFits core (within_par ln.within) r sc' d' ln' go)
+  BindFits core (t.Both true l r) sc d ln go = AreApart l r × AloneFits core (within_par ln.within) r sc × SideFits core (within_par ln.within) l sc d ln (λ sc' d' ln'. SideFits core (within_par ln'.within) r sc' d' ln' go)
   BindFits core (t.Prim x f y z) sc d ln go = (sc x.0 ≡ Absent) × AtomFits sc y Whole × AtomFits sc z Whole × go (put sc x.0 (Scalar (operator_type f))) d ln
   BindFits core (t.Reach y by.Offset) sc d ln go =
       (s : ℕ) × (z x k p : ℕ) × (sc y.0 ≡ Field s z x k p) × (is_among (laid_of core).with_offsets k ≡ true) × go (put sc y.0 (Placed s)) d ln
@@ -378,25 +432,22 @@ abbrev mutual
   SideFits core w (t.On kind.Region x ty u) sc d ln go =
       (s : ℕ) × (ty ≡ Tree (record { 0 = s })) × (sc x.0 ≡ Absent) × Fits core (Inner (side_tells w core u)) u (put sc x.0 Held) (Empty s) (new_line w) × go (put (loosen (cased u) sc) x.0 (Placed s)) d (tell_line (side_tells w core u) ln)
   SideFits core w (t.On kind.Scalar x ty u) sc d ln go =
-      (is_scalar ty ≡ true) × (sc x.0 ≡ Absent) × by_call u (Fits core (Inner (side_tells w core u)) u sc (Nowhere ty) (new_line w)) (λ f xs. CallFits core sc f xs ty) × go (put (loosen (cased u) sc) x.0 (Scalar ty)) d (tell_line (side_tells w core u) ln)
+      (is_scalar ty ≡ true) × (sc x.0 ≡ Absent) × by_call u (Fits core (Inner (side_tells w core u)) u sc (Nowhere ty) (new_line w)) (λ f xs. CallFits core sc f xs (results.One ty)) × go (put (loosen (cased u) sc) x.0 (Scalar ty)) d (tell_line (side_tells w core u) ln)
+  SideFits core w (t.Several xs tys u) sc d ln go =
+      (AreSeveral tys × (length tys ≤ 8)) × AreNew sc tys xs × Fits core (Inner none_of) u (hold_all xs sc) (InParts tys) (new_line w) × go (bound_scope tys xs (loosen (cased u) sc)) d (tell_line none_of ln)
 
   -- The right side of a fork fits where the left one has bound nothing.
   pub AloneFits : CoreTree → Within → Side → Scope → Type 0
   AloneFits core w (t.On kind.Here y ty u) sc = (s : ℕ) × (ty ≡ Tree (record { 0 = s })) × (sc y.0 ≡ Absent) × Fits core (Inner none_of) u (put sc y.0 Held) (Empty s) (new_line w)
   AloneFits core w (t.On kind.Region y ty u) sc = (s : ℕ) × (ty ≡ Tree (record { 0 = s })) × (sc y.0 ≡ Absent) × Fits core (Inner (side_tells w core u)) u (put sc y.0 Held) (Empty s) (new_line w)
-  AloneFits core w (t.On kind.Scalar y ty u) sc = (is_scalar ty ≡ true) × (sc y.0 ≡ Absent) × by_call u (Fits core (Inner (side_tells w core u)) u sc (Nowhere ty) (new_line w)) (λ f xs. CallFits core sc f xs ty)
+  AloneFits core w (t.On kind.Scalar y ty u) sc = (is_scalar ty ≡ true) × (sc y.0 ≡ Absent) × by_call u (Fits core (Inner (side_tells w core u)) u sc (Nowhere ty) (new_line w)) (λ f xs. CallFits core sc f xs (results.One ty))
+  AloneFits core w (t.Several xs tys u) sc = (AreSeveral tys × (length tys ≤ 8)) × AreNew sc tys xs × Fits core (Inner none_of) u (hold_all xs sc) (InParts tys) (new_line w)
 
   -- Each branch fits, with its fields in scope.
   pub BranchesFit : CoreTree → Needs → Branches → ℕ → Scope → Dest → Line → Type 0
   BranchesFit core ns t.NoBranch x sc d ln = Unit {0}
   BranchesFit core ns (t.BranchThen k ys u bs) x sc d ln =
       AreNew sc (fields_at core.table k.0) ys × Fits core ns u (arm_scope x k.0 1 None (fields_at core.table k.0) ys sc) d (arm_line core x k ys u ln) × BranchesFit core ns bs x sc d ln
-
--- What is known of a parameter of the type.
-abbrev pub param_sort : Ty → Sort
-param_sort Whole = Scalar Whole
-param_sort Truth = Scalar Truth
-param_sort (Tree t) = Placed t.0
 
 -- The scope of a body with so many slots: its parameters come first, and the other slots are not bound yet.
 abbrev pub body_scope : ℕ → List Ty → Scope
@@ -413,7 +464,7 @@ pub record FunctionFits (core : CoreTree) (f : ℕ) (g : FunctionTerm) (slots : 
 
 -- Main's body fits.
 pub record MainFits (core : CoreTree) (slots : ℕ) : Type 0 where
-  pub fits : Fits core (AtEnd none_of) core.main.body (body_scope slots (core.main.parameter ∷ [])) (dest_of core.main.result) (new_line (within_main core))
+  pub fits : Fits core (AtEnd none_of) core.main.body (body_scope slots (core.main.parameter ∷ [])) (dest_of (results.One core.main.result)) (new_line (within_main core))
 
 -- A body fits by itself, whatever its callers are told.
 pub record OwnFits (core : CoreTree) (g : FunctionTerm) (slots : ℕ) : Type 0 where

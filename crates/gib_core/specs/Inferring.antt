@@ -8,16 +8,20 @@ use Rattle.gib_types.specs.Table.{Table, fields_at, owner_at, at_fields}
 pub use Rattle.gib_types.specs.Table.{first_type, further_types, numbers_from, constructors_of}
 use Rattle.gib_syntax.specs.declared.tree.Ident.{Ident}
 use Rattle.gib_syntax.specs.declared.tree.Operator.{Operator}
-use Rattle.gib_syntax.specs.Tree.{Expression, Arguments, Arms, Var, Num, Bit, Paren, Op, Call, Make, Let, Par, If, Case, NoArgument, Argument, LastArm, NextArm, FunctionTree, ProgramTree}
+use Rattle.gib_syntax.specs.Tree.{Expression, Arguments, Arms, Var, Num, Bit, Paren, Op, Call, Make, Let, Par, If, Case, LetSeveral, ParSeveral, NoArgument, Argument, LastArm, NextArm, FunctionTree, ProgramTree}
+use Rattle.gib_core.specs.Tree as core
+use Rattle.gib_syntax.specs.Tree as source
+use Rattle.gib_syntax.specs.Results as results
+use Rattle.gib_syntax.specs.Results.{Results}
 use Rattle.gib_syntax.specs.Declarations.{number_of, constructor_named, function_named, type_of_name}
-use Rattle.gib_syntax.specs.Typing.{Globals, globals_of, parameter_types, result_type, operator_type}
+use Rattle.gib_syntax.specs.Typing.{Globals, globals_of, parameter_types, types_of, result_types, operator_type}
 use Rattle.gib_syntax.specs.Meaning.{names_of}
 use Rattle.gib_core.specs.declared.atom.Variable.{Variable}
 use Rattle.gib_core.specs.declared.atom.Atom.{Atom}
 use Rattle.gib_core.specs.declared.atom.Atom.TheVariants as a
 use Rattle.gib_core.specs.declared.atom.Kind.{Kind}
 use Rattle.gib_core.specs.declared.atom.Kind.TheVariants.{Here, Region, Scalar}
-use Rattle.gib_core.specs.Tree.{Term, Then, Write, Point, CallTerm, Give, CaseTerm, IfTerm, Bind, Past, One, Both, Prim, On, Branches, NoBranch, BranchThen, var, variables_from, prepend, FunctionTerm, CoreTree}
+use Rattle.gib_core.specs.Tree.{Term, Then, Write, Point, CallTerm, Give, CaseTerm, IfTerm, Tuple, PartTerms, NoPart, PartThen, Bind, Past, One, Both, Prim, Side, On, Branches, NoBranch, BranchThen, var, variables_from, prepend, FunctionTerm, CoreTree}
 -- What a name in scope became: an atom with its type.
 pub use Rattle.gib_core.specs.declared.scope.Slot.{Slot}
 
@@ -39,7 +43,7 @@ type_at (s ∷ scope) x = if s.name.0 == x then s.ty else type_at scope x
 abbrev pub slot : Ident → Atom → Ty → Slot
 slot x atom ty = record { name = x.name; atom = atom; ty = ty }
 
--- A term with its type. Variables from `fresh` on are not used yet.
+-- A term with its type, of several parts `Int`, which nobody asks. Variables from `fresh` on are not used yet.
 pub record Lined : Type 0 where
   pub fresh : ℕ
   pub term : Term
@@ -73,6 +77,11 @@ pub record Code : Type 0 where
   pub side : ToLine
   pub atom : ToAtom
   pub bound : ToAtom
+
+-- The names of fields of these types, or of parts, become the variables from a number on.
+abbrev pub with_fields : List Ident → List Ty → ℕ → Scope → Scope
+with_fields [] types n scope = scope
+with_fields (x ∷ xs) types n scope = with_fields xs (further_types types) (n + 1) (slot x (var n) (first_type types) ∷ scope)
 
 -- Scalars are bound by `scalar`, packed values by `region`.
 abbrev pub kind_of : Ty → Kind
@@ -165,11 +174,12 @@ scalar_call ty f cs =
     let atom : ToAtom = λ scope n. call_atom ty f (several cs scope n) in
     record { line = given atom; side = λ scope n. call_side ty f (several cs scope n) (several cs scope n).binds; atom = atom; bound = atom }
 
--- A call, by the type of its result.
-abbrev pub call_code : Ty → Name → List Code → Code
-call_code (Tree t) f cs = of_line (λ scope n. call_line (Tree t) f (several cs scope n))
-call_code Whole f cs = scalar_call Whole f cs
-call_code Truth f cs = scalar_call Truth f cs
+-- A call, by what it gives.
+abbrev pub call_code : Results Ty → Name → List Code → Code
+call_code (results.One (Tree t)) f cs = of_line (λ scope n. call_line (Tree t) f (several cs scope n))
+call_code (results.One Whole) f cs = scalar_call Whole f cs
+call_code (results.One Truth) f cs = scalar_call Truth f cs
+call_code (results.Several tys) f cs = of_line (λ scope n. call_line Whole f (several cs scope n))
 
 -- The packed fields of a head, as variables from a number on, each with what it points to.
 abbrev pub pointed_fields : ℕ → List Ty → List Atom → List Bind
@@ -216,6 +226,61 @@ par_line x left y right body scope n =
       ty = t.ty;
     }
 
+-- Packed parts, each a line of its own.
+pub record Parted : Type 0 where
+  pub fresh : ℕ
+  pub parts : PartTerms
+
+-- The packed parts of a tuple, from left to right.
+abbrev pub part_lines : List Code → Scope → ℕ → Parted
+part_lines [] scope n = record { fresh = n; parts = NoPart }
+part_lines (c ∷ cs) scope n =
+    let l = c.line scope n in
+    let r = part_lines cs scope l.fresh in
+    record { fresh = r.fresh; parts = PartThen l.term r.parts }
+
+-- A tuple: the bindings of its scalar parts, and then the packed ones, each in a term of its own.
+abbrev pub tuple_line : List Ty → List Code → ToLine
+tuple_line types cs scope n =
+    let ss = several (at_fields true types cs) scope n in
+    let ps = part_lines (at_fields false types cs) scope ss.fresh in
+    record { fresh = ps.fresh; term = prepend ss.binds (Tuple types ss.atoms ps.parts); ty = Whole }
+
+-- What is bound to a term, the names with what they became, and the first unused number.
+pub record Bounded : Type 0 where
+  pub fresh : ℕ
+  pub side : Side
+  pub scope : Scope
+
+-- Several names, for the parts of an expression: the names are put before those of a scope.
+abbrev pub several_side : List Ident → List Ty → ToLine → Scope → ℕ → Scope → Bounded
+several_side xs types line scope n inner =
+    let l = line scope (n + length xs) in
+    record { fresh = l.fresh; side = core.Several (variables_from n xs) types l.term; scope = with_fields xs types n inner }
+
+-- One name or several, for an expression: one name is bound as a side of a `let par`.
+abbrev pub bound_side : List Ident → List Ty → Code → Scope → ℕ → Scope → Bounded
+bound_side [] types c scope n inner = several_side [] types c.line scope n inner
+bound_side (x ∷ []) types c scope n inner =
+    let l = c.side scope (n + 1) in
+    record { fresh = l.fresh; side = On (kind_of l.ty) (record { 0 = n }) l.ty l.term; scope = slot x (var n) l.ty ∷ inner }
+bound_side (x ∷ y ∷ xs) types c scope n inner = several_side (x ∷ y ∷ xs) types c.line scope n inner
+
+-- A `let` of several names.
+abbrev pub several_line : List Ident → List Ty → Code → ToLine → ToLine
+several_line xs types bound body scope n =
+    let l = bound_side xs types bound scope n scope in
+    let r = body l.scope l.fresh in
+    record { fresh = r.fresh; term = Then (One l.side) r.term; ty = r.ty }
+
+-- A `let par` of which a side has several names: both sides see the names outside alone, the body sees all.
+abbrev pub sides_line : List Ident → List Ty → Code → List Ident → List Ty → Code → ToLine → ToLine
+sides_line xs types left ys other right body scope n =
+    let l = bound_side xs types left scope n scope in
+    let r = bound_side ys other right scope l.fresh l.scope in
+    let t = body r.scope r.fresh in
+    record { fresh = t.fresh; term = Then (Both false l.side r.side) t.term; ty = t.ty }
+
 -- An `if`: the bindings of its condition, and then its branches, which share no variable.
 abbrev pub if_line : ToAtom → ToLine → ToLine → ToLine
 if_line condition left right scope n =
@@ -229,11 +294,6 @@ pub record ArmCode : Type 0 where
   pub con : ℕ
   pub names : List Ident
   pub code : Code
-
--- The names of fields of these types become the variables from a number on.
-abbrev pub with_fields : List Ident → List Ty → ℕ → Scope → Scope
-with_fields [] types n scope = scope
-with_fields (x ∷ xs) types n scope = with_fields xs (further_types types) (n + 1) (slot x (var n) (first_type types) ∷ scope)
 
 -- Branches, with the type of the first one.
 pub record Branched : Type 0 where
@@ -279,10 +339,10 @@ con_or (Some k) = k
 abbrev pub con_named : Globals → Ident → ℕ
 con_named g k = con_or (constructor_named g.table (number_of k))
 
--- The type that a function gives; `Int` where it is not declared, which typing excludes.
-abbrev pub gives_type : Table → Option FunctionTree → Ty
-gives_type table None = Whole
-gives_type table (Some f) = result_type table f
+-- What a function gives; `Int` where it is not declared, which typing excludes.
+abbrev pub gives_type : Table → Option FunctionTree → Results Ty
+gives_type table None = results.One Whole
+gives_type table (Some f) = result_types table f
 
 abbrev mutual
   -- What an expression becomes.
@@ -298,6 +358,10 @@ abbrev mutual
   infer g (Par p x d y e f) = of_line (par_line x (infer g d).side y (infer g e).side (infer g f).line)
   infer g (If p c d e) = of_line (if_line (infer g c).atom (infer g d).line (infer g e).line)
   infer g (Case p x arms) = of_line (case_line g.table x (infer_arms g arms))
+  infer g (source.Tuple p as' xs) = of_line (tuple_line (map (type_of_name g.table.types) as') (infer_all g xs))
+  infer g (LetSeveral p qs d f) = of_line (several_line (names_of qs) (types_of g.table.types qs) (infer g d) (infer g f).line)
+  infer g (ParSeveral p qs d rs e f) =
+      of_line (sides_line (names_of qs) (types_of g.table.types qs) (infer g d) (names_of rs) (types_of g.table.types rs) (infer g e) (infer g f).line)
 
   -- What arguments become.
   pub infer_all : Globals → Arguments → List Code
@@ -318,7 +382,7 @@ abbrev pub infer_function : Globals → FunctionTree → FunctionTerm
 infer_function g f = record {
   name = f.name.name;
   parameters = parameter_types g.table f;
-  result = result_type g.table f;
+  result = result_types g.table f;
   body = infer_body g (names_of f.parameters) (parameter_types g.table f) f.body;
 }
 

@@ -1,6 +1,7 @@
 pub mod Tree
 pub mod ByVariable
 pub mod Noted
+pub mod PartTypes
 pub mod Arena
 pub mod Parts
 pub mod Meaning
@@ -28,3 +29,4 @@ pub mod Cost
 pub mod Tight
 pub mod CoreText
 pub mod SampleCores
+pub mod SamplePrograms

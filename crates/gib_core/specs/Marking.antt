@@ -5,8 +5,8 @@ use Rattle.gib_core.specs.declared.node.Binding.TheVariants as b
 use Rattle.gib_core.specs.declared.node.Node.{Node}
 use Rattle.gib_core.specs.declared.node.Node.TheVariants as n
 use Rattle.gib_core.specs.Arena.{IsArena}
-use Rattle.gib_core.specs.Tree.{Term, Then, Write, Point, CallTerm, Give, CaseTerm, IfTerm, Bind, Past, One, Both, Prim, Reach, Side, Branches, CoreTree}
-use Rattle.gib_core.specs.Walk.{walk_bind, walk_side, walk_branches, some, Entry, AtLine, map_term, as_it_is, with_bodies}
+use Rattle.gib_core.specs.Tree.{Term, Then, Write, Point, CallTerm, Give, CaseTerm, IfTerm, Tuple, PartTerms, Bind, Past, One, Both, Prim, Reach, Side, Branches, CoreTree}
+use Rattle.gib_core.specs.Walk.{walk_bind, walk_side, walk_parts, walk_branches, some, Entry, AtLine, map_term, as_it_is, with_bodies}
 use Rattle.gib_core.specs.Met.{CallLine}
 
 -- The entry is a call.
@@ -14,16 +14,23 @@ abbrev pub is_call : Entry → Bool
 is_call (AtLine (CallLine f xs)) = true
 is_call l = false
 
--- A term contains a call, itself or in a term that is nested in it; so may a binding, a side, branches.
+-- A term contains a call, itself or in a term that is nested in it; so may a binding, a side, parts, branches.
 abbrev pub has_call : Term → Bool
 has_call t = some is_call t
 
+-- A binding contains a call.
 abbrev pub bind_has_call : Bind → Bool
 bind_has_call b = walk_bind (◌||◌) false is_call b
 
+-- A side contains a call.
 abbrev pub side_has_call : Side → Bool
 side_has_call s = walk_side (◌||◌) false is_call s
 
+-- Parts contain a call.
+abbrev pub parts_have_call : PartTerms → Bool
+parts_have_call ps = walk_parts (◌||◌) false is_call ps
+
+-- Branches contain a call.
 abbrev pub branches_have_call : Branches → Bool
 branches_have_call bs = walk_branches (◌||◌) false is_call bs
 
@@ -57,6 +64,7 @@ may_fork (CallTerm f xs) = false
 may_fork (Give x) = false
 may_fork (CaseTerm x branches) = false
 may_fork (IfTerm x t u) = false
+may_fork (Tuple tys ss ps) = false
 
 -- A par with this mark; another binding, and another node, is as it was.
 abbrev pub with_fork : Bool → Binding → Binding
@@ -75,6 +83,7 @@ node_with_fork m (n.Call f xs) = n.Call f xs
 node_with_fork m (n.Give x) = n.Give x
 node_with_fork m (n.Case x branches) = n.Case x branches
 node_with_fork m (n.If x t u) = n.If x t u
+node_with_fork m (n.Tuple tys ss ps) = n.Tuple tys ss ps
 
 -- The mark of the node at a place is set, and all others stay.
 pub record IsSet (old new : List Node) (place : ℕ) (fork : Bool) : Type 0 where

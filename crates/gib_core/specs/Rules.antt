@@ -4,8 +4,10 @@ use Rattle.std.specs.List.{AllByRecursion}
 use Rattle.gib_types.specs.declared.table.Ty.{Ty}
 use Rattle.gib_types.specs.declared.table.Ty.TheVariants.{Whole, Truth, Tree}
 use Rattle.gib_types.specs.declared.table.ConId.{ConId}
-use Rattle.gib_types.specs.Table.{Table, fields_at, con_at, scalar_types, is_scalar, first_type, further_types, constructors_of}
+use Rattle.gib_types.specs.Table.{Table, fields_at, con_at, scalar_types, tree_types, is_scalar, first_type, further_types, constructors_of}
 pub use Rattle.gib_types.specs.Table.{same_type, type_made}
+use Rattle.gib_syntax.specs.Results as results
+use Rattle.gib_syntax.specs.Results.{Results}
 use Rattle.gib_syntax.specs.Typing.{operator_type}
 use Rattle.gib_core.specs.declared.atom.Variable.{Variable}
 use Rattle.gib_core.specs.declared.atom.Atom.{Atom}
@@ -21,7 +23,7 @@ use Rattle.gib_base.specs.declared.name.Name.{Name}
 use Rattle.gib_core.specs.Tree.{FunctionTerm, CoreTree}
 use Rattle.gib_core.specs.Meaning.{function_at}
 use Rattle.gib_core.specs.Ending.{Ended, ended, call_ends}
-use Rattle.gib_core.specs.Met.{Known, Destination, Nowhere, Empty, Open, Setting, Line, PastLine, SideLine, ParLine, PrimLine, ReachLine, WriteLine, PointLine, CallLine, GiveLine, CaseLine, IfLine, Met, known, packed_types, field_due, Body, bodies, met_body}
+use Rattle.gib_core.specs.Met.{Known, Destination, Nowhere, Empty, Open, InParts, Setting, Line, PastLine, SideLine, ParLine, PrimLine, ReachLine, WriteLine, PointLine, CallLine, GiveLine, CaseLine, IfLine, SeveralLine, TupleLine, PartLine, Met, known, packed_types, field_due, Body, bodies, met_body}
 pub use Rattle.gib_core.specs.declared.scope.Bound.{Bound}
 
 -- What stands before a term in its function: the variables that were bound, with their types, and those
@@ -35,18 +37,28 @@ abbrev pub is_nowhere : Destination → Bool
 is_nowhere Nowhere = true
 is_nowhere Empty = false
 is_nowhere (Open h k standing) = false
+is_nowhere (InParts tys) = false
 
 -- The value is put at an empty place.
 abbrev pub is_empty : Destination → Bool
 is_empty Nowhere = false
 is_empty Empty = true
 is_empty (Open h k standing) = false
+is_empty (InParts tys) = false
+
+-- The value is put as several parts.
+abbrev pub is_in_parts : Destination → Bool
+is_in_parts Nowhere = false
+is_in_parts Empty = false
+is_in_parts (Open h k standing) = false
+is_in_parts (InParts tys) = true
 
 -- Fewer fields of the open head stand than it has.
 abbrev pub has_room : Table → Destination → Bool
 has_room table Nowhere = false
 has_room table Empty = false
 has_room table (Open h k standing) = nat_lt (length standing) (length (packed_types table k))
+has_room table (InParts tys) = false
 
 -- A variable is one of these.
 abbrev pub is_among : List Variable → Variable → Bool
@@ -89,6 +101,43 @@ have_types b [] [] = true
 have_types b [] (t ∷ ts) = false
 have_types b (x ∷ xs) [] = false
 have_types b (x ∷ xs) (t ∷ ts) = has_type b x t && have_types b xs ts
+
+-- Types are these, as many as there are.
+abbrev pub same_types : List Ty → List Ty → Bool
+same_types [] [] = true
+same_types [] (u ∷ us) = false
+same_types (t ∷ ts) [] = false
+same_types (t ∷ ts) (u ∷ us) = same_type t u && same_types ts us
+
+-- These are the types of the parts that are due.
+abbrev pub are_due : Destination → List Ty → Bool
+are_due Nowhere tys = false
+are_due Empty tys = false
+are_due (Open h k standing) tys = false
+are_due (InParts due) tys = same_types tys due
+
+-- A type is declared, or a scalar.
+abbrev pub is_declared : Table → Ty → Bool
+is_declared table Whole = true
+is_declared table Truth = true
+is_declared table (Tree t) = nat_lt t.0 (length table.types)
+
+-- Each of the types is.
+abbrev pub are_declared : Table → List Ty → Bool
+are_declared table [] = true
+are_declared table (t ∷ ts) = is_declared table t && are_declared table ts
+
+-- Where parts are due, these are their types, which are declared, the scalars are the scalar ones, and there are so many packed ones.
+abbrev pub are_parts : Table → Before → Destination → List Ty → List Atom → ℕ → Bool
+are_parts table b Nowhere tys ss packed = true
+are_parts table b Empty tys ss packed = true
+are_parts table b (Open h k standing) tys ss packed = true
+are_parts table b (InParts due) tys ss packed =
+    same_types tys due && (are_declared table tys && (have_types b ss (scalar_types tys) && packed == length (tree_types tys)))
+
+-- There are from two to eight variables, each with a type.
+abbrev pub are_several : List Variable → List Ty → Bool
+are_several xs tys = (nat_lt 1 (length xs) && nat_lt (length xs) 9) && length xs == length tys
 
 -- A variable in scope is there, and reached.
 abbrev pub is_reached : Option Known → Bool
@@ -155,12 +204,14 @@ may_write table b Empty h k ps = false
 may_write table b (Open head con standing) h k ps =
     (head.0 == h.0 && con.0 == k.0)
     && ((length standing == length (packed_types table con) && are_variables standing ps) && not (any_cased b.cased (further standing)))
+may_write table b (InParts tys) h k ps = false
 
 -- The scalars are those of the open head.
 abbrev pub are_scalars : Table → Before → Destination → List Atom → Bool
 are_scalars table b Nowhere ss = true
 are_scalars table b Empty ss = true
 are_scalars table b (Open head con standing) ss = have_types b ss (scalar_types (fields_at table con.0))
+are_scalars table b (InParts tys) ss = true
 
 -- One of the calls tells the end of a variable, where these parameters are ended.
 abbrev pub one_tells : List Ended → List (Name × List Atom) → Variable → Bool
@@ -184,16 +235,25 @@ abbrev pub may_reach : CoreTree → Before → Setting → Option Known → Acce
 may_reach core b s None by = false
 may_reach core b s (Some k) by = not k.reached && by_access core b s k.behind by
 
+-- The result is one packed value.
+abbrev pub is_packed : Results Ty → Bool
+is_packed (results.One ty) = not (is_scalar ty)
+is_packed (results.Several tys) = false
+
 -- The result of a function is packed.
 abbrev pub gives_packed : Option FunctionTerm → Bool
 gives_packed None = false
-gives_packed (Some f) = not (is_scalar f.result)
+gives_packed (Some f) = is_packed f.result
 
--- A call fits its function: arguments and result have the types due, and a scalar call is the whole right side of a
--- `scalar`.
+-- The result has the type due, and a scalar is that of the whole right side of a `scalar`; or it has the parts due.
+abbrev pub result_fits : Destination → Ty → (whole : Bool) → Results Ty → Bool
+result_fits d due whole (results.One ty) = same_type ty due && (not (is_scalar ty) || whole)
+result_fits d due whole (results.Several tys) = are_due d tys
+
+-- A call fits its function: arguments and result have the types due.
 abbrev pub call_fits : Before → Setting → List Atom → Option FunctionTerm → Bool
 call_fits b s xs None = false
-call_fits b s xs (Some f) = have_types b xs f.parameters && (same_type f.result s.due && (not (is_scalar f.result) || s.whole))
+call_fits b s xs (Some f) = have_types b xs f.parameters && result_fits s.destination s.due s.whole f.result
 
 -- Arms are those of these constructors, in their order, each with a variable for each field.
 abbrev pub are_arms : Table → List ℕ → List (ConId × List Variable) → Bool
@@ -209,7 +269,7 @@ cover table (Some Whole) arms = false
 cover table (Some Truth) arms = false
 cover table (Some (Tree t)) arms = are_arms table (constructors_of table t.0) arms
 
--- The fields of an arm, with their types.
+-- Variables of these types: the fields of an arm, or those of parts.
 abbrev pub bind_fields : List Variable → List Ty → List Bound → List Bound
 bind_fields [] types bound = bound
 bind_fields (x ∷ xs) types bound = bind_fields xs (further_types types) (record { variable = x; ty = first_type types } ∷ bound)
@@ -244,6 +304,8 @@ rule_number r.Place = 6
 rule_number r.Case = 7
 rule_number r.Scope = 8
 rule_number r.Types = 9
+rule_number r.Tuple = 10
+rule_number r.Several = 11
 
 -- A rule, with whether it is broken.
 abbrev pub judged : Rule → Bool → Judgement
@@ -285,6 +347,13 @@ rules core b s (CaseLine x arms) =
     ∷ judged r.Case (not (cover core.table (type_of b x) arms))
     ∷ judged r.Scope (not (is_usable s x) || any_bound (arm_variables arms) [] b.bound) ∷ []
 rules core b s (IfLine x) = judged r.Sides (is_other s x) ∷ judged r.Scope (not (is_usable s x)) ∷ judged r.Types (not (has_type b x Truth)) ∷ []
+rules core b s (SeveralLine xs tys) = judged r.Scope (any_bound xs [] b.bound) ∷ judged r.Several (not (are_several xs tys)) ∷ []
+rules core b s (TupleLine tys ss packed) =
+    judged r.Sides (any_other s ss)
+    ∷ judged r.Scope (not (all_usable s ss))
+    ∷ judged r.Types (not (are_parts core.table b s.destination tys ss packed))
+    ∷ judged r.Tuple (not (is_in_parts s.destination)) ∷ []
+rules core b s PartLine = []
 
 -- The first of the rules that is broken.
 abbrev pub least : List Judgement → Option ℕ
@@ -308,6 +377,9 @@ binds_new table (CallLine f xs) bound = bound
 binds_new table (GiveLine x) bound = bound
 binds_new table (CaseLine x arms) bound = bind_arms table arms bound
 binds_new table (IfLine x) bound = bound
+binds_new table (SeveralLine xs tys) bound = bind_fields xs tys bound
+binds_new table (TupleLine tys ss packed) bound = bound
+binds_new table PartLine bound = bound
 
 -- The variables that a `case` was on, behind a line.
 abbrev pub cases_on : Line → List Variable → List Variable
@@ -324,6 +396,9 @@ cases_on (PointLine x) cased = cased
 cases_on (CallLine f xs) cased = cased
 cases_on (GiveLine x) cased = cased
 cases_on (IfLine x) cased = cased
+cases_on (SeveralLine xs tys) cased = cased
+cases_on (TupleLine tys ss packed) cased = cased
+cases_on PartLine cased = cased
 
 -- What stands behind a line.
 abbrev pub next : Table → Before → Line → Before

@@ -2,8 +2,9 @@
 use Rattle.std.specs.Prelude.{Bool, false, ◌||◌, List, [], ◌∷◌, map}
 use Rattle.gib_types.specs.declared.table.ConId.{ConId}
 use Rattle.gib_core.specs.declared.atom.Variable.{Variable}
-use Rattle.gib_core.specs.Tree.{Term, Then, Write, Point, CallTerm, Give, CaseTerm, IfTerm, Bind, Past, One, Both, Prim, Reach, Side, On, Branches, NoBranch, BranchThen, FunctionTerm, MainTerm, CoreTree}
-use Rattle.gib_core.specs.Met.{Line, PastLine, SideLine, ParLine, PrimLine, ReachLine, WriteLine, PointLine, CallLine, GiveLine, CaseLine, IfLine, arms_of, Body}
+use Rattle.gib_core.specs.Tree.{Term, Then, Write, Point, CallTerm, Give, CaseTerm, IfTerm, Tuple, PartTerms, NoPart, PartThen, parts_count, Bind, Past, One, Both, Prim, Reach, Side, On, Several, Branches, NoBranch, BranchThen, FunctionTerm, MainTerm, CoreTree}
+use Rattle.gib_syntax.specs.Results as results
+use Rattle.gib_core.specs.Met.{Line, PastLine, SideLine, ParLine, PrimLine, ReachLine, WriteLine, PointLine, CallLine, GiveLine, CaseLine, IfLine, SeveralLine, TupleLine, PartLine, arms_of, Body}
 
 -- What a text has of a term, one after another: the lines that are met, and the heads of arms.
 pub data Entry : Type 0 where
@@ -11,7 +12,7 @@ pub data Entry : Type 0 where
   AtArm : ConId → List Variable → Entry
 
 abbrev mutual
-  -- What the entries of a term say, joined in the order of the text. With no branch it is the unit.
+  -- What the entries of a term say, joined in the order of the text. With no branch and no part it is the unit.
   pub walk {ℓ} : {A : Type ℓ} → (A → A → A) → A → (Entry → A) → Term → A
   walk op e g (Then b rest) = op (walk_bind op e g b) (walk op e g rest)
   walk op e g (Write h k ss ps) = g (AtLine (WriteLine h k ss ps))
@@ -20,6 +21,7 @@ abbrev mutual
   walk op e g (Give x) = g (AtLine (GiveLine x))
   walk op e g (CaseTerm x bs) = op (g (AtLine (CaseLine x (arms_of bs)))) (walk_branches op e g bs)
   walk op e g (IfTerm x t u) = op (g (AtLine (IfLine x))) (op (walk op e g t) (walk op e g u))
+  walk op e g (Tuple tys ss ps) = op (g (AtLine (TupleLine tys ss (parts_count ps)))) (walk_parts op e g ps)
 
   -- What those of a binding say.
   pub walk_bind {ℓ} : {A : Type ℓ} → (A → A → A) → A → (Entry → A) → Bind → A
@@ -32,22 +34,35 @@ abbrev mutual
   -- What a side's own says, and those of its term.
   pub walk_side {ℓ} : {A : Type ℓ} → (A → A → A) → A → (Entry → A) → Side → A
   walk_side op e g (On kind x ty t) = op (g (AtLine (SideLine kind x ty))) (walk op e g t)
+  walk_side op e g (Several xs tys t) = op (g (AtLine (SeveralLine xs tys))) (walk op e g t)
+
+  -- What those of parts say.
+  pub walk_parts {ℓ} : {A : Type ℓ} → (A → A → A) → A → (Entry → A) → PartTerms → A
+  walk_parts op e g NoPart = e
+  walk_parts op e g (PartThen t ps) = op (g (AtLine PartLine)) (op (walk op e g t) (walk_parts op e g ps))
 
   -- What those of branches say.
   pub walk_branches {ℓ} : {A : Type ℓ} → (A → A → A) → A → (Entry → A) → Branches → A
   walk_branches op e g NoBranch = e
   walk_branches op e g (BranchThen k xs t rest) = op (g (AtArm k xs)) (op (walk op e g t) (walk_branches op e g rest))
 
--- The statement holds of each entry of a term; of a binding, of a side, of branches.
+-- The statement holds of each entry of a term; of a binding, of a side, of parts, of branches.
 abbrev pub Each : (Entry → Type 0) → Term → Type 0
 Each P t = walk (λ (A B : Type 0). A × B) (Unit {0}) P t
 
+-- It holds of each entry of a binding.
 abbrev pub EachInBind : (Entry → Type 0) → Bind → Type 0
 EachInBind P b = walk_bind (λ (A B : Type 0). A × B) (Unit {0}) P b
 
+-- It holds of each entry of a side.
 abbrev pub EachInSide : (Entry → Type 0) → Side → Type 0
 EachInSide P s = walk_side (λ (A B : Type 0). A × B) (Unit {0}) P s
 
+-- It holds of each entry of parts.
+abbrev pub EachInParts : (Entry → Type 0) → PartTerms → Type 0
+EachInParts P ps = walk_parts (λ (A B : Type 0). A × B) (Unit {0}) P ps
+
+-- It holds of each entry of branches.
 abbrev pub EachInBranches : (Entry → Type 0) → Branches → Type 0
 EachInBranches P bs = walk_branches (λ (A B : Type 0). A × B) (Unit {0}) P bs
 
@@ -60,6 +75,7 @@ pub data Nested : Type 0 where
   InSide : Nested
   InArm : ConId → List Variable → Nested
   InIf : Nested
+  InPart : Nested
 
 abbrev mutual
   -- A term, from the inside to the outside: each binding changed, and each term that is nested in it.
@@ -71,6 +87,7 @@ abbrev mutual
   map_term f g (Give x) = Give x
   map_term f g (CaseTerm x bs) = CaseTerm x (map_branches f g bs)
   map_term f g (IfTerm x t u) = IfTerm x (g InIf (map_term f g t)) (g InIf (map_term f g u))
+  map_term f g (Tuple tys ss ps) = Tuple tys ss (map_parts f g ps)
 
   -- A binding, with its sides changed.
   pub map_bind : (Bind → Bind) → (Nested → Term → Term) → Bind → Bind
@@ -83,6 +100,12 @@ abbrev mutual
   -- A side, with its term changed.
   pub map_side : (Bind → Bind) → (Nested → Term → Term) → Side → Side
   map_side f g (On kind x ty t) = On kind x ty (g InSide (map_term f g t))
+  map_side f g (Several xs tys t) = Several xs tys (g InSide (map_term f g t))
+
+  -- Parts, with their terms changed.
+  pub map_parts : (Bind → Bind) → (Nested → Term → Term) → PartTerms → PartTerms
+  map_parts f g NoPart = NoPart
+  map_parts f g (PartThen t ps) = PartThen (g InPart (map_term f g t)) (map_parts f g ps)
 
   -- Branches, with their terms changed.
   pub map_branches : (Bind → Bind) → (Nested → Term → Term) → Branches → Branches
@@ -103,7 +126,7 @@ with_body h f = record f { body = h (body_of f) }
 
 -- The body of main, whose parameter is its only one.
 abbrev pub body_of_main : MainTerm → Body
-body_of_main m = record { parameters = m.parameter ∷ []; result = m.result; term = m.body }
+body_of_main m = record { parameters = m.parameter ∷ []; result = results.One m.result; term = m.body }
 
 -- Main with its body made anew.
 abbrev pub with_main : (Body → Term) → MainTerm → MainTerm

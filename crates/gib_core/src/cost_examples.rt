@@ -13,6 +13,7 @@ ghost use Rattle.gib_core.specs.declared.atom.Access.TheVariants as by;
 ghost use Rattle.gib_core.specs.declared.atom.Kind.{Kind as HowBound};
 ghost use Rattle.gib_core.specs.declared.atom.Kind.TheVariants as kind;
 ghost use Rattle.gib_core.specs.declared.atom.Variable.{Variable as X};
+ghost use Rattle.gib_syntax.specs.Results as results;
 ghost use Rattle.gib_core.specs.Tree.{Term, Then, Write, Point, CallTerm, CaseTerm, IfTerm, Past, One, Both, Prim, Reach, Side, On, NoBranch, BranchThen, var, CoreTree};
 ghost use Rattle.gib_core.specs.Cost.{Cost, run_cost};
 ghost use Rattle.gib_core.specs.SampleCores.{tree, v, same, sample, zero_term};
@@ -34,7 +35,7 @@ pub fn adding_one()
         let placed : Term = Then (Past (x 8) node) (both kind.Here (Write (x 8) node [] (var 6 ∷ var 7 ∷ []))) in
         let core : Term → CoreTree = λ t. record {
           table = table;
-          functions = record { name = f; parameters = tree ∷ []; result = tree; body = CaseTerm (var 0) (BranchThen leaf (x 1 ∷ []) at_leaf (BranchThen node (x 2 ∷ x 3 ∷ []) (Then (Reach (x 3) (by.Skip (x 2))) t) NoBranch)) } ∷ [];
+          functions = record { name = f; parameters = tree ∷ []; result = results.One tree; body = CaseTerm (var 0) (BranchThen leaf (x 1 ∷ []) at_leaf (BranchThen node (x 2 ∷ x 3 ∷ []) (Then (Reach (x 3) (by.Skip (x 2))) t) NoBranch)) } ∷ [];
           main = record { parameter = tree; result = tree; body = CallTerm f (var 0 ∷ []) };
           offsets = [];
           marked = false;
@@ -57,7 +58,7 @@ pub fn adding_one()
         (Then (Both true (On kind.Here (x 6) tree (CallTerm f (var 2 ∷ []))) (On kind.Here (x 7) tree (CallTerm f (var 3 ∷ [])))) (Write (x 8) node [] (var 6 ∷ var 7 ∷ [])))) in
         let core : CoreTree = record {
           table = record { types = 0 ∷ []; rows = record { name = 1; owner = 0; fields = ty.Whole ∷ [] } ∷ record { name = 2; owner = 0; fields = tree ∷ tree ∷ [] } ∷ [] };
-          functions = record { name = f; parameters = tree ∷ []; result = tree; body = CaseTerm (var 0) (BranchThen leaf (x 1 ∷ []) at_leaf (BranchThen node (x 2 ∷ x 3 ∷ []) at_node NoBranch)) } ∷ [];
+          functions = record { name = f; parameters = tree ∷ []; result = results.One tree; body = CaseTerm (var 0) (BranchThen leaf (x 1 ∷ []) at_leaf (BranchThen node (x 2 ∷ x 3 ∷ []) at_node NoBranch)) } ∷ [];
           main = record { parameter = tree; result = tree; body = CallTerm f (var 0 ∷ []) };
           offsets = [];
           marked = false;
@@ -111,7 +112,7 @@ pub fn building()
         let cell : Term = Then (Past (x 3) cons) (Then (Prim (x 4) o.Subtract (var 0) (a.Whole (pos 1))) (Then (One (On kind.Here (x 5) list (CallTerm f (var 4 ∷ [])))) (Write (x 3) cons (var 0 ∷ []) (var 5 ∷ [])))) in
         let core : CoreTree = record {
           table = table;
-          functions = record { name = f; parameters = ty.Whole ∷ []; result = list; body = Then (Prim (x 1) o.Less (var 0) (a.Whole (pos 1))) (IfTerm (var 1) empty cell) } ∷ [];
+          functions = record { name = f; parameters = ty.Whole ∷ []; result = results.One list; body = Then (Prim (x 1) o.Less (var 0) (a.Whole (pos 1))) (IfTerm (var 1) empty cell) } ∷ [];
           main = record { parameter = ty.Whole; result = list; body = CallTerm f (var 0 ∷ []) };
           offsets = [];
           marked = false;

@@ -12,6 +12,7 @@ ghost use Rattle.gib_syntax.specs.Meaning.{Gives, Stops, Deep, Trap};
 ghost use Rattle.gib_core.specs.declared.atom.Atom.TheVariants as a;
 ghost use Rattle.gib_core.specs.declared.atom.Kind.TheVariants as kind;
 ghost use Rattle.gib_core.specs.declared.atom.Variable.{Variable as X};
+ghost use Rattle.gib_syntax.specs.Results as results;
 ghost use Rattle.gib_core.specs.Tree.{Term, Then, Write, CallTerm, Give, Past, One, Both, Prim, Side, On, var, CoreTree};
 ghost use Rattle.gib_core.specs.Meaning.{core_run};
 ghost use Rattle.gib_core.specs.Cost.{run_cost};
@@ -38,7 +39,7 @@ pub fn dividing()
         let f : Name = record { 0 = 5 } in
         let core : Term → CoreTree = λ t. record {
           table = record { types = []; rows = [] };
-          functions = record { name = f; parameters = ty.Whole ∷ []; result = ty.Whole; body = Give (var 0) } ∷ [];
+          functions = record { name = f; parameters = ty.Whole ∷ []; result = results.One ty.Whole; body = Give (var 0) } ∷ [];
           main = record { parameter = ty.Whole; result = ty.Whole; body = t };
           offsets = [];
           marked = false;

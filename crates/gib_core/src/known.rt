@@ -8,7 +8,7 @@ ghost use Rattle.gib_core.specs.Ending.{tells as term_tells, is_telling as telli
 
 use crate::atom::Variable;
 use crate::ended::{EndedSet, is_variable};
-use crate::node::{Binding, Branch, Node, TermId, Terms};
+use crate::node::{Binding, BoundSide, Branch, Node, TermId, Terms};
 use gib_types::{Ty, TypeTable};
 
 /// Whether a whole term is a call that tells the end of a variable.
@@ -24,6 +24,7 @@ pub fn tells(terms: &Terms, ended: &EndedSet, id: TermId, z: Variable) -> bool
         Node::Give(_) => false,
         Node::Case { .. } => false,
         Node::If { .. } => false,
+        Node::Tuple { .. } => false,
     }
 }
 
@@ -41,7 +42,8 @@ pub fn is_telling(
 {
     match binding {
         Binding::Past { .. } => false,
-        Binding::One(side) => tells(terms, ended, side.term, z),
+        Binding::One(BoundSide::One(side)) => tells(terms, ended, side.term, z),
+        Binding::One(BoundSide::Several(_)) => false,
         Binding::Par { .. } => false,
         Binding::Prim { .. } => false,
         Binding::Reach { .. } => false,
@@ -107,6 +109,7 @@ fn end_known(types: &TypeTable, terms: &Terms, ended: &EndedSet, id: TermId, z: 
             is_known(types, terms, ended, *then_part, z)
                 && is_known(types, terms, ended, *else_part, z)
         }
+        Node::Tuple { .. } => false,
     }
 }
 

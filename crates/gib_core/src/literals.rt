@@ -58,6 +58,7 @@ fn node(node: &Node)
         Node::Give(atom) => literal(*atom),
         Node::Case { .. } => {}
         Node::If { .. } => {}
+        Node::Tuple { scalars, .. } => literals(scalars),
     }
 }
 

@@ -2,10 +2,10 @@
 
 ghost use Rattle.std.specs.Prelude.{◌≡◌, ◌<◌, ℕ, length};
 ghost use Rattle.std.specs.List.{AllByRecursion};
-ghost use Rattle.gib_core.specs.Arena.{IsBindingBelow, IsBranchBelow, IsEnd, term_of, bind_from, branches_from};
-ghost use Rattle.gib_core.specs.Marking.{has_call, bind_has_call, branches_have_call, bind_may_fork, may_fork, mark};
+ghost use Rattle.gib_core.specs.Arena.{IsBindingBelow, IsBranchBelow, IsPartBelow, IsEnd, term_of, term_in, side_from, bind_from, parts_from, branches_from};
+ghost use Rattle.gib_core.specs.Marking.{has_call, side_has_call, bind_has_call, parts_have_call, branches_have_call, bind_may_fork, may_fork, mark};
 
-use crate::node::{Binding, Branch, Node, TermId, Terms};
+use crate::node::{Binding, BoundSide, Branch, Node, TermId, Terms};
 
 /// Whether a term contains a call. This recurses as deep as terms are nested in bindings and branches, and not along a
 /// line.
@@ -45,6 +45,19 @@ fn end_has_call(terms: &Terms, id: TermId) -> bool
             else_part,
             ..
         } => has_call(terms, *then_part) || has_call(terms, *else_part),
+        Node::Tuple { parts, .. } => parts_have_call(terms, id, parts),
+    }
+}
+
+/// A side, whose term stands below a number.
+#[cycle(calls)]
+fn side_has_call(terms: &Terms, side: BoundSide) -> bool
+    requires { (term_in side).0 < length terms.now }
+    ensures { result ≡ side_has_call (side_from (term_of terms.now) side) }
+{
+    match side {
+        BoundSide::One(bound) => has_call(terms, bound.term),
+        BoundSide::Several(bound) => has_call(terms, bound.term),
     }
 }
 
@@ -57,9 +70,9 @@ fn binding_has_call(terms: &Terms, parent: TermId, binding: Binding) -> bool
 {
     match binding {
         Binding::Past { .. } => false,
-        Binding::One(side) => has_call(terms, side.term),
+        Binding::One(side) => side_has_call(terms, side),
         Binding::Par { left, right, .. } => {
-            has_call(terms, left.term) || has_call(terms, right.term)
+            side_has_call(terms, left) || side_has_call(terms, right)
         }
         Binding::Prim { .. } => false,
         Binding::Reach { .. } => false,
@@ -83,6 +96,23 @@ fn branches_have_call(terms: &Terms, parent: TermId, branches: &[Branch]) -> boo
     false
 }
 
+/// The parts of the tuple of a number, which stand below it.
+#[cycle(calls)]
+fn parts_have_call(terms: &Terms, parent: TermId, parts: &[TermId]) -> bool
+    requires inside { parent.0 < length terms.now }
+    requires below { AllByRecursion (IsPartBelow parent.0) parts.now }
+    ensures { result ≡ parts_have_call (parts_from (term_of terms.now) parts.now) }
+{
+    let mut i = 0;
+    'parts: while i < parts.len() {
+        if has_call(terms, parts[i]) {
+            return true;
+        }
+        i += 1;
+    }
+    false
+}
+
 /// Whether a binding of the term of a number is a par that is to be marked.
 fn binding_may_fork(terms: &Terms, parent: usize, binding: Binding) -> bool
     requires inside { parent < length terms.now }
@@ -93,7 +123,7 @@ fn binding_may_fork(terms: &Terms, parent: usize, binding: Binding) -> bool
         Binding::Past { .. } => false,
         Binding::One(_) => false,
         Binding::Par { left, right, .. } => {
-            has_call(terms, left.term) && has_call(terms, right.term)
+            side_has_call(terms, left) && side_has_call(terms, right)
         }
         Binding::Prim { .. } => false,
         Binding::Reach { .. } => false,
@@ -113,6 +143,7 @@ fn may_fork(terms: &Terms, place: usize) -> bool
         Node::Give(_) => false,
         Node::Case { .. } => false,
         Node::If { .. } => false,
+        Node::Tuple { .. } => false,
     }
 }
 

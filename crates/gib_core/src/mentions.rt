@@ -2,16 +2,19 @@
 
 ghost use Rattle.std.specs.Prelude.{◌≡◌, ◌<◌, ◌++◌, length, IfOk, OnOk};
 ghost use Rattle.std.specs.List.{AllByRecursion};
-ghost use Rattle.gib_core.specs.Arena.{IsBindingBelow, IsBranchBelow, IsEnd, term_of, side_from, bind_from, branches_from};
+ghost use Rattle.gib_core.specs.Arena.{IsBindingBelow, IsBranchBelow, IsPartBelow, IsEnd, term_in, term_of, side_from, bind_from, parts_from, branches_from};
+ghost use Rattle.gib_core.specs.Tree.{variables_from};
+ghost use Rattle.gib_core.specs.PartTypes.{types_in};
 ghost use Rattle.gib_core.specs.Numbering.{binders};
 ghost use Rattle.gib_core.specs.declared.atom.Variable.{Variable as X};
 ghost use Rattle.gib_core.specs.Counting.{count};
-ghost use Rattle.gib_core.specs.Mentioned.{all_bound, all_used, mentions as said, binder, binders_in, uses_in, bind_mentions, side_mentions, branch_mentions};
+ghost use Rattle.gib_core.specs.Mentioned.{all_bound, all_used, mentions as said, binder, binders_in, uses_in, bind_mentions, side_mentions, part_mentions, branch_mentions};
 
 use crate::atom::{Atom, Variable};
-use crate::node::{Binding, BoundTerm, Branch, Node, TermId, Terms};
+use crate::node::{Binding, BoundSide, Branch, Node, TermId, Terms};
+use crate::part_types::PartTypes;
 use gib_base::Memory;
-use std::alloc::Global;
+use std::alloc::{AllocError, Global};
 
 /// A variable that is bound, or an atom that is used.
 #[derive(Clone, Copy)]
@@ -32,6 +35,27 @@ fn list_variables(mentions: &mut Vec<Mention>, variables: &[Variable]) -> Result
     Ok(())
 }
 
+/// A variable that is bound for each of these types, one behind another.
+#[tactic(auto, using(crate::proofs::Listed::variables_start, crate::proofs::Listed::variables_next, crate::proofs::Listed::variables_end))]
+fn list_variables_from(
+    mentions: &mut Vec<Mention>,
+    first: Variable,
+    types: PartTypes,
+) -> Result<(), Memory>
+    ensures { OnOk result (mentions.new.items ≡ mentions.old.items ++ all_bound (variables_from first.0 (types_in types))) }
+{
+    let mut i = 0;
+    'variables: while i < types.len() {
+        let number = u64::from(first.0) + i as u64;
+        let Ok(number) = u32::try_from(number) else {
+            return Err(AllocError);
+        };
+        mentions.push(Mention::Bound(Variable(number)))?;
+        i += 1;
+    }
+    Ok(())
+}
+
 /// Atoms that are used.
 fn list_atoms(mentions: &mut Vec<Mention>, atoms: &[Atom]) -> Result<(), Memory>
     ensures { OnOk result (mentions.new.items ≡ mentions.old.items ++ all_used atoms.now) }
@@ -44,7 +68,7 @@ fn list_atoms(mentions: &mut Vec<Mention>, atoms: &[Atom]) -> Result<(), Memory>
     Ok(())
 }
 
-/// A term. This recurses as deep as terms are nested in bindings and branches, and not along a line.
+/// A term. This recurses as deep as terms are nested in bindings, branches and parts, and not along a line.
 #[cycle(list)]
 fn list_term(
     alloc: Global,
@@ -109,6 +133,10 @@ fn list_end(
             list_term(alloc, mentions, terms, *then_part)?;
             list_term(alloc, mentions, terms, *else_part)
         }
+        Node::Tuple { scalars, parts, .. } => {
+            list_atoms(mentions, scalars)?;
+            list_parts(alloc, mentions, terms, id, parts)
+        }
     }
 }
 
@@ -156,13 +184,42 @@ fn list_side(
     alloc: Global,
     mentions: &mut Vec<Mention>,
     terms: &Terms,
-    side: BoundTerm,
+    side: BoundSide,
 ) -> Result<(), Memory>
-    requires { side.term.0 < length terms.now }
+    requires { (term_in side).0 < length terms.now }
     ensures { OnOk result (mentions.new.items ≡ mentions.old.items ++ side_mentions (side_from (term_of terms.now) side)) }
 {
-    mentions.push(Mention::Bound(side.variable))?;
-    list_term(alloc, mentions, terms, side.term)
+    match side {
+        BoundSide::One(bound) => {
+            mentions.push(Mention::Bound(bound.variable))?;
+            list_term(alloc, mentions, terms, bound.term)
+        }
+        BoundSide::Several(bound) => {
+            list_variables_from(mentions, bound.first, bound.types)?;
+            list_term(alloc, mentions, terms, bound.term)
+        }
+    }
+}
+
+/// The parts of the tuple of a number.
+#[cycle(list)]
+fn list_parts(
+    alloc: Global,
+    mentions: &mut Vec<Mention>,
+    terms: &Terms,
+    parent: TermId,
+    parts: &[TermId],
+) -> Result<(), Memory>
+    requires inside { parent.0 < length terms.now }
+    requires below { AllByRecursion (IsPartBelow parent.0) parts.now }
+    ensures { OnOk result (mentions.new.items ≡ mentions.old.items ++ part_mentions (parts_from (term_of terms.now) parts.now)) }
+{
+    let mut i = 0;
+    'parts: while i < parts.len() {
+        list_term(alloc, mentions, terms, parts[i])?;
+        i += 1;
+    }
+    Ok(())
 }
 
 /// The branches of the case of a number.

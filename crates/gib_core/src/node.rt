@@ -4,6 +4,7 @@ ghost use Rattle.std.specs.Prelude.{◌≡◌};
 ghost use Rattle.gib_core.specs.Marking.{with_fork};
 
 use crate::atom::{Access, Atom, Kind, Variable};
+use crate::part_types::PartTypes;
 use gib_base::{Memory, Name};
 use gib_syntax::Operator;
 use gib_types::{ConId, Ty};
@@ -23,6 +24,36 @@ pub struct BoundTerm {
     pub term: TermId,
 }
 
+/// Variables one behind another, from the first one on, with their types, and the term that gives their values.
+#[derive(Clone, Copy, Debug)]
+pub struct BoundParts {
+    pub first: Variable,
+    pub types: PartTypes,
+    pub term: TermId,
+}
+
+/// What is bound to a term.
+#[derive(Clone, Copy, Debug)]
+pub enum BoundSide {
+    One(BoundTerm),
+    Several(BoundParts),
+}
+
+impl BoundSide {
+    ghost use Rattle.std.specs.Prelude.{◌≡◌};
+    ghost use Rattle.gib_core.specs.Arena.{term_in};
+
+    /// The term.
+    pub fn term(self) -> TermId
+        ensures { result ≡ term_in self }
+    {
+        match self {
+            BoundSide::One(side) => side.term,
+            BoundSide::Several(side) => side.term,
+        }
+    }
+}
+
 /// One binding.
 #[derive(Clone, Copy, Debug)]
 pub enum Binding {
@@ -31,13 +62,13 @@ pub enum Binding {
         head: Variable,
         constructor: ConId,
     },
-    /// A variable that is bound to a term.
-    One(BoundTerm),
+    /// What is bound to a term.
+    One(BoundSide),
     /// Two sides; `fork` marks those that may run at the same time.
     Par {
         fork: bool,
-        left: BoundTerm,
-        right: BoundTerm,
+        left: BoundSide,
+        right: BoundSide,
     },
     /// An operation.
     Prim {
@@ -87,6 +118,12 @@ pub enum Node {
         condition: Atom,
         then_part: TermId,
         else_part: TermId,
+    },
+    /// Several parts of these types: the scalar ones, and the packed ones, each a term of its own.
+    Tuple {
+        types: PartTypes,
+        scalars: Vec<Atom>,
+        parts: Vec<TermId>,
     },
 }
 

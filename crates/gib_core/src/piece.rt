@@ -24,6 +24,9 @@ pub enum Keyword {
     Prim,
     Par,
     Reach,
+    Several,
+    Tuple,
+    To,
 }
 
 /// One piece of the core's text.
@@ -41,6 +44,12 @@ pub enum Piece {
     Parameter(Variable, Ty),
     /// The type of a result.
     Result(Ty),
+    /// The type of the first part of a result.
+    FirstPart(Ty),
+    /// The type of a further part.
+    FurtherPart(Ty),
+    /// No part follows.
+    PartsEnd,
     Operator(Operator),
     Equals,
     Fork,

@@ -2,17 +2,20 @@
 //!
 //! Pieces are put from the last one to the first: each part goes before what follows it.
 
-ghost use Rattle.std.specs.Prelude.{◌≡◌, ◌<◌, ◌+◌, ◌*◌, ◌^◌, [], ◌∷◌, ℕ, length, map, IfOk, OnOk};
+ghost use Rattle.std.specs.Prelude.{◌≡◌, ◌≤◌, ◌<◌, ◌+◌, ◌*◌, ◌^◌, [], ◌∷◌, length, map, drop, IfOk, OnOk};
 ghost use Rattle.std.specs.List.{AllByRecursion};
-ghost use Rattle.gib_core.specs.Arena.{IsBindingBelow, IsBranchBelow, IsEnd, term_of, side_from, bind_from, branches_from};
-ghost use Rattle.gib_core.specs.Parts.{IsFunctionInside, function_term, main_term, core_of};
-ghost use Rattle.gib_core.specs.CoreText.{kind_word, spell_access, spell_fork, spell_variables, spell_atoms, ended_from, spell_ends, spell_term, spell_bind, spell_side, spell_branches, spell_parameters, spell_function, spell_functions, spell_main, spell_core, core_text};
+ghost use Rattle.gib_core.specs.Arena.{IsBindingBelow, IsBranchBelow, IsPartBelow, IsEnd, term_of, term_in, side_from, bind_from, parts_from, branches_from};
+ghost use Rattle.gib_core.specs.Tree.{variables_from};
+ghost use Rattle.gib_core.specs.PartTypes.{types_in};
+ghost use Rattle.gib_core.specs.Parts.{IsFunctionInside, results_of, function_term, main_term, core_of};
+ghost use Rattle.gib_core.specs.CoreText.{kind_word, spell_access, spell_fork, spell_variables, spell_atoms, ended_from, spell_ends, spell_term, spell_bind, spell_parts, spell_side, spell_branches, spell_parameters, spell_further, spell_result, spell_function, spell_functions, spell_main, spell_core, core_text};
 
 use crate::atom::{Access, Atom, Kind, Variable};
 use crate::ended::EndedSet;
-use crate::node::{Binding, BoundTerm, Branch, Node, TermId, Terms};
+use crate::node::{Binding, BoundParts, BoundSide, BoundTerm, Branch, Node, TermId, Terms};
+use crate::part_types::PartTypes;
 use crate::piece::{Keyword, Piece};
-use crate::program::{Core, CoreFunction, CoreMain};
+use crate::program::{Core, CoreFunction, CoreMain, CoreResult};
 use crate::settle::ended_parameters;
 use crate::text::text_of;
 use crate::written::{Written, put_line};
@@ -27,6 +30,22 @@ fn put_variables(variables: &[Variable], out: &mut Written) -> Result<(), Memory
     'variables: while i > 0 {
         i -= 1;
         out.put(Piece::Variable(variables[i]))?;
+    }
+    Ok(())
+}
+
+/// A variable for each of these types, one behind another.
+fn put_variables_from(first: Variable, types: PartTypes, out: &mut Written) -> Result<(), Memory>
+    ensures { OnOk result (out.new ≡ spell_variables (variables_from first.0 (types_in types)) out.old) }
+{
+    let mut i = types.len();
+    'variables: while i > 0 {
+        i -= 1;
+        let number = u64::from(first.0) + i as u64;
+        let Ok(number) = u32::try_from(number) else {
+            return Err(AllocError);
+        };
+        out.put(Piece::Variable(Variable(number)))?;
     }
     Ok(())
 }
@@ -207,6 +226,12 @@ fn put_end(from: &Printed, level: u64, id: TermId, out: &mut Written) -> Result<
             put_term(from, level + 1, *then_part, out)?;
             put_atom_line(level, Keyword::If, *condition, out)
         }
+        Node::Tuple { scalars, parts, .. } => {
+            put_parts(from, level + 1, id, parts, out)?;
+            out.put(Piece::End)?;
+            put_atoms(scalars, out)?;
+            put_line(level, Keyword::Tuple, out)
+        }
     }
 }
 
@@ -267,18 +292,76 @@ fn put_binding(
     }
 }
 
+/// What is bound to a term, and the term.
+#[cycle(terms)]
+fn put_side(from: &Printed, level: u64, side: BoundSide, out: &mut Written) -> Result<(), Memory>
+    requires none { from.now.none.now ≡ [] }
+    requires inside { (term_in side).0 < length from.now.terms.now }
+    requires level { level + 1 + 2 * (term_in side).0 < 2 ^ 40 }
+    ensures { OnOk result (out.new ≡ spell_side from.now.ended.now level (side_from (term_of from.now.terms.now) side) out.old) }
+{
+    match side {
+        BoundSide::One(bound) => put_bound(from, level, bound, out),
+        BoundSide::Several(bound) => put_several(from, level, bound, out),
+    }
+}
+
 /// A variable with the term that it is bound to.
 #[cycle(terms)]
-fn put_side(from: &Printed, level: u64, side: BoundTerm, out: &mut Written) -> Result<(), Memory>
+fn put_bound(from: &Printed, level: u64, side: BoundTerm, out: &mut Written) -> Result<(), Memory>
     requires none { from.now.none.now ≡ [] }
     requires inside { side.term.0 < length from.now.terms.now }
     requires level { level + 1 + 2 * side.term.0 < 2 ^ 40 }
-    ensures { OnOk result (out.new ≡ spell_side from.now.ended.now level (side_from (term_of from.now.terms.now) side) out.old) }
+    ensures { OnOk result (out.new ≡ spell_side from.now.ended.now level (side_from (term_of from.now.terms.now) (BoundSide.One side)) out.old) }
 {
     put_term(from, level + 1, side.term, out)?;
     out.put(Piece::End)?;
     out.put(Piece::Variable(side.variable))?;
     put_line(level, kind_word(side.kind), out)
+}
+
+/// Several variables with the term to whose parts they are bound.
+#[cycle(terms)]
+fn put_several(
+    from: &Printed,
+    level: u64,
+    parts: BoundParts,
+    out: &mut Written,
+) -> Result<(), Memory>
+    requires none { from.now.none.now ≡ [] }
+    requires inside { parts.term.0 < length from.now.terms.now }
+    requires level { level + 1 + 2 * parts.term.0 < 2 ^ 40 }
+    ensures { OnOk result (out.new ≡ spell_side from.now.ended.now level (side_from (term_of from.now.terms.now) (BoundSide.Several parts)) out.old) }
+{
+    put_term(from, level + 1, parts.term, out)?;
+    out.put(Piece::End)?;
+    put_variables_from(parts.first, parts.types, out)?;
+    put_line(level, Keyword::Several, out)
+}
+
+/// The parts of the tuple of a number, which stand below it.
+#[cycle(terms)]
+fn put_parts(
+    from: &Printed,
+    level: u64,
+    parent: TermId,
+    parts: &[TermId],
+    out: &mut Written,
+) -> Result<(), Memory>
+    requires none { from.now.none.now ≡ [] }
+    requires inside { parent.0 < length from.now.terms.now }
+    requires level { level + 2 * parent.0 < 2 ^ 40 + 1 }
+    requires below { AllByRecursion (IsPartBelow parent.0) parts.now }
+    ensures { OnOk result (out.new ≡ spell_parts from.now.ended.now level (parts_from (term_of from.now.terms.now) parts.now) out.old) }
+{
+    let mut i = parts.len();
+    'parts: while i > 0 {
+        i -= 1;
+        put_term(from, level + 1, parts[i], out)?;
+        out.put(Piece::End)?;
+        put_line(level, Keyword::To, out)?;
+    }
+    Ok(())
 }
 
 /// The branches of the case of a number, whose terms stand below it.
@@ -321,15 +404,52 @@ fn put_parameters(parameters: &[Ty], out: &mut Written) -> Result<(), Memory>
     Ok(())
 }
 
-/// The type of a result, the end of its line, and the body below it.
-fn put_body(from: &Printed, ty: Ty, body: TermId, out: &mut Written) -> Result<(), Memory>
+/// The types of all parts of a result but the first.
+fn put_further(types: PartTypes, out: &mut Written) -> Result<(), Memory>
+    requires some { 1 ≤ length (types_in types) }
+    ensures { OnOk result (out.new ≡ spell_further (drop 1 (types_in types)) out.old) }
+{
+    let mut i = types.len();
+    'types: while i > 1 {
+        i -= 1;
+        if let Some(ty) = types.get(i) {
+            out.put(Piece::FurtherPart(ty))?;
+        }
+    }
+    Ok(())
+}
+
+/// The type of a result, or those of its parts.
+fn put_result(given: CoreResult, out: &mut Written) -> Result<(), Memory>
+    ensures { OnOk result (out.new ≡ spell_result (results_of given) out.old) }
+{
+    match given {
+        CoreResult::One(ty) => out.put(Piece::Result(ty)),
+        CoreResult::Several(types) => match types.get(0) {
+            None => Ok(()),
+            Some(first) => {
+                out.put(Piece::PartsEnd)?;
+                put_further(types, out)?;
+                out.put(Piece::FirstPart(first))
+            }
+        },
+    }
+}
+
+/// A result, the end of its line, and the body below it.
+fn put_body(
+    from: &Printed,
+    given: CoreResult,
+    body: TermId,
+    out: &mut Written,
+) -> Result<(), Memory>
     requires none { from.now.none.now ≡ [] }
     requires inside { body.0 < length from.now.terms.now }
-    ensures { OnOk result (out.new ≡ Piece.Result ty ∷ Piece.End ∷ spell_term from.now.ended.now 1 (term_of from.now.terms.now body.0) out.old) }
+    ensures { OnOk result (out.new ≡ spell_result (results_of given) (Piece.End ∷ spell_term from.now.ended.now 1 (term_of from.now.terms.now body.0) out.old)) }
 {
     put_term(from, 1, body, out)?;
     out.put(Piece::End)?;
-    out.put(Piece::Result(ty))
+    put_result(given, out)
 }
 
 fn put_function(from: &Printed, function: &CoreFunction, out: &mut Written) -> Result<(), Memory>
@@ -365,7 +485,7 @@ fn put_main(from: &Printed, main: CoreMain, out: &mut Written) -> Result<(), Mem
     requires inside { main.body.0 < length from.now.terms.now }
     ensures { OnOk result (out.new ≡ spell_main from.now.ended.now (main_term (term_of from.now.terms.now) main) out.old) }
 {
-    put_body(from, main.result, main.body, out)?;
+    put_body(from, CoreResult::One(main.result), main.body, out)?;
     out.put(Piece::Parameter(Variable(0), main.parameter))?;
     put_line(0, Keyword::Main, out)
 }

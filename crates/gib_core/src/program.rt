@@ -4,16 +4,24 @@ ghost use Rattle.std.specs.Prelude.{◌≡◌};
 
 use crate::literals::all_literals;
 use crate::node::{TermId, Terms};
+use crate::part_types::PartTypes;
 use gib_base::Name;
 use gib_types::{ConId, Ty, TypeTable};
 use std::marker::Model;
+
+/// What a function gives: one thing of a type, or several parts.
+#[derive(Clone, Copy, Debug)]
+pub enum CoreResult {
+    One(Ty),
+    Several(PartTypes),
+}
 
 /// A function of a core. Its parameters are its first variables.
 #[derive(Debug, Drop)]
 pub struct CoreFunction {
     pub name: Name,
     pub parameters: Vec<Ty>,
-    pub result: Ty,
+    pub result: CoreResult,
     pub body: TermId,
 }
 

@@ -30,6 +30,10 @@ pub enum Rule {
     /// Arguments, operands, conditions and results have the types that are due, as many as there are; a scalar is given
     /// where none has a place; a scalar call is the whole right side of a `scalar`.
     Types,
+    /// Several parts are given where several parts are due.
+    Tuple,
+    /// From two to eight variables are bound to the parts of a term.
+    Several,
 }
 
 impl Rule {
@@ -47,6 +51,8 @@ impl Rule {
             Rule::Case => 7,
             Rule::Scope => 8,
             Rule::Types => 9,
+            Rule::Tuple => 10,
+            Rule::Several => 11,
         }
     }
 }

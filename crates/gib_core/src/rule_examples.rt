@@ -1,15 +1,17 @@
 //! Examples of build rules: cores that break one alone, each beside the core that breaks none.
 
-ghost use Rattle.std.specs.Prelude.{◌≡◌, ◌∷◌, [], pos, true, false, None, Some};
+ghost use Rattle.std.specs.Prelude.{◌≡◌, List, ◌∷◌, [], pos, true, false, None, Some};
 ghost use Rattle.gib_types.specs.declared.table.Ty.TheVariants as ty;
 ghost use Rattle.gib_syntax.specs.declared.tree.Operator.TheVariants as o;
+ghost use Rattle.gib_types.specs.declared.table.Ty.{Ty};
+ghost use Rattle.gib_core.specs.declared.atom.Variable.{Variable};
 ghost use Rattle.gib_core.specs.declared.atom.Atom.{Atom};
 ghost use Rattle.gib_core.specs.declared.atom.Atom.TheVariants as a;
 ghost use Rattle.gib_core.specs.declared.atom.Access.TheVariants as by;
 ghost use Rattle.gib_core.specs.declared.atom.Kind.TheVariants as kind;
-ghost use Rattle.gib_core.specs.Tree.{Term, Then, Write, Point, CallTerm, Give, CaseTerm, IfTerm, Past, One, Both, Prim, Reach, On, NoBranch, BranchThen, var};
+ghost use Rattle.gib_core.specs.Tree.{Term, Then, Write, Point, CallTerm, Give, CaseTerm, IfTerm, Tuple, NoPart, PartThen, Past, One, Both, Prim, Reach, On, Several, NoBranch, BranchThen, CoreTree, var};
 ghost use Rattle.gib_core.specs.Rules.{first_broken};
-ghost use Rattle.gib_core.specs.SampleCores.{tree, empty, triple, leaf, node, nil, three, v, same, sample, size, sized, zero_term, points, arms, sizes, told as core_told};
+ghost use Rattle.gib_core.specs.SampleCores.{tree, empty, triple, leaf, node, nil, three, v, same, sample, size, sized, zero_term, points, arms, sizes, told as core_told, pair, pair_types, pair_bound, split, parted};
 ghost use Rattle.gib_core.specs.Ending.{ended};
 
 /// Rules 1, 2, 3, 5 and 6: where values are put. Main's terms count from 1.
@@ -190,4 +192,50 @@ pub fn told()
     // A function that reads its parameter not to the end tells none.
     ensures first_alone { let core = core_told (Then (sizes 4 2) (Give (var 4))) in
         (ended core ≡ []) × (first_broken core ≡ None) }
+{}
+
+/// Results of several parts. Main's terms count from 1, or from 3 behind the function `split`.
+pub fn parts()
+    // A tuple gives its parts where parts are due: as many of each kind, and of their types.
+    ensures tuples { let zero : Atom = a.Whole (pos 0) in
+        let main : Term = Then (pair_bound (CallTerm split (var 0 ∷ []))) (Point (var 1)) in
+        (first_broken (parted (pair zero) main) ≡ None)
+        × (first_broken (sample tree tree (pair zero)) ≡ Some (10, 1))
+        × (first_broken (sample tree ty.Whole (pair zero)) ≡ Some (10, 1))
+        × (first_broken (parted (pair (a.Truth true)) main) ≡ Some (9, 0))
+        × (first_broken (parted (pair (var 3)) main) ≡ Some (8, 0))
+        × (first_broken (parted (Tuple pair_types (zero ∷ []) NoPart) main) ≡ Some (9, 0))
+        × (first_broken (parted (Tuple pair_types [] (PartThen (Point (var 0)) NoPart)) main) ≡ Some (9, 0))
+        × (first_broken (parted (Tuple (ty.Whole ∷ tree ∷ []) (zero ∷ []) (PartThen (Point (var 0)) NoPart)) main) ≡ Some (9, 0))
+        × (first_broken (parted (Tuple pair_types (zero ∷ []) (PartThen zero_term NoPart)) main) ≡ Some (9, 2)) }
+    // Nothing else but a call that gives these parts stands there; such a call stands nowhere else.
+    ensures due { let bound : Term → Term = λ t. Then (pair_bound t) (Point (var 1)) in
+        (first_broken (sample tree tree (bound (Point (var 0)))) ≡ Some (6, 2))
+        × (first_broken (sample tree tree (bound (CallTerm same (var 0 ∷ [])))) ≡ Some (6, 2))
+        × (first_broken (sample tree tree (bound zero_term)) ≡ Some (9, 2))
+        × (first_broken (sized tree tree (bound (CallTerm size (var 0 ∷ [])))) ≡ Some (9, 2))
+        × (first_broken (sample tree tree (bound (Then (Past (v 3) nil) (Write (v 3) nil [] [])))) ≡ Some (1, 2))
+        × (first_broken (parted (pair (a.Whole (pos 0))) (CallTerm split (var 0 ∷ []))) ≡ Some (9, 3)) }
+    // From two to eight new variables are bound, each with a type.
+    ensures several { let zero : Atom = a.Whole (pos 0) in
+        let bound : List Variable → Term = λ xs. Then (One (Several xs pair_types (pair zero))) (Point (var 0)) in
+        let numbers : List Variable → List Ty → List Atom → Term = λ xs tys ss. Then (One (Several xs tys (Tuple tys ss NoPart))) (Point (var 0)) in
+        let eight : List Variable = v 1 ∷ v 2 ∷ v 3 ∷ v 4 ∷ v 5 ∷ v 6 ∷ v 7 ∷ v 8 ∷ [] in
+        let types : List Ty = ty.Whole ∷ ty.Whole ∷ ty.Whole ∷ ty.Whole ∷ ty.Whole ∷ ty.Whole ∷ ty.Whole ∷ ty.Whole ∷ [] in
+        let zeros : List Atom = zero ∷ zero ∷ zero ∷ zero ∷ zero ∷ zero ∷ zero ∷ zero ∷ [] in
+        (first_broken (sample tree tree (bound (v 1 ∷ v 2 ∷ []))) ≡ None)
+        × (first_broken (sample tree tree (bound (v 1 ∷ v 1 ∷ []))) ≡ Some (8, 1))
+        × (first_broken (sample tree tree (bound (v 1 ∷ v 0 ∷ []))) ≡ Some (8, 1))
+        × (first_broken (sample tree tree (bound (v 1 ∷ []))) ≡ Some (11, 1))
+        × (first_broken (sample tree tree (bound (v 1 ∷ v 2 ∷ v 3 ∷ []))) ≡ Some (11, 1))
+        × (first_broken (sample tree tree (numbers (v 1 ∷ []) (ty.Whole ∷ []) (zero ∷ []))) ≡ Some (11, 1))
+        × (first_broken (sample tree tree (numbers eight types zeros)) ≡ None)
+        × (first_broken (sample tree tree (numbers (v 9 ∷ eight) (ty.Whole ∷ types) (zero ∷ zeros))) ≡ Some (11, 1)) }
+    // No side of a par uses one of the other one's variables.
+    ensures sides { let call : Term = CallTerm split (var 0 ∷ []) in
+        let main : Term → Term = λ t. Then (Both false (Several (v 1 ∷ v 2 ∷ []) pair_types call) (Several (v 3 ∷ v 4 ∷ []) pair_types t)) (Point (var 3)) in
+        let core : Term → CoreTree = λ t. parted (pair (a.Whole (pos 0))) (main t) in
+        (first_broken (core call) ≡ None)
+        × (first_broken (core (pair (var 2))) ≡ Some (4, 7))
+        × (first_broken (core (Tuple pair_types (a.Whole (pos 0) ∷ []) (PartThen (Point (var 1)) NoPart))) ≡ Some (4, 9)) }
 {}

@@ -34,6 +34,9 @@ fn keyword_text(keyword: Keyword) -> &'static [u8]
         Keyword::Prim => b"prim",
         Keyword::Par => b"par",
         Keyword::Reach => b"reach",
+        Keyword::Several => b"several",
+        Keyword::Tuple => b"tuple",
+        Keyword::To => b"to",
     }
 }
 
@@ -133,6 +136,15 @@ fn push_parameter(
     Ok(())
 }
 
+/// Writes a type behind what stands before it.
+fn push_type(out: &mut Vec<u8>, before: &[u8], ty: &[u8]) -> Result<(), Memory>
+    ensures { OnOk result (out.new.items ≡ out.old.items ++ (before.now ++ ty.now)) }
+{
+    out.extend_from_slice(before)?;
+    out.extend_from_slice(ty)?;
+    Ok(())
+}
+
 /// Writes a piece.
 fn push_piece(
     alloc: Global,
@@ -159,9 +171,11 @@ fn push_piece(
         Piece::Parameter(variable, ty) => {
             push_parameter(alloc, out, variable, type_text(names, types, ty))
         }
-        Piece::Result(ty) => {
-            out.extend_from_slice(b" : ")?;
-            out.extend_from_slice(type_text(names, types, ty))?;
+        Piece::Result(ty) => push_type(out, b" : ", type_text(names, types, ty)),
+        Piece::FirstPart(ty) => push_type(out, b" : (", type_text(names, types, ty)),
+        Piece::FurtherPart(ty) => push_type(out, b", ", type_text(names, types, ty)),
+        Piece::PartsEnd => {
+            out.extend_from_slice(b")")?;
             Ok(())
         }
         Piece::Operator(operator) => push_behind_space(out, operator_text(operator)),

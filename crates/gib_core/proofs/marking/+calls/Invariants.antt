@@ -1,6 +1,6 @@
 use Rattle.std.proofs.Common.{◌≡◌, ◌≤◌, ◌+◌, ◌*◌, ◌-◌, length, drop}
-use Rattle.gib_core.specs.Arena.{term_of, branches_from}
-use Rattle.gib_core.specs.Marking.{branches_have_call}
+use Rattle.gib_core.specs.Arena.{term_in, term_of, parts_from, branches_from}
+use Rattle.gib_core.specs.Marking.{parts_have_call, branches_have_call}
 use Rattle.gib_core.proofs.Marks.{CallSoFar}
 use Rattle.gib_core.proofs.marking.+calls.Given as goal
 
@@ -12,6 +12,19 @@ decreases-end_has_call l = 4 * l.id.0 + 2
 
 abbrev pub decreases-binding_has_call : goal.decreases-binding_has_call
 decreases-binding_has_call l = 4 * l.parent.0 + 2
+
+abbrev pub decreases-side_has_call : goal.decreases-side_has_call
+decreases-side_has_call l = 4 * (term_in l.side).0 + 4
+
+abbrev pub decreases-parts_have_call : goal.decreases-parts_have_call
+decreases-parts_have_call l = 4 * l.parent.0 + 1
+
+abbrev pub invariant-parts_have_call-parts : goal.invariant-parts_have_call-parts
+invariant-parts_have_call-parts l =
+    (l.i ≤ length l.parts) × (parts_have_call (parts_from (term_of l.terms) l.parts) ≡ parts_have_call (parts_from (term_of l.terms) (drop l.i l.parts)))
+
+abbrev pub decreases-parts_have_call-parts : goal.decreases-parts_have_call-parts
+decreases-parts_have_call-parts l = length l.parts - l.i
 
 abbrev pub decreases-branches_have_call : goal.decreases-branches_have_call
 decreases-branches_have_call l = 4 * l.parent.0 + 1

@@ -1,6 +1,6 @@
 use Rattle.std.proofs.Common.{◌≡◌, ◌++◌, ◌+◌, ◌-◌, ◌*◌, length, drop}
-use Rattle.gib_core.specs.Arena.{term_of, branches_from}
-use Rattle.gib_core.specs.Mentioned.{branch_mentions}
+use Rattle.gib_core.specs.Arena.{term_in, term_of, parts_from, branches_from}
+use Rattle.gib_core.specs.Mentioned.{part_mentions, branch_mentions}
 use Rattle.gib_core.proofs.Listed.{LineListed}
 use Rattle.gib_core.proofs.mentions.+list.Given as goal
 
@@ -14,13 +14,22 @@ abbrev pub decreases-list_binding : goal.decreases-list_binding
 decreases-list_binding l = 5 * l.parent.0 + 2
 
 abbrev pub decreases-list_side : goal.decreases-list_side
-decreases-list_side l = 5 * l.side.term.0 + 5
+decreases-list_side l = 5 * (term_in l.side).0 + 5
 
 abbrev pub decreases-list_branches : goal.decreases-list_branches
 decreases-list_branches l = 5 * l.parent.0 + 1
 
 abbrev pub decreases-list_branch : goal.decreases-list_branch
 decreases-list_branch l = 5 * l.branch.now.term.0 + 5
+
+abbrev pub decreases-list_parts : goal.decreases-list_parts
+decreases-list_parts l = 5 * l.parent.0 + 1
+
+abbrev pub invariant-list_parts-parts : goal.invariant-list_parts-parts
+invariant-list_parts-parts l = l.mentions.items ++ part_mentions (parts_from (term_of l.terms) (drop l.i l.parts)) ≡ l.fn.mentions.items ++ part_mentions (parts_from (term_of l.terms) l.parts)
+
+abbrev pub decreases-list_parts-parts : goal.decreases-list_parts-parts
+decreases-list_parts-parts l = length l.parts - l.i
 
 abbrev pub invariant-list_term-bindings : goal.invariant-list_term-bindings
 invariant-list_term-bindings l = LineListed l.terms l.id.0 l.bindings.items l.i l.fn.mentions.items l.mentions.items

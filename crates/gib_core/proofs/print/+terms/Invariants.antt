@@ -1,6 +1,6 @@
 use Rattle.std.proofs.Common.{◌≡◌, ◌≤◌, ◌+◌, ◌*◌, length, drop}
-use Rattle.gib_core.specs.Arena.{term_of, binds_from, branches_from}
-use Rattle.gib_core.specs.CoreText.{spell_branches}
+use Rattle.gib_core.specs.Arena.{term_in, term_of, binds_from, parts_from, branches_from}
+use Rattle.gib_core.specs.CoreText.{spell_parts, spell_branches}
 use Rattle.gib_core.proofs.Spelling.{spell_binds}
 use Rattle.gib_core.proofs.print.+terms.Given as goal
 
@@ -14,7 +14,22 @@ abbrev pub decreases-put_binding : goal.decreases-put_binding
 decreases-put_binding l = 4 * l.parent.0 + 2
 
 abbrev pub decreases-put_side : goal.decreases-put_side
-decreases-put_side l = 4 * l.side.term.0 + 4
+decreases-put_side l = 4 * (term_in l.side).0 + 5
+
+abbrev pub decreases-put_bound : goal.decreases-put_bound
+decreases-put_bound l = 4 * l.side.term.0 + 4
+
+abbrev pub decreases-put_several : goal.decreases-put_several
+decreases-put_several l = 4 * l.parts.term.0 + 4
+
+abbrev pub decreases-put_parts : goal.decreases-put_parts
+decreases-put_parts l = 4 * l.parent.0 + 1
+
+abbrev pub invariant-put_parts-parts : goal.invariant-put_parts-parts
+invariant-put_parts-parts l = (l.i ≤ length l.parts) × (l.out ≡ spell_parts l.from.ended.now l.level (parts_from (term_of l.from.terms.now) (drop l.i l.parts)) l.fn.out)
+
+abbrev pub decreases-put_parts-parts : goal.decreases-put_parts-parts
+decreases-put_parts-parts l = l.i
 
 abbrev pub decreases-put_branches : goal.decreases-put_branches
 decreases-put_branches l = 4 * l.parent.0 + 1
