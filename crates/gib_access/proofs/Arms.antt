@@ -99,7 +99,7 @@ one-more w f old now new made b done bs h p =
       are = (λ i. BranchThen (p.constructor i) (p.variables i) (p.term i) ((branches_same_below (term_of new.terms) (term_of now.terms) (length now.terms) done h.inside p.walked.grows.same ∙ h.are) i));
     }
 
-reverse-push : {A : Type 0} (xs ys : List A) (x : A) → ys ≡ xs ++ x ∷ [] → reverse ys ≡ x ∷ reverse xs
+pub reverse-push : {A : Type 0} (xs ys : List A) (x : A) → ys ≡ xs ++ x ∷ [] → reverse ys ≡ x ∷ reverse xs
 reverse-push xs ys x e = ap reverse e ∙ reverse-append xs (x ∷ [])
 
 -- One more branch, before the others.

@@ -6,6 +6,7 @@ pub mod Plans
 mod UsesLine
 pub mod Lining
 pub mod Arms
+pub mod Tuples
 pub mod Programs
 -- What it keeps of a core.
 pub mod Reaches

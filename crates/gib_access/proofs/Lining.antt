@@ -7,7 +7,7 @@ use Rattle.gib_core.specs.declared.node.Binding.{Binding}
 use Rattle.gib_core.specs.declared.node.Node.{Node}
 use Rattle.gib_core.specs.declared.node.Node.TheVariants as n
 use Rattle.gib_core.specs.declared.node.TermId.{TermId}
-use Rattle.gib_core.specs.Tree.{Term, Then, Write, Point, CallTerm, Give, CaseTerm, IfTerm, Bind, prepend}
+use Rattle.gib_core.specs.Tree.{Term, Then, Write, Point, CallTerm, Give, CaseTerm, IfTerm, Tuple, Bind, prepend}
 use Rattle.gib_core.specs.Arena.{IsBindingBelow, IsEnd, IsLine, Makes, PartsBelow, term_of, bind_from, binds_from}
 use Rattle.gib_core.specs.Reaching.{Later, uses, bind_uses, offsets_in, bind_offsets, reach, reach_bind, ends_now, not_now}
 use Rattle.gib_access.specs.declared.work.Work.{Work}
@@ -28,6 +28,7 @@ end_reached w fs (CallTerm f xs) e = refl
 end_reached w fs (Give x) e = refl
 end_reached w fs (CaseTerm x bs) e = refl
 end_reached w fs (IfTerm x t u) e = refl
+end_reached w fs (Tuple tys ss ps) e = refl
 
 -- The bindings of the line before a place are left; the fields that are reached from there on are in it.
 pub record LineSoFar (w : Way) (terms : List Node) (bs : List Binding) (last : ℕ) (ps : List Planned) (i : ℕ) (old now : Work) (made : TermId) : Type 0 where

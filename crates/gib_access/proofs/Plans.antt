@@ -6,7 +6,7 @@ use Rattle.gib_core.specs.declared.atom.Variable.{Variable}
 use Rattle.gib_core.specs.declared.atom.AccessMode.{AccessMode}
 use Rattle.gib_core.specs.declared.atom.AccessMode.TheVariants.{Skips, Offsets, Ends}
 use Rattle.gib_core.specs.declared.atom.Access.TheVariants.{End}
-use Rattle.gib_core.specs.Tree.{Term, Then, Write, Point, CallTerm, Give, CaseTerm, IfTerm, Bind, Reach, prepend}
+use Rattle.gib_core.specs.Tree.{Term, Then, Write, Point, CallTerm, Give, CaseTerm, IfTerm, Tuple, Bind, Reach, prepend}
 use Rattle.std.proofs.Math.Seq.{take-length}
 use Rattle.std.proofs.lemmas.List.{drop_more}
 use Rattle.gib_core.specs.declared.node.Binding.{Binding}
@@ -26,6 +26,7 @@ told_end es told z y (CallTerm f xs) e = refl
 told_end es told z y (Give x) e = refl
 told_end es told z y (CaseTerm x bs) e = refl
 told_end es told z y (IfTerm x u v) e = refl
+told_end es told z y (Tuple tys ss ps) e = refl
 
 or_turn : (a b c : Bool) → ((a || b) || c) ≡ (b || (a || c))
 or_turn true true c = refl

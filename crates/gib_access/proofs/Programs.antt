@@ -8,6 +8,7 @@ use Rattle.gib_types.specs.declared.table.ConId.{ConId}
 use Rattle.gib_types.specs.Table.{Table}
 use Rattle.gib_types.specs.Tree.{Datum}
 use Rattle.gib_syntax.specs.Tree.{DataTree}
+use Rattle.gib_syntax.specs.Results as results
 use Rattle.gib_core.specs.declared.atom.AccessMode.{AccessMode}
 use Rattle.gib_core.specs.declared.atom.AccessMode.TheVariants.{Skips, Offsets, Ends}
 use Rattle.gib_core.specs.declared.node.Node.{Node}
@@ -94,14 +95,14 @@ parts_inside w was table terms all main old now new functions first offsets mark
     let n = length table.types in
     let known = subst (λ (t : Table). AllByRecursion (IsDeclared (length t.types)) was.functions) (sym et) h.types in
     let types = functions_declared n (term_of terms) all (subst (λ (ds : List CoreFunction). AllByRecursion (IsDeclared n) ds) (sym ef) known) in
-    let main_known = subst (λ (t : Table). AreDeclared (length t.types) (was.main.parameter ∷ []) was.main.result) (sym et) h.main_types in
-    let main_types = subst (λ (x : CoreMain). AreDeclared n (x.parameter ∷ []) x.result) (sym em) main_known in
+    let main_known = subst (λ (t : Table). AreDeclared (length t.types) (was.main.parameter ∷ []) (results.One was.main.result)) (sym et) h.main_types in
+    let main_types = subst (λ (x : CoreMain). AreDeclared n (x.parameter ∷ []) (results.One x.result)) (sym em) main_known in
     record {
       functions = f.inside;
       main = (let l = f.grows.longer in let k = m.inside in omega (arith, l, k));
       types = declared_functions n (term_of new.terms) functions (subst (λ (gs : List FunctionTerm). AllByRecursion (λ (g : FunctionTerm). AreDeclared n g.parameters g.result) gs) (sym f.are)
           (reached_declared w n (map (function_term (term_of terms)) all) types));
-      main_types = subst (λ (x : MainTerm). AreDeclared n (x.parameter ∷ []) x.result) (sym m.is) main_types;
+      main_types = subst (λ (x : MainTerm). AreDeclared n (x.parameter ∷ []) (results.One x.result)) (sym m.is) main_types;
     }
 
 abbrev way_in : AccessMode → CoreTree → Way

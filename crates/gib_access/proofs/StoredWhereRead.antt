@@ -3,6 +3,9 @@ use Rattle.std.proofs.Common.{◌≡◌, Bool, true, false, ◌||◌, ◌==◌, 
 use Rattle.std.specs.List.{flat_map, AllByRecursion}
 use Rattle.std.proofs.lemmas.Bool.{both_ways}
 use Rattle.gib_types.specs.declared.table.ConId.{ConId}
+use Rattle.gib_types.specs.declared.table.Ty.{Ty}
+use Rattle.gib_types.specs.Table.{first_type, further_types, tree_types}
+use Rattle.gib_syntax.specs.Results as results
 use Rattle.gib_core.specs.declared.atom.Variable.{Variable}
 use Rattle.gib_core.specs.declared.atom.Access.{Access}
 use Rattle.gib_core.specs.declared.atom.Access.TheVariants.{Offset, Skip, End}
@@ -10,13 +13,13 @@ use Rattle.gib_core.specs.declared.atom.AccessMode.{AccessMode}
 use Rattle.gib_core.specs.declared.atom.AccessMode.TheVariants.{Skips, Offsets, Ends}
 use Rattle.gib_core.specs.declared.atom.Ended.{Ended}
 use Rattle.gib_core.specs.declared.scope.Known.{Known}
-use Rattle.gib_core.specs.Tree.{Term, Then, Write, Point, CallTerm, Give, CaseTerm, IfTerm, Bind, Past, One, Both, Prim, Reach, Side, On, Branches, NoBranch, BranchThen, prepend, FunctionTerm, CoreTree}
-use Rattle.gib_core.specs.Met.{Setting, Met, ReachLine, Body, known, left_of, right_of, behind, in_side, in_arm, in_branch, met, met_bind, met_side, met_branches}
+use Rattle.gib_core.specs.Tree.{Term, Then, Write, Point, CallTerm, Give, CaseTerm, IfTerm, Tuple, PartTerms, NoPart, PartThen, Bind, Past, One, Both, Prim, Reach, Side, On, Several, Branches, NoBranch, BranchThen, prepend, FunctionTerm, CoreTree}
+use Rattle.gib_core.specs.Met.{Setting, Met, ReachLine, Body, known, left_of, right_of, behind, in_side, in_several, in_part, in_arm, in_branch, met, met_bind, met_side, met_parts, met_branches}
 use Rattle.gib_core.specs.Rules.{Before, least, rules, may_reach, is_among}
 use Rattle.gib_core.specs.Reachable.{as_reached, all_reached, LinesAreReachable, IsReachable, AreReachable}
-use Rattle.gib_core.specs.Reaching.{Later, uses, bind_uses, uses_any, skips_from, offsets_from, untold, untold_from, reaches, ends_now, not_now, laters, in_par, packed_variables, reach, reach_bind, reach_side, reach_branches, reach_function, reach_core, offset_of, offsets_in, bind_offsets, side_offsets, branch_offsets, ended_by, all_offsets, offsets_by}
+use Rattle.gib_core.specs.Reaching.{Later, uses, bind_uses, uses_any, skips_from, offsets_from, untold, untold_from, reaches, ends_now, not_now, laters, in_par, packed_variables, reach, reach_bind, reach_side, reach_parts, reach_branches, reach_function, reach_core, offset_of, offsets_in, bind_offsets, side_offsets, part_offsets, branch_offsets, ended_by, all_offsets, offsets_by}
 use Rattle.gib_core.proofs.Along.{reachable_split}
-use Rattle.gib_access.specs.Stored.{is_by_offset, line_reads, read_in, bind_read, side_read, branch_read, read_core}
+use Rattle.gib_access.specs.Stored.{is_by_offset, line_reads, read_in, bind_read, side_read, parts_read, branch_read, read_core}
 
 -- With skips no offset is stored.
 abbrev by_mode : AccessMode → List ConId → List ConId
@@ -141,6 +144,7 @@ module _ (core : CoreTree) where
   line_none m es fs (Give x) s b r = reads_ends (uses (Give x)) fs (Give x)
   line_none m es fs (CaseTerm x bs) s b r = reads_ends (uses (CaseTerm x bs)) fs (CaseTerm x (reach_branches m core.table es bs))
   line_none m es fs (IfTerm x t u) s b r = reads_ends (uses (IfTerm x t u)) fs (IfTerm x (reach m core.table es [] t) (reach m core.table es [] u))
+  line_none m es fs (Tuple tys ss ps) s b r = reads_ends (uses (Tuple tys ss ps)) fs (Tuple tys ss (reach_parts m core.table es ps))
 
   mutual
     term_read : (m : AccessMode) (es : List Ended) (fs : List Later) (t : Term) (s : Setting) (b : Before) → LinesAreReachable core b (met core.table s t) → read_in (reach m core.table es fs t) ≡ by_mode m (offsets_in m core.table es t)
@@ -159,6 +163,8 @@ module _ (core : CoreTree) where
         in_ends (uses (IfTerm x t u)) fs (IfTerm x (reach m core.table es [] t) (reach m core.table es [] u))
         ∙ (λ i. term_read m es [] t (in_branch s) b rs.0 i ++ term_read m es [] u (in_branch s) _ rs.1 i)
         ∙ both m (offsets_in m core.table es t) (offsets_in m core.table es u)
+    term_read m es fs (Tuple tys ss ps) s b r =
+        in_ends (uses (Tuple tys ss ps)) fs (Tuple tys ss (reach_parts m core.table es ps)) ∙ parts_are_read m es ps (tree_types tys) s _ r.1
 
     bind_is_read : (m : AccessMode) (es : List Ended) (bind : Bind) (s : Setting) (b : Before) → LinesAreReachable core b (met_bind core.table s bind) → bind_read (reach_bind m core.table es bind) ≡ by_mode m (bind_offsets m core.table es bind)
     bind_is_read m es (Past h k) s b r = none_of m
@@ -173,6 +179,14 @@ module _ (core : CoreTree) where
 
     side_is_read : (m : AccessMode) (es : List Ended) (side : Side) (s : Setting) (b : Before) → LinesAreReachable core b (met_side core.table s side) → side_read (reach_side m core.table es side) ≡ by_mode m (side_offsets m core.table es side)
     side_is_read m es (On kind x ty t) s b r = term_read m es [] t (in_side core.table s kind ty) _ r.1
+    side_is_read m es (Several xs tys t) s b r = term_read m es [] t (in_several s tys) _ r.1
+
+    parts_are_read : (m : AccessMode) (es : List Ended) (ps : PartTerms) (tys : List Ty) (s : Setting) (b : Before) → LinesAreReachable core b (met_parts core.table s tys ps) → parts_read (reach_parts m core.table es ps) ≡ by_mode m (part_offsets m core.table es ps)
+    parts_are_read m es NoPart tys s b r = none_of m
+    parts_are_read m es (PartThen t ps) tys s b r =
+        let rs = reachable_split core b (met core.table (in_part s (first_type tys)) t) (met_parts core.table s (further_types tys) ps) r.1 in
+        (λ i. term_read m es [] t (in_part s (first_type tys)) b rs.0 i ++ parts_are_read m es ps (further_types tys) s _ rs.1 i)
+        ∙ both m (offsets_in m core.table es t) (part_offsets m core.table es ps)
 
     branches_are_read : (m : AccessMode) (es : List Ended) (bs : Branches) (s : Setting) (b : Before) → LinesAreReachable core b (met_branches core.table s bs) → branch_read (reach_branches m core.table es bs) ≡ by_mode m (branch_offsets m core.table es bs)
     branches_are_read m es NoBranch s b r = none_of m
@@ -203,7 +217,7 @@ listed Ends core = refl
 pub stored_where_read : (m : AccessMode) (core : CoreTree) → AreReachable core → (reach_core m core).offsets ≡ read_core (reach_core m core)
 stored_where_read m core h =
     let es = ended_by m core in
-    let r = functions_read core m es core.functions (record { parameters = core.main.parameter ∷ []; result = core.main.result; term = core.main.body } ∷ []) h in
+    let r = functions_read core m es core.functions (record { parameters = core.main.parameter ∷ []; result = results.One core.main.result; term = core.main.body } ∷ []) h in
     listed m core
     ∙ sym (both m (flat_map (λ (f : FunctionTerm). offsets_in m core.table es f.body) core.functions) (offsets_in m core.table es core.main.body))
     ∙ (λ i. sym r.0 i ++ sym (term_read core m es [] core.main.body _ _ r.1.0) i)

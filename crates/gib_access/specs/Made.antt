@@ -6,14 +6,14 @@ use Rattle.gib_types.specs.Table.{Table}
 use Rattle.gib_core.specs.declared.atom.Variable.{Variable}
 use Rattle.gib_core.specs.declared.atom.AccessMode.{AccessMode}
 use Rattle.gib_core.specs.declared.node.Binding.{Binding}
-use Rattle.gib_core.specs.declared.node.BoundTerm.{BoundTerm}
+use Rattle.gib_core.specs.declared.node.BoundSide.{BoundSide}
 use Rattle.gib_core.specs.declared.node.Branch.{Branch}
 use Rattle.gib_core.specs.declared.node.Node.{Node}
 use Rattle.gib_core.specs.declared.node.TermId.{TermId}
-use Rattle.gib_core.specs.Tree.{Term, Bind, Side, Branches, prepend}
+use Rattle.gib_core.specs.Tree.{Term, PartTerms, Bind, Side, Branches, prepend}
 use Rattle.gib_core.specs.declared.atom.Ended.{Ended}
-use Rattle.gib_core.specs.Arena.{Grows, IsBindingBelow, IsBranchBelow, term_of, bind_from, side_from, branches_from}
-use Rattle.gib_core.specs.Reaching.{Later, laters, uses, bind_uses, side_uses, branches_use, reach, reach_bind, reach_side, reach_branches, reaches, packed_variables, offset_of, offsets_in, bind_offsets, side_offsets, branch_offsets}
+use Rattle.gib_core.specs.Arena.{Grows, IsBindingBelow, IsBranchBelow, IsPartBelow, term_in, term_of, bind_from, side_from, branches_from, parts_from}
+use Rattle.gib_core.specs.Reaching.{Later, laters, uses, bind_uses, side_uses, parts_use, branches_use, reach, reach_bind, reach_side, reach_parts, reach_branches, reaches, packed_variables, offset_of, offsets_in, bind_offsets, side_offsets, part_offsets, branch_offsets}
 use Rattle.gib_access.specs.declared.work.Work.{Work}
 use Rattle.gib_access.specs.Used.{Marks}
 
@@ -37,10 +37,16 @@ pub record MakesBinding (old new : Work) (made : Binding) (bind : Bind) (used : 
   pub is : bind_from (term_of new.terms) made ≡ bind
 
 -- A side was made.
-pub record MakesSide (old new : Work) (made : BoundTerm) (side : Side) (used : Variable → Bool) (listed : List ConId) : Type 0 where
+pub record MakesSide (old new : Work) (made : BoundSide) (side : Side) (used : Variable → Bool) (listed : List ConId) : Type 0 where
   pub walked : Walked old new used listed
-  pub inside : made.term.0 < length new.terms
+  pub inside : (term_in made).0 < length new.terms
   pub is : side_from (term_of new.terms) made ≡ side
+
+-- Parts were made.
+pub record MakesParts (old new : Work) (made : List TermId) (parts : PartTerms) (used : Variable → Bool) (listed : List ConId) : Type 0 where
+  pub walked : Walked old new used listed
+  pub inside : AllByRecursion (IsPartBelow (length new.terms)) made
+  pub are : parts_from (term_of new.terms) made ≡ parts
 
 -- Branches were made.
 pub record MakesBranches (old new : Work) (made : List Branch) (branches : Branches) (used : Variable → Bool) (listed : List ConId) : Type 0 where
@@ -63,8 +69,12 @@ abbrev pub ReachesBinding : Way → Work → Work → Binding → Bind → Type 
 ReachesBinding w old new made b = MakesBinding old new made (reach_bind w.mode w.table w.ended b) (bind_uses b) (bind_offsets w.mode w.table w.ended b)
 
 -- The side was reached.
-abbrev pub ReachesSide : Way → Work → Work → BoundTerm → Side → Type 0
+abbrev pub ReachesSide : Way → Work → Work → BoundSide → Side → Type 0
 ReachesSide w old new made s = MakesSide old new made (reach_side w.mode w.table w.ended s) (side_uses s) (side_offsets w.mode w.table w.ended s)
+
+-- The parts were reached.
+abbrev pub ReachesParts : Way → Work → Work → List TermId → PartTerms → Type 0
+ReachesParts w old new made ps = MakesParts old new made (reach_parts w.mode w.table w.ended ps) (parts_use ps) (part_offsets w.mode w.table w.ended ps)
 
 -- The branches were reached.
 abbrev pub ReachesBranches : Way → Work → Work → List Branch → Branches → Type 0

@@ -3,7 +3,7 @@ use Rattle.std.specs.Prelude.{Bool, true, false, ◌||◌, if◌then◌else◌, 
 use Rattle.std.specs.List.{flat_map}
 use Rattle.gib_types.specs.declared.table.ConId.{ConId}
 use Rattle.gib_core.specs.declared.atom.Access.TheVariants.{Offset, Skip, End}
-use Rattle.gib_core.specs.Tree.{Term, Then, Write, Point, CallTerm, Give, CaseTerm, IfTerm, Bind, Past, One, Both, Prim, Reach, Side, On, Branches, NoBranch, BranchThen, FunctionTerm, CoreTree}
+use Rattle.gib_core.specs.Tree.{Term, Then, Write, Point, CallTerm, Give, CaseTerm, IfTerm, Tuple, PartTerms, NoPart, PartThen, Bind, Past, One, Both, Prim, Reach, Side, On, Several, Branches, NoBranch, BranchThen, FunctionTerm, CoreTree}
 
 -- A binding reads an offset.
 abbrev pub is_by_offset : Bind → Bool
@@ -24,6 +24,7 @@ line_reads (CallTerm f xs) = false
 line_reads (Give x) = false
 line_reads (CaseTerm x bs) = false
 line_reads (IfTerm x t u) = false
+line_reads (Tuple tys ss ps) = false
 
 abbrev mutual
   -- The constructors of arms in whose own line an offset is read, in the order of the text, each as often as it has such an arm.
@@ -35,6 +36,7 @@ abbrev mutual
   read_in (Give x) = []
   read_in (CaseTerm x bs) = branch_read bs
   read_in (IfTerm x t u) = read_in t ++ read_in u
+  read_in (Tuple tys ss ps) = parts_read ps
 
   -- Those in a binding.
   pub bind_read : Bind → List ConId
@@ -47,6 +49,12 @@ abbrev mutual
   -- Those in a side's term.
   pub side_read : Side → List ConId
   side_read (On kind x ty t) = read_in t
+  side_read (Several xs tys t) = read_in t
+
+  -- Those in the terms of parts.
+  pub parts_read : PartTerms → List ConId
+  parts_read NoPart = []
+  parts_read (PartThen t ps) = read_in t ++ parts_read ps
 
   -- Those of branches, and in them.
   pub branch_read : Branches → List ConId

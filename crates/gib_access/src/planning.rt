@@ -4,15 +4,15 @@ ghost use Rattle.std.specs.Prelude.{◌≡◌, ◌<◌, ◌≤◌, ◌∷◌, �
 ghost use Rattle.std.specs.List.{AllByRecursion};
 ghost use Rattle.gib_core.specs.declared.atom.Variable.{Variable as Field};
 ghost use Rattle.gib_core.specs.Tree.{prepend};
-ghost use Rattle.gib_core.specs.Arena.{IsBindingBelow, IsBranchBelow, IsEnd, IsLine, term_of, bind_from, binds_from, branches_from};
-ghost use Rattle.gib_core.specs.Reaching.{has_variable, uses as uses_in, bind_uses, branches_use};
+ghost use Rattle.gib_core.specs.Arena.{IsBindingBelow, IsBranchBelow, IsPartBelow, IsEnd, IsLine, term_in, term_of, side_from, bind_from, binds_from, parts_from, branches_from};
+ghost use Rattle.gib_core.specs.Reaching.{has_variable, uses as uses_in, bind_uses, side_uses, parts_use, branches_use};
 ghost use Rattle.gib_access.specs.Planned.{first_use as first_in, any_tells, planned_from, others_from, behind_first, IsPlan};
 
 use crate::source::Source;
 use gib_base::Memory;
 use gib_core::ended::is_variable;
 use gib_core::known::is_telling;
-use gib_core::{AccessMode, Atom, Binding, Branch, Node, TermId, Terms, Variable};
+use gib_core::{AccessMode, Atom, Binding, BoundSide, Branch, Node, TermId, Terms, Variable};
 use std::alloc::Global;
 
 /// A field that a line reaches by an end: the field directly before it, and the number of bindings before the first term that
@@ -90,6 +90,21 @@ fn end_uses(terms: &Terms, id: TermId, x: Variable) -> bool
         } => {
             is_variable(x, *condition) || (uses(terms, *then_part, x) || uses(terms, *else_part, x))
         }
+        Node::Tuple { scalars, parts, .. } => {
+            is_among(x, scalars) || parts_use_it(terms, id, parts, x)
+        }
+    }
+}
+
+/// A side, whose term stands below a number.
+#[cycle(uses)]
+fn side_uses_it(terms: &Terms, side: BoundSide, x: Variable) -> bool
+    requires { (term_in side).0 < length terms.now }
+    ensures { result ≡ side_uses (side_from (term_of terms.now) side) x }
+{
+    match side {
+        BoundSide::One(bound) => uses(terms, bound.term, x),
+        BoundSide::Several(bound) => uses(terms, bound.term, x),
     }
 }
 
@@ -102,8 +117,10 @@ fn binding_uses(terms: &Terms, parent: TermId, binding: Binding, x: Variable) ->
 {
     match binding {
         Binding::Past { .. } => false,
-        Binding::One(side) => uses(terms, side.term, x),
-        Binding::Par { left, right, .. } => uses(terms, left.term, x) || uses(terms, right.term, x),
+        Binding::One(side) => side_uses_it(terms, side, x),
+        Binding::Par { left, right, .. } => {
+            side_uses_it(terms, left, x) || side_uses_it(terms, right, x)
+        }
         Binding::Prim { left, right, .. } => is_variable(x, left) || is_variable(x, right),
         Binding::Reach { .. } => false,
     }
@@ -119,6 +136,23 @@ fn branches_use_it(terms: &Terms, parent: TermId, branches: &[Branch], x: Variab
     let mut i = 0;
     'branches: while i < branches.len() {
         if uses(terms, branches[i].term, x) {
+            return true;
+        }
+        i += 1;
+    }
+    false
+}
+
+/// The parts of the tuple of a number, which stand below it.
+#[cycle(uses)]
+fn parts_use_it(terms: &Terms, parent: TermId, parts: &[TermId], x: Variable) -> bool
+    requires inside { parent.0 < length terms.now }
+    requires below { AllByRecursion (IsPartBelow parent.0) parts.now }
+    ensures { result ≡ parts_use (parts_from (term_of terms.now) parts.now) x }
+{
+    let mut i = 0;
+    'parts: while i < parts.len() {
+        if uses(terms, parts[i], x) {
             return true;
         }
         i += 1;

@@ -5,19 +5,20 @@
 
 ghost use Rattle.std.specs.Prelude.{◌≡◌, ◌<◌, [], length, map, IfOk};
 ghost use Rattle.std.specs.List.{AllByRecursion};
-ghost use Rattle.gib_core.specs.Arena.{IsBindingBelow, IsBranchBelow, IsEnd, IsLine, term_of, side_from, bind_from, binds_from, branches_from};
-ghost use Rattle.gib_core.specs.Tree.{CaseTerm, IfTerm};
+ghost use Rattle.gib_core.specs.Arena.{IsBindingBelow, IsBranchBelow, IsPartBelow, IsEnd, IsLine, term_in, term_of, side_from, bind_from, binds_from, branches_from, parts_from};
+ghost use Rattle.gib_core.specs.PartTypes.{types_in};
+ghost use Rattle.gib_core.specs.Tree.{CaseTerm, IfTerm, Tuple};
 ghost use Rattle.gib_access.specs.Planned.{ArePlanned, later_of};
 ghost use Rattle.gib_access.specs.Sources.{way_of};
-ghost use Rattle.gib_access.specs.Made.{ReachesTerm, ReachesBinding, ReachesSide, ReachesBranches, ReachesBranch};
+ghost use Rattle.gib_access.specs.Made.{ReachesTerm, ReachesBinding, ReachesSide, ReachesParts, ReachesBranches, ReachesBranch};
 
 use crate::fields::{list_constructor, packed_variables, put_ends, put_reaches};
 use crate::planning::{Line, Planned, plan_line};
 use crate::source::{Source, in_par};
-use crate::stamps::{enter, mark_atom};
+use crate::stamps::{enter, mark_atom, mark_atoms};
 use crate::work::{Work, put_call, put_give, put_point, put_write};
 use gib_base::Memory;
-use gib_core::{Atom, Binding, BoundTerm, Branch, Node, TermId};
+use gib_core::{Atom, Binding, BoundParts, BoundSide, BoundTerm, Branch, Node, PartTypes, TermId};
 
 /// A term with the fields of all its arms reached. This recurses as deep as terms are nested in bindings and
 /// branches, and not along a line.
@@ -84,6 +85,11 @@ fn reach_end(source: &Source, work: &mut Work, id: TermId) -> Result<TermId, Mem
             then_part,
             else_part,
         } => reach_if(source, work, id, *condition, *then_part, *else_part),
+        Node::Tuple {
+            types,
+            scalars,
+            parts,
+        } => reach_tuple(source, work, id, *types, scalars, parts),
     }
 }
 
@@ -123,14 +129,17 @@ fn reach_binding(
     }
 }
 
-/// A variable with the term that it is bound to.
+/// What is bound to a term.
 #[cycle(reach)]
-fn reach_side(source: &Source, work: &mut Work, side: BoundTerm) -> Result<BoundTerm, Memory>
-    requires { side.term.0 < length source.now.terms.now }
+fn reach_side(source: &Source, work: &mut Work, side: BoundSide) -> Result<BoundSide, Memory>
+    requires { (term_in side).0 < length source.now.terms.now }
     ensures { IfOk result (λ made. ReachesSide (way_of source.now) work.old work.new made (side_from (term_of source.now.terms.now) side)) }
 {
-    let term = reach_term(source, work, side.term)?;
-    Ok(BoundTerm { term, ..side })
+    let term = reach_term(source, work, side.term())?;
+    match side {
+        BoundSide::One(side) => Ok(BoundSide::One(BoundTerm { term, ..side })),
+        BoundSide::Several(side) => Ok(BoundSide::Several(BoundParts { term, ..side })),
+    }
 }
 
 /// The `if` of a number, whose parts stand below it.
@@ -157,6 +166,54 @@ fn reach_if(
         else_part,
     })?;
     Ok(made)
+}
+
+/// The tuple of a number, whose parts stand below it.
+#[cycle(reach)]
+fn reach_tuple(
+    source: &Source,
+    work: &mut Work,
+    parent: TermId,
+    types: PartTypes,
+    scalars: &[Atom],
+    parts: &[TermId],
+) -> Result<TermId, Memory>
+    requires inside { parent.0 < length source.now.terms.now }
+    requires below { AllByRecursion (IsPartBelow parent.0) parts.now }
+    ensures { IfOk result (λ made. ReachesTerm (way_of source.now) [] work.old work.new made (Tuple (types_in types) scalars.now (parts_from (term_of source.now.terms.now) parts.now))) }
+{
+    let parts = reach_parts(source, work, parent, parts)?;
+    mark_atoms(&mut work.stamps, scalars)?;
+    let scalars = Vec::from_slice(source.alloc, scalars)?;
+    let made = work.terms.put(Node::Tuple {
+        types,
+        scalars,
+        parts,
+    })?;
+    Ok(made)
+}
+
+/// The parts of the tuple of a number.
+#[cycle(reach)]
+fn reach_parts(
+    source: &Source,
+    work: &mut Work,
+    parent: TermId,
+    parts: &[TermId],
+) -> Result<Vec<TermId>, Memory>
+    requires inside { parent.0 < length source.now.terms.now }
+    requires below { AllByRecursion (IsPartBelow parent.0) parts.now }
+    ensures { IfOk result (λ made. ReachesParts (way_of source.now) work.old work.new made.items (parts_from (term_of source.now.terms.now) parts.now)) }
+{
+    let mut reversed = Vec::new(source.alloc);
+    let mut i = parts.len();
+    'parts: while i > 0 {
+        i -= 1;
+        let part = reach_term(source, work, parts[i])?;
+        reversed.push(part)?;
+    }
+    reversed.reverse();
+    Ok(reversed)
 }
 
 /// The case of a number, whose branches' terms stand below it.

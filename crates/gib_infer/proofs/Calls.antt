@@ -1,5 +1,6 @@
 -- Arguments, calls and constructors.
-use Rattle.std.proofs.Common.{◌≡◌, ℕ, ◌+◌, ◌-◌, ◌<◌, ◌≤◌, Bool, true, false, List, [], ◌∷◌, ◌++◌, length, map, refl, sym, ap, ◌∙◌, subst, arith, append_assoc, take, drop, get_or}
+use Rattle.std.proofs.Common.{◌≡◌, ℕ, ◌+◌, ◌-◌, ◌<◌, ◌≤◌, Bool, true, false, List, Option, Some, None, [], ◌∷◌, ◌++◌, length, map, refl, sym, ap, ◌∙◌, subst, arith, append_assoc, take, drop, get_or}
+use Rattle.std.specs.Option.{unwrap_or}
 use Rattle.std.proofs.lemmas.List.{append-nil}
 use Rattle.gib_base.specs.declared.name.Name.{Name}
 use Rattle.gib_types.specs.declared.table.Ty.{Ty}
@@ -12,20 +13,23 @@ use Rattle.gib_syntax.specs.declared.tree.Ident.{Ident}
 use Rattle.gib_syntax.specs.Tree.{Call, Make}
 use Rattle.gib_syntax.specs.Arena.{tree_of, arguments_from}
 use Rattle.gib_syntax.specs.Parts.{Parts}
+use Rattle.gib_syntax.specs.Results as results
+use Rattle.gib_syntax.specs.Results.{Results}
 use Rattle.gib_syntax.specs.Declarations.{number_of, function_named}
-use Rattle.gib_syntax.specs.Meaning.{at_fields, is_scalar}
+use Rattle.gib_syntax.specs.Meaning.{at_fields}
 use Rattle.gib_core.specs.declared.atom.Variable.{Variable}
 use Rattle.gib_core.specs.declared.atom.Atom.{Atom}
 use Rattle.gib_core.specs.declared.atom.Atom.TheVariants as a
 use Rattle.gib_core.specs.declared.node.TermId.{TermId}
 use Rattle.gib_core.specs.declared.node.Binding.{Binding}
 use Rattle.gib_core.specs.declared.node.Binding.TheVariants as b
+use Rattle.gib_core.specs.declared.node.BoundSide.TheVariants as sides
 use Rattle.gib_core.specs.Tree.{Write, Past, prepend}
 use Rattle.gib_core.specs.Arena.{binds_from, term_of}
 use Rattle.gib_core.specs.Tree.{variables_from}
 use Rattle.gib_core.specs.Inferring.{Scope, Lined, Atomed, Several, Code, infer, infer_all, several, boxed, call_code, call_atom, make_from, make_line, con_named, gives_type, pointed_fields, as_atoms}
 use Rattle.gib_infer.specs.declared.work.Work.{Work}
-use Rattle.gib_infer.specs.Made.{scope_of, globals_in, code_at, codes_at, AreBelow, AreBindingsBelow, Keeps, MakesLine, MakesAtom, MakesAtoms, pending, plain_atoms, ended_call, side_call}
+use Rattle.gib_infer.specs.Made.{scope_of, globals_in, code_at, codes_at, AreBelow, AreBindingsBelow, Keeps, MakesLine, MakesAtom, MakesAtoms, pending, plain_atoms, one_of, scalar_one, ended_call, side_call}
 use Rattle.gib_infer.proofs.Making.{next_of, keeps_more, boxed_made, line_after, atom_after}
 use Rattle.gib_infer.proofs.FieldSteps.{rest-is}
 
@@ -69,65 +73,70 @@ arguments_end parts exprs id old new before after ids (i ∷ left) xs lt h = abs
 
 -- ---- calls
 
-codes-each : (parts : Parts) (exprs : List Expr) (ids : List ExprId) → infer_all (globals_in parts) (arguments_from (tree_of exprs) ids) ≡ codes_at parts exprs ids
+pub codes-each : (parts : Parts) (exprs : List Expr) (ids : List ExprId) → infer_all (globals_in parts) (arguments_from (tree_of exprs) ids) ≡ codes_at parts exprs ids
 codes-each parts exprs [] = refl
 codes-each parts exprs (x ∷ ids) = ap (λ z. code_at parts exprs x.0 ∷ z) (codes-each parts exprs ids)
 
--- The type that a call gives.
-abbrev pub type_of_call : Parts → Ident → Ty
-type_of_call parts f = gives_type (globals_in parts).table (function_named (globals_in parts).functions (number_of f))
+-- The type that a call gives; of several parts there is none.
+abbrev pub type_of_call : Parts → Ident → Option Ty
+type_of_call parts f = one_of (gives_type (globals_in parts).table (function_named (globals_in parts).functions (number_of f)))
 
-call-same : (parts : Parts) (exprs : List Expr) (f : Ident) (ids : List ExprId) (of : Ty) → of ≡ type_of_call parts f → call_code of f.name (codes_at parts exprs ids) ≡ infer (globals_in parts) (Call f (arguments_from (tree_of exprs) ids))
-call-same parts exprs f ids of e = (λ i. call_code (e i) f.name (sym (codes-each parts exprs ids) i))
+-- A call by what it gives, behind its arguments.
+call-as : (parts : Parts) (exprs : List Expr) (f : Ident) (ids : List ExprId) → call_code (gives_type (globals_in parts).table (function_named (globals_in parts).functions (number_of f))) f.name (codes_at parts exprs ids) ≡ infer (globals_in parts) (Call f (arguments_from (tree_of exprs) ids))
+call-as parts exprs f ids = (λ i. call_code (gives_type (globals_in parts).table (function_named (globals_in parts).functions (number_of f))) f.name (sym (codes-each parts exprs ids) i))
 
-ended-same : (of : Ty) (f : Name) (cs : List Code) (sc : Scope) (n : ℕ) → ended_call of f (several cs sc n) ≡ (call_code of f cs).line sc n
-ended-same Whole f cs sc n = refl
-ended-same Truth f cs sc n = refl
-ended-same (Tree t) f cs sc n = refl
+ended-same : (of : Results Ty) (f : Name) (cs : List Code) (sc : Scope) (n : ℕ) → ended_call (one_of of) f (several cs sc n) ≡ (call_code of f cs).line sc n
+ended-same (results.One Whole) f cs sc n = refl
+ended-same (results.One Truth) f cs sc n = refl
+ended-same (results.One (Tree t)) f cs sc n = refl
+ended-same (results.Several ts) f cs sc n = refl
 
-sides-same : (of : Ty) (f : Name) (cs : List Code) (sc : Scope) (n : ℕ) → side_call of f (several cs sc n) ≡ (call_code of f cs).side sc n
-sides-same Whole f cs sc n = refl
-sides-same Truth f cs sc n = refl
-sides-same (Tree t) f cs sc n = refl
+sides-same : (of : Results Ty) (f : Name) (cs : List Code) (sc : Scope) (n : ℕ) → side_call (one_of of) f (several cs sc n) ≡ (call_code of f cs).side sc n
+sides-same (results.One Whole) f cs sc n = refl
+sides-same (results.One Truth) f cs sc n = refl
+sides-same (results.One (Tree t)) f cs sc n = refl
+sides-same (results.Several ts) f cs sc n = refl
 
-scalars-same : (of : Ty) (f : Name) (cs : List Code) (sc : Scope) (n : ℕ) → is_scalar of ≡ true → call_atom of f (several cs sc n) ≡ (call_code of f cs).atom sc n
-scalars-same Whole f cs sc n e = refl
-scalars-same Truth f cs sc n e = refl
-scalars-same (Tree t) f cs sc n e = absurd cc
+scalars-same : (of : Results Ty) (ty : Ty) (f : Name) (cs : List Code) (sc : Scope) (n : ℕ) → scalar_one (one_of of) ≡ Some ty → call_atom ty f (several cs sc n) ≡ (call_code of f cs).atom sc n
+scalars-same (results.One Whole) ty f cs sc n e = ap (λ z. call_atom z f (several cs sc n)) (sym (ap (λ z. unwrap_or z Whole) e))
+scalars-same (results.One Truth) ty f cs sc n e = ap (λ z. call_atom z f (several cs sc n)) (sym (ap (λ z. unwrap_or z Whole) e))
+scalars-same (results.One (Tree t)) ty f cs sc n e = absurd cc
+scalars-same (results.Several ts) ty f cs sc n e = absurd cc
 
-regions-same : (of : Ty) (f : Name) (cs : List Code) (sc : Scope) (n : ℕ) → is_scalar of ≡ false → boxed (call_code of f cs).line sc n ≡ (call_code of f cs).atom sc n
-regions-same Whole f cs sc n e = absurd cc
-regions-same Truth f cs sc n e = absurd cc
-regions-same (Tree t) f cs sc n e = refl
+regions-same : (of : Results Ty) (f : Name) (cs : List Code) (sc : Scope) (n : ℕ) → scalar_one (one_of of) ≡ None → boxed (call_code of f cs).line sc n ≡ (call_code of f cs).atom sc n
+regions-same (results.One Whole) f cs sc n e = absurd cc
+regions-same (results.One Truth) f cs sc n e = absurd cc
+regions-same (results.One (Tree t)) f cs sc n e = refl
+regions-same (results.Several ts) f cs sc n e = refl
 
-pub call_line_made : (parts : Parts) (exprs : List Expr) (f : Ident) (ids : List ExprId) (of : Ty) (w0 w1 w2 : Work) (before out : List Binding) (xs : List Atom) (id : TermId) → of ≡ type_of_call parts f → before ≡ [] → MakesAtoms w0 w1 before out xs (several (codes_at parts exprs ids) (scope_of w0.scope.items) w0.fresh) → MakesLine w1 w2 id of (ended_call of f.name (pending w1 out xs)) → MakesLine w0 w2 id of ((infer (globals_in parts) (Call f (arguments_from (tree_of exprs) ids))).line (scope_of w0.scope.items) w0.fresh)
-call_line_made parts exprs f ids of w0 w1 w2 before out xs id e eb h m =
+pub call_line_made : (parts : Parts) (exprs : List Expr) (f : Ident) (ids : List ExprId) (given : Option Ty) (of : Ty) (w0 w1 w2 : Work) (before out : List Binding) (xs : List Atom) (id : TermId) → given ≡ type_of_call parts f → of ≡ unwrap_or given Whole → before ≡ [] → MakesAtoms w0 w1 before out xs (several (codes_at parts exprs ids) (scope_of w0.scope.items) w0.fresh) → MakesLine w1 w2 id (unwrap_or given Whole) (ended_call given f.name (pending w1 out xs)) → MakesLine w0 w2 id of ((infer (globals_in parts) (Call f (arguments_from (tree_of exprs) ids))).line (scope_of w0.scope.items) w0.fresh)
+call_line_made parts exprs f ids given of w0 w1 w2 before out xs id e eo eb h m =
     let sc = scope_of w0.scope.items in
     let cs = codes_at parts exprs ids in
-    subst (λ (z : Lined). MakesLine w0 w2 id of z) (ended-same of f.name cs sc w0.fresh ∙ (λ i. (call-same parts exprs f ids of e i).line sc w0.fresh))
-    (line_after w0 w1 w2 before out xs (several cs sc w0.fresh) id of (ended_call of f.name) eb h m)
+    rw eo (subst (λ (z : Lined). MakesLine w0 w2 id (unwrap_or given Whole) z) (ap (λ z. ended_call z f.name (several cs sc w0.fresh)) e ∙ ended-same (gives_type (globals_in parts).table (function_named (globals_in parts).functions (number_of f))) f.name cs sc w0.fresh ∙ (λ i. (call-as parts exprs f ids i).line sc w0.fresh))
+    (line_after w0 w1 w2 before out xs (several cs sc w0.fresh) id (unwrap_or given Whole) (ended_call given f.name) eb h m))
 
-pub call_side_made : (parts : Parts) (exprs : List Expr) (f : Ident) (ids : List ExprId) (of : Ty) (w0 w1 w2 : Work) (before out : List Binding) (xs : List Atom) (id : TermId) → of ≡ type_of_call parts f → before ≡ [] → MakesAtoms w0 w1 before out xs (several (codes_at parts exprs ids) (scope_of w0.scope.items) w0.fresh) → MakesLine w1 w2 id of (side_call of f.name (pending w1 out xs)) → MakesLine w0 w2 id of ((infer (globals_in parts) (Call f (arguments_from (tree_of exprs) ids))).side (scope_of w0.scope.items) w0.fresh)
-call_side_made parts exprs f ids of w0 w1 w2 before out xs id e eb h m =
+pub call_side_made : (parts : Parts) (exprs : List Expr) (f : Ident) (ids : List ExprId) (given : Option Ty) (of : Ty) (w0 w1 w2 : Work) (before out : List Binding) (xs : List Atom) (id : TermId) → given ≡ type_of_call parts f → of ≡ unwrap_or given Whole → before ≡ [] → MakesAtoms w0 w1 before out xs (several (codes_at parts exprs ids) (scope_of w0.scope.items) w0.fresh) → MakesLine w1 w2 id (unwrap_or given Whole) (side_call given f.name (pending w1 out xs)) → MakesLine w0 w2 id of ((infer (globals_in parts) (Call f (arguments_from (tree_of exprs) ids))).side (scope_of w0.scope.items) w0.fresh)
+call_side_made parts exprs f ids given of w0 w1 w2 before out xs id e eo eb h m =
     let sc = scope_of w0.scope.items in
     let cs = codes_at parts exprs ids in
-    subst (λ (z : Lined). MakesLine w0 w2 id of z) (sides-same of f.name cs sc w0.fresh ∙ (λ i. (call-same parts exprs f ids of e i).side sc w0.fresh))
-    (line_after w0 w1 w2 before out xs (several cs sc w0.fresh) id of (side_call of f.name) eb h m)
+    rw eo (subst (λ (z : Lined). MakesLine w0 w2 id (unwrap_or given Whole) z) (ap (λ z. side_call z f.name (several cs sc w0.fresh)) e ∙ sides-same (gives_type (globals_in parts).table (function_named (globals_in parts).functions (number_of f))) f.name cs sc w0.fresh ∙ (λ i. (call-as parts exprs f ids i).side sc w0.fresh))
+    (line_after w0 w1 w2 before out xs (several cs sc w0.fresh) id (unwrap_or given Whole) (side_call given f.name) eb h m))
 
-pub scalar_call_made : (parts : Parts) (exprs : List Expr) (f : Ident) (ids : List ExprId) (of : Ty) (w0 w1 w2 : Work) (b0 b1 b2 : List Binding) (xs : List Atom) (x : Atom) → of ≡ type_of_call parts f → is_scalar of ≡ true → MakesAtoms w0 w1 b0 b1 xs (several (codes_at parts exprs ids) (scope_of w0.scope.items) w0.fresh) → MakesAtom w1 w2 b1 b2 x of (call_atom of f.name (plain_atoms w1 xs)) → MakesAtom w0 w2 b0 b2 x of ((infer (globals_in parts) (Call f (arguments_from (tree_of exprs) ids))).atom (scope_of w0.scope.items) w0.fresh)
-scalar_call_made parts exprs f ids of w0 w1 w2 b0 b1 b2 xs x e scalar h m =
+pub scalar_call_made : (parts : Parts) (exprs : List Expr) (f : Ident) (ids : List ExprId) (of : Ty) (given : Option Ty) (w0 w1 w2 : Work) (b0 b1 b2 : List Binding) (xs : List Atom) (x : Atom) → given ≡ type_of_call parts f → scalar_one given ≡ Some of → MakesAtoms w0 w1 b0 b1 xs (several (codes_at parts exprs ids) (scope_of w0.scope.items) w0.fresh) → MakesAtom w1 w2 b1 b2 x of (call_atom of f.name (plain_atoms w1 xs)) → MakesAtom w0 w2 b0 b2 x of ((infer (globals_in parts) (Call f (arguments_from (tree_of exprs) ids))).atom (scope_of w0.scope.items) w0.fresh)
+scalar_call_made parts exprs f ids of given w0 w1 w2 b0 b1 b2 xs x e scalar h m =
     let sc = scope_of w0.scope.items in
     let cs = codes_at parts exprs ids in
-    subst (λ (z : Atomed). MakesAtom w0 w2 b0 b2 x of z) (scalars-same of f.name cs sc w0.fresh scalar ∙ (λ i. (call-same parts exprs f ids of e i).atom sc w0.fresh))
+    subst (λ (z : Atomed). MakesAtom w0 w2 b0 b2 x of z) (scalars-same (gives_type (globals_in parts).table (function_named (globals_in parts).functions (number_of f))) of f.name cs sc w0.fresh (ap scalar_one (sym e) ∙ scalar) ∙ (λ i. (call-as parts exprs f ids i).atom sc w0.fresh))
     (atom_after w0 w1 w2 b0 b1 b2 xs (several cs sc w0.fresh) x of (λ ys n. call_atom of f.name (record { fresh = n; binds = []; atoms = ys })) h m)
 
-pub region_call_made : (parts : Parts) (exprs : List Expr) (f : Ident) (ids : List ExprId) (given of : Ty) (w0 w1 w2 : Work) (before after : List Binding) (x : Variable) (at : TermId) → given ≡ type_of_call parts f → is_scalar given ≡ false → x.0 ≡ w0.fresh → w1 ≡ next_of w0 → AreBindingsBelow (length w0.terms) before → MakesLine w1 w2 at of ((infer (globals_in parts) (Call f (arguments_from (tree_of exprs) ids))).line (scope_of w1.scope.items) w1.fresh) → after ≡ before ++ b.One (record { kind = Rattle.gib_core.specs.Inferring.kind_of of; variable = x; ty = of; term = at }) ∷ [] → MakesAtom w0 w2 before after (a.Variable x) of ((infer (globals_in parts) (Call f (arguments_from (tree_of exprs) ids))).atom (scope_of w0.scope.items) w0.fresh)
+pub region_call_made : (parts : Parts) (exprs : List Expr) (f : Ident) (ids : List ExprId) (given : Option Ty) (of : Ty) (w0 w1 w2 : Work) (before after : List Binding) (x : Variable) (at : TermId) → given ≡ type_of_call parts f → scalar_one given ≡ None → x.0 ≡ w0.fresh → w1 ≡ next_of w0 → AreBindingsBelow (length w0.terms) before → MakesLine w1 w2 at of ((infer (globals_in parts) (Call f (arguments_from (tree_of exprs) ids))).line (scope_of w1.scope.items) w1.fresh) → after ≡ before ++ b.One (sides.One (record { kind = Rattle.gib_core.specs.Inferring.kind_of of; variable = x; ty = of; term = at })) ∷ [] → MakesAtom w0 w2 before after (a.Variable x) of ((infer (globals_in parts) (Call f (arguments_from (tree_of exprs) ids))).atom (scope_of w0.scope.items) w0.fresh)
 region_call_made parts exprs f ids given of w0 w1 w2 before after x at e scalar ex em below h ea =
     let sc = scope_of w0.scope.items in
     let cs = codes_at parts exprs ids in
-    let same = call-same parts exprs f ids given e in
+    let same = call-as parts exprs f ids in
     subst (λ (z : Atomed). MakesAtom w0 w2 before after (a.Variable x) of z)
-    ((λ i. boxed (sym same i).line sc w0.fresh) ∙ regions-same given f.name cs sc w0.fresh scalar ∙ (λ i. (same i).atom sc w0.fresh))
+    ((λ i. boxed (sym same i).line sc w0.fresh) ∙ regions-same (gives_type (globals_in parts).table (function_named (globals_in parts).functions (number_of f))) f.name cs sc w0.fresh (ap scalar_one (sym e) ∙ scalar) ∙ (λ i. (same i).atom sc w0.fresh))
     (boxed_made w0 w1 w2 before after x at of (infer (globals_in parts) (Call f (arguments_from (tree_of exprs) ids))).line ex em below h ea)
 
 -- ---- constructors

@@ -13,6 +13,7 @@ use Rattle.gib_core.specs.declared.node.TermId.{TermId}
 use Rattle.gib_core.specs.declared.node.BoundTerm.{BoundTerm}
 use Rattle.gib_core.specs.declared.node.Binding.{Binding}
 use Rattle.gib_core.specs.declared.node.Binding.TheVariants as b
+use Rattle.gib_core.specs.declared.node.BoundSide.TheVariants as sides
 use Rattle.gib_core.specs.Tree.{Point, CallTerm, Bind, One, On}
 use Rattle.gib_core.specs.Arena.{Grows, binds_from, term_of}
 use Rattle.gib_core.specs.Tree.{variables_from}
@@ -31,11 +32,11 @@ selected scalars (t ∷ ts) [] done all lt e = sym (append-nil done) ∙ e
 selected scalars (t ∷ ts) (x ∷ xs) done all lt e = absurd (omega (arith, lt))
 
 -- A scalar call that is bound.
-pub call_bound : (old mid new : Work) (before after : List Binding) (x : Variable) (f : Name) (xs : List Atom) (of : Ty) (at : TermId) → x.0 ≡ old.fresh → mid ≡ next_of old → Grows mid.terms new.terms → at.0 < length new.terms → term_of new.terms at.0 ≡ CallTerm f xs → new.scope.items ≡ mid.scope.items → new.fresh ≡ mid.fresh → AreBindingsBelow (length old.terms) before → after ≡ before ++ b.One (record { kind = Scalar; variable = x; ty = of; term = at }) ∷ [] → MakesAtom old new before after (a.Variable x) of (call_atom of f (plain_atoms old xs))
+pub call_bound : (old mid new : Work) (before after : List Binding) (x : Variable) (f : Name) (xs : List Atom) (of : Ty) (at : TermId) → x.0 ≡ old.fresh → mid ≡ next_of old → Grows mid.terms new.terms → at.0 < length new.terms → term_of new.terms at.0 ≡ CallTerm f xs → new.scope.items ≡ mid.scope.items → new.fresh ≡ mid.fresh → AreBindingsBelow (length old.terms) before → after ≡ before ++ b.One (sides.One (record { kind = Scalar; variable = x; ty = of; term = at })) ∷ [] → MakesAtom old new before after (a.Variable x) of (call_atom of f (plain_atoms old xs))
 call_bound old mid new before after x f xs of at ex em g lt et es ef below ea =
     let grows : Grows old.terms new.terms = subst (λ (w : Work). Grows w.terms new.terms) em g in
     let bound : BoundTerm = record { kind = Scalar; variable = x; ty = of; term = at } in
-    let p = pushed old.terms new.terms before after (b.One bound) (One (On Scalar (record { 0 = old.fresh }) of (CallTerm f xs))) grows below lt ea (λ i. One (On Scalar (record { 0 = ex i }) of (et i))) in
+    let p = pushed old.terms new.terms before after (b.One (sides.One bound)) (One (On Scalar (record { 0 = old.fresh }) of (CallTerm f xs))) grows below lt ea (λ i. One (On Scalar (record { 0 = ex i }) of (et i))) in
     record {
       keeps = record { grows = grows; scope = es ∙ ap (λ (w : Work). w.scope.items) em };
       inside = p.below;
@@ -46,14 +47,14 @@ call_bound old mid new before after x f xs of at ex em g lt et es ef below ea =
     }
 
 -- One more field points to its atom.
-pub points_next : (old now mid newer : Work) (before out more : List Binding) (types types_left types_after : List Ty) (atoms left : List Atom) (d : Atom) (xs ys : List Atom) (x : Variable) (ty : Ty) (at : TermId) → 1 ≤ length left → x.0 ≡ now.fresh → mid ≡ next_of now → Grows mid.terms newer.terms → at.0 < length newer.terms → term_of newer.terms at.0 ≡ Point (get_or left 0 d) → newer.scope.items ≡ mid.scope.items → newer.fresh ≡ mid.fresh → more ≡ out ++ b.One (record { kind = Here; variable = x; ty = ty; term = at }) ∷ [] → ys ≡ xs ++ a.Variable x ∷ [] → ty ≡ first_type types_left → types_after ≡ further_types types_left → PointsSoFar old now before out types types_left atoms left xs → PointsSoFar old newer before more types types_after atoms (take (length left - 1) (drop 1 left)) ys
+pub points_next : (old now mid newer : Work) (before out more : List Binding) (types types_left types_after : List Ty) (atoms left : List Atom) (d : Atom) (xs ys : List Atom) (x : Variable) (ty : Ty) (at : TermId) → 1 ≤ length left → x.0 ≡ now.fresh → mid ≡ next_of now → Grows mid.terms newer.terms → at.0 < length newer.terms → term_of newer.terms at.0 ≡ Point (get_or left 0 d) → newer.scope.items ≡ mid.scope.items → newer.fresh ≡ mid.fresh → more ≡ out ++ b.One (sides.One (record { kind = Here; variable = x; ty = ty; term = at })) ∷ [] → ys ≡ xs ++ a.Variable x ∷ [] → ty ≡ first_type types_left → types_after ≡ further_types types_left → PointsSoFar old now before out types types_left atoms left xs → PointsSoFar old newer before more types types_after atoms (take (length left - 1) (drop 1 left)) ys
 points_next old now mid newer before out more types types_left types_after atoms [] d xs ys x ty at le ex em g lt et es ef eo ey e1 e2 h = absurd (omega (arith, le))
 points_next old now mid newer before out more types types_left types_after atoms (p ∷ left) d xs ys x ty at le ex em g lt et es ef eo ey e1 e2 h =
     let grows : Grows now.terms newer.terms = subst (λ (w : Work). Grows w.terms newer.terms) em g in
     let next : newer.fresh ≡ now.fresh + 1 = ef ∙ ap (λ (w : Work). w.fresh) em in
     let bound : BoundTerm = record { kind = Here; variable = x; ty = ty; term = at } in
     let one : Bind = One (On Here (record { 0 = now.fresh }) (first_type types_left) (Point p)) in
-    let k = pushed now.terms newer.terms out more (b.One bound) one grows h.inside lt eo (λ i. One (On Here (record { 0 = ex i }) (e1 i) (et i))) in
+    let k = pushed now.terms newer.terms out more (b.One (sides.One bound)) one grows h.inside lt eo (λ i. One (On Here (record { 0 = ex i }) (e1 i) (et i))) in
     let kept : Keeps now newer = record { grows = grows; scope = es ∙ ap (λ (w : Work). w.scope.items) em } in
     let rest = pointed_fields (now.fresh + 1) (further_types types_left) left in
     let others = as_atoms (variables_from (now.fresh + 1) left) in

@@ -9,7 +9,7 @@ use Rattle.gib_types.specs.Table.{Row, Table, name_of, name_at}
 use Rattle.gib_syntax.specs.declared.tree.Ident.{Ident}
 use Rattle.gib_syntax.specs.Declarations.{place_of, next_place, constructor_names, constructor_named}
 use Rattle.gib_core.specs.declared.atom.Atom.{Atom}
-use Rattle.gib_core.specs.Tree.{Prim, var}
+use Rattle.gib_core.specs.Tree.{var, variables_from}
 use Rattle.gib_core.specs.Ordered.{IsFit, AreFit}
 use Rattle.gib_core.proofs.Erases.{fit_more}
 use Rattle.gib_core.specs.Inferring.{Scope, slot, first_type, further_types, with_fields, atom_at}
@@ -34,10 +34,24 @@ at_fit n (s ∷ sc) x h = here (s.name.0 == x) (at_fit n sc x h.1)
     here true e = h.0
     here false e = e
 
+pub fields_within : (n m : ℕ) (xs : List Ident) (types : List Ty) (sc : Scope) → n + length xs ≤ m → ScopeFits m sc → ScopeFits m (with_fields xs types n sc)
+fields_within n m [] types sc le h = h
+fields_within n m (x ∷ xs) types sc le h = fields_within (n + 1) m xs (further_types types) (slot x (var n) (first_type types) ∷ sc) (omega arith) (omega arith, h)
+
 pub fields_fit : (n m : ℕ) (xs : List Ident) (types : List Ty) (sc : Scope) → m ≡ n + length xs → ScopeFits n sc → ScopeFits m (with_fields xs types n sc)
-fields_fit n m [] types sc e h = scope_more n m sc (omega arith) h
-fields_fit n m (x ∷ xs) types sc e h =
-    fields_fit (n + 1) m xs (further_types types) (slot x (var n) (first_type types) ∷ sc) (omega arith) (omega arith, scope_more n (n + 1) sc (omega arith) h)
+fields_fit n m xs types sc e h = fields_within n m xs types sc (omega (arith, e)) (scope_more n m sc (omega (arith, e)) h)
+
+-- As many variables as there are items.
+pub variables_length : {A : Type 0} (n : ℕ) (xs : List A) → length (variables_from n xs) ≡ length xs
+variables_length n [] = refl
+variables_length n (x ∷ xs) = ap suc (variables_length (n + 1) xs)
+
+-- As many items are for as many variables.
+pub variables_same : {A B : Type 0} (n : ℕ) (xs : List A) (ys : List B) → length xs ≡ length ys → variables_from n xs ≡ variables_from n ys
+variables_same n [] [] e = refl
+variables_same n [] (y ∷ ys) e = absurd cc
+variables_same n (x ∷ xs) [] e = absurd cc
+variables_same n (x ∷ xs) (y ∷ ys) e = ap (λ l. record { 0 = n } ∷ l) (variables_same (n + 1) xs ys (omega (arith, e)))
 
 -- The name of a constructor that was found by it.
 found_at : (xs : List ℕ) (x c : ℕ) → place_of xs x ≡ Some c → slice_get xs c ≡ Some x

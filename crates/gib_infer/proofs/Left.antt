@@ -5,6 +5,7 @@ use Rattle.std.specs.List.{AllByRecursion}
 use Rattle.gib_types.specs.Table.{IsTable}
 use Rattle.gib_types.specs.Tree.{Datum}
 use Rattle.gib_syntax.specs.declared.tree.Parameter.{Parameter}
+use Rattle.gib_syntax.specs.Results as results
 use Rattle.gib_syntax.specs.Tree.{FunctionTree, ProgramTree}
 use Rattle.gib_syntax.specs.Declarations.{table_of_program, type_of_name}
 use Rattle.gib_syntax.specs.Typing as typing
@@ -23,7 +24,7 @@ function_ordered : (g : Globals) (h : FunctionTree) → IsTypedHere g h → IsOr
 function_ordered g h typed =
     let long : length (names_of h.parameters) ≡ length (parameter_types g.table h) =
     length-map h.parameters (λ (q : Parameter). q.name) ∙ sym (length-map h.parameters (λ (q : Parameter). type_of_name g.table.types q.ty)) in
-    subst (λ n. IsOrdered g.table n (infer_function g h).body) long (body_ordered g (names_of h.parameters) (parameter_types g.table h) h.body typed.scope (typing.result_type g.table h) typed.typed)
+    subst (λ n. IsOrdered g.table n (infer_function g h).body) long (body_ordered g (names_of h.parameters) (parameter_types g.table h) h.body typed.scope (typing.result_types g.table h) typed.typed)
 
 functions_ordered : (g : Globals) (fs : List FunctionTree) (last : Body) → AllByRecursion (IsTypedHere g) fs → IsOrdered g.table (length last.parameters) last.term
     → AllByRecursion (λ (b : Body). IsOrdered g.table (length b.parameters) b.term)
@@ -35,7 +36,7 @@ pub infer_ordered : (p : ProgramTree) → IsTypedProgram p → AreOrdered (infer
 infer_ordered p typed =
     let g = globals_of p in
     let parameter = type_of_name g.table.types p.main.parameter.ty in
-    let result = type_of_name g.table.types p.main.result in
+    let result = results.One (type_of_name g.table.types p.main.result) in
     let names = p.main.parameter.name ∷ [] in
     functions_ordered g p.functions (record { parameters = parameter ∷ []; result = result; term = infer_body g names (parameter ∷ []) p.main.body }) typed.functions
     (body_ordered g names (parameter ∷ []) p.main.body typed.main.scope result typed.main.typed)

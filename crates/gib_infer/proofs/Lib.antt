@@ -3,6 +3,7 @@ pub mod Finding
 pub mod Making
 pub mod FieldSteps
 pub mod Calls
+pub mod Parting
 pub mod Cases
 pub mod Arms
 pub mod Programs
@@ -13,6 +14,7 @@ pub mod Fits
 pub mod Together
 pub mod Places
 pub mod Same
+pub mod Tuples
 pub mod Meanings
 pub mod Whole
 -- Variables rise, and what is left of what was made.
@@ -22,7 +24,9 @@ pub mod Numbered
 -- What was made breaks no build rule.
 pub mod Ready
 pub mod Sides
+pub mod Rising
 pub mod Makes
 pub mod Branching
+pub mod Severals
 pub mod Choosing
 pub mod Reachability

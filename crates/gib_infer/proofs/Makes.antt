@@ -2,17 +2,20 @@
 use Rattle.std.proofs.Common.{◌≡◌, ℕ, suc, ◌+◌, ◌<◌, ◌≤◌, Bool, true, false, not, ◌&&◌, ◌==◌, ◌||◌, List, [], ◌∷◌, ◌++◌, length, get_or, Some, None, refl, sym, ap, ◌∙◌, subst, arith, append_assoc, append-nil, length-append}
 use Rattle.std.specs.Prelude.{nat_lt}
 use Rattle.std.proofs.Math.Seq.{get_or-append_seam}
-use Rattle.std.proofs.lemmas.Bool.{eq-eqb, lt-ltb, both_ways}
+use Rattle.std.proofs.lemmas.Bool.{eq-eqb, lt-ltb}
 use Rattle.gib_base.specs.declared.name.Name.{Name}
 use Rattle.gib_types.specs.declared.table.Ty.{Ty}
 use Rattle.gib_types.specs.declared.table.Ty.TheVariants.{Whole, Truth, Tree}
 use Rattle.gib_types.specs.declared.table.ConId.{ConId}
+use Rattle.gib_types.specs.declared.table.TyId.{TyId}
 use Rattle.gib_types.specs.Table.{fields_at, owner_at, con_at, scalar_types, tree_types}
 use Rattle.gib_syntax.specs.declared.tree.Operator.{Operator}
 use Rattle.gib_syntax.specs.Meaning.{is_scalar, at_fields}
 use Rattle.gib_syntax.specs.Tree.{FunctionTree}
 use Rattle.gib_syntax.specs.Typing as typing
-use Rattle.gib_syntax.specs.Typing.{Globals, operator_type}
+use Rattle.gib_syntax.specs.Results as results
+use Rattle.gib_syntax.specs.Results.{Results}
+use Rattle.gib_syntax.specs.Typing.{Globals, operator_type, one_type}
 use Rattle.gib_core.specs.declared.atom.Variable.{Variable}
 use Rattle.gib_core.specs.declared.atom.Atom.{Atom}
 use Rattle.gib_core.specs.declared.atom.Kind.TheVariants.{Here}
@@ -20,10 +23,10 @@ use Rattle.gib_core.specs.Tree.{Term, Then, Write, Point, CallTerm, Give, Bind, 
 use Rattle.gib_core.specs.Meaning.{function_at}
 use Rattle.gib_core.specs.Inferring.{Scope, Several, ToLine, ToAtom, Code, kind_of, boxed, given, of_line, of_atom, result_of, plain_line, of_plain, several, operation_atom, call_line, call_atom, call_side, scalar_call, call_code, pointed_fields, as_atoms, make_line}
 use Rattle.gib_core.specs.Met.{Setting, Line, PastLine, SideLine, PrimLine, WriteLine, PointLine, CallLine, GiveLine, Empty, Open, at, in_side, behind, met, packed_types, field_due, result_place, stands_too}
-use Rattle.gib_core.specs.Rules.{Before, same_type, is_nowhere, is_empty, has_room, is_among, type_bound, is_type, has_type, have_types, all_usable, is_other, any_other, is_there, is_of_type, are_variables, any_cased, further, may_write, are_scalars, gives_packed, call_fits, rules, least, type_made, next}
+use Rattle.gib_core.specs.Rules.{Before, same_type, is_nowhere, is_empty, has_room, is_among, type_bound, is_type, has_type, have_types, all_usable, is_other, any_other, is_there, is_of_type, are_variables, any_cased, further, may_write, are_scalars, same_types, is_packed, gives_packed, result_fits, call_fits, rules, least, type_made, next}
 use Rattle.gib_core.specs.Reachable.{all_reached}
 use Rattle.gib_core.specs.Ordered.{AreFit}
-use Rattle.gib_infer.proofs.Fits.{ScopeFits, all_fit_more, scope_more}
+use Rattle.gib_infer.proofs.Fits.{ScopeFits, all_fit_more, scope_more, variables_length}
 use Rattle.gib_infer.proofs.Ordered.{CodeOrdered, LineOrdered, AtomOrdered, SeveralOrdered, AllCodes, several_ordered}
 use Rattle.gib_infer.proofs.Ready.{CanUse, CanUseAll, Alike, alike_same, alike_more, use_all_alike, Ready, PlaceFor, behind_all, met_all, behind_all-append, met-prepend, Clean, clean_then, Runs, runs_nothing, runs_then, then_all, then_all-append, line_then, ready_behind, LineBuilt, SeveralBuilt, LineOk, SideOk, AtomOk, CodeBuilt, AllBuilt}
 use Rattle.gib_infer.proofs.Sides.{same_type-refl, bound_past, bound_here, not_bound, alike_scope, alike_bound, can_bound, alike_inside, ready_inside, place_inside, whole_inside, side_runs, side_can}
@@ -76,13 +79,13 @@ all_long s b (x ∷ xs) (t ∷ ts) h = ap suc (all_long s b xs ts h.1)
 
 -- The place of a value.
 
-nowhere : (ty : Ty) → is_scalar ty ≡ true → is_nowhere (result_place ty) ≡ true
+nowhere : (ty : Ty) → is_scalar ty ≡ true → is_nowhere (result_place (results.One ty)) ≡ true
 nowhere Whole e = refl
 nowhere Truth e = refl
 nowhere (Tree t) e = absurd cc
 
-pub place_same : (ty : Ty) (s new : Setting) → new.destination ≡ s.destination → new.due ≡ s.due → PlaceFor ty s → PlaceFor ty new
-place_same ty s new e f h = record { destination = e ∙ h.destination; due = f ∙ h.due }
+pub place_same : (given : Results Ty) (s new : Setting) → new.destination ≡ s.destination → new.due ≡ s.due → PlaceFor given s → PlaceFor given new
+place_same given s new e f h = record { destination = e ∙ h.destination; due = f ∙ h.due }
 
 pub prepend-append : (xs ys : List Bind) (t : Term) → prepend (xs ++ ys) t ≡ prepend xs (prepend ys t)
 prepend-append [] ys t = refl
@@ -107,7 +110,7 @@ module _ (core : CoreTree) where
 
   -- Results.
 
-  pub give_clean : (n k : ℕ) (s : Setting) (b : Before) (x : Atom) (ty : Ty) → is_scalar ty ≡ true → PlaceFor ty s → CanUse s b x ty → Clean core n k b (met core.table s (Give x))
+  pub give_clean : (n k : ℕ) (s : Setting) (b : Before) (x : Atom) (ty : Ty) → is_scalar ty ≡ true → PlaceFor (results.One ty) s → CanUse s b x ty → Clean core n k b (met core.table s (Give x))
   give_clean n k s b x ty scalar place h =
       let there : is_nowhere s.destination ≡ true = ap is_nowhere place.destination ∙ nowhere ty scalar in
       let typed = can_have s b x ty s.due h place.due in
@@ -120,7 +123,7 @@ module _ (core : CoreTree) where
       let other : is_other (all_reached s) x ≡ false = h.other in
       least_four 4 6 8 9 other (ap (λ d. not (is_empty d)) e) (ap not h.usable) (ap not typed)
 
-  pub result_clean : (ty : Ty) (n k : ℕ) (s : Setting) (b : Before) (x : Atom) → PlaceFor ty s → CanUse s b x ty → Clean core n k b (met core.table s (result_of ty x))
+  pub result_clean : (ty : Ty) (n k : ℕ) (s : Setting) (b : Before) (x : Atom) → PlaceFor (results.One ty) s → CanUse s b x ty → Clean core n k b (met core.table s (result_of ty x))
   result_clean Whole n k s b x place h = give_clean n k s b x Whole refl place h
   result_clean Truth n k s b x place h = give_clean n k s b x Truth refl place h
   result_clean (Tree t) n k s b x place h = end_clean n k s b (PointLine x) (point_least s b x (Tree t) place.destination place.due h) refl
@@ -138,7 +141,7 @@ module _ (core : CoreTree) where
         let inner = in_side core.table s (kind_of l.ty) l.ty in
         let head = next core.table b (SideLine (kind_of l.ty) (record { 0 = n }) l.ty) in
         let up = (order (n + 1) (scope_more n (n + 1) sc (omega arith) ready.fits)).grows in
-        let built = ok (n + 1) m inner head (ready_inside core n m l.ty known sc s b ready) le (subst (λ (t : Ty). PlaceFor t inner) e (place_inside core s l.ty)) (whole_inside core s l.ty ∙ ap is_scalar e) in
+        let built = ok (n + 1) m inner head (ready_inside core n m l.ty known sc s b ready) le (subst (λ (t : Ty). PlaceFor (results.One t) inner) e (place_inside core s l.ty)) (whole_inside core s l.ty ∙ ap is_scalar e) in
         record {
           runs = side_runs core n m l.fresh l.ty l.term known sc s b ready (omega arith) (omega arith) built.clean;
           can = subst (CanUse (behind_all s (boxed line sc n).binds) (then_all core s b (boxed line sc n).binds) (var n)) e
@@ -147,7 +150,7 @@ module _ (core : CoreTree) where
 
     -- A scalar that is given.
     pub given_ok : (atom : ToAtom) (ty : Ty) (known : typing.Scope) (sc : Scope) → ((n : ℕ) → ScopeFits n sc → AtomOrdered globals n (atom sc n)) → is_scalar ty ≡ true
-        → AtomOk core atom ty known sc → LineOk core (given atom) ty known sc
+        → AtomOk core atom ty known sc → LineOk core (given atom) (results.One ty) known sc
     given_ok atom ty known sc order scalar ok n m s b ready le place =
         let x = atom sc n in
         let h = ok n m s b ready le in
@@ -155,12 +158,12 @@ module _ (core : CoreTree) where
         let b1 = then_all core s b x.binds in
         record {
           clean = line_then core n x.fresh x.fresh s b x.binds (Give x.atom) h.runs
-              (give_clean x.fresh x.fresh s1 b1 x.atom ty scalar (place_same ty s s1 h.runs.destination h.runs.due place) h.can) (order n ready.fits).grows (omega arith);
+              (give_clean x.fresh x.fresh s1 b1 x.atom ty scalar (place_same (results.One ty) s s1 h.runs.destination h.runs.due place) h.can) (order n ready.fits).grows (omega arith);
         }
 
-    pub line_built : (line : ToLine) (ty : Ty) (known : typing.Scope) (sc : Scope) → CodeOrdered globals (of_line line) sc → ((n : ℕ) → (line sc n).ty ≡ ty) → LineOk core line ty known sc
-        → CodeBuilt core functions (of_line line) ty known sc
-    line_built line ty known sc order typed ok =
+    pub line_built : (line : ToLine) (given : Results Ty) (known : typing.Scope) (sc : Scope) → CodeOrdered globals (of_line line) sc → ((n : ℕ) → (line sc n).ty ≡ one_type given) → LineOk core line given known sc
+        → CodeBuilt core functions (of_line line) given known sc
+    line_built line (results.One ty) known sc order typed ok =
         let box = boxed_ok line ty known sc order.line typed (λ n m s b ready le place whole. ok n m s b ready le place) in
         record {
           order = order;
@@ -173,9 +176,20 @@ module _ (core : CoreTree) where
           atom = box;
           bound = box;
         }
+    line_built line (results.Several types) known sc order typed ok = record {
+      order = order;
+      line_type = typed;
+      side_type = typed;
+      atom_type = λ n. typed (n + 1);
+      bound_type = λ n. typed (n + 1);
+      line = ok;
+      side = tt;
+      atom = tt;
+      bound = tt;
+    }
 
     pub atom_built : (atom : ToAtom) (ty : Ty) (known : typing.Scope) (sc : Scope) → CodeOrdered globals (of_atom atom) sc → is_scalar ty ≡ true → ((n : ℕ) → (atom sc n).ty ≡ ty) → AtomOk core atom ty known sc
-        → CodeBuilt core functions (of_atom atom) ty known sc
+        → CodeBuilt core functions (of_atom atom) (results.One ty) known sc
     atom_built atom ty known sc order scalar typed ok =
         let line = given_ok atom ty known sc order.atom scalar ok in
         record {
@@ -192,9 +206,9 @@ module _ (core : CoreTree) where
 
     -- A variable or literal.
     pub plain_built : (type_in : Scope → Ty) (atom_in : Scope → Atom) (ty : Ty) (known : typing.Scope) (sc : Scope) → CodeOrdered globals (of_plain type_in atom_in) sc → type_in sc ≡ ty
-        → ((n m : ℕ) (s : Setting) (b : Before) → Ready n m known sc s b → CanUse s b (atom_in sc) ty) → CodeBuilt core functions (of_plain type_in atom_in) ty known sc
+        → ((n m : ℕ) (s : Setting) (b : Before) → Ready n m known sc s b → CanUse s b (atom_in sc) ty) → CodeBuilt core functions (of_plain type_in atom_in) (results.One ty) known sc
     plain_built type_in atom_in ty known sc order typed can =
-        let line : LineOk core (plain_line type_in atom_in) ty known sc =
+        let line : LineOk core (plain_line type_in atom_in) (results.One ty) known sc =
         λ n m s b ready le place. record { clean = subst (λ (t : Ty). Clean core n n b (met core.table s (result_of t (atom_in sc)))) (sym typed) (result_clean ty n n s b (atom_in sc) place (can n m s b ready)) } in
         let side : SideOk core (plain_line type_in atom_in) ty known sc = λ n m s b ready le place whole. line n m s b ready le place in
         record {
@@ -299,35 +313,52 @@ module _ (core : CoreTree) where
 
     -- Calls.
 
-    packed_place : (ty : Ty) → (not (is_scalar ty) && not (is_empty (result_place ty))) ≡ false
-    packed_place Whole = refl
-    packed_place Truth = refl
-    packed_place (Tree t) = refl
+    packed_place : (given : Results Ty) → (is_packed given && not (is_empty (result_place given))) ≡ false
+    packed_place (results.One Whole) = refl
+    packed_place (results.One Truth) = refl
+    packed_place (results.One (Tree t)) = refl
+    packed_place (results.Several types) = refl
 
-    scalar_whole : (scalar whole : Bool) → (scalar ≡ true → whole ≡ true) → (not scalar || whole) ≡ true
-    scalar_whole true whole h = h refl
-    scalar_whole false whole h = refl
+    pub same_types-refl : (types : List Ty) → same_types types types ≡ true
+    same_types-refl [] = refl
+    same_types-refl (t ∷ types) = (λ i. same_type-refl t i && same_types-refl types i)
+
+    -- A result fits the place of such a one; a scalar where a scalar's whole term is due.
+    abbrev Fitting : Bool → Results Ty → Type 0
+    Fitting whole given = result_fits (result_place given) (one_type given) whole given ≡ true
+
+    scalar_fits : (ty : Ty) (whole : Bool) → whole ≡ true → Fitting whole (results.One ty)
+    scalar_fits ty whole e = (λ i. same_type-refl ty i && (not (is_scalar ty) || e i)) ∙ or_true (not (is_scalar ty))
+      where
+        or_true : (b : Bool) → (b || true) ≡ true
+        or_true true = refl
+        or_true false = refl
+
+    tree_fits : (t : TyId) (whole : Bool) → Fitting whole (results.One (Tree t))
+    tree_fits t whole = (λ i. same_type-refl (Tree t) i && true)
+
+    parts_fit : (types : List Ty) (whole : Bool) → Fitting whole (results.Several types)
+    parts_fit types whole = same_types-refl types
 
     -- A call of a function that is there, with arguments of the types of its parameters.
-    call_least : (f : Name) (fn : FunctionTerm) (xs : List Atom) (ty : Ty) (s : Setting) (b : Before) → function_at core.functions f.0 ≡ Some fn → fn.result ≡ ty → PlaceFor ty s → (is_scalar ty ≡ true → s.whole ≡ true)
+    call_least : (f : Name) (fn : FunctionTerm) (xs : List Atom) (given : Results Ty) (s : Setting) (b : Before) → function_at core.functions f.0 ≡ Some fn → fn.result ≡ given → PlaceFor given s → Fitting s.whole given
         → CanUseAll s b xs fn.parameters → least (rules core b (all_reached s) (CallLine f xs)) ≡ None
-    call_least f fn xs ty s b there result place whole h =
+    call_least f fn xs given s b there result place fits h =
         let packed : (gives_packed (function_at core.functions f.0) && not (is_empty s.destination)) ≡ false =
-        (λ i. gives_packed (there i) && not (is_empty (place.destination i))) ∙ ap (λ t. not (is_scalar t) && not (is_empty (result_place ty))) result ∙ packed_place ty in
+        (λ i. gives_packed (there i) && not (is_empty (place.destination i))) ∙ ap (λ g. is_packed g && not (is_empty (result_place given))) result ∙ packed_place given in
         let types = all_have s b xs fn.parameters h in
-        let same : same_type fn.result s.due ≡ true = (λ i. same_type (result i) (place.due i)) ∙ same_type-refl ty in
-        let all : (not (is_scalar fn.result) || s.whole) ≡ true = ap (λ t. not (is_scalar t) || s.whole) result ∙ scalar_whole (is_scalar ty) s.whole whole in
-        let fits : call_fits b (all_reached s) xs (function_at core.functions f.0) ≡ true = ap (call_fits b (all_reached s) xs) there ∙ (λ i. types i && (same i && all i)) in
-        least_four 4 6 8 9 (all_apart s b xs fn.parameters h) packed (ap not (all_can s b xs fn.parameters h)) (ap not fits)
+        let here : result_fits s.destination s.due s.whole fn.result ≡ true = (λ i. result_fits (place.destination i) (place.due i) s.whole (result i)) ∙ fits in
+        let fit : call_fits b (all_reached s) xs (function_at core.functions f.0) ≡ true = ap (call_fits b (all_reached s) xs) there ∙ (λ i. types i && here i) in
+        least_four 4 6 8 9 (all_apart s b xs fn.parameters h) packed (ap not (all_can s b xs fn.parameters h)) (ap not fit)
 
-    call_clean : (n k : ℕ) (f : Name) (fn : FunctionTerm) (xs : List Atom) (ty : Ty) (s : Setting) (b : Before) → function_at core.functions f.0 ≡ Some fn → fn.result ≡ ty → PlaceFor ty s → (is_scalar ty ≡ true → s.whole ≡ true)
+    call_clean : (n k : ℕ) (f : Name) (fn : FunctionTerm) (xs : List Atom) (given : Results Ty) (s : Setting) (b : Before) → function_at core.functions f.0 ≡ Some fn → fn.result ≡ given → PlaceFor given s → Fitting s.whole given
         → CanUseAll s b xs fn.parameters → Clean core n k b (met core.table s (CallTerm f xs))
-    call_clean n k f fn xs ty s b there result place whole h = end_clean n k s b (CallLine f xs) (call_least f fn xs ty s b there result place whole h) refl
+    call_clean n k f fn xs given s b there result place fits h = end_clean n k s b (CallLine f xs) (call_least f fn xs given s b there result place fits h) refl
 
-    -- A packed call in result place.
-    call_line_ok : (f : Name) (fn : FunctionTerm) (cs : List Code) (ty : Ty) (known : typing.Scope) (sc : Scope) → function_at core.functions f.0 ≡ Some fn → fn.result ≡ ty → is_scalar ty ≡ false
-        → AllBuilt core functions cs fn.parameters known sc → LineOk core (λ sc n. call_line ty f (several cs sc n)) ty known sc
-    call_line_ok f fn cs ty known sc there result packed h n m s b ready le place =
+    -- A call in result place, of a function that gives no scalar.
+    call_line_ok : (f : Name) (fn : FunctionTerm) (cs : List Code) (ty : Ty) (given : Results Ty) (known : typing.Scope) (sc : Scope) → function_at core.functions f.0 ≡ Some fn → fn.result ≡ given
+        → ((whole : Bool) → Fitting whole given) → AllBuilt core functions cs fn.parameters known sc → LineOk core (λ sc n. call_line ty f (several cs sc n)) given known sc
+    call_line_ok f fn cs ty given known sc there result fits h n m s b ready le place =
         let r = several cs sc n in
         let up = (several_fits cs fn.parameters known sc h n ready.fits).grows in
         let q = several_ok cs fn.parameters known sc h n m s b ready le in
@@ -335,7 +366,7 @@ module _ (core : CoreTree) where
         let b1 = then_all core s b r.binds in
         record {
           clean = line_then core n r.fresh r.fresh s b r.binds (CallTerm f r.atoms) q.runs
-              (call_clean r.fresh r.fresh f fn r.atoms ty s1 b1 there result (place_same ty s s1 q.runs.destination q.runs.due place) (λ e. absurd (both_ways (is_scalar ty) packed e)) q.can) up (omega arith);
+              (call_clean r.fresh r.fresh f fn r.atoms given s1 b1 there result (place_same given s s1 q.runs.destination q.runs.due place) (fits s1.whole) q.can) up (omega arith);
         }
 
     -- A scalar call that is bound.
@@ -344,7 +375,7 @@ module _ (core : CoreTree) where
         let r = several cs sc n in
         record { fresh = r.fresh + 1; binds = r.binds ++ One (On (kind_of ty) (record { 0 = r.fresh }) ty (CallTerm f r.atoms)) ∷ []; atom = var r.fresh; ty = ty }
 
-    bound_call_ok : (f : Name) (fn : FunctionTerm) (cs : List Code) (ty : Ty) (known : typing.Scope) (sc : Scope) → function_at core.functions f.0 ≡ Some fn → fn.result ≡ ty → is_scalar ty ≡ true
+    bound_call_ok : (f : Name) (fn : FunctionTerm) (cs : List Code) (ty : Ty) (known : typing.Scope) (sc : Scope) → function_at core.functions f.0 ≡ Some fn → fn.result ≡ results.One ty → is_scalar ty ≡ true
         → AllBuilt core functions cs fn.parameters known sc → AtomOk core (bound_call ty f cs) ty known sc
     bound_call_ok f fn cs ty known sc there result scalar h n m s b ready le =
         let r = several cs sc n in
@@ -358,7 +389,7 @@ module _ (core : CoreTree) where
         let bind = One (On (kind_of ty) (record { 0 = r.fresh }) ty call) in
         let inner = in_side core.table s1 (kind_of ty) ty in
         let head = next core.table b1 (SideLine (kind_of ty) (record { 0 = r.fresh }) ty) in
-        let clean = call_clean (r.fresh + 1) (r.fresh + 1) f fn r.atoms ty inner head there result (place_inside core s1 ty) (λ e. whole_inside core s1 ty ∙ e)
+        let clean = call_clean (r.fresh + 1) (r.fresh + 1) f fn r.atoms (results.One ty) inner head there result (place_inside core s1 ty) (scalar_fits ty inner.whole (whole_inside core s1 ty ∙ scalar))
         (use_all_alike r.atoms fn.parameters (alike_inside core r.fresh ty s1 b1) o.fit q.can) in
         let runs = side_runs core r.fresh m (r.fresh + 1) ty call known sc s1 b1 ready1 (omega (arith, le)) (omega arith) clean in
         let can = side_can core r.fresh (r.fresh + 1) ty call s1 b1 (ready1.apart (record { 0 = r.fresh }) (omega arith) (omega (arith, le))) clean in
@@ -368,8 +399,8 @@ module _ (core : CoreTree) where
         }
 
     -- A scalar call that is a side.
-    call_side_ok : (f : Name) (fn : FunctionTerm) (cs : List Code) (ty : Ty) (known : typing.Scope) (sc : Scope) → function_at core.functions f.0 ≡ Some fn → fn.result ≡ ty → is_scalar ty ≡ true
-        → AllBuilt core functions cs fn.parameters known sc → LineOk core (given (λ sc n. call_atom ty f (several cs sc n))) ty known sc
+    call_side_ok : (f : Name) (fn : FunctionTerm) (cs : List Code) (ty : Ty) (known : typing.Scope) (sc : Scope) → function_at core.functions f.0 ≡ Some fn → fn.result ≡ results.One ty → is_scalar ty ≡ true
+        → AllBuilt core functions cs fn.parameters known sc → LineOk core (given (λ sc n. call_atom ty f (several cs sc n))) (results.One ty) known sc
         → SideOk core (λ sc n. call_side ty f (several cs sc n) (several cs sc n).binds) ty known sc
     call_side_ok f fn cs ty known sc there result scalar h line n m s b ready le place whole = go (several cs sc n).binds refl le
       where
@@ -378,11 +409,11 @@ module _ (core : CoreTree) where
             let r = several cs sc n in
             let q = several_ok cs fn.parameters known sc h n m s b ready le in
             let can : CanUseAll s b r.atoms fn.parameters = subst (λ (z : List Bind). CanUseAll (behind_all s z) (then_all core s b z) r.atoms fn.parameters) e q.can in
-            record { clean = call_clean n r.fresh f fn r.atoms ty s b there result place (λ t. whole ∙ t) can }
+            record { clean = call_clean n r.fresh f fn r.atoms (results.One ty) s b there result place (scalar_fits ty s.whole (whole ∙ scalar)) can }
         go (x ∷ bs) e le = record { clean = (line n m s b ready le place).clean }
 
-    scalar_built : (f : Name) (fn : FunctionTerm) (cs : List Code) (ty : Ty) (known : typing.Scope) (sc : Scope) → CodeOrdered globals (scalar_call ty f cs) sc → function_at core.functions f.0 ≡ Some fn → fn.result ≡ ty → is_scalar ty ≡ true
-        → AllBuilt core functions cs fn.parameters known sc → AtomOk core (λ sc n. call_atom ty f (several cs sc n)) ty known sc → CodeBuilt core functions (scalar_call ty f cs) ty known sc
+    scalar_built : (f : Name) (fn : FunctionTerm) (cs : List Code) (ty : Ty) (known : typing.Scope) (sc : Scope) → CodeOrdered globals (scalar_call ty f cs) sc → function_at core.functions f.0 ≡ Some fn → fn.result ≡ results.One ty → is_scalar ty ≡ true
+        → AllBuilt core functions cs fn.parameters known sc → AtomOk core (λ sc n. call_atom ty f (several cs sc n)) ty known sc → CodeBuilt core functions (scalar_call ty f cs) (results.One ty) known sc
     scalar_built f fn cs ty known sc order there result scalar h ok =
         let line = given_ok (λ sc n. call_atom ty f (several cs sc n)) ty known sc order.atom scalar ok in
         record {
@@ -402,12 +433,14 @@ module _ (core : CoreTree) where
         typed r (x ∷ bs) = refl
 
     -- A call of a function that is there.
-    pub call_built : (ty : Ty) (f : Name) (fn : FunctionTerm) (cs : List Code) (known : typing.Scope) (sc : Scope) → CodeOrdered globals (call_code ty f cs) sc → function_at core.functions f.0 ≡ Some fn → fn.result ≡ ty
-        → AllBuilt core functions cs fn.parameters known sc → CodeBuilt core functions (call_code ty f cs) ty known sc
-    call_built Whole f fn cs known sc order there result h = scalar_built f fn cs Whole known sc order there result refl h (bound_call_ok f fn cs Whole known sc there result refl h)
-    call_built Truth f fn cs known sc order there result h = scalar_built f fn cs Truth known sc order there result refl h (bound_call_ok f fn cs Truth known sc there result refl h)
-    call_built (Tree t) f fn cs known sc order there result h =
-        line_built (λ sc n. call_line (Tree t) f (several cs sc n)) (Tree t) known sc order (λ n. refl) (call_line_ok f fn cs (Tree t) known sc there result refl h)
+    pub call_built : (given : Results Ty) (f : Name) (fn : FunctionTerm) (cs : List Code) (known : typing.Scope) (sc : Scope) → CodeOrdered globals (call_code given f cs) sc → function_at core.functions f.0 ≡ Some fn → fn.result ≡ given
+        → AllBuilt core functions cs fn.parameters known sc → CodeBuilt core functions (call_code given f cs) given known sc
+    call_built (results.One Whole) f fn cs known sc order there result h = scalar_built f fn cs Whole known sc order there result refl h (bound_call_ok f fn cs Whole known sc there result refl h)
+    call_built (results.One Truth) f fn cs known sc order there result h = scalar_built f fn cs Truth known sc order there result refl h (bound_call_ok f fn cs Truth known sc there result refl h)
+    call_built (results.One (Tree t)) f fn cs known sc order there result h =
+        line_built (λ sc n. call_line (Tree t) f (several cs sc n)) (results.One (Tree t)) known sc order (λ n. refl) (call_line_ok f fn cs (Tree t) (results.One (Tree t)) known sc there result (tree_fits t) h)
+    call_built (results.Several types) f fn cs known sc order there result h =
+        line_built (λ sc n. call_line Whole f (several cs sc n)) (results.Several types) known sc order (λ n. refl) (call_line_ok f fn cs Whole (results.Several types) known sc there result (parts_fit types) h)
 
     -- A constructor.
 
@@ -484,10 +517,6 @@ module _ (core : CoreTree) where
 
     -- The write.
 
-    variables_long : {A : Type 0} (n : ℕ) (xs : List A) → length (variables_from n xs) ≡ length xs
-    variables_long n [] = refl
-    variables_long n (x ∷ xs) = ap suc (variables_long (n + 1) xs)
-
     are_same : (xs : List Variable) → are_variables xs (as_atoms xs) ≡ true
     are_same [] = refl
     are_same (x ∷ xs) = (λ i. eq-eqb x.0 x.0 refl i && are_same xs i)
@@ -507,7 +536,7 @@ module _ (core : CoreTree) where
         let vs = variables_from n ps in
         let us = scalar_types (fields_at core.table k.0) in
         let all = all_append s b ss (as_atoms vs) us ts can_scalars can_packed in
-        let lengths : (length vs == length (packed_types core.table k)) ≡ true = eq-eqb (length vs) (length (packed_types core.table k)) (variables_long n ps ∙ long) in
+        let lengths : (length vs == length (packed_types core.table k)) ≡ true = eq-eqb (length vs) (length (packed_types core.table k)) (variables_length n ps ∙ long) in
         let heads : (h.0 == h.0 && k.0 == k.0) ≡ true = (λ i. eq-eqb h.0 h.0 refl i && eq-eqb k.0 k.0 refl i) in
         let never = further_cased b.cased n ps uncased in
         let may : may_write core.table b s.destination h k (as_atoms vs) ≡ true =
@@ -517,25 +546,25 @@ module _ (core : CoreTree) where
 
     -- The head of a constructor, and its fields.
 
-    past_least : (h : Variable) (k : ConId) (s : Setting) (b : Before) → con_at core.table (owner_at core.table k.0) k.0 ≡ Some k.0 → PlaceFor (type_made core.table k) s → type_bound b.bound h ≡ None
+    past_least : (h : Variable) (k : ConId) (s : Setting) (b : Before) → con_at core.table (owner_at core.table k.0) k.0 ≡ Some k.0 → PlaceFor (results.One (type_made core.table k)) s → type_bound b.bound h ≡ None
         → least (rules core b (all_reached s) (PastLine h k)) ≡ None
     past_least h k s b there place new =
         let right : (is_empty s.destination && is_of_type core.table k s.due) ≡ true = (λ i. is_empty (place.destination i) && is_of_type core.table k (place.due i)) ∙ ap is_there there in
         least_two 1 8 (ap not right) (not_bound b.bound h new)
 
-    tree_fields : (ts : List Ty) → at_fields false ts ts ≡ tree_types ts
+    pub tree_fields : (ts : List Ty) → at_fields false ts ts ≡ tree_types ts
     tree_fields [] = refl
     tree_fields (Whole ∷ ts) = tree_fields ts
     tree_fields (Truth ∷ ts) = tree_fields ts
     tree_fields (Tree t ∷ ts) = ap (λ us. Tree t ∷ us) (tree_fields ts)
 
-    scalar_fields : (ts : List Ty) → at_fields true ts ts ≡ scalar_types ts
+    pub scalar_fields : (ts : List Ty) → at_fields true ts ts ≡ scalar_types ts
     scalar_fields [] = refl
     scalar_fields (Whole ∷ ts) = ap (λ us. Whole ∷ us) (scalar_fields ts)
     scalar_fields (Truth ∷ ts) = ap (λ us. Truth ∷ us) (scalar_fields ts)
     scalar_fields (Tree t ∷ ts) = scalar_fields ts
 
-    built_fields : (kind : Bool) (cs : List Code) (ts : List Ty) (known : typing.Scope) (sc : Scope) → AllBuilt core functions cs ts known sc → AllBuilt core functions (at_fields kind ts cs) (at_fields kind ts ts) known sc
+    pub built_fields : (kind : Bool) (cs : List Code) (ts : List Ty) (known : typing.Scope) (sc : Scope) → AllBuilt core functions cs ts known sc → AllBuilt core functions (at_fields kind ts cs) (at_fields kind ts ts) known sc
     built_fields kind [] [] known sc h = tt
     built_fields kind [] (t ∷ ts) known sc h = absurd h
     built_fields kind (c ∷ cs) [] known sc h = absurd h
@@ -547,7 +576,7 @@ module _ (core : CoreTree) where
     built_fields false (c ∷ cs) (Tree t ∷ ts) known sc h = (h.0, built_fields false cs ts known sc h.1)
 
     -- Behind its arguments: room for the head, its packed fields, the head.
-    make_clean : (k : ConId) (h m : ℕ) (ss ps : List Atom) (s : Setting) (b : Before) → con_at core.table (owner_at core.table k.0) k.0 ≡ Some k.0 → PlaceFor (type_made core.table k) s
+    make_clean : (k : ConId) (h m : ℕ) (ss ps : List Atom) (s : Setting) (b : Before) → con_at core.table (owner_at core.table k.0) k.0 ≡ Some k.0 → PlaceFor (results.One (type_made core.table k)) s
         → CanUseAll s b ss (scalar_types (fields_at core.table k.0)) → CanUseAll s b ps (packed_types core.table k) → AreFit h ss → AreFit h ps
         → ((x : Variable) → h ≤ x.0 → x.0 < m → type_bound b.bound x ≡ None) → ((x : Variable) → h ≤ x.0 → is_among b.cased x ≡ false) → ((x : Variable) → h ≤ x.0 → x.0 < m → is_among s.others x ≡ false)
         → h + 1 + length ps ≤ m
@@ -582,7 +611,7 @@ module _ (core : CoreTree) where
         }
 
     pub make_line_ok : (k : ConId) (cs : List Code) (known : typing.Scope) (sc : Scope) → con_at core.table (owner_at core.table k.0) k.0 ≡ Some k.0 → AllBuilt core functions cs (fields_at core.table k.0) known sc
-        → LineOk core (make_line core.table k cs) (type_made core.table k) known sc
+        → LineOk core (make_line core.table k cs) (results.One (type_made core.table k)) known sc
     make_line_ok k cs known sc there built n m s b ready le place =
         let types = fields_at core.table k.0 in
         let scalars = built_fields true cs types known sc built in
@@ -604,7 +633,7 @@ module _ (core : CoreTree) where
         let b2 = then_all core s1 b1 ps.binds in
         let ready2 = ready_behind core ss.fresh ps.fresh m known sc s1 b1 ps.binds ready1 q.runs up' in
         let h = ps.fresh in
-        let place2 = place_same (type_made core.table k) s s2 (q.runs.destination ∙ p.runs.destination) (q.runs.due ∙ p.runs.due) place in
+        let place2 = place_same (results.One (type_made core.table k)) s s2 (q.runs.destination ∙ p.runs.destination) (q.runs.due ∙ p.runs.due) place in
         let can_scalars : CanUseAll s2 b2 ss.atoms (scalar_types types) = subst (CanUseAll s2 b2 ss.atoms) (scalar_fields types) (use_all_alike ss.atoms ts q.runs.alike o.fit p.can) in
         let can_packed : CanUseAll s2 b2 ps.atoms (tree_types types) = subst (CanUseAll s2 b2 ps.atoms) (tree_fields types) q.can in
         let fields = λ (zs : List Ty). Past (record { 0 = h }) k ∷ pointed_fields (h + 1) zs ps.atoms in
@@ -620,5 +649,5 @@ module _ (core : CoreTree) where
 
     -- A constructor that is there.
     pub make_built : (k : ConId) (cs : List Code) (known : typing.Scope) (sc : Scope) → CodeOrdered globals (of_line (make_line core.table k cs)) sc → con_at core.table (owner_at core.table k.0) k.0 ≡ Some k.0
-        → AllBuilt core functions cs (fields_at core.table k.0) known sc → CodeBuilt core functions (of_line (make_line core.table k cs)) (type_made core.table k) known sc
-    make_built k cs known sc order there built = line_built (make_line core.table k cs) (type_made core.table k) known sc order (λ n. refl) (make_line_ok k cs known sc there built)
+        → AllBuilt core functions cs (fields_at core.table k.0) known sc → CodeBuilt core functions (of_line (make_line core.table k cs)) (results.One (type_made core.table k)) known sc
+    make_built k cs known sc order there built = line_built (make_line core.table k cs) (results.One (type_made core.table k)) known sc order (λ n. refl) (make_line_ok k cs known sc there built)

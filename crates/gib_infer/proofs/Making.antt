@@ -15,6 +15,7 @@ use Rattle.gib_core.specs.declared.node.Node.{Node}
 use Rattle.gib_core.specs.declared.node.Node.TheVariants as n
 use Rattle.gib_core.specs.declared.node.Binding.{Binding}
 use Rattle.gib_core.specs.declared.node.Binding.TheVariants as b
+use Rattle.gib_core.specs.declared.node.BoundSide.TheVariants as sides
 use Rattle.gib_core.specs.Tree.{Then, IfTerm, Bind, One, Both, On, Prim, prepend, var}
 use Rattle.gib_core.specs.Arena.{Grows, Makes, IsBindingBelow, bind_from, binds_from, side_from, term_of}
 use Rattle.gib_core.specs.Inferring.{Lined, Atomed, Several, ToLine, ToAtom, boxed, kind_of, operation_atom, let_line, par_line, if_line, slot}
@@ -42,13 +43,13 @@ pushed old new before after x is g below belowx ea e = record {
 }
 
 -- A line that is bound.
-pub boxed_made : (old mid new : Work) (before after : List Binding) (x : Variable) (at : TermId) (of : Ty) (line : ToLine) → x.0 ≡ old.fresh → mid ≡ next_of old → AreBindingsBelow (length old.terms) before → MakesLine mid new at of (line (scope_of mid.scope.items) mid.fresh) → after ≡ before ++ b.One (record { kind = kind_of of; variable = x; ty = of; term = at }) ∷ [] → MakesAtom old new before after (a.Variable x) of (boxed line (scope_of old.scope.items) old.fresh)
+pub boxed_made : (old mid new : Work) (before after : List Binding) (x : Variable) (at : TermId) (of : Ty) (line : ToLine) → x.0 ≡ old.fresh → mid ≡ next_of old → AreBindingsBelow (length old.terms) before → MakesLine mid new at of (line (scope_of mid.scope.items) mid.fresh) → after ≡ before ++ b.One (sides.One (record { kind = kind_of of; variable = x; ty = of; term = at })) ∷ [] → MakesAtom old new before after (a.Variable x) of (boxed line (scope_of old.scope.items) old.fresh)
 boxed_made old mid new before after x at of line ex em below h ea =
     let sc = scope_of old.scope.items in
     let h' : MakesLine (next_of old) new at of (line sc (old.fresh + 1)) = subst (λ (m : Work). MakesLine m new at of (line (scope_of m.scope.items) m.fresh)) em h in
     let l = line sc (old.fresh + 1) in
     let bound : BoundTerm = record { kind = kind_of of; variable = x; ty = of; term = at } in
-    let p = pushed old.terms new.terms before after (b.One bound) (One (On (kind_of l.ty) (record { 0 = old.fresh }) l.ty l.term)) h'.keeps.grows below h'.inside ea (λ i. One (On (kind_of (h'.ty i)) (record { 0 = ex i }) (h'.ty i) (h'.term i))) in
+    let p = pushed old.terms new.terms before after (b.One (sides.One bound)) (One (On (kind_of l.ty) (record { 0 = old.fresh }) l.ty l.term)) h'.keeps.grows below h'.inside ea (λ i. One (On (kind_of (h'.ty i)) (record { 0 = ex i }) (h'.ty i) (h'.term i))) in
     record {
       keeps = record { grows = h'.keeps.grows; scope = h'.keeps.scope };
       inside = p.below;
@@ -147,11 +148,11 @@ side_made old mid new x at of line ex em h =
       fresh = h'.fresh;
     }
 
-side_same : (old new : List Node) (s : BoundTerm) → Grows old new → s.term.0 < length old → side_from (term_of new) s ≡ side_from (term_of old) s
+side_same : (old new : List Node) (s : BoundTerm) → Grows old new → s.term.0 < length old → side_from (term_of new) (sides.One s) ≡ side_from (term_of old) (sides.One s)
 side_same old new s g lt = (λ i. On s.kind s.variable s.ty (g.same s.term.0 lt i))
 
 -- A `let par`.
-pub par_made : (w0 w1 w2 w3 w4 w5 w6 : Work) (x y : Ident) (m : ℕ) (l r : BoundTerm) (of : Ty) (p q body : ToLine) (rest term : TermId) → MakesSide w0 w1 l (p (scope_of w0.scope.items) (w0.fresh + 1)) → MakesSide w1 w2 r (q (scope_of w1.scope.items) (w1.fresh + 1)) → m ≡ length w2.scope.items → Binds w2 w3 x (a.Variable l.variable) l.ty → Binds w3 w4 y (a.Variable r.variable) r.ty → MakesLine w4 w5 rest of (body (scope_of w4.scope.items) w4.fresh) → w6.scope.items ≡ take m w5.scope.items → w6.fresh ≡ w5.fresh → Makes w5.terms w6.terms term.0 (n.Then (b.Par Rattle.std.specs.Prelude.false l r) rest) → MakesLine w0 w6 term of (par_line x p y q body (scope_of w0.scope.items) w0.fresh)
+pub par_made : (w0 w1 w2 w3 w4 w5 w6 : Work) (x y : Ident) (m : ℕ) (l r : BoundTerm) (of : Ty) (p q body : ToLine) (rest term : TermId) → MakesSide w0 w1 l (p (scope_of w0.scope.items) (w0.fresh + 1)) → MakesSide w1 w2 r (q (scope_of w1.scope.items) (w1.fresh + 1)) → m ≡ length w2.scope.items → Binds w2 w3 x (a.Variable l.variable) l.ty → Binds w3 w4 y (a.Variable r.variable) r.ty → MakesLine w4 w5 rest of (body (scope_of w4.scope.items) w4.fresh) → w6.scope.items ≡ take m w5.scope.items → w6.fresh ≡ w5.fresh → Makes w5.terms w6.terms term.0 (n.Then (b.Par Rattle.std.specs.Prelude.false (sides.One l) (sides.One r)) rest) → MakesLine w0 w6 term of (par_line x p y q body (scope_of w0.scope.items) w0.fresh)
 par_made w0 w1 w2 w3 w4 w5 w6 x y m l r of p q body rest term h1 h2 em hx hy h5 es6 ef6 made =
     let sc = scope_of w0.scope.items in
     let u = p sc (w0.fresh + 1) in

@@ -11,18 +11,21 @@ use Rattle.gib_types.specs.Table.{Table, fields_at, owner_at}
 use Rattle.gib_syntax.specs.declared.tree.Ident.{Ident}
 use Rattle.gib_syntax.specs.declared.tree.Operator.{Operator}
 use Rattle.gib_syntax.specs.declared.tree.Parameter.{Parameter}
-use Rattle.gib_syntax.specs.Tree.{Expression, Arguments, Arms, Var, Num, Bit, Paren, Op, Call, Make, Let, Par, If, Case, NoArgument, Argument, LastArm, NextArm, FunctionTree, ProgramTree}
+use Rattle.gib_syntax.specs.Tree as source
+use Rattle.gib_syntax.specs.Results as results
+use Rattle.gib_syntax.specs.Results.{Results}
+use Rattle.gib_syntax.specs.Tree.{Expression, Arguments, Arms, Var, Num, Bit, Paren, Op, Call, Make, Let, Par, If, Case, LetSeveral, ParSeveral, NoArgument, Argument, LastArm, NextArm, FunctionTree, ProgramTree}
 use Rattle.gib_syntax.specs.Declarations.{number_of, function_named, type_of_name}
-use Rattle.gib_syntax.specs.Typing.{Globals, globals_of, parameter_types, result_type}
+use Rattle.gib_syntax.specs.Typing.{Globals, globals_of, parameter_types, types_of, result_types}
 use Rattle.gib_syntax.specs.Meaning.{at_fields, names_of}
 use Rattle.gib_core.specs.declared.atom.Variable.{Variable}
 use Rattle.gib_core.specs.declared.atom.Atom.{Atom}
 use Rattle.gib_core.specs.declared.atom.Atom.TheVariants as atomic
 use Rattle.gib_core.specs.declared.atom.Kind.TheVariants.{Scalar}
-use Rattle.gib_core.specs.Tree.{Term, Write, CallTerm, Give, IfTerm, Bind, Past, One, Prim, On, var, variables_from, prepend, FunctionTerm}
-use Rattle.gib_core.specs.Inferring.{Scope, slot, Lined, Atomed, Several, ToLine, ToAtom, Code, boxed, given, of_line, of_atom, result_of, plain_line, of_plain, several, operation_atom, call_line, call_atom, call_side, scalar_call, call_code, further_types, pointed_fields, as_atoms, make_from, make_line, let_line, par_line, if_line, ArmCode, with_fields, arm_for, branch_of, branches_of, numbers_from, constructors_of, first_constructor, case_line, atom_at, type_at, con_named, gives_type, infer, infer_all, infer_arms, infer_body, infer_function, infer_program}
+use Rattle.gib_core.specs.Tree.{Term, Write, CallTerm, Give, IfTerm, Tuple, Bind, Past, One, Prim, On, var, variables_from, prepend, FunctionTerm}
+use Rattle.gib_core.specs.Inferring.{Scope, slot, Lined, Atomed, Several, ToLine, ToAtom, Code, boxed, given, of_line, of_atom, result_of, plain_line, of_plain, several, operation_atom, call_line, call_atom, call_side, scalar_call, call_code, further_types, pointed_fields, as_atoms, make_from, make_line, let_line, par_line, if_line, part_lines, tuple_line, Bounded, several_side, bound_side, several_line, sides_line, ArmCode, with_fields, arm_for, branch_of, branches_of, numbers_from, constructors_of, first_constructor, case_line, atom_at, type_at, con_named, gives_type, infer, infer_all, infer_arms, infer_body, infer_function, infer_program}
 use Rattle.gib_core.specs.Met.{Body}
-use Rattle.gib_core.specs.Numbering.{binders, bind_binders, branch_binders, IsNumbered, AreNumbered}
+use Rattle.gib_core.specs.Numbering.{binders, bind_binders, side_binders, part_binders, branch_binders, IsNumbered, AreNumbered}
 
 -- The numbers from one on to another one, without it.
 abbrev Runs : ℕ → List ℕ → ℕ → Type 0
@@ -140,10 +143,11 @@ scalar_code ty f cs h =
     let c = atom_code (λ sc n. call_atom ty f (several cs sc n)) (λ sc n. call_atom_runs ty f (several cs sc n) n (several_run cs h sc n)) in
     record { line = c.line; side = λ sc n. call_side_runs ty f (several cs sc n) n (several cs sc n).binds refl (several_run cs h sc n); atom = c.atom; bound = c.bound }
 
-call_runs : (ty : Ty) (f : Name) (cs : List Code) → AllRun cs → CodeRuns (call_code ty f cs)
-call_runs (Tree t) f cs h = line_code (λ sc n. call_line (Tree t) f (several cs sc n)) (λ sc n. call_line_runs (Tree t) f (several cs sc n) n (several_run cs h sc n))
-call_runs Whole f cs h = scalar_code Whole f cs h
-call_runs Truth f cs h = scalar_code Truth f cs h
+call_runs : (given : Results Ty) (f : Name) (cs : List Code) → AllRun cs → CodeRuns (call_code given f cs)
+call_runs (results.One (Tree t)) f cs h = line_code (λ sc n. call_line (Tree t) f (several cs sc n)) (λ sc n. call_line_runs (Tree t) f (several cs sc n) n (several_run cs h sc n))
+call_runs (results.One Whole) f cs h = scalar_code Whole f cs h
+call_runs (results.One Truth) f cs h = scalar_code Truth f cs h
+call_runs (results.Several tys) f cs h = line_code (λ sc n. call_line Whole f (several cs sc n)) (λ sc n. call_line_runs Whole f (several cs sc n) n (several_run cs h sc n))
 
 pointed_run : (n m : ℕ) (types : List Ty) (xs : List Atom) → n + length xs ≡ m → Runs n (all_binders (pointed_fields n types xs)) m
 pointed_run n m types [] e = omega arith
@@ -241,6 +245,50 @@ branches_run table (k ∷ ks) as' h sc n = go (arm_for as' k) (arm_runs as' k h)
 case_runs : (table : Table) (x : Ident) (as' : List ArmCode) → ArmsRun as' → (sc : Scope) (n : ℕ) → LineRuns n (case_line table x as' sc n)
 case_runs table x as' h sc n = branches_run table (constructors_of table (owner_at table (first_constructor as'))) as' h sc n
 
+-- Several parts.
+
+parts_run : (cs : List Code) → AllRun cs → (sc : Scope) (n : ℕ) → Runs n (part_binders (part_lines cs sc n).parts) (part_lines cs sc n).fresh
+parts_run [] h sc n = refl
+parts_run (c ∷ cs) h sc n =
+    let l = c.line sc n in
+    let r = part_lines cs sc l.fresh in
+    runs_append n l.fresh r.fresh (binders l.term) (part_binders r.parts) (h.0.line sc n) (parts_run cs h.1 sc l.fresh)
+
+tuple_runs : (types : List Ty) (cs : List Code) → AllRun cs → (sc : Scope) (n : ℕ) → LineRuns n (tuple_line types cs sc n)
+tuple_runs types cs h sc n =
+    let ss = several (at_fields true types cs) sc n in
+    let ps = part_lines (at_fields false types cs) sc ss.fresh in
+    runs_prepend n ss.fresh ps.fresh ss.binds (Tuple types ss.atoms ps.parts) (several_run (at_fields true types cs) (select_codes true types cs h) sc n)
+    (parts_run (at_fields false types cs) (select_codes false types cs h) sc ss.fresh)
+
+abbrev SideRuns : ℕ → Bounded → Type 0
+SideRuns n b = Runs n (side_binders b.side) b.fresh
+
+several_side_runs : (xs : List Ident) (types : List Ty) (line : ToLine) → ((sc : Scope) (n : ℕ) → LineRuns n (line sc n)) → (sc : Scope) (n : ℕ) (inner : Scope) → SideRuns n (several_side xs types line sc n inner)
+several_side_runs xs types line h sc n inner =
+    let l = line sc (n + length xs) in
+    runs_append n (n + length xs) l.fresh (map (λ (x : Variable). x.0) (variables_from n xs)) (binders l.term) (fields_run n (n + length xs) xs refl) (h sc (n + length xs))
+
+bound_side_runs : (xs : List Ident) (types : List Ty) (c : Code) → CodeRuns c → (sc : Scope) (n : ℕ) (inner : Scope) → SideRuns n (bound_side xs types c sc n inner)
+bound_side_runs [] types c h sc n inner = several_side_runs [] types c.line h.line sc n inner
+bound_side_runs (x ∷ []) types c h sc n inner = (refl, h.side sc (n + 1))
+bound_side_runs (x ∷ y ∷ xs) types c h sc n inner = several_side_runs (x ∷ y ∷ xs) types c.line h.line sc n inner
+
+several_line_runs : (xs : List Ident) (types : List Ty) (c : Code) (body : ToLine) → CodeRuns c → ((sc : Scope) (n : ℕ) → LineRuns n (body sc n)) → (sc : Scope) (n : ℕ) → LineRuns n (several_line xs types c body sc n)
+several_line_runs xs types c body hc hb sc n =
+    let l = bound_side xs types c sc n sc in
+    let r = body l.scope l.fresh in
+    runs_append n l.fresh r.fresh (side_binders l.side) (binders r.term) (bound_side_runs xs types c hc sc n sc) (hb l.scope l.fresh)
+
+sides_line_runs : (xs : List Ident) (types : List Ty) (c : Code) (ys : List Ident) (other : List Ty) (d : Code) (body : ToLine) → CodeRuns c → CodeRuns d → ((sc : Scope) (n : ℕ) → LineRuns n (body sc n))
+    → (sc : Scope) (n : ℕ) → LineRuns n (sides_line xs types c ys other d body sc n)
+sides_line_runs xs types c ys other d body hc hd hb sc n =
+    let l = bound_side xs types c sc n sc in
+    let r = bound_side ys other d sc l.fresh l.scope in
+    let t = body r.scope r.fresh in
+    runs_append n r.fresh t.fresh (side_binders l.side ++ side_binders r.side) (binders t.term)
+    (runs_append n l.fresh r.fresh (side_binders l.side) (side_binders r.side) (bound_side_runs xs types c hc sc n sc) (bound_side_runs ys other d hd sc l.fresh l.scope)) (hb r.scope r.fresh)
+
 module _ (g : Globals) where
   mutual
     expression_runs : (e : Expression) → CodeRuns (infer g e)
@@ -259,6 +307,15 @@ module _ (g : Globals) where
         line_code (if_line (infer g c).atom (infer g d).line (infer g e).line)
         (if_runs (infer g c).atom (infer g d).line (infer g e).line (expression_runs c).atom (expression_runs d).line (expression_runs e).line)
     expression_runs (Case p x arms) = line_code (case_line g.table x (infer_arms g arms)) (case_runs g.table x (infer_arms g arms) (all_arms_run arms))
+    expression_runs (source.Tuple p as' xs) =
+        let types = map (type_of_name g.table.types) as' in
+        line_code (tuple_line types (infer_all g xs)) (tuple_runs types (infer_all g xs) (arguments_run xs))
+    expression_runs (LetSeveral p qs d f) =
+        line_code (several_line (names_of qs) (types_of g.table.types qs) (infer g d) (infer g f).line)
+        (several_line_runs (names_of qs) (types_of g.table.types qs) (infer g d) (infer g f).line (expression_runs d) (expression_runs f).line)
+    expression_runs (ParSeveral p qs d rs e f) =
+        line_code (sides_line (names_of qs) (types_of g.table.types qs) (infer g d) (names_of rs) (types_of g.table.types rs) (infer g e) (infer g f).line)
+        (sides_line_runs (names_of qs) (types_of g.table.types qs) (infer g d) (names_of rs) (types_of g.table.types rs) (infer g e) (infer g f).line (expression_runs d) (expression_runs e) (expression_runs f).line)
 
     arguments_run : (xs : Arguments) → AllRun (infer_all g xs)
     arguments_run NoArgument = tt
@@ -268,16 +325,16 @@ module _ (g : Globals) where
     all_arms_run (LastArm k xs e) = (expression_runs e, tt)
     all_arms_run (NextArm k xs e arms) = (expression_runs e, all_arms_run arms)
 
-  body_numbered : (names : List Ident) (types : List Ty) (result : Ty) (e : Expression) → length names ≡ length types
+  body_numbered : (names : List Ident) (types : List Ty) (result : Results Ty) (e : Expression) → length names ≡ length types
       → IsNumbered (record { parameters = types; result = result; term = infer_body g names types e })
   body_numbered names types result e same =
       let l = (infer g e).line (with_fields names types 0 []) (length names) in
       runs_numbers (length names) l.fresh (binders l.term) ((expression_runs e).line (with_fields names types 0 []) (length names))
       ∙ ap (λ n. numbers_from n (length (binders l.term))) same
 
-  function_numbered : (f : FunctionTree) → IsNumbered (record { parameters = parameter_types g.table f; result = result_type g.table f; term = (infer_function g f).body })
+  function_numbered : (f : FunctionTree) → IsNumbered (record { parameters = parameter_types g.table f; result = result_types g.table f; term = (infer_function g f).body })
   function_numbered f =
-      body_numbered (names_of f.parameters) (parameter_types g.table f) (result_type g.table f) f.body
+      body_numbered (names_of f.parameters) (parameter_types g.table f) (result_types g.table f) f.body
       (length-map f.parameters (λ (q : Parameter). q.name) ∙ sym (length-map f.parameters (λ (q : Parameter). type_of_name g.table.types q.ty)))
 
   functions_numbered : (fs : List FunctionTree) (last : Body) → IsNumbered last
@@ -290,6 +347,6 @@ pub infer_numbered : (p : ProgramTree) → AreNumbered (infer_program p)
 infer_numbered p =
     let g = globals_of p in
     let parameter = type_of_name g.table.types p.main.parameter.ty in
-    let result = type_of_name g.table.types p.main.result in
+    let result = results.One (type_of_name g.table.types p.main.result) in
     functions_numbered g p.functions (record { parameters = parameter ∷ []; result = result; term = infer_body g (p.main.parameter.name ∷ []) (parameter ∷ []) p.main.body })
     (body_numbered g (p.main.parameter.name ∷ []) (parameter ∷ []) result p.main.body refl)

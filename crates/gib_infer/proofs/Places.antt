@@ -8,14 +8,15 @@ use Rattle.gib_types.specs.Table.{Table, fields_at}
 use Rattle.gib_types.specs.Tree.{Datum, con, data_of}
 use Rattle.gib_syntax.specs.declared.tree.Ident.{Ident}
 use Rattle.gib_syntax.specs.declared.tree.Operator.{Operator}
+use Rattle.gib_syntax.specs.Results as results
+use Rattle.gib_syntax.specs.Results.{Results}
 use Rattle.gib_syntax.specs.Declarations.{number_of}
-use Rattle.gib_syntax.specs.Meaning.{Outcome, Gives, Stops, Environment, value_in, with_value, at_fields, with_fields, number_in, is_true, outcome, choose}
+use Rattle.gib_syntax.specs.Meaning.{Outcome, Gives, Stops, Environment, with_value, at_fields, with_fields, number_in, is_true, outcome, choose}
 use Rattle.gib_core.specs.declared.atom.Atom.{Atom}
-use Rattle.gib_core.specs.declared.atom.Kind.{Kind}
 use Rattle.gib_core.specs.declared.atom.Kind.TheVariants.{Scalar}
-use Rattle.gib_core.specs.Tree.{Term, Write, CallTerm, Give, IfTerm, Bind, Past, One, Both, Prim, On, var, variables_from, prepend}
-use Rattle.gib_core.specs.Meaning.{Calls, value, merge, Reached, Went, from_there, and_on, having, mean, run, run_all}
-use Rattle.gib_core.specs.Inferring.{Scope, slot, Several, ToLine, ToAtom, Code, kind_of, boxed, given, of_line, of_atom, result_of, plain_line, of_plain, several, operation_atom, call_line, call_atom, call_side, scalar_call, call_code, further_types, pointed_fields, as_atoms, make_line, let_line, par_line, if_line}
+use Rattle.gib_core.specs.Tree.{Term, Write, CallTerm, Give, IfTerm, Bind, Past, One, Prim, On, var, variables_from, prepend}
+use Rattle.gib_core.specs.Meaning.{Calls, value, merge, Reached, Went, from_there, and_on, having, mean, run_all}
+use Rattle.gib_core.specs.Inferring.{Scope, slot, Several, ToLine, ToAtom, Code, boxed, given, of_line, of_atom, result_of, plain_line, of_plain, several, operation_atom, call_line, call_atom, call_side, scalar_call, call_code, further_types, pointed_fields, as_atoms, make_line, let_line, if_line}
 use Rattle.gib_core.proofs.Agreeing.{env_of, IsBelow, AllBelow, EachBelow, Keeps, Together, also, gather, with_all, each_of, Agree, came, halted, Collects, got, missed, Lines, Atoms, Manys, Good, AllGood}
 use Rattle.gib_core.proofs.Envs.{value_in-here, keeps_same, keeps_bind, keeps_more, keeps_less, below_less, all_below_less, each_below_less, value-keeps, values-keep, env_of-keeps, run_all-append, mean-prepend, agree_then, gives_then, with_value-Gives, collects_then, gives_all}
 use Rattle.gib_infer.proofs.Together.{fields_merged}
@@ -158,6 +159,11 @@ module _ (tb : Table) (call : Calls) where
   }
   call_side_good ty f r p n env (b ∷ bs) e h = given_good (λ sc n. call_atom ty f r) [] n env (with_all p (call f.0)) (call_atom_good ty f r p n env h)
 
+  region_good : (ty : Ty) (f : Name) (cs : List Code) (fs : List (Environment → Outcome)) (sc : Scope) → AllGood tb call cs fs sc
+      → Good tb call (of_line (λ sc n. call_line ty f (several cs sc n))) (λ env. with_all (gather (each_of fs env)) (call f.0)) sc
+  region_good ty f cs fs sc h = line_good (λ sc n. call_line ty f (several cs sc n)) (λ env. with_all (gather (each_of fs env)) (call f.0)) sc
+      (λ n env b. call_line_good ty f (several cs sc n) (gather (each_of fs (env_of sc env))) n env (several_good cs fs sc h n env b))
+
   scalar_good : (ty : Ty) (f : Name) (cs : List Code) (fs : List (Environment → Outcome)) (sc : Scope) → AllGood tb call cs fs sc → Good tb call (scalar_call ty f cs) (λ env. with_all (gather (each_of fs env)) (call f.0)) sc
   scalar_good ty f cs fs sc h =
       let g = atom_good (λ sc n. call_atom ty f (several cs sc n)) (λ env. with_all (gather (each_of fs env)) (call f.0)) sc (λ n env b. call_atom_good ty f (several cs sc n) (gather (each_of fs (env_of sc env))) n env (several_good cs fs sc h n env b)) in
@@ -168,10 +174,11 @@ module _ (tb : Table) (call : Calls) where
         bound = g.bound;
       }
 
-  pub call_good : (ty : Ty) (f : Name) (cs : List Code) (fs : List (Environment → Outcome)) (sc : Scope) → AllGood tb call cs fs sc → Good tb call (call_code ty f cs) (λ env. with_all (gather (each_of fs env)) (call f.0)) sc
-  call_good (Tree id) f cs fs sc h = line_good (λ sc n. call_line (Tree id) f (several cs sc n)) (λ env. with_all (gather (each_of fs env)) (call f.0)) sc (λ n env b. call_line_good (Tree id) f (several cs sc n) (gather (each_of fs (env_of sc env))) n env (several_good cs fs sc h n env b))
-  call_good Whole f cs fs sc h = scalar_good Whole f cs fs sc h
-  call_good Truth f cs fs sc h = scalar_good Truth f cs fs sc h
+  pub call_good : (given : Results Ty) (f : Name) (cs : List Code) (fs : List (Environment → Outcome)) (sc : Scope) → AllGood tb call cs fs sc → Good tb call (call_code given f cs) (λ env. with_all (gather (each_of fs env)) (call f.0)) sc
+  call_good (results.One (Tree id)) f cs fs sc h = region_good (Tree id) f cs fs sc h
+  call_good (results.One Whole) f cs fs sc h = scalar_good Whole f cs fs sc h
+  call_good (results.One Truth) f cs fs sc h = scalar_good Truth f cs fs sc h
+  call_good (results.Several types) f cs fs sc h = region_good Whole f cs fs sc h
 
   -- constructors
   pub record Pointed (x : ℕ) (types : List Ty) (xs : List Atom) (env : Environment) : Type 0 where
@@ -193,7 +200,7 @@ module _ (tb : Table) (call : Calls) where
         keeps = keeps_more k1 r.keeps (omega arith);
       }
 
-  each_of-select : (kind : Bool) (types : List Ty) (fs : List (Environment → Outcome)) (env : Environment) → at_fields kind types (each_of fs env) ≡ each_of (at_fields kind types fs) env
+  pub each_of-select : (kind : Bool) (types : List Ty) (fs : List (Environment → Outcome)) (env : Environment) → at_fields kind types (each_of fs env) ≡ each_of (at_fields kind types fs) env
   each_of-select kind [] fs env = refl
   each_of-select kind (t ∷ types) [] env = refl
   each_of-select true (Whole ∷ types) (f ∷ fs) env = ap (λ os. f env ∷ os) (each_of-select true types fs env)
@@ -203,7 +210,7 @@ module _ (tb : Table) (call : Calls) where
   each_of-select false (Truth ∷ types) (f ∷ fs) env = each_of-select false types fs env
   each_of-select false (Tree t ∷ types) (f ∷ fs) env = ap (λ os. f env ∷ os) (each_of-select false types fs env)
 
-  select_good : (kind : Bool) (types : List Ty) (cs : List Code) (fs : List (Environment → Outcome)) (sc : Scope) → AllGood tb call cs fs sc → AllGood tb call (at_fields kind types cs) (at_fields kind types fs) sc
+  pub select_good : (kind : Bool) (types : List Ty) (cs : List Code) (fs : List (Environment → Outcome)) (sc : Scope) → AllGood tb call cs fs sc → AllGood tb call (at_fields kind types cs) (at_fields kind types fs) sc
   select_good kind [] cs fs sc h = tt
   select_good kind (t ∷ types) [] [] sc h = tt
   select_good kind (t ∷ types) [] (f ∷ fs) sc h = absurd h
@@ -232,7 +239,7 @@ module _ (tb : Table) (call : Calls) where
       ∙ ap (λ z. from_there z (mean tb call (write_of k ss ps))) r.runs
       ∙ (λ i. Gives (con k.0 (data_of (merge (fields_at tb k.0) (scalars i) (fields i)))))
 
-  each_length : (fs : List (Environment → Outcome)) (env : Environment) → length (each_of fs env) ≡ length fs
+  pub each_length : (fs : List (Environment → Outcome)) (env : Environment) → length (each_of fs env) ≡ length fs
   each_length [] env = refl
   each_length (f ∷ fs) env = ap suc (each_length fs env)
 
@@ -282,42 +289,6 @@ module _ (tb : Table) (call : Calls) where
             mean-prepend tb call l.binds (body sc' l.fresh).term env
             ∙ gives_then (mean tb call (body sc' l.fresh).term) (λ v. g ((number_of x, v) ∷ env_of sc env)) s.agree
             (λ v new is k. (hb l.atom l.ty l.fresh new b').gives ∙ (λ i. g ((number_of x, is i) ∷ env_of-keeps sc k b i)));
-      }
-
-  -- a `let par`
-  par_runs : (k1 k2 : Kind) (x y : ℕ) (s1 s2 : Ty) (l r : Term) (env : Environment) (o p : Outcome) (go : Environment → Outcome) (k : Datum → Datum → Outcome) → mean tb call l env ≡ o → mean tb call r env ≡ p → ((v w : Datum) → go ((y, w) ∷ (x, v) ∷ env) ≡ k v w) → from_there (run tb call (Both false (On k1 (record { 0 = x }) s1 l) (On k2 (record { 0 = y }) s2 r)) env) go ≡ with_value o (λ v. with_value p (λ w. k v w))
-  par_runs k1 k2 x y s1 s2 l r env o p go k e1 e2 h = rw (e1, e2) (ends o p)
-    where
-      ends : (o p : Outcome) → from_there (having o (λ v. having p (λ w. Went ((y, w) ∷ (x, v) ∷ env)))) go ≡ with_value o (λ v. with_value p (λ w. k v w))
-      ends (Gives v) (Gives w) = h v w
-      ends (Gives v) (Stops why) = refl
-      ends (Stops why) p = refl
-
-  pub par_good : (x : Ident) (left : ToLine) (y : Ident) (right : ToLine) (body : ToLine) (f g h : Environment → Outcome) (sc : Scope) → ((n : ℕ) (env : Environment) → AllBelow n sc → Lines tb call n (left sc n) env (f (env_of sc env))) → ((n : ℕ) (env : Environment) → AllBelow n sc → Lines tb call n (right sc n) env (g (env_of sc env))) → ((at1 at2 : Atom) (s1 s2 : Ty) (n : ℕ) (env : Environment) → AllBelow n (slot y at2 s2 ∷ slot x at1 s1 ∷ sc) → Lines tb call n (body (slot y at2 s2 ∷ slot x at1 s1 ∷ sc) n) env (h (env_of (slot y at2 s2 ∷ slot x at1 s1 ∷ sc) env))) → (n : ℕ) (env : Environment) → AllBelow n sc → Lines tb call n (par_line x left y right body sc n) env (with_value (f (env_of sc env)) (λ v. with_value (g (env_of sc env)) (λ w. h ((number_of y, w) ∷ (number_of x, v) ∷ env_of sc env))))
-  par_good x left y right body f g h sc ha hc hb n env b =
-      let l = left sc (n + 1) in
-      let s = ha (n + 1) env (all_below_less n (n + 1) sc (omega arith) b) in
-      let up = s.grows in
-      let m = l.fresh in
-      let r = right sc (m + 1) in
-      let q = hc (m + 1) env (all_below_less n (m + 1) sc (omega arith) b) in
-      let up' = q.grows in
-      let sc' : Scope = slot y (var m) r.ty ∷ slot x (var n) l.ty ∷ sc in
-      let b' : AllBelow r.fresh sc' = (omega arith, (omega arith, all_below_less n r.fresh sc (omega arith) b)) in
-      let up'' = (hb (var n) (var m) l.ty r.ty r.fresh env b').grows in
-      let e = env_of sc env in
-      record {
-        grows = omega arith;
-        gives = par_runs (kind_of l.ty) (kind_of r.ty) n m l.ty r.ty l.term r.term env (f e) (g e) (mean tb call (body sc' r.fresh).term) (λ v w. h ((number_of y, w) ∷ (number_of x, v) ∷ e)) s.gives q.gives
-            (λ v w.
-            let e1 : Environment = (n, v) ∷ env in
-            let e2 : Environment = (m, w) ∷ e1 in
-            let k1 : Keeps n env e1 = keeps_bind n n v env (omega arith) in
-            let k2 : Keeps m e1 e2 = keeps_bind m m w e1 (omega arith) in
-            let k : Keeps n env e2 = keeps_more k1 k2 (omega arith) in
-            let is2 : value_in e2 m ≡ w = value_in-here m w e1 in
-            let is1 : value_in e2 n ≡ v = k2.same n (omega arith) ∙ value_in-here n v env in
-            (hb (var n) (var m) l.ty r.ty r.fresh e2 b').gives ∙ (λ i. h ((number_of y, is2 i) ∷ (number_of x, is1 i) ∷ env_of-keeps sc k b i)));
       }
 
   -- an `if`

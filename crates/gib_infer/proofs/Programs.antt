@@ -12,7 +12,7 @@ use Rattle.gib_syntax.specs.Tree.{FunctionTree}
 use Rattle.gib_syntax.specs.Arena.{tree_of}
 use Rattle.gib_syntax.specs.Parts.{Parts, program_of, function_tree}
 use Rattle.gib_syntax.specs.Meaning.{names_of}
-use Rattle.gib_syntax.specs.Typing.{parameter_types, result_type}
+use Rattle.gib_syntax.specs.Typing.{parameter_types, result_types}
 use Rattle.gib_core.specs.declared.atom.Variable.{Variable}
 use Rattle.gib_core.specs.declared.node.TermId.{TermId}
 use Rattle.gib_core.specs.declared.node.Node.{Node}
@@ -22,7 +22,7 @@ use Rattle.gib_types.specs.declared.table.ConId.{ConId}
 use Rattle.gib_types.specs.Table.{Table}
 use Rattle.gib_syntax.specs.Declarations.{table_of_program}
 use Rattle.gib_core.specs.declared.program.CoreMain.{CoreMain}
-use Rattle.gib_core.specs.Parts.{Parts as CoreParts, IsFunctionInside, function_term, core_of}
+use Rattle.gib_core.specs.Parts.{Parts as CoreParts, IsFunctionInside, function_term, results_of, core_of}
 use Rattle.gib_core.specs.Inferring.{infer_body, infer_function, infer_program, with_fields}
 use Rattle.gib_infer.specs.declared.work.Work.{Work}
 use Rattle.gib_infer.specs.Made.{scope_of, globals_in, code_at, BindsFields, MakesLine}
@@ -40,7 +40,7 @@ body_made parts exprs names types id w0 w1 w2 w3 xs t of ee et es ef hb h =
       is = h.term ∙ (λ i. ((code_at parts (ee i) id).line (scope i) (count i)).term);
     }
 
-pub function_made : (parts : Parts) (d : FunctionDecl) (f : FunctionTree) (id : ℕ) (names : List Ident) (types : List Ty) (w0 w1 : Work) (made : CoreFunction) → slice_get (program_of parts).functions id ≡ Some (function_tree (tree_of parts.exprs) d) → slice_get (program_of parts).functions id ≡ Some f → names ≡ names_of d.parameters.items → types ≡ parameter_types (globals_in parts).table f → MakesBody w0 w1 made.body (infer_body (globals_in parts) names types (tree_of parts.exprs d.body.0)) → made.name ≡ d.name.name → made.parameters.items ≡ types → made.result ≡ result_type (globals_in parts).table f → MakesFunction w0 w1 made (infer_function (globals_in parts) f)
+pub function_made : (parts : Parts) (d : FunctionDecl) (f : FunctionTree) (id : ℕ) (names : List Ident) (types : List Ty) (w0 w1 : Work) (made : CoreFunction) → slice_get (program_of parts).functions id ≡ Some (function_tree (tree_of parts.exprs) d) → slice_get (program_of parts).functions id ≡ Some f → names ≡ names_of d.parameters.items → types ≡ parameter_types (globals_in parts).table f → MakesBody w0 w1 made.body (infer_body (globals_in parts) names types (tree_of parts.exprs d.body.0)) → made.name ≡ d.name.name → made.parameters.items ≡ types → results_of made.result ≡ result_types (globals_in parts).table f → MakesFunction w0 w1 made (infer_function (globals_in parts) f)
 function_made parts d f id names types w0 w1 made e1 e2 en et h enm ep er =
     let ef : function_tree (tree_of parts.exprs) d ≡ f = same_Some (function_tree (tree_of parts.exprs) d) f (sym e1 ∙ e2) in
     let body : infer_body (globals_in parts) names types (tree_of parts.exprs d.body.0) ≡ infer_body (globals_in parts) (names_of f.parameters) (parameter_types (globals_in parts).table f) f.body =
@@ -50,6 +50,11 @@ function_made parts d f id names types w0 w1 made e1 e2 en et h enm ep er =
       inside = h.inside;
       is = (λ i. record { name = (enm ∙ ap (λ (z : FunctionTree). z.name.name) ef) i; parameters = (ep ∙ et) i; result = er i; body = (h.is ∙ body) i });
     }
+
+-- What a function gives is what its declaration says.
+pub result_same : (parts : Parts) (d : FunctionDecl) (f : FunctionTree) (id : ℕ) → slice_get (program_of parts).functions id ≡ Some (function_tree (tree_of parts.exprs) d) → slice_get (program_of parts).functions id ≡ Some f
+    → result_types (globals_in parts).table (function_tree (tree_of parts.exprs) d) ≡ result_types (globals_in parts).table f
+result_same parts d f id e1 e2 = ap (result_types (globals_in parts).table) (same_Some (function_tree (tree_of parts.exprs) d) f (sym e1 ∙ e2))
 
 -- Some functions are made; with the rest they are all.
 pub record FunctionsSoFar (parts : Parts) (old new : Work) (made : List CoreFunction) (next : ℕ) : Type 0 where
@@ -76,7 +81,7 @@ inside_push n (y ∷ made) x h lt = (h.0, inside_push n made x h.1 lt)
 
 pub functions_same : (old new : List Node) (made : List CoreFunction) → Grows old new → AllByRecursion (IsFunctionInside (length old)) made → map (function_term (term_of new)) made ≡ map (function_term (term_of old)) made
 functions_same old new [] g h = refl
-functions_same old new (x ∷ made) g h = (λ i. record { name = x.name; parameters = x.parameters.items; result = x.result; body = g.same x.body.0 h.0 i } ∷ functions_same old new made g h.1 i)
+functions_same old new (x ∷ made) g h = (λ i. record { name = x.name; parameters = x.parameters.items; result = results_of x.result; body = g.same x.body.0 h.0 i } ∷ functions_same old new made g h.1 i)
 
 pub functions_next : (parts : Parts) (old now newer : Work) (made more : List CoreFunction) (x : CoreFunction) (next : ℕ) → next < length (program_of parts).functions → FunctionsSoFar parts old now made next → ((f : FunctionTree) → slice_get (program_of parts).functions next ≡ Some f → MakesFunction now newer x (infer_function (globals_in parts) f)) → more ≡ made ++ x ∷ [] → FunctionsSoFar parts old newer more (next + 1)
 functions_next parts old now newer made more x next lt h step em =

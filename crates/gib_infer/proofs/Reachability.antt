@@ -1,22 +1,27 @@
 -- What a typed program becomes breaks no rule, where each field in scope counts as reached.
-use Rattle.std.proofs.Common.{◌≡◌, ℕ, zero, suc, ◌+◌, ◌<◌, ◌≤◌, Bool, true, false, ◌==◌, if◌then◌else◌, List, [], ◌∷◌, ◌++◌, map, length, Option, Some, None, refl, sym, ap, ◌∙◌, subst, arith, inl, inr}
+use Rattle.std.proofs.Common.{◌≡◌, ℕ, zero, suc, ◌+◌, ◌<◌, ◌≤◌, Bool, true, false, ◌==◌, ◌&&◌, if◌then◌else◌, List, [], ◌∷◌, ◌++◌, map, length, Option, Some, None, refl, sym, ap, ◌∙◌, subst, arith, inl, inr}
 use Rattle.std.specs.Prelude.{pos, slice_get}
 use Rattle.std.specs.List.{AllByRecursion}
-use Rattle.std.proofs.lemmas.Bool.{cases_lt, eqb-true, eq-eqb}
+use Rattle.std.proofs.lemmas.Bool.{cases_lt, eqb-true, eq-eqb, lt-ltb}
 use Rattle.std.proofs.lemmas.Option.{same_Some, slice_get-get_or}
 use Rattle.std.proofs.lemmas.List.{length-map}
 use Rattle.gib_types.specs.declared.table.Ty.{Ty}
 use Rattle.gib_types.specs.declared.table.Ty.TheVariants.{Whole, Truth, Tree}
 use Rattle.gib_types.specs.declared.table.ConId.{ConId}
-use Rattle.gib_types.specs.Table.{Row, Table, IsTable, name_at, name_of, owner_at, fields_at, first_at, count_at}
+use Rattle.gib_types.specs.Table.{Row, Table, IsTable, IsTyBelow, name_at, name_of, owner_at, fields_at, first_at, count_at}
 use Rattle.gib_types.proofs.Owners.{together, tag_there, tag_back}
 use Rattle.gib_syntax.specs.declared.tree.Ident.{Ident}
 use Rattle.gib_syntax.specs.declared.tree.Operator.{Operator}
 use Rattle.gib_syntax.specs.declared.tree.Operator.TheVariants as o
-use Rattle.gib_syntax.specs.Tree.{Expression, Arguments, Arms, Var, Num, Bit, Paren, Op, Call, Make, Let, Par, If, Case, NoArgument, Argument, LastArm, NextArm, FunctionTree, ProgramTree}
+use Rattle.gib_syntax.specs.declared.tree.Parameter.{Parameter}
+use Rattle.gib_syntax.specs.declared.tree.TypeName.{TypeName}
+use Rattle.gib_syntax.specs.Results as results
+use Rattle.gib_syntax.specs.Results.{Results, as_results}
+use Rattle.gib_syntax.specs.Tree as source
+use Rattle.gib_syntax.specs.Tree.{Expression, Arguments, Arms, Var, Num, Bit, Paren, Op, Call, Make, Let, Par, If, Case, LetSeveral, ParSeveral, NoArgument, Argument, LastArm, NextArm, FunctionTree, ProgramTree}
 use Rattle.gib_syntax.specs.Declarations.{number_of, place_of, next_place, constructor_names, constructor_named, function_named, table_of_program, type_of_name}
 use Rattle.gib_syntax.specs.Typing as typing
-use Rattle.gib_syntax.specs.Typing.{Globals, globals_of, Has, HaveAll, HaveArms, Covers, arm_names, BindsAll, operator_type, parameter_types, result_type, IsTypedHere, IsTypedProgram}
+use Rattle.gib_syntax.specs.Typing.{Globals, globals_of, Has, HaveAll, HaveArms, Covers, arm_names, BindsAll, AreVariables, operator_type, parameter_types, types_of, result_types, one_type, IsTypedHere, IsTypedProgram}
 use Rattle.gib_syntax.specs.Meaning.{is_scalar, names_of}
 use Rattle.gib_core.specs.declared.atom.Variable.{Variable}
 use Rattle.gib_core.specs.declared.atom.Atom.{Atom}
@@ -24,10 +29,10 @@ use Rattle.gib_core.specs.declared.atom.Atom.TheVariants as atomic
 use Rattle.gib_core.specs.declared.scope.Bound.{Bound}
 use Rattle.gib_core.specs.Tree.{variables_from, FunctionTerm, CoreTree}
 use Rattle.gib_core.specs.Meaning.{function_at}
-use Rattle.gib_core.specs.Inferring.{Scope, slot, Code, atom_at, type_at, of_line, of_atom, call_code, operation_atom, make_line, let_line, par_line, if_line, case_line, ArmCode, with_fields, branches_of, arm_for, numbers_from, constructors_of, first_constructor, con_or, con_named, gives_type, infer, infer_all, infer_arms, infer_body, infer_function, infer_program}
+use Rattle.gib_core.specs.Inferring.{Scope, slot, Code, atom_at, type_at, of_line, of_atom, call_code, operation_atom, make_line, let_line, if_line, case_line, tuple_line, several_line, sides_line, ArmCode, with_fields, branches_of, arm_for, numbers_from, constructors_of, first_constructor, con_or, con_named, gives_type, infer, infer_all, infer_arms, infer_body, infer_function, infer_program}
 use Rattle.gib_core.specs.declared.scope.Known.{Known}
 use Rattle.gib_core.specs.Met.{known, reached, Body, opening, with_parameters}
-use Rattle.gib_core.specs.Rules.{type_bound, bound_too, is_reached, bind_fields, bind_parameters, before_body}
+use Rattle.gib_core.specs.Rules.{type_bound, bound_too, is_reached, bind_fields, is_declared, are_declared, bind_parameters, before_body}
 use Rattle.gib_core.specs.Reachable.{as_reached, IsReachable, AreReachable}
 use Rattle.gib_infer.proofs.Fits.{named_at, fields_fit}
 use Rattle.gib_infer.proofs.Ordered.{CodeOrdered, ordered}
@@ -35,8 +40,11 @@ use Rattle.gib_infer.proofs.Whole.{place_below, named_listed}
 use Rattle.gib_infer.proofs.Meanings.{listed}
 use Rattle.gib_infer.proofs.Ready.{Ready, NamesTyped, CodeBuilt, AllBuilt}
 use Rattle.gib_infer.proofs.Makes.{line_built, atom_built, plain_built, operation_ok, call_built, make_built}
-use Rattle.gib_infer.proofs.Branching.{names_typed_bound, names_typed_fields, names_fields, let_ok, let_type, if_ok, par_ok, par_type}
-use Rattle.gib_infer.proofs.Choosing.{rising_variables, fields_outside, more_reached, reached_here, fields_can, binds_length, ArmBuilt, Taken, AllTaken, branches_type, case_ok}
+use Rattle.gib_infer.proofs.Branching.{names_typed_bound, names_typed_fields, names_fields, let_ok, let_type, if_ok}
+use Rattle.gib_infer.proofs.Severals.{NamesBound, tuple_ok, several_line_ok, several_line_type, sides_line_ok, sides_line_type}
+use Rattle.gib_infer.proofs.Rising.{rising_variables, fields_outside, more_reached, reached_here, fields_can, binds_length}
+use Rattle.gib_infer.proofs.TypesKnown.{name_below}
+use Rattle.gib_infer.proofs.Choosing.{ArmBuilt, Taken, AllTaken, branches_type, case_ok}
 
 -- Constructors and arms.
 
@@ -84,26 +92,26 @@ module _ (core : CoreTree) (functions : List FunctionTree) (is : IsTable core.ta
   abbrev g : Globals
   g = record { table = core.table; functions = functions }
 
-  abbrev Built : Code → Ty → typing.Scope → Scope → Type 0
-  Built c ty outer sc = CodeBuilt core functions c ty outer sc
+  abbrev Built : Code → Results Ty → typing.Scope → Scope → Type 0
+  Built c given outer sc = CodeBuilt core functions c given outer sc
 
-  abbrev EachBuilt : List ArmCode → Ty → typing.Scope → Scope → Type 0
-  EachBuilt [] ty outer sc = Unit {0}
-  EachBuilt (arm ∷ arms) ty outer sc = ArmBuilt core functions arm.con arm ty outer sc × EachBuilt arms ty outer sc
+  abbrev EachBuilt : List ArmCode → Results Ty → typing.Scope → Scope → Type 0
+  EachBuilt [] given outer sc = Unit {0}
+  EachBuilt (arm ∷ arms) given outer sc = ArmBuilt core functions arm.con arm given outer sc × EachBuilt arms given outer sc
 
-  taken : (arms : List ArmCode) (k : ℕ) (ty : Ty) (outer : typing.Scope) (sc : Scope) → has_arm arms k ≡ true → EachBuilt arms ty outer sc → Taken core functions k (arm_for arms k) ty outer sc
-  taken [] k ty outer sc has h = absurd cc
-  taken (arm ∷ arms) k ty outer sc has h = go (arm.con == k) (eqb-true arm.con k) has (λ e. taken arms k ty outer sc e h.1)
+  taken : (arms : List ArmCode) (k : ℕ) (given : Results Ty) (outer : typing.Scope) (sc : Scope) → has_arm arms k ≡ true → EachBuilt arms given outer sc → Taken core functions k (arm_for arms k) given outer sc
+  taken [] k given outer sc has h = absurd cc
+  taken (arm ∷ arms) k given outer sc has h = go (arm.con == k) (eqb-true arm.con k) has (λ e. taken arms k given outer sc e h.1)
     where
-      go : (c : Bool) → (c ≡ true → arm.con ≡ k) → (if c then true else has_arm arms k) ≡ true → (has_arm arms k ≡ true → Taken core functions k (arm_for arms k) ty outer sc)
-          → Taken core functions k (if c then Some arm else arm_for arms k) ty outer sc
-      go true same e more = subst (λ (j : ℕ). ArmBuilt core functions j arm ty outer sc) (same refl) h.0
+      go : (c : Bool) → (c ≡ true → arm.con ≡ k) → (if c then true else has_arm arms k) ≡ true → (has_arm arms k ≡ true → Taken core functions k (arm_for arms k) given outer sc)
+          → Taken core functions k (if c then Some arm else arm_for arms k) given outer sc
+      go true same e more = subst (λ (j : ℕ). ArmBuilt core functions j arm given outer sc) (same refl) h.0
       go false same e more = more e
 
-  taken_from : (n count : ℕ) (arms : List ArmCode) (ty : Ty) (outer : typing.Scope) (sc : Scope) → ((k : ℕ) → n ≤ k → k < n + count → has_arm arms k ≡ true) → EachBuilt arms ty outer sc
-      → AllTaken core functions (numbers_from n count) arms ty outer sc
-  taken_from n zero arms ty outer sc has h = tt
-  taken_from n (suc count) arms ty outer sc has h = (taken arms n ty outer sc (has n (omega arith) (omega arith)) h, taken_from (suc n) count arms ty outer sc (λ k lo hi. has k (omega arith) (omega arith)) h)
+  taken_from : (n count : ℕ) (arms : List ArmCode) (given : Results Ty) (outer : typing.Scope) (sc : Scope) → ((k : ℕ) → n ≤ k → k < n + count → has_arm arms k ≡ true) → EachBuilt arms given outer sc
+      → AllTaken core functions (numbers_from n count) arms given outer sc
+  taken_from n zero arms given outer sc has h = tt
+  taken_from n (suc count) arms given outer sc has h = (taken arms n given outer sc (has n (omega arith) (omega arith)) h, taken_from (suc n) count arms given outer sc (λ k lo hi. has k (omega arith) (omega arith)) h)
 
   -- The name is that of a constructor of the type.
   abbrev NamedHere : ℕ → ℕ → Type 0
@@ -149,9 +157,9 @@ module _ (core : CoreTree) (functions : List FunctionTree) (is : IsTable core.ta
   first_listed (LastArm k xs e) ty own = named_listed core.table (number_of k) (con_named g k) is (own.0.1 ∙ ap Some (sym (ap con_or own.0.1)))
   first_listed (NextArm k xs e arms) ty own = named_listed core.table (number_of k) (con_named g k) is (own.0.1 ∙ ap Some (sym (ap con_or own.0.1)))
 
-  all_taken : (arms : Arms) (t : ℕ) (ty : Ty) (outer : typing.Scope) (sc : Scope) → Covers core.table t (arm_names arms) → EachBuilt (infer_arms g arms) ty outer sc
-      → AllTaken core functions (constructors_of core.table t) (infer_arms g arms) ty outer sc
-  all_taken arms t ty outer sc covers h = taken_from (first_at core.table t) (count_at core.table t) (infer_arms g arms) ty outer sc (λ k lo hi. has k lo hi) h
+  all_taken : (arms : Arms) (t : ℕ) (given : Results Ty) (outer : typing.Scope) (sc : Scope) → Covers core.table t (arm_names arms) → EachBuilt (infer_arms g arms) given outer sc
+      → AllTaken core functions (constructors_of core.table t) (infer_arms g arms) given outer sc
+  all_taken arms t given outer sc covers h = taken_from (first_at core.table t) (count_at core.table t) (infer_arms g arms) given outer sc (λ k lo hi. has k lo hi) h
     where
       has : (k : ℕ) → first_at core.table t ≤ k → k < first_at core.table t + count_at core.table t → has_arm (infer_arms g arms) k ≡ true
       has k lo hi =
@@ -160,17 +168,17 @@ module _ (core : CoreTree) (functions : List FunctionTree) (is : IsTable core.ta
           arm_there arms t k found.0 covers.own (tag_back core.table t k k at).1 found.1
 
   -- Branches of constructors, where there is one.
-  some_type : (ks : List ℕ) (c : ℕ) (arms : List ArmCode) (ty : Ty) (outer : typing.Scope) (sc : Scope) → listed ks c ≡ true → AllTaken core functions ks arms ty outer sc → (n : ℕ) → (branches_of core.table ks arms sc n).ty ≡ ty
-  some_type [] c arms ty outer sc e h n = absurd cc
-  some_type (k ∷ ks) c arms ty outer sc e h n = branches_type core functions k ks arms ty outer sc h n
+  some_type : (ks : List ℕ) (c : ℕ) (arms : List ArmCode) (given : Results Ty) (outer : typing.Scope) (sc : Scope) → listed ks c ≡ true → AllTaken core functions ks arms given outer sc → (n : ℕ) → (branches_of core.table ks arms sc n).ty ≡ one_type given
+  some_type [] c arms given outer sc e h n = absurd cc
+  some_type (k ∷ ks) c arms given outer sc e h n = branches_type core functions k ks arms given outer sc h n
 
-  case_type : (x : Ident) (arms : Arms) (t : ℕ) (ty : Ty) (outer : typing.Scope) (sc : Scope) → Covers core.table t (arm_names arms) → EachBuilt (infer_arms g arms) ty outer sc
-      → (n : ℕ) → (case_line core.table x (infer_arms g arms) sc n).ty ≡ ty
-  case_type x arms t ty outer sc covers h n =
-      let all = all_taken arms t ty outer sc covers h in
+  case_type : (x : Ident) (arms : Arms) (t : ℕ) (given : Results Ty) (outer : typing.Scope) (sc : Scope) → Covers core.table t (arm_names arms) → EachBuilt (infer_arms g arms) given outer sc
+      → (n : ℕ) → (case_line core.table x (infer_arms g arms) sc n).ty ≡ one_type given
+  case_type x arms t given outer sc covers h n =
+      let all = all_taken arms t given outer sc covers h in
       let own = first_own arms t covers.own in
-      some_type (constructors_of core.table (owner_at core.table (first_constructor (infer_arms g arms)))) (first_constructor (infer_arms g arms)) (infer_arms g arms) ty outer sc (first_listed arms t covers.own)
-      (subst (λ (z : ℕ). AllTaken core functions (constructors_of core.table z) (infer_arms g arms) ty outer sc) (sym own) all) n
+      some_type (constructors_of core.table (owner_at core.table (first_constructor (infer_arms g arms)))) (first_constructor (infer_arms g arms)) (infer_arms g arms) given outer sc (first_listed arms t covers.own)
+      (subst (λ (z : ℕ). AllTaken core functions (constructors_of core.table z) (infer_arms g arms) given outer sc) (sym own) all) n
 
   -- Parts of expressions.
 
@@ -190,96 +198,146 @@ module _ (core : CoreTree) (functions : List FunctionTree) (is : IsTable core.ta
   operator_scalar o.Quotient = refl
   operator_scalar o.Remainder = refl
 
-  operation_built : (f : Operator) (c d : Code) (ty : Ty) (outer : typing.Scope) (sc : Scope) → ty ≡ operator_type f → CodeOrdered g (of_atom (operation_atom f c.atom d.atom)) sc → Built c Whole outer sc → Built d Whole outer sc
-      → Built (of_atom (operation_atom f c.atom d.atom)) ty outer sc
-  operation_built f c d ty outer sc same order hc hd =
-      subst (λ (z : Ty). Built (of_atom (operation_atom f c.atom d.atom)) z outer sc) (sym same)
+  operation_built : (f : Operator) (c d : Code) (given : Results Ty) (outer : typing.Scope) (sc : Scope) → given ≡ results.One (operator_type f) → CodeOrdered g (of_atom (operation_atom f c.atom d.atom)) sc
+      → Built c (results.One Whole) outer sc → Built d (results.One Whole) outer sc → Built (of_atom (operation_atom f c.atom d.atom)) given outer sc
+  operation_built f c d given outer sc same order hc hd =
+      subst (λ (z : Results Ty). Built (of_atom (operation_atom f c.atom d.atom)) z outer sc) (sym same)
       (atom_built core functions (operation_atom f c.atom d.atom) (operator_type f) outer sc order (operator_scalar f) (λ n. refl)
       (operation_ok core functions f c.atom d.atom outer sc hc.order.atom hd.order.atom hc.atom hd.atom))
 
-  make_here : (k : Ident) (cs : List Code) (c : ℕ) (ty : Ty) (outer : typing.Scope) (sc : Scope) → CodeOrdered g (of_line (make_line core.table (record { 0 = con_named g k }) cs)) sc
-      → constructor_named core.table (number_of k) ≡ Some c → ty ≡ Tree (record { 0 = owner_at core.table c }) → AllBuilt core functions cs (fields_at core.table (con_named g k)) outer sc
-      → Built (of_line (make_line core.table (record { 0 = con_named g k }) cs)) ty outer sc
-  make_here k cs c ty outer sc order e same all =
+  make_here : (k : Ident) (cs : List Code) (c : ℕ) (given : Results Ty) (outer : typing.Scope) (sc : Scope) → CodeOrdered g (of_line (make_line core.table (record { 0 = con_named g k }) cs)) sc
+      → constructor_named core.table (number_of k) ≡ Some c → given ≡ results.One (Tree (record { 0 = owner_at core.table c })) → AllBuilt core functions cs (fields_at core.table (con_named g k)) outer sc
+      → Built (of_line (make_line core.table (record { 0 = con_named g k }) cs)) given outer sc
+  make_here k cs c given outer sc order e same all =
       let named : con_named g k ≡ c = ap con_or e in
       let at : ConId = record { 0 = con_named g k } in
       let within : con_named g k < length core.table.rows = named_within (number_of k) (con_named g k) (e ∙ ap Some (sym named)) in
-      subst (λ (z : Ty). Built (of_line (make_line core.table at cs)) z outer sc) (ap (λ z. Tree (record { 0 = owner_at core.table z })) named ∙ sym same)
+      subst (λ (z : Results Ty). Built (of_line (make_line core.table at cs)) z outer sc) (ap (λ z. results.One (Tree (record { 0 = owner_at core.table z }))) named ∙ sym same)
       (make_built core functions at cs outer sc order (tag_there core.table (con_named g k) within) all)
+
+  -- The types that are written are declared, or scalars.
+  written_declared : (as' : List TypeName) → are_declared core.table (map (type_of_name core.table.types) as') ≡ true
+  written_declared [] = refl
+  written_declared (a ∷ as') = (λ i. one (type_of_name core.table.types a) (name_below core.table.types a) i && written_declared as' i)
+    where
+      one : (t : Ty) → IsTyBelow (length core.table.types) t → is_declared core.table t ≡ true
+      one Whole h = refl
+      one Truth h = refl
+      one (Tree t) h = lt-ltb t.0 (length core.table.types) h
+
+  names_bound : (qs : List Parameter) (known inner outer : typing.Scope) (c : Code) (sc : Scope) → AreVariables core.table.types qs → BindsAll known (names_of qs) (types_of core.table.types qs) inner
+      → Built c (as_results (types_of core.table.types qs)) outer sc → NamesBound core functions known inner (names_of qs) (types_of core.table.types qs) c outer sc
+  names_bound qs known inner outer c sc vars binds code =
+      let long = length-map qs (λ (q : Parameter). q.name) in
+      let some = vars.0 in
+      let few = vars.1 in
+      record { some = omega (arith, long, some); few = omega (arith, long, few); long = binds_length (names_of qs) (types_of core.table.types qs) known inner binds; binds = binds; code = code }
 
   -- Each function is there.
   module _ (there : (f : ℕ) (h : FunctionTree) → function_named functions f ≡ Some h → function_at core.functions f ≡ Some (infer_function g h)) where
-    call_here : (f : Ident) (xs : List Code) (h : FunctionTree) (ty : Ty) (outer : typing.Scope) (sc : Scope) → CodeOrdered g (call_of f xs) sc → function_named functions (number_of f) ≡ Some h → ty ≡ result_type core.table h
-        → AllBuilt core functions xs (parameter_types core.table h) outer sc → Built (call_of f xs) ty outer sc
-    call_here f xs h ty outer sc order named same all =
-        let given : gives_type core.table (function_named functions (number_of f)) ≡ result_type core.table h = ap (gives_type core.table) named in
-        subst (λ (z : Ty). Built (call_of f xs) z outer sc) (given ∙ sym same)
-        (call_built core functions (gives_type core.table (function_named functions (number_of f))) f.name (infer_function g h) xs outer sc order (there (number_of f) h named) (sym given) all)
+    call_here : (f : Ident) (xs : List Code) (h : FunctionTree) (given : Results Ty) (outer : typing.Scope) (sc : Scope) → CodeOrdered g (call_of f xs) sc → function_named functions (number_of f) ≡ Some h
+        → given ≡ result_types core.table h → AllBuilt core functions xs (parameter_types core.table h) outer sc → Built (call_of f xs) given outer sc
+    call_here f xs h given outer sc order named same all =
+        let own : gives_type core.table (function_named functions (number_of f)) ≡ result_types core.table h = ap (gives_type core.table) named in
+        subst (λ (z : Results Ty). Built (call_of f xs) z outer sc) (own ∙ sym same)
+        (call_built core functions (gives_type core.table (function_named functions (number_of f))) f.name (infer_function g h) xs outer sc order (there (number_of f) h named) (sym own) all)
 
     mutual
       -- What an expression becomes breaks no rule.
-      pub built : (e : Expression) (outer : typing.Scope) (ty : Ty) (sc : Scope) → Has g outer e ty → NamesTyped outer sc → Built (infer g e) ty outer sc
-      built (Var x) outer ty sc h names =
-          plain_built core functions (λ sc. type_at sc (number_of x)) (λ sc. atom_at sc (number_of x)) ty outer sc (ordered g (Var x) outer ty sc h) (names.types (number_of x) ty h) (λ n m s b ready. ready.names (number_of x) ty h)
-      built (Num p n) outer ty sc h names =
-          plain_built core functions (λ sc. Whole) (λ sc. atomic.Whole (pos n)) ty outer sc (ordered g (Num p n) outer ty sc h) (sym h) (λ n m s b ready. record { usable = refl; of_type = ap Some (sym h); other = refl })
-      built (Bit p t) outer ty sc h names =
-          plain_built core functions (λ sc. Truth) (λ sc. atomic.Truth t) ty outer sc (ordered g (Bit p t) outer ty sc h) (sym h) (λ n m s b ready. record { usable = refl; of_type = ap Some (sym h); other = refl })
-      built (Paren p e) outer ty sc h names = built e outer ty sc h names
-      built (Op p f d e) outer ty sc h names = operation_built f (infer g d) (infer g e) ty outer sc h.0 (ordered g (Op p f d e) outer ty sc h) (built d outer Whole sc h.1 names) (built e outer Whole sc h.2 names)
-      built (Call f xs) outer ty sc h names = call_here f (infer_all g xs) h.0 ty outer sc (ordered g (Call f xs) outer ty sc h) h.1 h.2 (all_built xs outer (parameter_types core.table h.0) sc h.3 names)
-      built (Make k xs) outer ty sc h names =
+      pub built : (e : Expression) (outer : typing.Scope) (given : Results Ty) (sc : Scope) → Has g outer e given → NamesTyped outer sc → Built (infer g e) given outer sc
+      built (Var x) outer given sc h names =
+          subst (λ (z : Results Ty). Built (infer g (Var x)) z outer sc) (sym h.1)
+          (plain_built core functions (λ sc. type_at sc (number_of x)) (λ sc. atom_at sc (number_of x)) h.0 outer sc (ordered g (Var x) outer given sc h) (names.types (number_of x) h.0 h.2) (λ n m s b ready. ready.names (number_of x) h.0 h.2))
+      built (Num p n) outer given sc h names =
+          subst (λ (z : Results Ty). Built (infer g (Num p n)) z outer sc) (sym h)
+          (plain_built core functions (λ sc. Whole) (λ sc. atomic.Whole (pos n)) Whole outer sc (ordered g (Num p n) outer given sc h) refl (λ n m s b ready. record { usable = refl; of_type = refl; other = refl }))
+      built (Bit p t) outer given sc h names =
+          subst (λ (z : Results Ty). Built (infer g (Bit p t)) z outer sc) (sym h)
+          (plain_built core functions (λ sc. Truth) (λ sc. atomic.Truth t) Truth outer sc (ordered g (Bit p t) outer given sc h) refl (λ n m s b ready. record { usable = refl; of_type = refl; other = refl }))
+      built (Paren p e) outer given sc h names = built e outer given sc h names
+      built (Op p f d e) outer given sc h names =
+          operation_built f (infer g d) (infer g e) given outer sc h.0 (ordered g (Op p f d e) outer given sc h) (built d outer (results.One Whole) sc h.1 names) (built e outer (results.One Whole) sc h.2 names)
+      built (Call f xs) outer given sc h names = call_here f (infer_all g xs) h.0 given outer sc (ordered g (Call f xs) outer given sc h) h.1 h.2 (all_built xs outer (parameter_types core.table h.0) sc h.3 names)
+      built (Make k xs) outer given sc h names =
           let types : HaveAll g outer xs (fields_at core.table (con_named g k)) = subst (λ (z : ℕ). HaveAll g outer xs (fields_at core.table z)) (sym (ap con_or h.1)) h.3 in
-          make_here k (infer_all g xs) h.0 ty outer sc (ordered g (Make k xs) outer ty sc h) h.1 h.2 (all_built xs outer (fields_at core.table (con_named g k)) sc types names)
-      built (Let p x d e) outer ty sc h names =
-          let first = built d outer h.0 sc h.1 names in
-          let rest = λ (at : Atom) (t' : Ty) (same : t' ≡ h.0). built e (typing.bound x h.0 outer) ty (slot x at t' ∷ sc) h.3 (names_typed_bound x h.0 t' at outer sc same names) in
-          line_built core functions (let_line x (infer g d).bound (infer g e).line) ty outer sc (ordered g (Let p x d e) outer ty sc h)
-          (let_type core functions x (infer g d) (infer g e) h.0 ty outer sc first rest) (let_ok core functions x (infer g d) (infer g e) h.0 ty outer sc first rest)
-      built (Par p x d y e f) outer ty sc h names =
-          let left = built d outer h.0 sc h.2 names in
-          let right = built e outer h.1 sc h.3 names in
-          let rest = λ (at other : Atom) (t' u' : Ty) (same : t' ≡ h.0) (same' : u' ≡ h.1).
-          built f (typing.bound y h.1 (typing.bound x h.0 outer)) ty (slot y other u' ∷ slot x at t' ∷ sc) h.6
-          (names_typed_bound y h.1 u' other (typing.bound x h.0 outer) (slot x at t' ∷ sc) same' (names_typed_bound x h.0 t' at outer sc same names)) in
-          line_built core functions (par_line x (infer g d).side y (infer g e).side (infer g f).line) ty outer sc (ordered g (Par p x d y e f) outer ty sc h)
-          (par_type core functions x y (infer g d) (infer g e) (infer g f) h.0 h.1 ty outer sc left right rest) (par_ok core functions x y (infer g d) (infer g e) (infer g f) h.0 h.1 ty outer sc left right rest)
-      built (If p c d e) outer ty sc h names =
-          let left = built d outer ty sc h.1 names in
-          line_built core functions (if_line (infer g c).atom (infer g d).line (infer g e).line) ty outer sc (ordered g (If p c d e) outer ty sc h)
-          (λ n. left.line_type ((infer g c).atom sc n).fresh) (if_ok core functions (infer g c) (infer g d) (infer g e) ty outer sc (built c outer Truth sc h.0 names) left (built e outer ty sc h.2 names))
-      built (Case p x arms) outer ty sc h names =
-          let each = arms_built arms outer ty sc h.3 names in
-          line_built core functions (case_line core.table x (infer_arms g arms)) ty outer sc (ordered g (Case p x arms) outer ty sc h) (case_type x arms h.0.0 ty outer sc h.2 each)
-          (case_ok core functions x (infer_arms g arms) h.0 ty outer sc h.1 (first_own arms h.0.0 h.2.own) (all_taken arms h.0.0 ty outer sc h.2 each))
+          make_here k (infer_all g xs) h.0 given outer sc (ordered g (Make k xs) outer given sc h) h.1 h.2 (all_built xs outer (fields_at core.table (con_named g k)) sc types names)
+      built (Let p x d e) outer given sc h names =
+          let first = built d outer (results.One h.0) sc h.1 names in
+          let rest = λ (at : Atom) (t' : Ty) (same : t' ≡ h.0). built e (typing.bound x h.0 outer) given (slot x at t' ∷ sc) h.3 (names_typed_bound x h.0 t' at outer sc same names) in
+          line_built core functions (let_line x (infer g d).bound (infer g e).line) given outer sc (ordered g (Let p x d e) outer given sc h)
+          (let_type core functions x (infer g d) (infer g e) h.0 given outer sc first rest) (let_ok core functions x (infer g d) (infer g e) h.0 given outer sc first rest)
+      built (Par p x d y e f) outer given sc h names =
+          let xs : List Ident = x ∷ [] in
+          let ys : List Ident = y ∷ [] in
+          let middle = typing.bound x h.0 outer in
+          let inner = typing.bound y h.1 middle in
+          let left : NamesBound core functions outer middle xs (h.0 ∷ []) (infer g d) outer sc = record { some = omega arith; few = omega arith; long = refl; binds = (h.4, refl); code = built d outer (results.One h.0) sc h.2 names } in
+          let right : NamesBound core functions middle inner ys (h.1 ∷ []) (infer g e) outer sc = record { some = omega arith; few = omega arith; long = refl; binds = (h.5, refl); code = built e outer (results.One h.1) sc h.3 names } in
+          let rest = λ (j k : ℕ). built f inner given (with_fields ys (h.1 ∷ []) k (with_fields xs (h.0 ∷ []) j sc)) h.6
+          (names_typed_fields ys (h.1 ∷ []) middle inner (with_fields xs (h.0 ∷ []) j sc) k (h.5, refl) (names_typed_fields xs (h.0 ∷ []) outer middle sc j (h.4, refl) names)) in
+          line_built core functions (sides_line xs (h.0 ∷ []) (infer g d) ys (h.1 ∷ []) (infer g e) (infer g f).line) given outer sc (ordered g (Par p x d y e f) outer given sc h)
+          (sides_line_type core functions xs ys (h.0 ∷ []) (h.1 ∷ []) (infer g d) (infer g e) (infer g f) given outer middle inner sc left right rest)
+          (sides_line_ok core functions xs ys (h.0 ∷ []) (h.1 ∷ []) (infer g d) (infer g e) (infer g f) given outer middle inner sc left right rest)
+      built (If p c d e) outer given sc h names =
+          let left = built d outer given sc h.1 names in
+          line_built core functions (if_line (infer g c).atom (infer g d).line (infer g e).line) given outer sc (ordered g (If p c d e) outer given sc h)
+          (λ n. left.line_type ((infer g c).atom sc n).fresh) (if_ok core functions (infer g c) (infer g d) (infer g e) given outer sc (built c outer (results.One Truth) sc h.0 names) left (built e outer given sc h.2 names))
+      built (Case p x arms) outer given sc h names =
+          let each = arms_built arms outer given sc h.3 names in
+          line_built core functions (case_line core.table x (infer_arms g arms)) given outer sc (ordered g (Case p x arms) outer given sc h) (case_type x arms h.0.0 given outer sc h.2 each)
+          (case_ok core functions x (infer_arms g arms) h.0 given outer sc h.1 (first_own arms h.0.0 h.2.own) (all_taken arms h.0.0 given outer sc h.2 each))
+      built (source.Tuple p as' xs) outer given sc h names =
+          let types = map (type_of_name core.table.types) as' in
+          subst (λ (z : Results Ty). Built (infer g (source.Tuple p as' xs)) z outer sc) (sym h.0)
+          (line_built core functions (tuple_line types (infer_all g xs)) (results.Several types) outer sc (ordered g (source.Tuple p as' xs) outer given sc h) (λ n. refl)
+          (tuple_ok core functions types (infer_all g xs) outer sc (written_declared as') (all_built xs outer types sc h.2 names)))
+      built (LetSeveral p qs d f) outer given sc h names =
+          let xs = names_of qs in
+          let types = types_of core.table.types qs in
+          let bound = names_bound qs outer h.0 outer (infer g d) sc h.1 h.3 (built d outer (as_results types) sc h.2 names) in
+          let rest = λ (k : ℕ). built f h.0 given (with_fields xs types k sc) h.4 (names_typed_fields xs types outer h.0 sc k h.3 names) in
+          line_built core functions (several_line xs types (infer g d) (infer g f).line) given outer sc (ordered g (LetSeveral p qs d f) outer given sc h)
+          (several_line_type core functions xs types (infer g d) (infer g f) given outer h.0 sc bound rest) (several_line_ok core functions xs types (infer g d) (infer g f) given outer h.0 sc bound rest)
+      built (ParSeveral p qs d rs e f) outer given sc h names =
+          let xs = names_of qs in
+          let ys = names_of rs in
+          let types = types_of core.table.types qs in
+          let other = types_of core.table.types rs in
+          let left = names_bound qs outer h.0 outer (infer g d) sc h.2 h.6 (built d outer (as_results types) sc h.4 names) in
+          let right = names_bound rs h.0 h.1 outer (infer g e) sc h.3 h.7 (built e outer (as_results other) sc h.5 names) in
+          let rest = λ (j k : ℕ). built f h.1 given (with_fields ys other k (with_fields xs types j sc)) h.8
+          (names_typed_fields ys other h.0 h.1 (with_fields xs types j sc) k h.7 (names_typed_fields xs types outer h.0 sc j h.6 names)) in
+          line_built core functions (sides_line xs types (infer g d) ys other (infer g e) (infer g f).line) given outer sc (ordered g (ParSeveral p qs d rs e f) outer given sc h)
+          (sides_line_type core functions xs ys types other (infer g d) (infer g e) (infer g f) given outer h.0 h.1 sc left right rest)
+          (sides_line_ok core functions xs ys types other (infer g d) (infer g e) (infer g f) given outer h.0 h.1 sc left right rest)
 
       pub all_built : (xs : Arguments) (outer : typing.Scope) (types : List Ty) (sc : Scope) → HaveAll g outer xs types → NamesTyped outer sc → AllBuilt core functions (infer_all g xs) types outer sc
       all_built NoArgument outer [] sc h names = tt
       all_built NoArgument outer (t ∷ types) sc h names = absurd h
       all_built (Argument e xs) outer [] sc h names = absurd h
-      all_built (Argument e xs) outer (t ∷ types) sc h names = (built e outer t sc h.0 names, all_built xs outer types sc h.1 names)
+      all_built (Argument e xs) outer (t ∷ types) sc h names = (built e outer (results.One t) sc h.0 names, all_built xs outer types sc h.1 names)
 
-      pub arms_built : (arms : Arms) (outer : typing.Scope) (ty : Ty) (sc : Scope) → HaveArms g outer arms ty → NamesTyped outer sc → EachBuilt (infer_arms g arms) ty outer sc
-      arms_built (LastArm k xs e) outer ty sc h names =
+      pub arms_built : (arms : Arms) (outer : typing.Scope) (given : Results Ty) (sc : Scope) → HaveArms g outer arms given → NamesTyped outer sc → EachBuilt (infer_arms g arms) given outer sc
+      arms_built (LastArm k xs e) outer given sc h names =
           let binds = fields_named k xs outer h.0 h.1 h.2 h.3 in
-          (record { inner = h.1; binds = binds; code = λ n. built e h.1 ty (with_fields xs (fields_at core.table (con_named g k)) n sc) h.4 (names_typed_fields xs (fields_at core.table (con_named g k)) outer h.1 sc n binds names) }, tt)
-      arms_built (NextArm k xs e arms) outer ty sc h names =
+          (record { inner = h.1; binds = binds; code = λ n. built e h.1 given (with_fields xs (fields_at core.table (con_named g k)) n sc) h.4 (names_typed_fields xs (fields_at core.table (con_named g k)) outer h.1 sc n binds names) }, tt)
+      arms_built (NextArm k xs e arms) outer given sc h names =
           let binds = fields_named k xs outer h.0.0 h.0.1 h.0.2 h.0.3 in (
-            record { inner = h.0.1; binds = binds; code = λ n. built e h.0.1 ty (with_fields xs (fields_at core.table (con_named g k)) n sc) h.0.4 (names_typed_fields xs (fields_at core.table (con_named g k)) outer h.0.1 sc n binds names) },
-            arms_built arms outer ty sc h.1 names,
+            record { inner = h.0.1; binds = binds; code = λ n. built e h.0.1 given (with_fields xs (fields_at core.table (con_named g k)) n sc) h.0.4 (names_typed_fields xs (fields_at core.table (con_named g k)) outer h.0.1 sc n binds names) },
+            arms_built arms outer given sc h.1 names,
           )
 
     -- A body whose parameters have these names and types.
-    pub body_reachable : (names : List Ident) (types : List Ty) (inner : typing.Scope) (e : Expression) (ty : Ty) → BindsAll [] names types inner → Has g inner e ty
-        → IsReachable core (record { parameters = types; result = ty; term = infer_body g names types e })
-    body_reachable names types inner e ty binds h =
-        let body : Body = record { parameters = types; result = ty; term = infer_body g names types e } in
+    pub body_reachable : (names : List Ident) (types : List Ty) (inner : typing.Scope) (e : Expression) (given : Results Ty) → BindsAll [] names types inner → Has g inner e given
+        → IsReachable core (record { parameters = types; result = given; term = infer_body g names types e })
+    body_reachable names types inner e given binds h =
+        let body : Body = record { parameters = types; result = given; term = infer_body g names types e } in
         let s = opening body in
         let b = before_body body in
         let n = length names in
         let sc = with_fields names types 0 [] in
         let long = binds_length names types [] inner binds in
-        let code = built e inner ty sc h (names_typed_fields names types [] inner [] 0 binds (record { types = λ x t f. absurd cc })) in
+        let code = built e inner given sc h (names_typed_fields names types [] inner [] 0 binds (record { types = λ x t f. absurd cc })) in
         let same = parameters_same 0 names types [] long in
         let of : (y : Variable) → type_bound b.bound y ≡ type_bound (bind_fields (variables_from 0 names) types []) y = λ y. ap (λ z. type_bound z y) same in
         let can = fields_can names types 0 s b [] long (λ y lo hi. parameters_reach types 0 [] y lo (omega (arith, long, hi))) (λ y lo hi. of y) (λ y lo hi. refl) in
@@ -318,9 +376,9 @@ infer_reachable p is typed =
     let core = infer_program p in
     let g = globals_of p in
     let parameter = type_of_name g.table.types p.main.parameter.ty in
-    let result = type_of_name g.table.types p.main.result in
+    let result = results.One (type_of_name g.table.types p.main.result) in
     let there = function_there g p.functions in
     let last = body_reachable core p.functions is there (p.main.parameter.name ∷ []) (parameter ∷ []) typed.main.scope p.main.body result typed.main.bound typed.main.typed in
     all_bodies core g p.functions (record { parameters = parameter ∷ []; result = result; term = core.main.body })
-    (λ h t. body_reachable core p.functions is there (names_of h.parameters) (parameter_types g.table h) t.scope h.body (result_type g.table h) t.bound t.typed)
+    (λ h t. body_reachable core p.functions is there (names_of h.parameters) (parameter_types g.table h) t.scope h.body (result_types g.table h) t.bound t.typed)
     typed.functions last

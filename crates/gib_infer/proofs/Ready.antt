@@ -3,9 +3,11 @@ use Rattle.std.proofs.Common.{◌≡◌, ℕ, ◌<◌, ◌≤◌, true, false, L
 use Rattle.gib_types.specs.declared.table.Ty.{Ty}
 use Rattle.gib_types.specs.Table.{Table}
 use Rattle.gib_syntax.specs.Meaning.{is_scalar}
+use Rattle.gib_syntax.specs.Results as results
+use Rattle.gib_syntax.specs.Results.{Results}
 use Rattle.gib_syntax.specs.Tree.{FunctionTree}
 use Rattle.gib_syntax.specs.Typing as typing
-use Rattle.gib_syntax.specs.Typing.{Globals}
+use Rattle.gib_syntax.specs.Typing.{one_type}
 use Rattle.gib_core.specs.declared.atom.Variable.{Variable}
 use Rattle.gib_core.specs.declared.atom.Atom.{Atom}
 use Rattle.gib_core.specs.Tree.{Term, Bind, prepend, CoreTree}
@@ -88,10 +90,15 @@ ready_less r le = record {
   apart = λ x lo hi. r.apart x lo (omega (arith, le, hi));
 }
 
--- Where the value of a type is put.
-pub record PlaceFor (ty : Ty) (s : Setting) : Type 0 where
-  pub destination : s.destination ≡ result_place ty
-  pub due : s.due ≡ ty
+-- Where the value of a type is put, or the parts of several types are.
+pub record PlaceFor (given : Results Ty) (s : Setting) : Type 0 where
+  pub destination : s.destination ≡ result_place given
+  pub due : s.due ≡ one_type given
+
+-- What holds for the type of one thing; of several parts nothing is asked.
+abbrev pub OfOne : (Ty → Type 0) → Results Ty → Type 0
+OfOne P (results.One ty) = P ty
+OfOne P (results.Several types) = Unit {0}
 
 -- The names in scope have the types that typing gives them.
 pub record NamesTyped (known : typing.Scope) (sc : Scope) : Type 0 where
@@ -178,32 +185,32 @@ module _ (core : CoreTree) where
     pub can : CanUseAll (behind_all s r.binds) (then_all s b r.binds) r.atoms ts
 
   -- A line in result place, wherever it stands.
-  abbrev pub LineOk : ToLine → Ty → typing.Scope → Scope → Type 0
-  LineOk line ty known sc = (n m : ℕ) (s : Setting) (b : Before) → Ready n m known sc s b → (line sc n).fresh ≤ m → PlaceFor ty s → LineBuilt n (line sc n) s b
+  abbrev pub LineOk : ToLine → Results Ty → typing.Scope → Scope → Type 0
+  LineOk line given known sc = (n m : ℕ) (s : Setting) (b : Before) → Ready n m known sc s b → (line sc n).fresh ≤ m → PlaceFor given s → LineBuilt n (line sc n) s b
 
   -- The whole term of a side: there a scalar call may stand by itself.
   abbrev pub SideOk : ToLine → Ty → typing.Scope → Scope → Type 0
-  SideOk line ty known sc = (n m : ℕ) (s : Setting) (b : Before) → Ready n m known sc s b → (line sc n).fresh ≤ m → PlaceFor ty s → s.whole ≡ is_scalar ty → LineBuilt n (line sc n) s b
+  SideOk line ty known sc = (n m : ℕ) (s : Setting) (b : Before) → Ready n m known sc s b → (line sc n).fresh ≤ m → PlaceFor (results.One ty) s → s.whole ≡ is_scalar ty → LineBuilt n (line sc n) s b
 
   abbrev pub AtomOk : ToAtom → Ty → typing.Scope → Scope → Type 0
   AtomOk atom ty known sc = (n m : ℕ) (s : Setting) (b : Before) → Ready n m known sc s b → (atom sc n).fresh ≤ m → AtomBuilt n (atom sc n) ty s b
 
   module _ (functions : List FunctionTree) where
-    -- What an expression of a type becomes: it has the type, uses rising variables, and breaks no rule.
-    pub record CodeBuilt (c : Code) (ty : Ty) (known : typing.Scope) (sc : Scope) : Type 0 where
+    -- What an expression becomes, that gives a thing of a type or parts of several: it has the type, uses rising variables, and breaks no rule.
+    pub record CodeBuilt (c : Code) (given : Results Ty) (known : typing.Scope) (sc : Scope) : Type 0 where
       pub order : CodeOrdered (record { table = core.table; functions = functions }) c sc
-      pub line_type : (n : ℕ) → (c.line sc n).ty ≡ ty
-      pub side_type : (n : ℕ) → (c.side sc n).ty ≡ ty
-      pub atom_type : (n : ℕ) → (c.atom sc n).ty ≡ ty
-      pub bound_type : (n : ℕ) → (c.bound sc n).ty ≡ ty
-      pub line : LineOk c.line ty known sc
-      pub side : SideOk c.side ty known sc
-      pub atom : AtomOk c.atom ty known sc
-      pub bound : AtomOk c.bound ty known sc
+      pub line_type : (n : ℕ) → (c.line sc n).ty ≡ one_type given
+      pub side_type : (n : ℕ) → (c.side sc n).ty ≡ one_type given
+      pub atom_type : (n : ℕ) → (c.atom sc n).ty ≡ one_type given
+      pub bound_type : (n : ℕ) → (c.bound sc n).ty ≡ one_type given
+      pub line : LineOk c.line given known sc
+      pub side : OfOne (λ ty. SideOk c.side ty known sc) given
+      pub atom : OfOne (λ ty. AtomOk c.atom ty known sc) given
+      pub bound : OfOne (λ ty. AtomOk c.bound ty known sc) given
 
     -- Arguments of these types, as many as there are.
     abbrev pub AllBuilt : List Code → List Ty → typing.Scope → Scope → Type 0
     AllBuilt [] [] known sc = Unit {0}
     AllBuilt [] (t ∷ ts) known sc = ⊥
     AllBuilt (c ∷ cs) [] known sc = ⊥
-    AllBuilt (c ∷ cs) (t ∷ ts) known sc = CodeBuilt c t known sc × AllBuilt cs ts known sc
+    AllBuilt (c ∷ cs) (t ∷ ts) known sc = CodeBuilt c (results.One t) known sc × AllBuilt cs ts known sc

@@ -1,14 +1,14 @@
 -- What an expression means depends on the values of variables alone; and the variables of fields.
-use Rattle.std.proofs.Common.{◌≡◌, ℕ, ◌+◌, Bool, true, false, ◌==◌, if◌then◌else◌, List, [], ◌∷◌, length, Option, Some, None, refl, sym, ap, ◌∙◌, subst, arith}
+use Rattle.std.proofs.Common.{◌≡◌, ℕ, ◌+◌, Bool, true, false, ◌==◌, if◌then◌else◌, List, [], ◌∷◌, length, map, Option, Some, None, refl, sym, ap, ◌∙◌, subst, arith}
 use Rattle.std.specs.Prelude.{pos}
 use Rattle.gib_types.specs.declared.table.Ty.{Ty}
 use Rattle.gib_types.specs.Table.{Table}
 use Rattle.gib_types.specs.Tree.{Datum, whole}
 use Rattle.gib_syntax.specs.declared.tree.Ident.{Ident}
-use Rattle.gib_syntax.specs.Tree.{Expression, Arguments, Arms, Var, Num, Bit, Paren, Op, Call, Make, Let, Par, If, Case, NoArgument, Argument, LastArm, NextArm}
-use Rattle.gib_syntax.specs.Declarations.{number_of, constructor_named}
+use Rattle.gib_syntax.specs.Tree.{Expression, Arguments, Arms, Var, Num, Bit, Paren, Op, Call, Make, Let, Par, If, Case, Tuple, LetSeveral, ParSeveral, NoArgument, Argument, LastArm, NextArm}
+use Rattle.gib_syntax.specs.Declarations.{number_of, constructor_named, type_of_name}
 use Rattle.gib_syntax.specs.Typing as typing
-use Rattle.gib_syntax.specs.Meaning.{Gives, Environment, value_in, bind, with_value, with_values, number_in, is_true, is_made_by, parts, outcome, made, choose, eval, eval_all, eval_arms}
+use Rattle.gib_syntax.specs.Meaning.{with_fields as by_fields, bind_results, tuple, names_of, Gives, Environment, value_in, bind, with_value, with_values, number_in, is_true, is_made_by, parts, outcome, made, choose, eval, eval_all, eval_arms}
 use Rattle.gib_core.specs.declared.atom.Atom.{Atom}
 use Rattle.gib_core.specs.Tree.{var, variables_from}
 use Rattle.gib_core.specs.Meaning as core
@@ -21,6 +21,11 @@ pub bind_same : (xs : List Ident) (vs : List Datum) (env other : Environment) �
 bind_same [] vs env other h = h
 bind_same (x ∷ xs) [] env other h = h
 bind_same (x ∷ xs) (v ∷ vs) env other h = bind_same xs vs ((number_of x, v) ∷ env) ((number_of x, v) ∷ other) (same_more (number_of x) v env other h)
+
+pub results_same : (xs : List Ident) (v : Datum) (env other : Environment) → AreSame env other → AreSame (bind_results xs v env) (bind_results xs v other)
+results_same [] v env other h = h
+results_same (x ∷ []) v env other h = same_more (number_of x) v env other h
+results_same (x ∷ y ∷ xs) v env other h = bind_same (x ∷ y ∷ xs) (parts v) env other h
 
 module _ (tb : Table) (call : Calls) where
   mutual
@@ -40,6 +45,13 @@ module _ (tb : Table) (call : Calls) where
         (same_more (number_of y) w ((number_of x, v) ∷ env) ((number_of x, v) ∷ other) (same_more (number_of x) v env other h)) i))
     eval_same (If p c d e) env other h = λ i. with_value (eval_same c env other h i) (λ v. choose (is_true v) (eval_same d env other h i) (eval_same e env other h i))
     eval_same (Case p x arms) env other h = ap (λ v. eval_arms tb call arms v env) (h (number_of x)) ∙ arms_same arms (value_in other (number_of x)) env other h
+    eval_same (Tuple p as' xs) env other h = ap (λ os. by_fields (map (type_of_name tb.types) as') os (λ vs. Gives (tuple vs))) (all_same xs env other h)
+    eval_same (LetSeveral p qs d e) env other h =
+        λ i. with_value (eval_same d env other h i) (λ v. eval_same e (bind_results (names_of qs) v env) (bind_results (names_of qs) v other) (results_same (names_of qs) v env other h) i)
+    eval_same (ParSeveral p qs d rs e f) env other h =
+        λ i. with_value (eval_same d env other h i) (λ v. with_value (eval_same e env other h i) (λ w.
+        eval_same f (bind_results (names_of rs) w (bind_results (names_of qs) v env)) (bind_results (names_of rs) w (bind_results (names_of qs) v other))
+        (results_same (names_of rs) w (bind_results (names_of qs) v env) (bind_results (names_of qs) v other) (results_same (names_of qs) v env other h)) i))
 
     pub all_same : (xs : Arguments) (env other : Environment) → AreSame env other → eval_all tb call xs env ≡ eval_all tb call xs other
     all_same NoArgument env other h = refl

@@ -1,17 +1,19 @@
 -- A side that is bound: what stands inside it, and behind it.
-use Rattle.std.proofs.Common.{◌≡◌, ℕ, ◌+◌, ◌<◌, ◌≤◌, Bool, true, false, ◌==◌, ◌||◌, if◌then◌else◌, List, [], ◌∷◌, map, Some, None, refl, sym, ap, ◌∙◌, subst, arith}
+use Rattle.std.proofs.Common.{◌≡◌, ℕ, ◌+◌, ◌<◌, ◌≤◌, Bool, true, false, ◌==◌, ◌||◌, if◌then◌else◌, List, [], ◌∷◌, ◌++◌, map, Some, None, refl, sym, ap, ◌∙◌, subst, arith}
+use Rattle.std.specs.List.{AllByRecursion}
 use Rattle.std.proofs.lemmas.Bool.{eq-eqb, ne_eqb}
 use Rattle.gib_types.specs.declared.table.Ty.{Ty}
 use Rattle.gib_types.specs.declared.table.Ty.TheVariants.{Whole, Truth, Tree}
 use Rattle.gib_syntax.specs.Meaning.{is_scalar}
+use Rattle.gib_syntax.specs.Results as results
 use Rattle.gib_syntax.specs.Typing as typing
 use Rattle.gib_core.specs.declared.atom.Variable.{Variable}
 use Rattle.gib_core.specs.declared.atom.Atom.{Atom}
 use Rattle.gib_core.specs.declared.atom.Atom.TheVariants as atomic
-use Rattle.gib_core.specs.Tree.{Term, One, Side, On, variable_of, var, CoreTree}
+use Rattle.gib_core.specs.Tree.{Term, One, Side, On, variables_of, var, CoreTree}
 use Rattle.gib_core.specs.Inferring.{Scope, kind_of, atom_at}
 use Rattle.gib_core.specs.declared.scope.Known.{Known}
-use Rattle.gib_core.specs.Met.{Setting, SideLine, reached, known, in_side, behind, behind_side, left_of, right_of, met, met_side}
+use Rattle.gib_core.specs.Met.{Setting, SideLine, reached, known, in_side, behind, behind_side, with_variables, left_of, right_of, met, met_side}
 use Rattle.gib_core.specs.declared.scope.Bound.{Bound}
 use Rattle.gib_core.specs.Rules.{Before, same_type, is_among, is_bound, type_bound, is_reached, is_usable, side_rules, least, bound_too, next, next_all}
 use Rattle.gib_core.specs.Reachable.{as_reached, all_reached}
@@ -19,7 +21,6 @@ use Rattle.gib_core.specs.Ordered.{IsFit}
 use Rattle.gib_infer.proofs.Fits.{scope_more, at_fit}
 use Rattle.gib_infer.proofs.Ready.{CanUse, Alike, Ready, PlaceFor, behind_all, Clean, Runs, then_all, clean_nothing, clean_then}
 use Rattle.gib_core.proofs.Along.{next_append}
-use Rattle.gib_core.proofs.Cased.{right_of_scope}
 
 pub same_type-refl : (ty : Ty) → same_type ty ty ≡ true
 same_type-refl Whole = refl
@@ -93,44 +94,56 @@ can_bound x ty s new after e o apart t = record { usable = usable_here s new x e
 
 -- The two sides of a par.
 
--- The left side is ready, up to the right one's variable.
-pub ready_left : (n m k : ℕ) (known : typing.Scope) (sc : Scope) (s : Setting) (b : Before) (r : Side) → (variable_of r).0 ≡ k → Ready n m known sc s b → n ≤ k → k ≤ m → Ready n k known sc (left_of s r) b
+-- Variables from k on, and those before k.
+abbrev pub AreFrom : ℕ → List Variable → Type 0
+AreFrom k xs = AllByRecursion (λ (x : Variable). k ≤ x.0) xs
+
+abbrev pub AreBefore : ℕ → List Variable → Type 0
+AreBefore k xs = AllByRecursion (λ (x : Variable). x.0 < k) xs
+
+among_from : (k : ℕ) (xs ys : List Variable) (y : Variable) → AreFrom k xs → y.0 < k → is_among (xs ++ ys) y ≡ is_among ys y
+among_from k [] ys y h lt = refl
+among_from k (x ∷ xs) ys y h lt = among_past (xs ++ ys) x y (let f = h.0 in λ e. omega (arith, e, f, lt)) ∙ among_from k xs ys y h.1 lt
+
+among_before : (k : ℕ) (xs ys : List Variable) (y : Variable) → AreBefore k xs → k ≤ y.0 → is_among (xs ++ ys) y ≡ is_among ys y
+among_before k [] ys y h le = refl
+among_before k (x ∷ xs) ys y h le = among_past (xs ++ ys) x y (let f = h.0 in λ e. omega (arith, e, f, le)) ∙ among_before k xs ys y h.1 le
+
+-- The left side is ready, up to the right one's variables.
+pub ready_left : (n m k : ℕ) (known : typing.Scope) (sc : Scope) (s : Setting) (b : Before) (r : Side) → AreFrom k (variables_of r) → Ready n m known sc s b → n ≤ k → k ≤ m → Ready n k known sc (left_of s r) b
 ready_left n m k known sc s b r e h lo hi = record {
-  names = λ x ty f. (alike_scope n s (left_of s r) b b refl (λ y lt. among_past s.others (variable_of r) y (λ z. omega (arith, e, lo, lt, z))) (λ y lt. refl)).can (atom_at sc x) ty (at_fit n sc x h.fits) (h.names x ty f);
+  names = λ x ty f. (alike_scope n s (left_of s r) b b refl (λ y lt. among_from k (variables_of r) s.others y e (omega (arith, lt, lo))) (λ y lt. refl)).can (atom_at sc x) ty (at_fit n sc x h.fits) (h.names x ty f);
   fits = h.fits;
   new = λ x le lt. h.new x le (omega (arith, lt, hi));
   uncased = h.uncased;
-  apart = λ x le lt. among_past s.others (variable_of r) x (λ z. omega (arith, e, lt, z)) ∙ h.apart x le (omega (arith, lt, hi));
+  apart = λ x le lt. among_from k (variables_of r) s.others x e lt ∙ h.apart x le (omega (arith, lt, hi));
 }
 
-right_others : (s : Setting) (l : Side) → (right_of s l).others ≡ variable_of l ∷ s.others
-right_others s (On kind x ty t) = refl
-
--- The right side is ready, behind what the left one binds from its variable on.
-pub ready_right : (n m k : ℕ) (known : typing.Scope) (sc : Scope) (s : Setting) (b after : Before) (l : Side) → (variable_of l).0 ≡ n → Ready n m known sc s b → n < k
+-- The right side is ready, behind what the left one binds from its variables on.
+pub ready_right : (n m k : ℕ) (known : typing.Scope) (sc : Scope) (s : Setting) (b after : Before) (l : Side) → AreFrom n (variables_of l) → AreBefore k (variables_of l) → Ready n m known sc s b → n ≤ k
     → ((x : Variable) → x.0 < n → type_bound after.bound x ≡ type_bound b.bound x)
     → ((x : Variable) → k ≤ x.0 → type_bound after.bound x ≡ type_bound b.bound x)
     → ((x : Variable) → k ≤ x.0 → is_among after.cased x ≡ is_among b.cased x)
     → Ready k m known sc (right_of s l) after
-ready_right n m k known sc s b after l e h lt below above uncased = record {
-  names = λ x ty f. (alike_scope n s (right_of s l) b after (right_of_scope s l)
-      (λ y lo. ap (λ z. is_among z y) (right_others s l) ∙ among_past s.others (variable_of l) y (λ z. omega (arith, e, lo, z))) below).can (atom_at sc x) ty (at_fit n sc x h.fits) (h.names x ty f);
-  fits = scope_more n k sc (omega (arith, lt)) h.fits;
-  new = λ x lo hi. above x lo ∙ h.new x (omega (arith, lo, lt)) hi;
-  uncased = λ x lo. uncased x lo ∙ h.uncased x (omega (arith, lo, lt));
-  apart = λ x lo hi. ap (λ z. is_among z x) (right_others s l) ∙ among_past s.others (variable_of l) x (λ z. omega (arith, e, lo, lt, z)) ∙ h.apart x (omega (arith, lo, lt)) hi;
+ready_right n m k known sc s b after l from before h le below above uncased = record {
+  names = λ x ty f. (alike_scope n s (right_of s l) b after refl
+      (λ y lo. among_from n (variables_of l) s.others y from lo) below).can (atom_at sc x) ty (at_fit n sc x h.fits) (h.names x ty f);
+  fits = scope_more n k sc le h.fits;
+  new = λ x lo hi. above x lo ∙ h.new x (omega (arith, lo, le)) hi;
+  uncased = λ x lo. uncased x lo ∙ h.uncased x (omega (arith, lo, le));
+  apart = λ x lo hi. among_before k (variables_of l) s.others x before lo ∙ h.apart x (omega (arith, lo, le)) hi;
 }
 
 -- Behind a side.
 
 pub side_others : (s : Setting) (side : Side) → (behind_side s side).others ≡ s.others
-side_others s (On kind x ty t) = refl
+side_others s side = refl
 
-pub side_scope : (s : Setting) (side : Side) → (behind_side s side).scope ≡ reached (variable_of side) ∷ s.scope
-side_scope s (On kind x ty t) = refl
+pub side_scope : (s : Setting) (side : Side) → (behind_side s side).scope ≡ with_variables (variables_of side) s.scope
+side_scope s side = refl
 
 pub side_due : (s : Setting) (side : Side) → (behind_side s side).due ≡ s.due
-side_due s (On kind x ty t) = refl
+side_due s side = refl
 
 pub side_destination : (s : Setting) (x : Variable) (ty : Ty) (t : Term) → (behind_side s (On (kind_of ty) x ty t)).destination ≡ s.destination
 side_destination s x Whole t = refl
@@ -155,7 +168,7 @@ module _ (core : CoreTree) where
   inside_others s (Tree t) = refl
 
   -- Inside a side stands a value of its type.
-  pub place_inside : (s : Setting) (ty : Ty) → PlaceFor ty (in_side core.table s (kind_of ty) ty)
+  pub place_inside : (s : Setting) (ty : Ty) → PlaceFor (results.One ty) (in_side core.table s (kind_of ty) ty)
   place_inside s Whole = record { destination = refl; due = refl }
   place_inside s Truth = record { destination = refl; due = refl }
   place_inside s (Tree t) = record { destination = refl; due = refl }

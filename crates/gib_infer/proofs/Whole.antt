@@ -12,20 +12,25 @@ use Rattle.gib_types.specs.Tree.{Data, Datum, whole, truth, con, list_of}
 use Rattle.gib_types.proofs.Owners.{together, tag_there}
 use Rattle.gib_syntax.specs.declared.tree.Ident.{Ident}
 use Rattle.gib_syntax.specs.declared.tree.Parameter.{Parameter}
-use Rattle.gib_syntax.specs.Tree.{Expression, Arguments, Arms, Var, Num, Bit, Paren, Op, Call, Make, Let, Par, If, Case, NoArgument, Argument, LastArm, NextArm, FunctionTree, ProgramTree}
+use Rattle.gib_syntax.specs.Results as results
+use Rattle.gib_syntax.specs.Results.{Results, as_results}
+use Rattle.gib_syntax.specs.Tree as source
+use Rattle.gib_syntax.specs.Tree.{Expression, Arguments, Arms, Var, Num, Bit, Paren, Op, Call, Make, Let, Par, If, Case, LetSeveral, ParSeveral, NoArgument, Argument, LastArm, NextArm, FunctionTree, ProgramTree}
 use Rattle.gib_syntax.specs.Declarations.{number_of, place_of, next_place, constructor_names, constructor_named, function_named, table_of_program, type_of_name}
 use Rattle.gib_syntax.specs.Typing as typing
-use Rattle.gib_syntax.specs.Typing.{Globals, globals_of, Has, HaveAll, HaveArms, Covers, arm_names, BindsAll, parameter_types, IsTypedFunction, IsTypedHere, IsTypedProgram}
-use Rattle.gib_syntax.specs.Meaning.{Outcome, Gives, Environment, value_in, bind, with_values, is_made_by, parts, made, choose, eval, eval_all, eval_arms, names_of, of_function, calls, run}
+use Rattle.gib_syntax.specs.Typing.{Globals, globals_of, Has, HaveAll, HaveArms, arm_names, BindsAll, parameter_types, types_of, IsTypedHere, IsTypedProgram}
+use Rattle.gib_syntax.specs.Meaning.{Outcome, Gives, Environment, value_in, bind, with_values, with_fields as by_fields, is_made_by, parts, tuple, made, choose, eval, eval_all, eval_arms, names_of, of_function, calls, run}
 use Rattle.gib_core.specs.declared.atom.Atom.TheVariants as atomic
 use Rattle.gib_core.specs.Tree.{variables_from, FunctionTerm}
 use Rattle.gib_core.specs.Meaning as core
 use Rattle.gib_core.specs.Meaning.{Calls, value, mean, function_at, core_calls, core_run}
-use Rattle.gib_core.specs.Inferring.{Scope, slot, Code, atom_at, type_at, operation_atom, make_line, let_line, par_line, if_line, case_line, with_fields, numbers_from, constructors_of, first_constructor, con_or, con_named, gives_type, infer, infer_all, infer_arms, infer_body, infer_function, infer_program}
+use Rattle.gib_core.specs.Inferring.{Scope, slot, Code, atom_at, type_at, operation_atom, make_line, let_line, if_line, case_line, tuple_line, several_line, sides_line, with_fields, numbers_from, constructors_of, first_constructor, con_or, con_named, gives_type, infer, infer_all, infer_arms, infer_body, infer_function, infer_program}
 use Rattle.gib_core.proofs.Agreeing.{env_of, AllBelow, Hides, gather, with_all, each_of, Lines, Good, AllGood}
 use Rattle.gib_core.proofs.Envs.{value_in-env_of, at_below}
+use Rattle.gib_infer.proofs.Fits.{variables_same}
 use Rattle.gib_infer.proofs.Together.{values_all}
-use Rattle.gib_infer.proofs.Places.{line_good, atom_good, plain_good, operation_good, call_good, make_good, let_good, par_good, if_good}
+use Rattle.gib_infer.proofs.Places.{line_good, atom_good, plain_good, operation_good, call_good, make_good, let_good, if_good}
+use Rattle.gib_infer.proofs.Tuples.{tuple_good, several_line_good, sides_line_good}
 use Rattle.gib_infer.proofs.Same.{eval_same, hides_bound, hides_nothing, hides_all, fields_below, fields_same}
 use Rattle.gib_infer.proofs.Meanings.{Choice, choose_on, take_choice, listed, choice_for, AllArms, alts_grow, case_gives}
 
@@ -159,20 +164,20 @@ module _ (g : Globals) (call : Calls) (is : IsTable g.table) where
   good_as c f h sc e good = subst (λ (k : Environment → Outcome). Good g.table call c k sc) (λ i env. e env i) good
 
   mutual
-    pub good : (e : Expression) (known : typing.Scope) (ty : Ty) (sc : Scope) → Has g known e ty → Hides known sc → Good g.table call (infer g e) (eval g.table call e) sc
-    good (Var x) known ty sc h hides =
+    pub good : (e : Expression) (known : typing.Scope) (given : Results Ty) (sc : Scope) → Has g known e given → Hides known sc → Good g.table call (infer g e) (eval g.table call e) sc
+    good (Var x) known given sc h hides =
         plain_good g.table call (λ sc. type_at sc (number_of x)) (λ sc. atom_at sc (number_of x)) (λ env. Gives (value_in env (number_of x))) sc (λ n b. at_below n sc (number_of x) b) (λ env. ap Gives (sym (value_in-env_of sc env (number_of x))))
-    good (Num p m) known ty sc h hides = plain_good g.table call (λ sc. Whole) (λ sc. atomic.Whole (pos m)) (λ env. Gives (whole (pos m))) sc (λ n b. tt) (λ env. refl)
-    good (Bit p b) known ty sc h hides = plain_good g.table call (λ sc. Truth) (λ sc. atomic.Truth b) (λ env. Gives (truth b)) sc (λ n b. tt) (λ env. refl)
-    good (Paren p e) known ty sc h hides = good e known ty sc h hides
-    good (Op p f d e) known ty sc h hides =
+    good (Num p m) known given sc h hides = plain_good g.table call (λ sc. Whole) (λ sc. atomic.Whole (pos m)) (λ env. Gives (whole (pos m))) sc (λ n b. tt) (λ env. refl)
+    good (Bit p b) known given sc h hides = plain_good g.table call (λ sc. Truth) (λ sc. atomic.Truth b) (λ env. Gives (truth b)) sc (λ n b. tt) (λ env. refl)
+    good (Paren p e) known given sc h hides = good e known given sc h hides
+    good (Op p f d e) known given sc h hides =
         atom_good g.table call (operation_atom f (infer g d).atom (infer g e).atom) (eval g.table call (Op p f d e)) sc
-        (operation_good g.table call f (infer g d).atom (infer g e).atom (eval g.table call d) (eval g.table call e) sc (good d known Whole sc h.1 hides).atom (good e known Whole sc h.2 hides).atom)
-    good (Call f xs) known ty sc h hides =
+        (operation_good g.table call f (infer g d).atom (infer g e).atom (eval g.table call d) (eval g.table call e) sc (good d known (results.One Whole) sc h.1 hides).atom (good e known (results.One Whole) sc h.2 hides).atom)
+    good (Call f xs) known given sc h hides =
         good_as (infer g (Call f xs)) (λ env. with_all (gather (each_of (evals xs) env)) (call (number_of f))) (eval g.table call (Call f xs)) sc
         (λ env. sym (values_all (each_of (evals xs) env) (call (number_of f))) ∙ ap (λ os. with_values os (call (number_of f))) (evals_each xs env))
         (call_good g.table call (gives_type g.table (function_named g.functions (number_of f))) f.name (infer_all g xs) (evals xs) sc (all_good xs known (parameter_types g.table h.0) sc h.3 hides))
-    good (Make k xs) known ty sc h hides =
+    good (Make k xs) known given sc h hides =
         let c = con_named g k in
         let named : c ≡ h.0 = ap con_or h.1 in
         let is_named : Some c ≡ constructor_named g.table (number_of k) = ap Some named ∙ sym h.1 in
@@ -182,66 +187,81 @@ module _ (g : Globals) (call : Calls) (is : IsTable g.table) where
         (λ env i. made g.table (is_named i) (evals_each xs env i))
         (line_good g.table call line (λ env. made g.table (Some c) (each_of (evals xs) env)) sc
         (make_good g.table call (record { 0 = c }) (infer_all g xs) (evals xs) sc (evals_count xs known (fields_at g.table c) types) (all_good xs known (fields_at g.table c) sc types hides)))
-    good (Let p x d e) known ty sc h hides =
+    good (Let p x d e) known given sc h hides =
         line_good g.table call (let_line x (infer g d).bound (infer g e).line) (eval g.table call (Let p x d e)) sc
-        (let_good g.table call x (infer g d).bound (infer g e).line (eval g.table call d) (eval g.table call e) sc (good d known h.0 sc h.1 hides).bound
-        (λ at t. (good e (typing.bound x h.0 known) ty (slot x at t ∷ sc) h.3 (hides_bound known sc x h.0 at t hides)).line))
-    good (Par p x d y e f) known ty sc h hides =
-        line_good g.table call (par_line x (infer g d).side y (infer g e).side (infer g f).line) (eval g.table call (Par p x d y e f)) sc
-        (par_good g.table call x (infer g d).side y (infer g e).side (infer g f).line (eval g.table call d) (eval g.table call e) (eval g.table call f) sc
-        (good d known h.0 sc h.2 hides).side (good e known h.1 sc h.3 hides).side
-        (λ at1 at2 s1 s2. (good f (typing.bound y h.1 (typing.bound x h.0 known)) ty (slot y at2 s2 ∷ slot x at1 s1 ∷ sc) h.6
-        (hides_bound (typing.bound x h.0 known) (slot x at1 s1 ∷ sc) y h.1 at2 s2 (hides_bound known sc x h.0 at1 s1 hides))).line))
-    good (If p c d e) known ty sc h hides =
+        (let_good g.table call x (infer g d).bound (infer g e).line (eval g.table call d) (eval g.table call e) sc (good d known (results.One h.0) sc h.1 hides).bound
+        (λ at t. (good e (typing.bound x h.0 known) given (slot x at t ∷ sc) h.3 (hides_bound known sc x h.0 at t hides)).line))
+    good (Par p x d y e f) known given sc h hides =
+        let xs : List Ident = x ∷ [] in
+        let ys : List Ident = y ∷ [] in
+        let middle = typing.bound x h.0 known in
+        let inner = typing.bound y h.1 middle in
+        line_good g.table call (sides_line xs (h.0 ∷ []) (infer g d) ys (h.1 ∷ []) (infer g e) (infer g f).line) (eval g.table call (Par p x d y e f)) sc
+        (sides_line_good g.table call known middle inner xs (h.0 ∷ []) (infer g d) ys (h.1 ∷ []) (infer g e) (infer g f).line (eval g.table call d) (eval g.table call e) (eval g.table call f) sc
+        (h.4, refl) (h.5, refl) hides (good d known (results.One h.0) sc h.2 hides) (good e known (results.One h.1) sc h.3 hides)
+        (record { same = λ env other s. eval_same g.table call f env other s; lines = λ sc' hides'. (good f inner given sc' h.6 hides').line }))
+    good (If p c d e) known given sc h hides =
         line_good g.table call (if_line (infer g c).atom (infer g d).line (infer g e).line) (eval g.table call (If p c d e)) sc
         (if_good g.table call (infer g c).atom (infer g d).line (infer g e).line (eval g.table call c) (eval g.table call d) (eval g.table call e) sc
-        (good c known Truth sc h.0 hides).atom (good d known ty sc h.1 hides).line (good e known ty sc h.2 hides).line)
-    good (Case p x arms) known ty sc h hides =
+        (good c known (results.One Truth) sc h.0 hides).atom (good d known given sc h.1 hides).line (good e known given sc h.2 hides).line)
+    good (Case p x arms) known given sc h hides =
         line_good g.table call (case_line g.table x (infer_arms g arms)) (eval g.table call (Case p x arms)) sc
-        (case_good h.0.0 x arms sc (all_declared h.0.0 arms h.2.own) (arms_good arms known ty sc h.3 hides))
+        (case_good h.0.0 x arms sc (all_declared h.0.0 arms h.2.own) (arms_good arms known given sc h.3 hides))
+    good (source.Tuple p as' xs) known given sc h hides =
+        let types = map (type_of_name g.table.types) as' in
+        let means : Environment → Outcome = λ env. by_fields types (each_of (evals xs) env) (λ vs. Gives (tuple vs)) in
+        good_as (infer g (source.Tuple p as' xs)) means (eval g.table call (source.Tuple p as' xs)) sc (λ env. ap (λ os. by_fields types os (λ vs. Gives (tuple vs))) (evals_each xs env))
+        (line_good g.table call (tuple_line types (infer_all g xs)) means sc
+        (tuple_good g.table call types (infer_all g xs) (evals xs) sc (evals_count xs known types h.2) (all_good xs known types sc h.2 hides)))
+    good (LetSeveral p qs d f) known given sc h hides =
+        let types = types_of g.table.types qs in
+        line_good g.table call (several_line (names_of qs) types (infer g d) (infer g f).line) (eval g.table call (LetSeveral p qs d f)) sc
+        (several_line_good g.table call known h.0 (names_of qs) types (infer g d) (infer g f).line (eval g.table call d) (eval g.table call f) sc h.3 hides (good d known (as_results types) sc h.2 hides)
+        (record { same = λ env other s. eval_same g.table call f env other s; lines = λ sc' hides'. (good f h.0 given sc' h.4 hides').line }))
+    good (ParSeveral p qs d rs e f) known given sc h hides =
+        let types = types_of g.table.types qs in
+        let other = types_of g.table.types rs in
+        line_good g.table call (sides_line (names_of qs) types (infer g d) (names_of rs) other (infer g e) (infer g f).line) (eval g.table call (ParSeveral p qs d rs e f)) sc
+        (sides_line_good g.table call known h.0 h.1 (names_of qs) types (infer g d) (names_of rs) other (infer g e) (infer g f).line (eval g.table call d) (eval g.table call e) (eval g.table call f) sc
+        h.6 h.7 hides (good d known (as_results types) sc h.4 hides) (good e known (as_results other) sc h.5 hides)
+        (record { same = λ env other s. eval_same g.table call f env other s; lines = λ sc' hides'. (good f h.1 given sc' h.8 hides').line }))
 
     pub all_good : (xs : Arguments) (known : typing.Scope) (types : List Ty) (sc : Scope) → HaveAll g known xs types → Hides known sc → AllGood g.table call (infer_all g xs) (evals xs) sc
     all_good NoArgument known types sc h hides = tt
     all_good (Argument e xs) known [] sc h hides = absurd h
-    all_good (Argument e xs) known (t ∷ types) sc h hides = (good e known t sc h.0 hides, all_good xs known types sc h.1 hides)
+    all_good (Argument e xs) known (t ∷ types) sc h hides = (good e known (results.One t) sc h.0 hides, all_good xs known types sc h.1 hides)
 
-    pub arms_good : (arms : Arms) (known : typing.Scope) (ty : Ty) (sc : Scope) → HaveArms g known arms ty → Hides known sc → AllArms g.table call sc (infer_arms g arms) (choices arms)
-    arms_good (LastArm k xs e) known ty sc h hides = (
+    pub arms_good : (arms : Arms) (known : typing.Scope) (given : Results Ty) (sc : Scope) → HaveArms g known arms given → Hides known sc → AllArms g.table call sc (infer_arms g arms) (choices arms)
+    arms_good (LastArm k xs e) known given sc h hides = (
       record {
         con = refl;
-        code = λ types n. good e h.1 ty (with_fields xs types n sc) h.4 (hides_all xs (fields_at g.table h.0) known h.1 sc h.3 hides types n);
+        code = λ types n. good e h.1 given (with_fields xs types n sc) h.4 (hides_all xs (fields_at g.table h.0) known h.1 sc h.3 hides types n);
         fields = λ types n vs env below. fields_same xs (fields_at g.table h.0) known h.1 sc h.3 hides types n vs env below;
         same = λ env other s. eval_same g.table call e env other s;
       },
       tt,
     )
-    arms_good (NextArm k xs e arms) known ty sc h hides = (
+    arms_good (NextArm k xs e arms) known given sc h hides = (
       record {
         con = refl;
-        code = λ types n. good e h.0.1 ty (with_fields xs types n sc) h.0.4 (hides_all xs (fields_at g.table h.0.0) known h.0.1 sc h.0.3 hides types n);
+        code = λ types n. good e h.0.1 given (with_fields xs types n sc) h.0.4 (hides_all xs (fields_at g.table h.0.0) known h.0.1 sc h.0.3 hides types n);
         fields = λ types n vs env below. fields_same xs (fields_at g.table h.0.0) known h.0.1 sc h.0.3 hides types n vs env below;
         same = λ env other s. eval_same g.table call e env other s;
       },
-      arms_good arms known ty sc h.1 hides,
+      arms_good arms known given sc h.1 hides,
     )
 
   -- A body, with values for its parameters.
-  pub body_means : (names : List Ident) (types : List Ty) (scope : typing.Scope) (e : Expression) (ty : Ty) (vs : List Datum) → BindsAll [] names types scope → Has g scope e ty
+  pub body_means : (names : List Ident) (types : List Ty) (scope : typing.Scope) (e : Expression) (given : Results Ty) (vs : List Datum) → BindsAll [] names types scope → Has g scope e given
       → mean g.table call (infer_body g names types e) (core.bind (variables_from 0 names) vs []) ≡ eval g.table call e (bind names vs [])
-  body_means names types scope e ty vs binds h =
+  body_means names types scope e given vs binds h =
       let sc = with_fields names types 0 [] in
       let env = core.bind (variables_from 0 names) vs [] in
       let below : AllBelow (length names) sc = fields_below 0 (length names) names types [] (omega arith) tt in
-      ((good e scope ty sc h (hides_all names types [] scope [] binds (hides_nothing []) types 0)).line (length names) env below).gives
+      ((good e scope given sc h (hides_all names types [] scope [] binds (hides_nothing []) types 0)).line (length names) env below).gives
       ∙ eval_same g.table call e (env_of sc env) (bind names vs []) (fields_same names types [] scope [] binds (hides_nothing []) types 0 vs [] tt)
 
 -- Calls.
-
-pub variables_same : {A B : Type 0} (n : ℕ) (xs : List A) (ys : List B) → length xs ≡ length ys → variables_from n xs ≡ variables_from n ys
-variables_same n [] [] e = refl
-variables_same n [] (y ∷ ys) e = absurd cc
-variables_same n (x ∷ xs) [] e = absurd cc
-variables_same n (x ∷ xs) (y ∷ ys) e = ap (λ l. record { 0 = n } ∷ l) (variables_same (n + 1) xs ys (omega (arith, e)))
 
 function_at-infer : (g : Globals) (fs : List FunctionTree) (f : ℕ) (go : FunctionTree → Outcome) (go' : FunctionTerm → Outcome)
     → ((h : FunctionTree) → function_named fs f ≡ Some h → go' (infer_function g h) ≡ go h)
@@ -270,7 +290,7 @@ function_means g call is h vs typed =
     let types = parameter_types g.table h in
     let long : length types ≡ length names = length-map h.parameters (λ (q : Parameter). type_of_name g.table.types q.ty) ∙ sym (length-map h.parameters (λ (q : Parameter). q.name)) in
     ap (λ xs. mean g.table call (infer_body g names types h.body) (core.bind xs vs [])) (variables_same 0 types names long)
-    ∙ body_means g call is names types typed.scope h.body (typing.result_type g.table h) vs typed.bound typed.typed
+    ∙ body_means g call is names types typed.scope h.body (typing.result_types g.table h) vs typed.bound typed.typed
 
 pub calls_same : (p : ProgramTree) → IsTable (table_of_program p) → IsTypedProgram p → (n : ℕ) → core_calls (infer_program p) n ≡ calls p n
 calls_same p is typed zero = refl
@@ -287,4 +307,4 @@ run_same p is typed depth v =
     let parameter = type_of_name g.table.types p.main.parameter.ty in
     let names = p.main.parameter.name ∷ [] in
     ap (λ c. mean g.table c (infer_body g names (parameter ∷ []) p.main.body) ((0, v) ∷ [])) (calls_same p is typed depth)
-    ∙ body_means g (calls p depth) is names (parameter ∷ []) typed.main.scope p.main.body (type_of_name g.table.types p.main.result) (v ∷ []) typed.main.bound typed.main.typed
+    ∙ body_means g (calls p depth) is names (parameter ∷ []) typed.main.scope p.main.body (results.One (type_of_name g.table.types p.main.result)) (v ∷ []) typed.main.bound typed.main.typed

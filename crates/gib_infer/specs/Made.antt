@@ -1,5 +1,5 @@
 -- What the walk from source to core leaves behind.
-use Rattle.std.specs.Prelude.{◌≡◌, ℕ, ◌+◌, ◌<◌, ◌≤◌, List, [], ◌∷◌, ◌++◌, length, map, reverse, take, Option}
+use Rattle.std.specs.Prelude.{◌≡◌, ℕ, ◌+◌, ◌<◌, ◌≤◌, List, [], ◌∷◌, ◌++◌, length, map, reverse, take, Option, Some, None}
 use Rattle.std.specs.Option.{unwrap_or}
 use Rattle.std.specs.List.{AllByRecursion}
 use Rattle.gib_base.specs.declared.name.Name.{Name}
@@ -13,18 +13,22 @@ use Rattle.gib_syntax.specs.declared.exprs.Node.{Node as Expr}
 use Rattle.gib_syntax.specs.declared.tree.Ident.{Ident}
 use Rattle.gib_syntax.specs.Arena.{tree_of}
 use Rattle.gib_syntax.specs.Parts.{Parts}
+use Rattle.gib_syntax.specs.Results as results
+use Rattle.gib_syntax.specs.Results.{Results}
 pub use Rattle.gib_check.specs.Views.{globals_in}
 use Rattle.gib_core.specs.declared.atom.Atom.{Atom}
 use Rattle.gib_core.specs.declared.atom.Variable.{Variable}
 use Rattle.gib_core.specs.declared.node.Binding.{Binding}
 use Rattle.gib_core.specs.declared.node.Branch.{Branch}
 use Rattle.gib_core.specs.declared.node.BoundTerm.{BoundTerm}
+use Rattle.gib_core.specs.declared.node.BoundSide.TheVariants as bound
 use Rattle.gib_core.specs.declared.node.TermId.{TermId}
 use Rattle.gib_core.specs.declared.scope.Slot.{Slot}
 use Rattle.gib_core.specs.Tree.{Give, prepend, On, Branches, NoBranch, BranchThen}
-use Rattle.gib_core.specs.Arena.{Grows, IsBindingBelow, IsBranchBelow, term_of, side_from, binds_from, branches_from}
+use Rattle.gib_core.specs.Arena.{Grows, IsBindingBelow, IsBranchBelow, IsPartBelow, term_in, term_of, side_from, binds_from, branches_from, parts_from}
 use Rattle.gib_core.specs.Tree.{variables_from}
-use Rattle.gib_core.specs.Inferring.{Scope, Lined, Atomed, Several, Code, ArmCode, Branched, infer, con_named, with_fields, call_line, call_atom, call_side, pointed_fields, as_atoms, slot, kind_of, branches_of}
+use Rattle.gib_core.specs.Inferring.{Scope, Lined, Atomed, Several, Code, ArmCode, Branched, Parted, Bounded, infer, con_named, with_fields, call_line, call_atom, call_side, pointed_fields, as_atoms, slot, kind_of, branches_of}
+use Rattle.gib_infer.specs.declared.parts.NamedSide.{NamedSide}
 use Rattle.gib_infer.specs.declared.work.Work.{Work}
 
 -- The names in scope, kept with the newest last.
@@ -105,17 +109,31 @@ plain_atoms work atoms = record { fresh = work.fresh; binds = []; atoms = atoms 
 abbrev pub given_atom : Atomed → Lined
 given_atom a = record { fresh = a.fresh; term = prepend a.binds (Give a.atom); ty = a.ty }
 
+-- The type of one thing; of several parts there is none.
+abbrev pub one_of : Results Ty → Option Ty
+one_of (results.One t) = Some t
+one_of (results.Several ts) = None
+
+-- The type of a scalar.
+abbrev pub scalar_one : Option Ty → Option Ty
+scalar_one None = None
+scalar_one (Some (Tree t)) = None
+scalar_one (Some Whole) = Some Whole
+scalar_one (Some Truth) = Some Truth
+
 -- A call in result place, behind its arguments' bindings.
-abbrev pub ended_call : Ty → Name → Several → Lined
-ended_call (Tree t) f r = call_line (Tree t) f r
-ended_call Whole f r = given_atom (call_atom Whole f r)
-ended_call Truth f r = given_atom (call_atom Truth f r)
+abbrev pub ended_call : Option Ty → Name → Several → Lined
+ended_call None f r = call_line Whole f r
+ended_call (Some (Tree t)) f r = call_line (Tree t) f r
+ended_call (Some Whole) f r = given_atom (call_atom Whole f r)
+ended_call (Some Truth) f r = given_atom (call_atom Truth f r)
 
 -- A call that is a side, behind its arguments' bindings.
-abbrev pub side_call : Ty → Name → Several → Lined
-side_call (Tree t) f r = call_line (Tree t) f r
-side_call Whole f r = call_side Whole f r r.binds
-side_call Truth f r = call_side Truth f r r.binds
+abbrev pub side_call : Option Ty → Name → Several → Lined
+side_call None f r = call_line Whole f r
+side_call (Some (Tree t)) f r = call_line (Tree t) f r
+side_call (Some Whole) f r = call_side Whole f r r.binds
+side_call (Some Truth) f r = call_side Truth f r r.binds
 
 -- A name was put into the scope.
 pub record Binds (old new : Work) (name : Ident) (atom : Atom) (ty : Ty) : Type 0 where
@@ -143,10 +161,43 @@ pub record PointsFields (old new : Work) (before after : List Binding) (types : 
 pub record MakesSide (old new : Work) (s : BoundTerm) (l : Lined) : Type 0 where
   pub keeps : Keeps old new
   pub inside : s.term.0 < length new.terms
-  pub side : side_from (term_of new.terms) s ≡ On (kind_of l.ty) (record { 0 = old.fresh }) l.ty l.term
+  pub side : side_from (term_of new.terms) (bound.One s) ≡ On (kind_of l.ty) (record { 0 = old.fresh }) l.ty l.term
   pub variable : s.variable ≡ record { 0 = old.fresh }
   pub ty : s.ty ≡ l.ty
   pub fresh : new.fresh ≡ l.fresh
+
+-- Packed parts were made.
+pub record MakesParts (old new : Work) (ids : List TermId) (ps : Parted) : Type 0 where
+  pub keeps : Keeps old new
+  pub inside : AllByRecursion (IsPartBelow (length new.terms)) ids
+  pub parts : parts_from (term_of new.terms) ids ≡ ps.parts
+  pub fresh : new.fresh ≡ ps.fresh
+
+-- There are several names, or none.
+abbrev pub IsNotOne : List Ident → Type 0
+IsNotOne [] = Unit {0}
+IsNotOne (x ∷ []) = ⊥
+IsNotOne (x ∷ y ∷ xs) = Unit {0}
+
+-- Names became new variables, which are not in scope yet.
+pub record MakesSlots (old new : Work) (names : List Ident) (types : List Ty) (slots : List Slot) : Type 0 where
+  pub same : new ≡ record old { fresh = new.fresh }
+  pub scope : (inner : Scope) → scope_of slots ++ inner ≡ with_fields names types old.fresh inner
+  pub fresh : new.fresh ≡ old.fresh + length names
+
+-- Names came into scope.
+pub record Enters (old new : Work) (slots : List Slot) : Type 0 where
+  pub terms : new.terms ≡ old.terms
+  pub fresh : new.fresh ≡ old.fresh
+  pub scope : new.scope.items ≡ old.scope.items ++ slots
+
+-- What names are bound to was made; the names stand before those of a scope.
+pub record MakesNamed (old new : Work) (s : NamedSide) (b : Scope → Bounded) : Type 0 where
+  pub keeps : Keeps old new
+  pub inside : (term_in s.side).0 < length new.terms
+  pub side : (inner : Scope) → side_from (term_of new.terms) s.side ≡ (b inner).side
+  pub scope : (inner : Scope) → scope_of s.slots.items ++ inner ≡ (b inner).scope
+  pub fresh : (inner : Scope) → new.fresh ≡ (b inner).fresh
 
 -- What the expression of an arm becomes, where the fields of its constructor are the variables from a number on.
 abbrev pub arm_line : Parts → List Expr → Arm → ℕ → Scope → ℕ → Lined

@@ -5,17 +5,20 @@ ghost use Rattle.gib_syntax.specs.Tree.{FunctionTree};
 ghost use Rattle.gib_syntax.specs.Arena.{tree_of};
 ghost use Rattle.gib_syntax.specs.Parts.{program_of};
 ghost use Rattle.gib_syntax.specs.Meaning.{names_of as all_names};
+ghost use Rattle.gib_syntax.specs.Typing.{result_types};
+ghost use Rattle.gib_core.specs.Parts.{results_of};
 ghost use Rattle.gib_core.specs.Inferring.{infer_body, infer_function, infer_program};
 ghost use Rattle.gib_infer.specs.Made.{globals_in};
 ghost use Rattle.gib_infer.specs.Bodies.{MakesBody, MakesFunction, MakesFunctions, MakesMain};
 
 use crate::fields::bind_fields;
+use crate::parts::{part_types, types_named};
 use crate::walk::line;
 use crate::work::Work;
 use gib_base::Memory;
 use gib_check::{FunctionId, Typed};
-use gib_core::{CoreFunction, CoreMain, TermId};
-use gib_syntax::{ExprId, Ident, Parameter};
+use gib_core::{CoreFunction, CoreMain, CoreResult, TermId};
+use gib_syntax::{ExprId, Ident, Parameter, ResultTypes};
 use gib_types::Ty;
 use std::alloc::Global;
 
@@ -50,6 +53,21 @@ fn names_of(alloc: Global, parameters: &[Parameter]) -> Result<Vec<Ident>, Memor
     Ok(names)
 }
 
+/// What the function of a number gives.
+fn core_result(alloc: Global, typed: &Typed, id: FunctionId) -> Result<CoreResult, Memory>
+    requires { id.0 < length (program_of typed.now).functions }
+    ensures { (f : FunctionTree) → slice_get (program_of typed.now).functions id.0 ≡ Some f → IfOk result (λ given. results_of given ≡ result_types (globals_in typed.now).table f) }
+{
+    match &typed.declaration(id).result {
+        ResultTypes::One(name) => Ok(CoreResult::One(typed.type_named(*name))),
+        ResultTypes::Several(names) => {
+            let types = types_named(alloc, typed, names)?;
+            let parts = part_types(&types)?;
+            Ok(CoreResult::Several(parts))
+        }
+    }
+}
+
 /// The function of a number.
 fn make_function(typed: &Typed, work: &mut Work, id: FunctionId) -> Result<CoreFunction, Memory>
     requires { id.0 < length (program_of typed.now).functions }
@@ -60,10 +78,11 @@ fn make_function(typed: &Typed, work: &mut Work, id: FunctionId) -> Result<CoreF
     let names = names_of(work.alloc, &declaration.parameters)?;
     let body = make_body(typed, work, &names, types, declaration.body)?;
     let parameters = types.to_vec(work.alloc)?;
+    let result = core_result(work.alloc, typed, id)?;
     Ok(CoreFunction {
         name: declaration.name.name,
         parameters,
-        result: typed.result_type(id),
+        result,
         body,
     })
 }

@@ -16,6 +16,7 @@ mod bodies;
 mod fields;
 pub mod law;
 mod names;
+mod parts;
 mod steps;
 mod walk;
 mod work;

@@ -6,10 +6,10 @@ ghost use Rattle.gib_syntax.specs.declared.exprs.Node.{Node as Expr};
 ghost use Rattle.gib_syntax.specs.Arena.{IsArmBelow, ArmsBelow};
 ghost use Rattle.gib_syntax.specs.Declarations.{number_of, function_named};
 ghost use Rattle.gib_core.specs.Inferring.{con_named, gives_type, first_constructor as first_of_arms, arm_for};
-ghost use Rattle.gib_infer.specs.Made.{globals_in, arms_at, arm_at};
+ghost use Rattle.gib_infer.specs.Made.{globals_in, arms_at, arm_at, one_of, scalar_one};
 
 use gib_check::Typed;
-use gib_syntax::{Arm, Ident};
+use gib_syntax::{Arm, Ident, ResultTypes};
 use gib_types::{ConId, Ty, TyId};
 
 /// The constructor of a name.
@@ -44,13 +44,28 @@ pub fn constructors_of(typed: &Typed, ty: TyId) -> (u32, u32)
     typed.types().constructors_of(ty)
 }
 
-/// The type that the function of a name gives.
-pub fn result_type(typed: &Typed, name: Ident) -> Ty
-    ensures { result ≡ gives_type (globals_in typed.now).table (function_named (globals_in typed.now).functions (number_of name)) }
+/// The type of the one thing that the function of a name gives; None where it gives several parts.
+pub fn result_of(typed: &Typed, name: Ident) -> Option<Ty>
+    ensures { result ≡ one_of (gives_type (globals_in typed.now).table (function_named (globals_in typed.now).functions (number_of name))) }
 {
     match typed.function(name.name) {
-        Some(id) => typed.result_type(id),
-        None => Ty::Whole,
+        Some(id) => match &typed.declaration(id).result {
+            ResultTypes::One(name) => Some(typed.type_named(*name)),
+            ResultTypes::Several(_) => None,
+        },
+        None => Some(Ty::Whole),
+    }
+}
+
+/// The type of a scalar; None where it is none.
+pub fn scalar_of(given: Option<Ty>) -> Option<Ty>
+    ensures { result ≡ scalar_one given }
+{
+    match given {
+        None => None,
+        Some(Ty::Tree(_)) => None,
+        Some(Ty::Whole) => given,
+        Some(Ty::Truth) => given,
     }
 }
 

@@ -1,12 +1,15 @@
 //! The ends of constructs, once the code of their parts stands.
 
 ghost use Rattle.std.specs.Prelude.{◌≡◌, ℕ, ◌+◌, ◌<◌, ◌++◌, ◌∷◌, [], length, IfOk};
+ghost use Rattle.std.specs.Option.{unwrap_or};
+ghost use Rattle.gib_types.specs.declared.table.Ty.TheVariants as ty;
 ghost use Rattle.gib_core.specs.Inferring.{atom_at, type_at, plain_line as plainly, call_atom, make_from};
 ghost use Rattle.gib_infer.specs.Made.{scope_of, AreBindingsBelow, MakesLine, MakesAtom, PointsFields, pending, pending_atom, plain_atoms, given_atom, ended_call, side_call};
 
+use crate::names::scalar_of;
 use crate::work::{Work, find, new_variable, put_plain};
 use gib_base::{Memory, Name};
-use gib_core::{Atom, Binding, BoundTerm, Kind, Node, TermId};
+use gib_core::{Atom, Binding, BoundSide, BoundTerm, Kind, Node, TermId};
 use gib_types::{ConId, Ty, first_type, further_types};
 
 /// A constructor with the atoms at its fields: the scalars, and the packed ones with their types.
@@ -57,12 +60,12 @@ pub fn bind_call(
 {
     let variable = new_variable(work)?;
     let term = work.terms.put(Node::Call(function, arguments))?;
-    bindings.push(Binding::One(BoundTerm {
+    bindings.push(Binding::One(BoundSide::One(BoundTerm {
         kind: Kind::Scalar,
         variable,
         ty,
         term,
-    }))?;
+    })))?;
     Ok(Atom::Variable(variable))
 }
 
@@ -82,23 +85,22 @@ fn give_call(
     Ok(term)
 }
 
-/// A call in result place.
+/// A call in result place, by the type that it gives; of several parts there is none.
 pub fn end_call(
     work: &mut Work,
     bindings: Vec<Binding>,
     function: Name,
     arguments: Vec<Atom>,
-    ty: Ty,
+    given: Option<Ty>,
 ) -> Result<TermId, Memory>
     requires { AreBindingsBelow (length work.old.terms) bindings.items }
-    ensures { IfOk result (λ t. MakesLine work.old work.new t ty (ended_call ty function (pending work.old bindings.items arguments.items))) }
+    ensures { IfOk result (λ t. MakesLine work.old work.new t (unwrap_or given ty.Whole) (ended_call given function (pending work.old bindings.items arguments.items))) }
 {
-    match ty {
-        Ty::Tree(_) => work
+    match scalar_of(given) {
+        Some(ty) => give_call(work, bindings, function, arguments, ty),
+        None => work
             .terms
             .put_line(bindings, Node::Call(function, arguments)),
-        Ty::Whole => give_call(work, bindings, function, arguments, ty),
-        Ty::Truth => give_call(work, bindings, function, arguments, ty),
     }
 }
 
@@ -108,16 +110,16 @@ pub fn end_side(
     bindings: Vec<Binding>,
     function: Name,
     arguments: Vec<Atom>,
-    ty: Ty,
+    given: Option<Ty>,
 ) -> Result<TermId, Memory>
     requires { AreBindingsBelow (length work.old.terms) bindings.items }
-    ensures { IfOk result (λ t. MakesLine work.old work.new t ty (side_call ty function (pending work.old bindings.items arguments.items))) }
+    ensures { IfOk result (λ t. MakesLine work.old work.new t (unwrap_or given ty.Whole) (side_call given function (pending work.old bindings.items arguments.items))) }
 {
     if bindings.is_empty() {
         work.terms
             .put_line(bindings, Node::Call(function, arguments))
     } else {
-        end_call(work, bindings, function, arguments, ty)
+        end_call(work, bindings, function, arguments, given)
     }
 }
 
@@ -138,12 +140,12 @@ fn point_fields(
         let ty = first_type(types_left);
         let variable = new_variable(work)?;
         let term = work.terms.put(Node::Point(*atom))?;
-        bindings.push(Binding::One(BoundTerm {
+        bindings.push(Binding::One(BoundSide::One(BoundTerm {
             kind: Kind::Here,
             variable,
             ty,
             term,
-        }))?;
+        })))?;
         fields.push(Atom::Variable(variable))?;
         types_left = further_types(types_left);
         atoms_left = atoms_after;

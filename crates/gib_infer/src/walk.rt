@@ -1,17 +1,24 @@
 //! The walk over one body.
 
-ghost use Rattle.std.specs.Prelude.{◌≡◌, ℕ, ◌+◌, ◌<◌, ◌++◌, ◌∷◌, List, Option, [], length, IfOk};
+ghost use Rattle.std.specs.Prelude.{◌≡◌, ℕ, ◌+◌, ◌<◌, ◌++◌, ◌∷◌, List, Option, [], map, length, IfOk};
 ghost use Rattle.std.specs.Option.{option_or};
 ghost use Rattle.gib_types.specs.declared.table.Ty.{Ty};
 ghost use Rattle.gib_syntax.specs.Tree.{Call, Make};
 ghost use Rattle.gib_syntax.specs.Arena.{Opens, tree_of, arguments_from, ArmsBelow, IsArmBelow};
-ghost use Rattle.gib_core.specs.Inferring.{Branched, infer, several, boxed, given, operation_atom, let_line, par_line, if_line, case_line};
-ghost use Rattle.gib_infer.specs.Made.{scope_of, globals_in, code_at, codes_at, arms_at, AreBelow, AreBindingsBelow, MakesLine, MakesAtom, MakesAtoms, MakesSide, MakesBranch, BranchesSoFar};
+ghost use Rattle.gib_syntax.specs.Declarations.{type_of_name};
+ghost use Rattle.gib_syntax.specs.Typing.{names_of, types_of};
+ghost use Rattle.gib_core.specs.Inferring.{Branched, infer, several, boxed, given, operation_atom, let_line, par_line, if_line, case_line, tuple_line, part_lines, several_line, sides_line, several_side, bound_side as of_names};
+ghost use Rattle.gib_infer.specs.Made.{scope_of, globals_in, code_at, codes_at, arms_at, AreBelow, AreBindingsBelow, MakesLine, MakesAtom, MakesAtoms, MakesParts, MakesSide, MakesNamed, MakesBranch, BranchesSoFar};
 ghost use Rattle.gib_infer.specs.declared.work.Work.{Work};
 
 use crate::fields::{bind, bind_fields, packed_types};
 use crate::names::{
-    arm_of, constructor, constructors_of, fields_of, first_constructor, owner_of, result_type,
+    arm_of, constructor, constructors_of, fields_of, first_constructor, owner_of, result_of,
+    scalar_of,
+};
+use crate::parts::{
+    BoundNames, NamedSide, bound_types, enter, new_slots, one_slot, only_name, part_types,
+    types_named,
 };
 use crate::steps::{
     Construction, bind_call, end_call, end_make, end_side, give, plain_line, variable_line,
@@ -19,8 +26,10 @@ use crate::steps::{
 use crate::work::{Work, find, kind, new_variable, push_bound};
 use gib_base::Memory;
 use gib_check::Typed;
-use gib_core::{Atom, Binding, BoundTerm, Branch, Node as TermNode, TermId};
-use gib_syntax::{Arm, Bound, ExprId, Ident, Node, Operator};
+use gib_core::{
+    Atom, Binding, BoundParts, BoundSide, BoundTerm, Branch, Node as TermNode, TermId, Variable,
+};
+use gib_syntax::{Arm, Bound, ExprId, Ident, Node, Operator, TypeName};
 use gib_types::{ConId, Ty, items_at};
 
 /// The expression of a number.
@@ -77,6 +86,37 @@ pub fn line(typed: &Typed, work: &mut Work, id: ExprId) -> Result<(TermId, Ty), 
             ..
         } => if_else(typed, work, *condition, *then_part, *else_part),
         Node::Case { variable, arms, .. } => case(typed, work, id, *variable, arms),
+        Node::Tuple { types, parts, .. } => tuple(typed, work, id, types, parts),
+        Node::LetSeveral {
+            names,
+            bound,
+            body,
+            ..
+        } => {
+            let bound = BoundNames {
+                names,
+                value: *bound,
+            };
+            let_several(typed, work, &bound, *body)
+        }
+        Node::ParSeveral {
+            left_names,
+            left,
+            right_names,
+            right,
+            body,
+            ..
+        } => {
+            let left = BoundNames {
+                names: left_names,
+                value: *left,
+            };
+            let right = BoundNames {
+                names: right_names,
+                value: *right,
+            };
+            par_several(typed, work, &left, &right, *body)
+        }
     }
 }
 
@@ -98,6 +138,9 @@ fn side(typed: &Typed, work: &mut Work, id: ExprId) -> Result<(TermId, Ty), Memo
         Node::LetPar { .. } => line(typed, work, id),
         Node::If { .. } => line(typed, work, id),
         Node::Case { .. } => line(typed, work, id),
+        Node::Tuple { .. } => line(typed, work, id),
+        Node::LetSeveral { .. } => line(typed, work, id),
+        Node::ParSeveral { .. } => line(typed, work, id),
     }
 }
 
@@ -130,6 +173,9 @@ fn atom(
         Node::LetPar { .. } => bound_line(typed, work, bindings, id),
         Node::If { .. } => bound_line(typed, work, bindings, id),
         Node::Case { .. } => bound_line(typed, work, bindings, id),
+        Node::Tuple { .. } => bound_line(typed, work, bindings, id),
+        Node::LetSeveral { .. } => bound_line(typed, work, bindings, id),
+        Node::ParSeveral { .. } => bound_line(typed, work, bindings, id),
     }
 }
 
@@ -157,6 +203,9 @@ fn right_side(
         Node::LetPar { .. } => atom(typed, work, bindings, id),
         Node::If { .. } => atom(typed, work, bindings, id),
         Node::Case { .. } => atom(typed, work, bindings, id),
+        Node::Tuple { .. } => atom(typed, work, bindings, id),
+        Node::LetSeveral { .. } => atom(typed, work, bindings, id),
+        Node::ParSeveral { .. } => atom(typed, work, bindings, id),
     }
 }
 
@@ -264,9 +313,9 @@ fn call_line(
 {
     let mut bindings = Vec::new(work.alloc);
     let atoms = arguments(typed, work, &mut bindings, id, ids)?;
-    let ty = result_type(typed, f);
-    let term = end_call(work, bindings, f.name, atoms, ty)?;
-    Ok((term, ty))
+    let given = result_of(typed, f);
+    let term = end_call(work, bindings, f.name, atoms, given)?;
+    Ok((term, given.unwrap_or(Ty::Whole)))
 }
 
 /// A call as a side.
@@ -284,9 +333,9 @@ fn call_side(
 {
     let mut bindings = Vec::new(work.alloc);
     let atoms = arguments(typed, work, &mut bindings, id, ids)?;
-    let ty = result_type(typed, f);
-    let term = end_side(work, bindings, f.name, atoms, ty)?;
-    Ok((term, ty))
+    let given = result_of(typed, f);
+    let term = end_side(work, bindings, f.name, atoms, given)?;
+    Ok((term, given.unwrap_or(Ty::Whole)))
 }
 
 /// A call as an argument, operand, condition or right side of a `let`.
@@ -304,16 +353,19 @@ fn call_atom(
     requires bindings { AreBindingsBelow (length work.old.terms) bindings.old.items }
     ensures { IfOk result (λ r. MakesAtom work.old work.new bindings.old.items bindings.new.items r.0 r.1 ((infer (globals_in typed.now) (Call f (arguments_from (tree_of typed.now.exprs) ids.now))).atom (scope_of work.old.scope.items) work.old.fresh)) }
 {
-    let ty = result_type(typed, f);
-    if ty.is_scalar() {
-        let atoms = arguments(typed, work, bindings, id, ids)?;
-        let atom = bind_call(work, bindings, f.name, atoms, ty)?;
-        return Ok((atom, ty));
+    match scalar_of(result_of(typed, f)) {
+        Some(ty) => {
+            let atoms = arguments(typed, work, bindings, id, ids)?;
+            let atom = bind_call(work, bindings, f.name, atoms, ty)?;
+            Ok((atom, ty))
+        }
+        None => {
+            let variable = new_variable(work)?;
+            let (term, ty) = call_line(typed, work, id, f, ids)?;
+            push_bound(bindings, variable, ty, term)?;
+            Ok((Atom::Variable(variable), ty))
+        }
     }
-    let variable = new_variable(work)?;
-    let (term, ty) = call_line(typed, work, id, f, ids)?;
-    push_bound(bindings, variable, ty, term)?;
-    Ok((Atom::Variable(variable), ty))
 }
 
 /// A constructor with its arguments: scalar arguments first, then packed ones.
@@ -394,8 +446,8 @@ fn let_par(
     work.scope.truncate(outer);
     let sides = Binding::Par {
         fork: false,
-        left: first,
-        right: second,
+        left: BoundSide::One(first),
+        right: BoundSide::One(second),
     };
     let term = work.terms.put(TermNode::Then(sides, rest))?;
     Ok((term, ty))
@@ -414,6 +466,146 @@ fn bound_side(typed: &Typed, work: &mut Work, id: ExprId) -> Result<BoundTerm, M
         variable,
         ty,
         term,
+    })
+}
+
+/// Several parts: the scalar ones are bound first, then each packed one is a line of its own.
+#[cycle(infer)]
+fn tuple(
+    typed: &Typed,
+    work: &mut Work,
+    id: ExprId,
+    types: &[TypeName],
+    ids: &[ExprId],
+) -> Result<(TermId, Ty), Memory>
+    requires inside { id.0 < length typed.now.exprs }
+    requires below { AreBelow id.0 ids.now }
+    ensures { IfOk result (λ r. MakesLine work.old work.new r.0 r.1 (tuple_line (map (type_of_name (globals_in typed.now).table.types) types.now) (codes_at typed.now typed.now.exprs ids.now) (scope_of work.old.scope.items) work.old.fresh)) }
+{
+    let types = types_named(work.alloc, typed, types)?;
+    let mut bindings = Vec::new(work.alloc);
+    let scalars = items_at(work.alloc, true, &types, ids)?;
+    let scalars = arguments(typed, work, &mut bindings, id, &scalars)?;
+    let packed = items_at(work.alloc, false, &types, ids)?;
+    let parts = part_terms(typed, work, id, &packed)?;
+    let types = part_types(&types)?;
+    let end = TermNode::Tuple {
+        types,
+        scalars,
+        parts,
+    };
+    let term = work.terms.put_line(bindings, end)?;
+    Ok((term, Ty::Whole))
+}
+
+/// Packed parts, from left to right.
+#[cycle(infer)]
+fn part_terms(
+    typed: &Typed,
+    work: &mut Work,
+    id: ExprId,
+    ids: &[ExprId],
+) -> Result<Vec<TermId>, Memory>
+    requires inside { id.0 < length typed.now.exprs }
+    requires below { AreBelow id.0 ids.now }
+    ensures { IfOk result (λ v. MakesParts work.old work.new v.items (part_lines (codes_at typed.now typed.now.exprs ids.now) (scope_of work.old.scope.items) work.old.fresh)) }
+{
+    let mut terms = Vec::new(work.alloc);
+    let mut left = ids;
+    'parts: while let [part, after @ ..] = left {
+        let (term, _) = line(typed, work, *part)?;
+        terms.push(term)?;
+        left = after;
+    }
+    Ok(terms)
+}
+
+/// A `let` of several names in result place.
+#[cycle(infer)]
+fn let_several(
+    typed: &Typed,
+    work: &mut Work,
+    bound: &BoundNames,
+    body: ExprId,
+) -> Result<(TermId, Ty), Memory>
+    requires bound { bound.now.value.0 < length typed.now.exprs }
+    requires body { body.0 < length typed.now.exprs }
+    ensures { IfOk result (λ r. MakesLine work.old work.new r.0 r.1 (several_line (names_of bound.now.names.now) (types_of (globals_in typed.now).table.types bound.now.names.now) (code_at typed.now typed.now.exprs bound.now.value.0) (code_at typed.now typed.now.exprs body.0).line (scope_of work.old.scope.items) work.old.fresh)) }
+{
+    let bound = bound_names(typed, work, bound)?;
+    let outer = work.scope.len();
+    enter(work, &bound.slots)?;
+    let (rest, ty) = line(typed, work, body)?;
+    work.scope.truncate(outer);
+    let binding = Binding::One(bound.side);
+    let term = work.terms.put(TermNode::Then(binding, rest))?;
+    Ok((term, ty))
+}
+
+/// A `let par` of which a side has several names, in result place.
+#[cycle(infer)]
+fn par_several(
+    typed: &Typed,
+    work: &mut Work,
+    left: &BoundNames,
+    right: &BoundNames,
+    body: ExprId,
+) -> Result<(TermId, Ty), Memory>
+    requires left { left.now.value.0 < length typed.now.exprs }
+    requires right { right.now.value.0 < length typed.now.exprs }
+    requires body { body.0 < length typed.now.exprs }
+    ensures { IfOk result (λ r. MakesLine work.old work.new r.0 r.1 (sides_line (names_of left.now.names.now) (types_of (globals_in typed.now).table.types left.now.names.now) (code_at typed.now typed.now.exprs left.now.value.0) (names_of right.now.names.now) (types_of (globals_in typed.now).table.types right.now.names.now) (code_at typed.now typed.now.exprs right.now.value.0) (code_at typed.now typed.now.exprs body.0).line (scope_of work.old.scope.items) work.old.fresh)) }
+{
+    let first = bound_names(typed, work, left)?;
+    let second = bound_names(typed, work, right)?;
+    let outer = work.scope.len();
+    enter(work, &first.slots)?;
+    enter(work, &second.slots)?;
+    let (rest, ty) = line(typed, work, body)?;
+    work.scope.truncate(outer);
+    let sides = Binding::Par {
+        fork: false,
+        left: first.side,
+        right: second.side,
+    };
+    let term = work.terms.put(TermNode::Then(sides, rest))?;
+    Ok((term, ty))
+}
+
+/// What names are bound to: one name as a side of a `let par`.
+#[cycle(infer)]
+fn bound_names(typed: &Typed, work: &mut Work, bound: &BoundNames) -> Result<NamedSide, Memory>
+    requires { bound.now.value.0 < length typed.now.exprs }
+    ensures { IfOk result (λ s. MakesNamed work.old work.new s (of_names (names_of bound.now.names.now) (types_of (globals_in typed.now).table.types bound.now.names.now) (code_at typed.now typed.now.exprs bound.now.value.0) (scope_of work.old.scope.items) work.old.fresh)) }
+{
+    match only_name(bound.names) {
+        Some(name) => {
+            let side = bound_side(typed, work, bound.value)?;
+            let slots = one_slot(work.alloc, name, side)?;
+            Ok(NamedSide {
+                side: BoundSide::One(side),
+                slots,
+            })
+        }
+        None => several_names(typed, work, bound),
+    }
+}
+
+/// What names are bound to whose variables are the parts of an expression.
+#[cycle(infer)]
+fn several_names(typed: &Typed, work: &mut Work, bound: &BoundNames) -> Result<NamedSide, Memory>
+    requires { bound.now.value.0 < length typed.now.exprs }
+    ensures { IfOk result (λ s. MakesNamed work.old work.new s (several_side (names_of bound.now.names.now) (types_of (globals_in typed.now).table.types bound.now.names.now) (code_at typed.now typed.now.exprs bound.now.value.0).line (scope_of work.old.scope.items) work.old.fresh)) }
+{
+    let first = Variable(work.fresh);
+    let slots = new_slots(typed, work, bound.names)?;
+    let types = bound_types(work.alloc, typed, bound.names)?;
+    let types = part_types(&types)?;
+    let (term, _) = line(typed, work, bound.value)?;
+    let side = BoundParts { first, types, term };
+    Ok(NamedSide {
+        side: BoundSide::Several(side),
+        slots,
     })
 }
 

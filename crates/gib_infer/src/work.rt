@@ -2,12 +2,13 @@
 
 ghost use Rattle.std.specs.Prelude.{◌≡◌, ℕ, ◌+◌, ◌-◌, ◌^◌, ◌<◌, ◌++◌, ◌∷◌, [], length, Some, IfOk, IfErr};
 ghost use Rattle.gib_core.specs.declared.node.Binding.TheVariants as b;
+ghost use Rattle.gib_core.specs.declared.node.BoundSide.TheVariants as s;
 ghost use Rattle.gib_core.specs.Arena.{Grows, term_of};
 ghost use Rattle.gib_core.specs.Inferring.{atom_at, type_at, kind_of, result_of};
 ghost use Rattle.gib_infer.specs.Made.{scope_of};
 
 use gib_base::{Memory, Name};
-use gib_core::{Atom, Binding, BoundTerm, Kind, Node, Slot, TermId, Terms, Variable};
+use gib_core::{Atom, Binding, BoundSide, BoundTerm, Kind, Node, Slot, TermId, Terms, Variable};
 use gib_types::Ty;
 use std::alloc::{AllocError, Global};
 
@@ -68,14 +69,14 @@ pub fn push_bound(
     ty: Ty,
     term: TermId,
 ) -> Result<(), Memory>
-    ensures { IfOk result (λ _. bindings.new.items ≡ bindings.old.items ++ b.One (record { kind = kind_of ty; variable = variable; ty = ty; term = term }) ∷ []) }
+    ensures { IfOk result (λ _. bindings.new.items ≡ bindings.old.items ++ b.One (s.One (record { kind = kind_of ty; variable = variable; ty = ty; term = term })) ∷ []) }
 {
-    bindings.push(Binding::One(BoundTerm {
+    bindings.push(Binding::One(BoundSide::One(BoundTerm {
         kind: kind(ty),
         variable,
         ty,
         term,
-    }))?;
+    })))?;
     Ok(())
 }
 

@@ -9,6 +9,8 @@ pub mod Lining
 pub mod Arms
 pub mod Branching
 pub mod Walking
+pub mod Entered
+pub mod Parting
 pub mod OneBody
 -- Which rule is answered.
 pub mod Smallest

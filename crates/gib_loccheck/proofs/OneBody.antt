@@ -7,6 +7,8 @@ use Rattle.gib_core.specs.Tree.{CoreTree, Term, FunctionTerm}
 use Rattle.gib_core.specs.declared.program.CoreMain.{CoreMain}
 use Rattle.gib_core.specs.Arena.{term_of}
 use Rattle.gib_core.specs.Parts.{Parts, IsFunctionInside, core_of, function_term}
+use Rattle.gib_syntax.specs.Results as results
+use Rattle.gib_syntax.specs.Typing.{one_type}
 use Rattle.gib_core.specs.Met.{Body, met, met_body, bodies, opening, result_place}
 use Rattle.gib_core.specs.Rules.{Broken, or_else, broken_from, broken_in, before_body, first_broken}
 use Rattle.gib_loccheck.specs.declared.state.Walk.{Walk}
@@ -26,17 +28,17 @@ opened_before : (a b : Walk) (body : Body) → Opens a b body.parameters → bef
 opened_before a b body o = (λ i. record { bound = o.bound i; cased = reverse (o.cased i) })
 
 opened_setting : (a b : Walk) (target : Target) (body : Body) → Opens a b body.parameters
-    → destination_of target.destination ≡ result_place body.result → target.due ≡ body.result → target.whole ≡ false → at_line (setting_of b target) ≡ opening body
+    → destination_of target.destination ≡ result_place body.result → target.due ≡ one_type body.result → target.whole ≡ false → at_line (setting_of b target) ≡ opening body
 opened_setting a b target body o d e w = (λ i. record { destination = d i; due = e i; scope = o.scope i; others = reverse (o.others i); whole = w i; calls = [] })
 
 module _ (core : CoreTree) where
   lines_of_body : (a b : Walk) (target : Target) (body : Body) → Opens a b body.parameters
-      → destination_of target.destination ≡ result_place body.result → target.due ≡ body.result → target.whole ≡ false
+      → destination_of target.destination ≡ result_place body.result → target.due ≡ one_type body.result → target.whole ≡ false
       → broken_from core b.place (before_of b) (met core.table (at_line (setting_of b target)) body.term) ≡ broken_from core a.place (before_body body) (met_body core.table body)
   lines_of_body a b target body o d e w = (λ i. broken_from core (o.place i) (opened_before a b body o i) (met core.table (opened_setting a b target body o d e w i) body.term))
 
   pub body_passes : (a b c : Walk) (target : Target) (body : Body) → Opens a b body.parameters
-      → destination_of target.destination ≡ result_place body.result → target.due ≡ body.result → target.whole ≡ false
+      → destination_of target.destination ≡ result_place body.result → target.due ≡ one_type body.result → target.whole ≡ false
       → Passes core b c (met core.table (at_line (setting_of b target)) body.term) → Pass core a.place c.place (body ∷ [])
   body_passes a b c target body o d e w p =
       let none = sym (lines_of_body a b target body o d e w) ∙ p.unbroken in
@@ -50,7 +52,7 @@ module _ (core : CoreTree) where
   says_first (fault.Rule r p) x y h = ap (λ z. or_else z y) h
 
   pub body_blamed : (e : LocFault) (a b : Walk) (target : Target) (body : Body) → Opens a b body.parameters
-      → destination_of target.destination ≡ result_place body.result → target.due ≡ body.result → target.whole ≡ false
+      → destination_of target.destination ≡ result_place body.result → target.due ≡ one_type body.result → target.whole ≡ false
       → Blames core b (met core.table (at_line (setting_of b target)) body.term) e → Blame core a.place (body ∷ []) e
   body_blamed e a b target body o d i w h =
       λ rest. says_first e (broken_from core a.place (before_body body) (met_body core.table body)) (broken_in core (a.place + length (met_body core.table body)) rest)
@@ -77,7 +79,7 @@ module _ (core : CoreTree) where
 
 -- The body of main.
 abbrev pub main_body : (ℕ → Term) → CoreMain → Body
-main_body f m = record { parameters = m.parameter ∷ []; result = m.result; term = f m.body.0 }
+main_body f m = record { parameters = m.parameter ∷ []; result = results.One m.result; term = f m.body.0 }
 
 bodies_known : (f : ℕ → Term) (ds : List CoreFunction) (ms : List Body)
     → map (λ (g : FunctionTerm). record { parameters = g.parameters; result = g.result; term = g.body }) (map (function_term f) ds) ++ ms ≡ bodies_of f ds ++ ms

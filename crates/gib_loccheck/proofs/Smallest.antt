@@ -3,7 +3,7 @@ use Rattle.std.proofs.Common.{◌≡◌, ℕ, ◌≤◌, Bool, true, false, if�
 use Rattle.std.specs.Prelude.{unwrap_or}
 use Rattle.gib_core.specs.declared.atom.Kind.TheVariants.{Here, Region, Scalar}
 use Rattle.gib_core.specs.Tree.{CoreTree}
-use Rattle.gib_core.specs.Met.{Setting, Line, PastLine, SideLine, ParLine, PrimLine, ReachLine, WriteLine, PointLine, CallLine, GiveLine, CaseLine, IfLine}
+use Rattle.gib_core.specs.Met.{Setting, Line, PastLine, SideLine, ParLine, PrimLine, ReachLine, WriteLine, PointLine, CallLine, GiveLine, CaseLine, IfLine, SeveralLine, TupleLine, PartLine}
 use Rattle.gib_core.specs.Rules.{Before, Judgement, least, rules}
 use Rattle.gib_loccheck.specs.RuleOrder.{RisesPast, NoneBelow}
 
@@ -21,6 +21,9 @@ rules_rise core b s (CallLine f xs) = (omega arith, (omega arith, (omega arith, 
 rules_rise core b s (GiveLine x) = (omega arith, (omega arith, (omega arith, tt {0})))
 rules_rise core b s (CaseLine x arms) = (omega arith, (omega arith, (omega arith, tt {0})))
 rules_rise core b s (IfLine x) = (omega arith, (omega arith, (omega arith, tt {0})))
+rules_rise core b s (SeveralLine xs tys) = (omega arith, (omega arith, tt {0}))
+rules_rise core b s (TupleLine tys ss packed) = (omega arith, (omega arith, (omega arith, (omega arith, tt {0}))))
+rules_rise core b s PartLine = tt {0}
 
 none_below : (n : ℕ) (js : List Judgement) → RisesPast n js → (rule : ℕ) → rule ≤ n → NoneBelow rule js
 none_below n [] h rule le = tt {0}

@@ -3,14 +3,12 @@ use Rattle.std.proofs.Common.{◌≡◌, ℕ, ◌+◌, ◌<◌, false, ◌||◌,
 use Rattle.std.proofs.Math.Seq.{take-length}
 use Rattle.std.proofs.lemmas.List.{reverse-append, map-append, take_more}
 use Rattle.std.proofs.lemmas.Bool.{eqb-true, false_from_ne_true}
-use Rattle.gib_types.specs.declared.table.Ty.{Ty}
 use Rattle.gib_core.specs.declared.atom.Variable.{Variable}
 use Rattle.gib_core.specs.declared.atom.Atom.{Atom}
-use Rattle.gib_core.specs.declared.atom.Kind.{Kind}
-use Rattle.gib_core.specs.Tree.{Term, On, One}
+use Rattle.gib_core.specs.Tree.{Side, One}
 use Rattle.gib_core.specs.declared.atom.Ended.{Ended}
 use Rattle.gib_core.specs.Ending.{call_ends}
-use Rattle.gib_core.specs.Met.{Setting, behind, behind_side, call_too}
+use Rattle.gib_core.specs.Met.{Setting, behind, behind_side, calls_behind}
 use Rattle.gib_core.specs.Rules.{one_tells, is_outside}
 use Rattle.gib_loccheck.specs.declared.state.Walk.{Walk}
 use Rattle.gib_loccheck.specs.declared.target.Target.{Target}
@@ -49,15 +47,15 @@ pub outside_none : (xs : List Variable) → is_outside (reverse xs) ≡ (length 
 outside_none [] = refl
 outside_none (x ∷ xs) = ap is_outside (reverse-append (x ∷ []) xs) ∙ more_behind (reverse xs) x ∙ sym (false_from_ne_true (length (x ∷ xs) == 0) (λ s. let q = eqb-true (length (x ∷ xs)) 0 s in omega (arith, q)))
 
--- A bound term, behind which its variable is in scope and its call stands before.
-pub binds_one : (a b c d : Walk) (t target : Target) (kind : Kind) (x : Variable) (ty : Ty) (inner : Term) → Kept a b → Binds b c t (behind_side (setting_of b target) (On kind x ty inner)) → Tells c d inner
-    → Binds a d t (behind (setting_of a target) (One (On kind x ty inner)))
-binds_one a b c d t target kind x ty inner k h m = record {
+-- A side, behind which its variables are in scope and its call stands before.
+pub binds_side : (a b c d : Walk) (t target : Target) (side : Side) → Kept a b → Binds b c t (behind_side (setting_of b target) side) → Tells c d (calls_behind side (calls_of c))
+    → Binds a d t (behind (setting_of a target) (One side))
+binds_side a b c d t target side k h m = record {
   more = h.more;
   scope = m.scope ∙ h.scope ∙ ap (λ z. z ++ h.more) k.scope;
   others = m.others ∙ h.others ∙ k.others;
-  setting = told ∙ ap (λ (s : Setting). record s { calls = call_too inner s.calls }) (h.setting ∙ ap (λ (s : Setting). behind_side s (On kind x ty inner)) (setting-kept a b target k));
+  setting = told ∙ ap (λ (s : Setting). record s { calls = calls_behind side s.calls }) (h.setting ∙ ap (λ (s : Setting). behind_side s side) (setting-kept a b target k));
 }
   where
-    told : setting_of d t ≡ record (setting_of c t) { calls = call_too inner (calls_of c) }
-    told = (λ i. record { destination = (setting_of c t).destination; due = t.due; scope = reverse (m.scope i); others = reverse (m.others i); whole = t.whole; calls = m.calls i })
+    told : setting_of d t ≡ record (setting_of c t) { calls = calls_behind side (calls_of c) }
+    told = (λ i. record { destination = (setting_of c t).destination; due = t.due; scope = reverse (m.scope i); others = reverse (m.others i); whole = t.whole; calls = m.told i })

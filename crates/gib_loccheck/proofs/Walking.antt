@@ -3,22 +3,20 @@ use Rattle.std.proofs.Common.{◌≡◌, ℕ, ◌-◌, ◌≤◌, false, List, [
 use Rattle.std.proofs.Math.Seq.{take-length}
 use Rattle.std.proofs.lemmas.List.{reverse-append}
 use Rattle.std.specs.Prelude.{Result}
-use Rattle.gib_types.specs.declared.table.Ty.{Ty}
 use Rattle.gib_types.specs.declared.table.ConId.{ConId}
 use Rattle.gib_syntax.specs.declared.tree.Operator.{Operator}
 use Rattle.gib_core.specs.declared.atom.Variable.{Variable}
 use Rattle.gib_core.specs.declared.atom.Atom.{Atom}
-use Rattle.gib_core.specs.declared.atom.Kind.{Kind}
 use Rattle.gib_core.specs.declared.node.Branch.{Branch}
-use Rattle.gib_core.specs.Tree.{CoreTree, Term, IfTerm, CaseTerm, Bind, Prim, Both, Side, On, variable_of}
+use Rattle.gib_core.specs.Tree.{CoreTree, Term, IfTerm, CaseTerm, Bind, Prim, Both, Side}
 use Rattle.gib_core.specs.Arena.{branches_from}
-use Rattle.gib_core.specs.Met.{Setting, Met, ParLine, CaseLine, IfLine, met, met_bind, met_side, met_branches, reached, behind, behind_side, in_arm, in_branch, arms_of}
+use Rattle.gib_core.specs.Met.{Setting, Met, ParLine, CaseLine, IfLine, met, met_bind, met_side, met_branches, reached, behind, behind_side, left_of, right_of, in_arm, in_branch, arms_of}
 use Rattle.gib_loccheck.specs.declared.state.Walk.{Walk}
 use Rattle.gib_loccheck.specs.declared.target.Target.{Target}
 use Rattle.gib_loccheck.specs.declared.fault.LocFault.{LocFault}
 use Rattle.gib_loccheck.specs.declared.fault.LocFault.TheVariants as fault
 use Rattle.gib_loccheck.specs.Views.{in_scope, setting_of, at_line, arms_in, arm_of, destination_of, call_of}
-use Rattle.gib_loccheck.specs.Judging.{one, Passes, Blames, Kept, Checks, Binds, Enters, with_other, past_field}
+use Rattle.gib_loccheck.specs.Judging.{one, Passes, Blames, Kept, Checks, Binds, Enters, past_side}
 use Rattle.gib_loccheck.proofs.Branching.{ArmsSoFar}
 use Rattle.gib_loccheck.proofs.Judges.{passes_then, checks_then, blames_front, blames_back, setting-kept, kept_then}
 
@@ -112,37 +110,35 @@ module _ (core : CoreTree) where
   par_passes : (a b : Walk) (s : Setting) → Passes core a b (one (in_scope a) ParLine) → Passes core a b (one s ParLine)
   par_passes a b s p = record { unbroken = refl; before = p.before; place = p.place }
 
-  other_kept : (a b : Walk) (target : Target) (x : Variable) → Kept a b → with_other x (setting_of b target) ≡ with_other x (setting_of a target)
-  other_kept a b target x k = ap (with_other x) (setting-kept a b target k)
+  left_kept : (a b : Walk) (target : Target) (side : Side) → Kept a b → left_of (setting_of b target) side ≡ left_of (setting_of a target) side
+  left_kept a b target side k = ap (λ (s : Setting). left_of s side) (setting-kept a b target k)
 
-  past_kept : (a b : Walk) (target next : Target) (kind : Kind) (x : Variable) → Kept a b → ((w : Walk) → setting_of w next ≡ past_field kind x (setting_of w target))
-      → with_other x (setting_of b next) ≡ with_other x (past_field kind x (setting_of a target))
-  past_kept a b target next kind x k e = ap (with_other x) (e b ∙ ap (past_field kind x) (setting-kept a b target k))
+  right_kept : (a b : Walk) (target next : Target) (side : Side) → Kept a b → ((w : Walk) → setting_of w next ≡ past_side side (setting_of w target))
+      → left_of (setting_of b next) side ≡ right_of (setting_of a target) side
+  right_kept a b target next side k e = ap (λ (s : Setting). left_of s side) (e b ∙ ap (past_side side) (setting-kept a b target k))
 
-  pub sides_check : (a b c d : Walk) (target next : Target) (kind : Kind) (x : Variable) (ty : Ty) (t : Term) (r : Side) (y : Variable) (o : Result (Unit {0}) LocFault) → y ≡ variable_of r
+  pub sides_check : (a b c d : Walk) (target next : Target) (l r : Side) (o : Result (Unit {0}) LocFault)
       → Passes core a b (one (in_scope a) ParLine) → Kept a b
-      → Passes core b c (met_side core.table (with_other y (setting_of b target)) (On kind x ty t)) → Kept b c
-      → ((w : Walk) → setting_of w next ≡ past_field kind x (setting_of w target))
-      → Checks core c d (met_side core.table (with_other x (setting_of c next)) r) o
-      → Checks core a d (met_bind core.table (setting_of a target) (Both false (On kind x ty t) r)) o
-  sides_check a b c d target next kind x ty t r y o same p k q l e h =
+      → Passes core b c (met_side core.table (left_of (setting_of b target) r) l) → Kept b c
+      → ((w : Walk) → setting_of w next ≡ past_side l (setting_of w target))
+      → Checks core c d (met_side core.table (left_of (setting_of c next) l) r) o
+      → Checks core a d (met_bind core.table (setting_of a target) (Both false l r)) o
+  sides_check a b c d target next l r o p k q m e h =
       let s = setting_of a target in
-      let y' = variable_of r in
-      let q' = subst (λ (z : Setting). Passes core b c (met_side core.table z (On kind x ty t))) (other_kept a b target y k ∙ ap (λ v. with_other v s) same) q in
-      let h' = subst (λ (z : Setting). Checks core c d (met_side core.table z r) o) (past_kept a c target next kind x (kept_then a b c k l) e) h in
-      checks_then core a b d (one s ParLine) (met_side core.table (with_other y' s) (On kind x ty t) ++ met_side core.table (with_other x (past_field kind x s)) r) o (par_passes a b s p) k
-      (checks_then core b c d (met_side core.table (with_other y' s) (On kind x ty t)) (met_side core.table (with_other x (past_field kind x s)) r) o q' l h')
+      let q' = subst (λ (z : Setting). Passes core b c (met_side core.table z l)) (left_kept a b target r k) q in
+      let h' = subst (λ (z : Setting). Checks core c d (met_side core.table z r) o) (right_kept a c target next l (kept_then a b c k m) e) h in
+      checks_then core a b d (one s ParLine) (met_side core.table (left_of s r) l ++ met_side core.table (right_of s l) r) o (par_passes a b s p) k
+      (checks_then core b c d (met_side core.table (left_of s r) l) (met_side core.table (right_of s l) r) o q' m h')
 
-  pub sides_blame_left : (e : LocFault) (a b : Walk) (target : Target) (kind : Kind) (x : Variable) (ty : Ty) (t : Term) (r : Side) (y : Variable) → y ≡ variable_of r
+  pub sides_blame_left : (e : LocFault) (a b : Walk) (target : Target) (l r : Side)
       → Passes core a b (one (in_scope a) ParLine) → Kept a b
-      → Blames core b (met_side core.table (with_other y (setting_of b target)) (On kind x ty t)) e
-      → Blames core a (met_bind core.table (setting_of a target) (Both false (On kind x ty t) r)) e
-  sides_blame_left e a b target kind x ty t r y same p k q =
+      → Blames core b (met_side core.table (left_of (setting_of b target) r) l) e
+      → Blames core a (met_bind core.table (setting_of a target) (Both false l r)) e
+  sides_blame_left e a b target l r p k q =
       let s = setting_of a target in
-      let y' = variable_of r in
-      let q' = subst (λ (z : Setting). Blames core b (met_side core.table z (On kind x ty t)) e) (other_kept a b target y k ∙ ap (λ v. with_other v s) same) q in
-      blames_back core e a b (one s ParLine) (met_side core.table (with_other y' s) (On kind x ty t) ++ met_side core.table (with_other x (past_field kind x s)) r) (par_passes a b s p)
-      (blames_front core e b (met_side core.table (with_other y' s) (On kind x ty t)) (met_side core.table (with_other x (past_field kind x s)) r) q')
+      let q' = subst (λ (z : Setting). Blames core b (met_side core.table z l) e) (left_kept a b target r k) q in
+      blames_back core e a b (one s ParLine) (met_side core.table (left_of s r) l ++ met_side core.table (right_of s l) r) (par_passes a b s p)
+      (blames_front core e b (met_side core.table (left_of s r) l) (met_side core.table (right_of s l) r) q')
 
   pub sides_blame_par : (e : LocFault) (a : Walk) (target : Target) (l r : Side) → Blames core a (one (in_scope a) ParLine) e → Blames core a (met_bind core.table (setting_of a target) (Both false l r)) e
   sides_blame_par fault.Memory a target l r h = tt {0}

@@ -4,6 +4,7 @@ use Rattle.gib_types.specs.declared.table.Ty.{Ty}
 use Rattle.gib_core.specs.declared.program.CoreFunction.{CoreFunction}
 use Rattle.gib_core.specs.Tree.{CoreTree, Term}
 use Rattle.gib_core.specs.Met.{Body, with_parameters}
+use Rattle.gib_core.specs.Parts.{results_of}
 use Rattle.gib_core.specs.Rules.{broken_in, bind_parameters}
 use Rattle.gib_loccheck.specs.declared.state.Walk.{Walk}
 use Rattle.gib_loccheck.specs.declared.fault.LocFault.{LocFault}
@@ -11,7 +12,7 @@ use Rattle.gib_loccheck.specs.Judging.{Says}
 
 -- The body of a function, where numbers have these terms.
 abbrev pub body_of : (ℕ → Term) → CoreFunction → Body
-body_of f d = record { parameters = d.parameters.items; result = d.result; term = f d.body.0 }
+body_of f d = record { parameters = d.parameters.items; result = results_of d.result; term = f d.body.0 }
 
 -- The bodies of functions, where numbers have these terms.
 abbrev pub bodies_of : (ℕ → Term) → List CoreFunction → List Body

@@ -1,7 +1,7 @@
 -- The state of the walk, as the rules see it.
 use Rattle.std.specs.Prelude.{List, [], ◌∷◌, map, reverse}
 use Rattle.gib_base.specs.declared.name.Name.{Name}
-use Rattle.std.specs.Prelude.{ℕ, false, not, ◌&&◌, ◌||◌, Option, Some, None}
+use Rattle.std.specs.Prelude.{ℕ, Bool, false, not, ◌==◌, ◌&&◌, ◌||◌, length, Option, Some, None}
 use Rattle.gib_core.specs.Tree.{FunctionTerm}
 use Rattle.gib_core.specs.declared.atom.Atom.{Atom}
 use Rattle.gib_core.specs.declared.rule.Rule.{Rule}
@@ -10,9 +10,11 @@ use Rattle.gib_types.specs.declared.table.Ty.TheVariants.{Whole}
 use Rattle.gib_types.specs.declared.table.ConId.{ConId}
 use Rattle.gib_core.specs.declared.atom.Variable.{Variable}
 use Rattle.gib_core.specs.declared.node.Branch.{Branch}
-use Rattle.gib_types.specs.Table.{Table}
-use Rattle.gib_core.specs.Met.{Destination, Nowhere, Empty, Open, Setting, in_arm}
-use Rattle.gib_core.specs.Rules.{Before, Judgement, rule_number, judged, any_other, is_bound, have_types, gives_packed, is_empty, all_usable, call_fits}
+use Rattle.gib_types.specs.Table.{Table, scalar_types, tree_types}
+use Rattle.gib_types.specs.declared.table.Ty.{Ty}
+use Rattle.gib_core.specs.Met.{Destination, Nowhere, Empty, Open, InParts, Setting, in_arm}
+use Rattle.gib_core.specs.PartTypes.{types_in}
+use Rattle.gib_core.specs.Rules.{Before, Judgement, rule_number, judged, any_other, any_bound, is_bound, have_types, gives_packed, is_empty, all_usable, call_fits, are_several, are_declared}
 use Rattle.gib_loccheck.specs.declared.state.Walk.{Walk}
 use Rattle.gib_loccheck.specs.declared.state.Told.{Told}
 use Rattle.gib_loccheck.specs.declared.target.Target.{Target}
@@ -24,6 +26,7 @@ abbrev pub destination_of : Stored → Destination
 destination_of d.Nowhere = Nowhere
 destination_of d.Empty = Empty
 destination_of (d.Open h k standing) = Open h k standing.items
+destination_of (d.InParts types) = InParts (types_in types)
 
 -- A call with its arguments.
 abbrev pub call_of : Told → Name × List Atom
@@ -82,6 +85,14 @@ prim_rules b s x y z =
     judged r.Sides (any_other s (y ∷ z ∷ []))
     ∷ judged r.Scope (is_bound b.bound x || not (all_usable s (y ∷ z ∷ [])))
     ∷ judged r.Types (not (have_types b (y ∷ z ∷ []) (Whole ∷ Whole ∷ []))) ∷ []
+
+-- What the rules on several variables are judged by: neither the core nor what is due matters.
+abbrev pub several_rules : Before → List Variable → List Ty → List Judgement
+several_rules b xs tys = judged r.Scope (any_bound xs [] b.bound) ∷ judged r.Several (not (are_several xs tys)) ∷ []
+
+-- The types of a tuple are declared, its scalars are the scalar ones, and there are so many packed ones.
+abbrev pub is_whole : Table → Before → List Ty → List Atom → ℕ → Bool
+is_whole table b tys ss packed = are_declared table tys && (have_types b ss (scalar_types tys) && packed == length (tree_types tys))
 
 -- The number of a rule that is broken.
 abbrev pub numbered : Option Rule → Option ℕ

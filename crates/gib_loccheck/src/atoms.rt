@@ -1,11 +1,12 @@
 //! Several atoms or variables at once.
 
-ghost use Rattle.std.specs.Prelude.{◌≡◌, [], ◌∷◌};
+ghost use Rattle.std.specs.Prelude.{◌≡◌, [], ◌∷◌, IfOk};
 ghost use Rattle.gib_types.specs.Table.{scalar_types};
-ghost use Rattle.gib_core.specs.Rules.{all_usable as usable, any_other as other, have_types as typed, are_variables as variables_are, any_cased as cased_in, further as further_in};
+ghost use Rattle.gib_core.specs.Rules.{all_usable as usable, any_other as other, have_types as typed, are_variables as variables_are, any_cased as cased_in, further as further_in, any_bound as bound_again};
 ghost use Rattle.gib_loccheck.specs.Views.{in_scope, before_of};
 
-use crate::state::Walk;
+use crate::state::{Walk, is_listed};
+use gib_base::Memory;
 use gib_core::{Atom, Variable};
 use gib_types::Ty;
 
@@ -117,4 +118,20 @@ pub fn further(variables: &[Variable]) -> &[Variable]
         [] => variables,
         [_, after @ ..] => after,
     }
+}
+
+/// Whether one of these variables was bound before, or is there twice.
+pub fn any_bound(walk: &Walk, variables: &[Variable]) -> Result<bool, Memory>
+    ensures { IfOk result (λ again. again ≡ bound_again variables.now [] (before_of walk.now).bound) }
+{
+    let mut seen = Vec::new(walk.alloc);
+    let mut left = variables;
+    'variables: while let [variable, after @ ..] = left {
+        if walk.bound.has(*variable) || is_listed(&seen, *variable) {
+            return Ok(true);
+        }
+        seen.push(*variable)?;
+        left = after;
+    }
+    Ok(false)
 }

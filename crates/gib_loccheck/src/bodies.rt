@@ -3,7 +3,8 @@
 ghost use Rattle.std.specs.Prelude.{◌≡◌, ◌<◌, [], ◌∷◌, length, None, IfOk, IfErr, OnOk};
 ghost use Rattle.std.specs.List.{AllByRecursion};
 ghost use Rattle.gib_core.specs.Arena.{term_of};
-ghost use Rattle.gib_core.specs.Parts.{IsFunctionInside, core_of};
+ghost use Rattle.gib_syntax.specs.Typing.{one_type as type_of_one};
+ghost use Rattle.gib_core.specs.Parts.{IsFunctionInside, core_of, results_of};
 ghost use Rattle.gib_core.specs.Met.{result_place as place_of};
 ghost use Rattle.gib_core.specs.Rules.{first_broken};
 ghost use Rattle.gib_loccheck.specs.Views.{destination_of};
@@ -19,18 +20,29 @@ use crate::state::Walk;
 use crate::target::{Destination, Target};
 use crate::walk::check_term;
 use gib_base::Memory;
-use gib_core::{Bound, CoreFunction, TermId, Variable};
+use gib_core::{Bound, CoreFunction, CoreResult, TermId, Variable};
 use gib_types::Ty;
 use std::alloc::{AllocError, Global};
 
 /// Where the result of a body is put.
-fn result_place(ty: Ty) -> Destination
-    ensures { destination_of result ≡ place_of ty }
+fn result_place(given: CoreResult) -> Destination
+    ensures { destination_of result ≡ place_of (results_of given) }
 {
-    match ty {
-        Ty::Whole => Destination::Nowhere,
-        Ty::Truth => Destination::Nowhere,
-        Ty::Tree(_) => Destination::Empty,
+    match given {
+        CoreResult::One(Ty::Whole) => Destination::Nowhere,
+        CoreResult::One(Ty::Truth) => Destination::Nowhere,
+        CoreResult::One(Ty::Tree(_)) => Destination::Empty,
+        CoreResult::Several(types) => Destination::InParts(types),
+    }
+}
+
+/// The type of the one thing that a body gives; of several parts, `Int`, which nobody asks.
+fn one_type(given: CoreResult) -> Ty
+    ensures { result ≡ type_of_one (results_of given) }
+{
+    match given {
+        CoreResult::One(ty) => ty,
+        CoreResult::Several(_) => Ty::Whole,
     }
 }
 
@@ -62,17 +74,17 @@ fn check_body(
     core: &IndexedCore,
     walk: &mut Walk,
     parameters: &[Ty],
-    result_type: Ty,
+    given: CoreResult,
     id: TermId,
 ) -> Result<(), LocFault>
     requires { id.0 < length core.now.terms }
-    ensures passes { IfOk result (λ _. Pass (core_of core.now) walk.old.place walk.new.place (record { parameters = parameters.now; result = result_type; term = term_of core.now.terms id.0 } ∷ [])) }
-    ensures broken { IfErr result (Blame (core_of core.now) walk.old.place (record { parameters = parameters.now; result = result_type; term = term_of core.now.terms id.0 } ∷ [])) }
+    ensures passes { IfOk result (λ _. Pass (core_of core.now) walk.old.place walk.new.place (record { parameters = parameters.now; result = results_of given; term = term_of core.now.terms id.0 } ∷ [])) }
+    ensures broken { IfErr result (Blame (core_of core.now) walk.old.place (record { parameters = parameters.now; result = results_of given; term = term_of core.now.terms id.0 } ∷ [])) }
 {
     open_body(walk, parameters)?;
     let target = Target {
-        destination: result_place(result_type),
-        due: result_type,
+        destination: result_place(given),
+        due: one_type(given),
         whole: false,
     };
     check_term(core, walk, target, id)
@@ -119,5 +131,6 @@ pub fn check_bodies(alloc: Global, core: &IndexedCore) -> Result<(), LocFault>
     check_functions(core, &mut walk, core.functions())?;
     let main = core.main();
     let parameters = [main.parameter];
-    check_body(core, &mut walk, &parameters, main.result, main.body)
+    let given = CoreResult::One(main.result);
+    check_body(core, &mut walk, &parameters, given, main.body)
 }

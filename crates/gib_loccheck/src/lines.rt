@@ -1,30 +1,35 @@
 //! The lines, a file for each kind: the rule that such a line breaks first, the line judged, and what stands behind it.
 //! What all kinds share stands here.
 
-ghost use Rattle.std.specs.Prelude.{◌≡◌, ◌+◌, None, IfOk, IfErr, [], true, take, OnOk};
-ghost use Rattle.gib_core.specs.Rules.{or_later};
+ghost use Rattle.std.specs.Prelude.{◌≡◌, ◌+◌, None, IfOk, IfErr, [], true, take, reverse, OnOk};
+ghost use Rattle.gib_core.specs.Rules.{or_later, bind_fields};
 ghost use Rattle.gib_loccheck.specs.Views.{numbered};
-ghost use Rattle.gib_loccheck.specs.Judging.{Says, BindsToo, Stays, Enters};
+ghost use Rattle.gib_loccheck.specs.Judging.{Says, BindsToo, Stays, Enters, EntersAll};
 
 pub mod arm;
+pub mod bound;
 pub mod call;
 pub mod case;
 pub mod condition;
 pub mod give;
 pub mod par;
+pub mod part;
 pub mod past;
 pub mod point;
 pub mod prim;
 pub mod reach;
+pub mod several;
 pub mod side;
+pub mod tuple;
 pub mod write;
 
 use crate::fault::LocFault;
+use crate::index::bound::BoundVariables;
 use crate::state::{Told, Walk};
 use crate::target::Target;
 use gib_base::Memory;
 use gib_core::{Bound, Known, Rule, Variable};
-use gib_types::Ty;
+use gib_types::{Ty, first_type, further_types};
 use std::mem::replace;
 
 /// One more line, with the rule that it breaks first.
@@ -52,6 +57,27 @@ pub fn bind(walk: &mut Walk, variable: Variable, ty: Ty) -> Result<(), LocFault>
     Ok(())
 }
 
+/// Variables were bound with their types: the fields of an arm, or those of parts.
+pub fn bind_variables(
+    bound: &mut BoundVariables,
+    variables: &[Variable],
+    types: &[Ty],
+) -> Result<(), Memory>
+    ensures { OnOk result (reverse bound.new.items ≡ bind_fields variables.now types.now (reverse bound.old.items)) }
+{
+    let mut types_left = types;
+    let mut left = variables;
+    'variables: while let [variable, after @ ..] = left {
+        bound.push(Bound {
+            variable: *variable,
+            ty: first_type(types_left),
+        })?;
+        types_left = further_types(types_left);
+        left = after;
+    }
+    Ok(())
+}
+
 /// A variable that is reached comes into scope.
 pub fn enter(walk: &mut Walk, variable: Variable) -> Result<(), Memory>
     ensures { OnOk result (Enters walk.old walk.new (record { variable = variable; reached = true; behind = None })) }
@@ -61,6 +87,18 @@ pub fn enter(walk: &mut Walk, variable: Variable) -> Result<(), Memory>
         reached: true,
         behind: None,
     })?;
+    Ok(())
+}
+
+/// Variables that are reached come into scope.
+pub fn enter_all(walk: &mut Walk, variables: &[Variable]) -> Result<(), Memory>
+    ensures { OnOk result (EntersAll walk.old walk.new variables.now) }
+{
+    let mut left = variables;
+    'variables: while let [variable, after @ ..] = left {
+        enter(walk, *variable)?;
+        left = after;
+    }
     Ok(())
 }
 

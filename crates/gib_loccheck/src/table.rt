@@ -4,7 +4,7 @@
 ghost use Rattle.std.specs.Prelude.{◌≡◌, length, get_or};
 ghost use Rattle.gib_types.specs.Table.{tree_types};
 ghost use Rattle.gib_types.specs.declared.table.Ty.TheVariants.{Whole};
-ghost use Rattle.gib_core.specs.Rules.{is_of_type as of_type};
+ghost use Rattle.gib_core.specs.Rules.{is_of_type as of_type, is_declared as declared, are_declared as all_declared, same_types as same};
 
 use gib_types::{ConId, Ty, TypeTable};
 
@@ -39,6 +39,52 @@ pub fn packed_at(types: &[Ty], index: usize) -> Ty
         left = after;
     }
     Ty::Whole
+}
+
+/// Whether types are these, as many as there are.
+pub fn same_types(types: &[Ty], others: &[Ty]) -> bool
+    ensures { result ≡ same types.now others.now }
+{
+    let mut left = types;
+    let mut others_left = others;
+    'types: while let [ty, after @ ..] = left {
+        match others_left {
+            [] => return false,
+            [other, others_after @ ..] => {
+                if !ty.is(*other) {
+                    return false;
+                }
+                others_left = others_after;
+                left = after;
+            }
+        }
+    }
+    others_left.is_empty()
+}
+
+/// Whether a type is declared, or a scalar.
+fn is_declared(types: &TypeTable, ty: Ty) -> bool
+    ensures { result ≡ declared types.now ty }
+{
+    match ty {
+        Ty::Whole => true,
+        Ty::Truth => true,
+        Ty::Tree(id) => id.0 < types.type_count(),
+    }
+}
+
+/// Whether all these types are declared, or scalars.
+pub fn are_declared(types: &TypeTable, listed: &[Ty]) -> bool
+    ensures { result ≡ all_declared types.now listed.now }
+{
+    let mut left = listed;
+    'types: while let [ty, after @ ..] = left {
+        if !is_declared(types, *ty) {
+            return false;
+        }
+        left = after;
+    }
+    true
 }
 
 /// Whether the constructor is one of the type.

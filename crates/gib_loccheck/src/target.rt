@@ -1,15 +1,19 @@
 //! What is due at a term.
 
-ghost use Rattle.std.specs.Prelude.{◌≡◌, false, IfOk, OnOk};
-ghost use Rattle.gib_core.specs.Met.{field_due as due_at, stands_too, with_field, in_side};
-ghost use Rattle.gib_core.specs.Rules.{is_nowhere as nowhere, is_empty as empty, has_room as room_in};
+ghost use Rattle.std.specs.Prelude.{◌≡◌, ℕ, false, IfOk, OnOk};
+ghost use Rattle.gib_core.specs.PartTypes.{types_in};
+ghost use Rattle.gib_core.specs.Tree.{Term};
+ghost use Rattle.gib_core.specs.Arena.{side_from};
+ghost use Rattle.gib_core.specs.Met.{field_due as due_at, stands_too, stands_behind, with_field, in_side, in_several, in_part};
+ghost use Rattle.gib_core.specs.Rules.{is_nowhere as nowhere, is_empty as empty, is_in_parts as in_parts, are_due as parts_due, has_room as room_in};
 ghost use Rattle.gib_loccheck.specs.declared.state.Walk.{Walk as State};
 ghost use Rattle.gib_loccheck.specs.Views.{destination_of, setting_of, at_line};
-ghost use Rattle.gib_loccheck.specs.Judging.{past_field};
+ghost use Rattle.gib_loccheck.specs.Judging.{past_side};
+ghost use Rattle.gib_loccheck.specs.declared.target.Target.{Target as Goal};
 
-use crate::table::{packed_at, packed_count};
+use crate::table::{packed_at, packed_count, same_types};
 use gib_base::Memory;
-use gib_core::{Kind, Variable};
+use gib_core::{BoundSide, Kind, PartTypes, Variable};
 use gib_types::{ConId, Ty, TypeTable};
 
 /// Where a value is put.
@@ -25,6 +29,8 @@ pub enum Destination {
         constructor: ConId,
         standing: Vec<Variable>,
     },
+    /// As several parts of these types, each packed one at a place of its own.
+    InParts(PartTypes),
 }
 
 /// What is due at a term: where its value is put, its type, and whether the term begins the right side of
@@ -45,6 +51,7 @@ impl Target {
             Destination::Nowhere => true,
             Destination::Empty => false,
             Destination::Open { .. } => false,
+            Destination::InParts(_) => false,
         }
     }
 
@@ -56,6 +63,31 @@ impl Target {
             Destination::Nowhere => false,
             Destination::Empty => true,
             Destination::Open { .. } => false,
+            Destination::InParts(_) => false,
+        }
+    }
+
+    /// Whether several parts are due.
+    pub fn is_in_parts(&self) -> bool
+        ensures { result ≡ in_parts (destination_of self.now.destination) }
+    {
+        match &self.destination {
+            Destination::Nowhere => false,
+            Destination::Empty => false,
+            Destination::Open { .. } => false,
+            Destination::InParts(_) => true,
+        }
+    }
+
+    /// Whether these are the types of the parts that are due.
+    pub fn are_due(&self, types: &[Ty]) -> bool
+        ensures { result ≡ parts_due (destination_of self.now.destination) types.now }
+    {
+        match &self.destination {
+            Destination::Nowhere => false,
+            Destination::Empty => false,
+            Destination::Open { .. } => false,
+            Destination::InParts(due) => same_types(types, due.as_slice()),
         }
     }
 
@@ -71,6 +103,7 @@ impl Target {
                 standing,
                 ..
             } => standing.len() < packed_count(types.fields(*constructor)),
+            Destination::InParts(_) => false,
         }
     }
 
@@ -86,6 +119,7 @@ impl Target {
                 standing,
                 ..
             } => packed_at(types.fields(*constructor), standing.len()),
+            Destination::InParts(_) => Ty::Whole,
         }
     }
 
@@ -112,11 +146,33 @@ impl Target {
         }
     }
 
-    /// What is due behind a field that stands, or another bound term, before its variable is in scope.
-    pub fn behind_field(&self, kind: Kind, variable: Variable) -> Result<Target, Memory>
-        ensures { IfOk result (λ t. (w : State) → setting_of w t ≡ past_field kind variable (setting_of w self.now)) }
+    /// What is due at the term of several variables of these types.
+    pub fn of_several(types: PartTypes) -> Target
+        ensures { (w : State) (t : Goal) → at_line (setting_of w result) ≡ in_several (setting_of w t) (types_in types) }
     {
-        let destination = self.destination.behind(kind, variable)?;
+        Target {
+            destination: Destination::InParts(types),
+            due: Ty::Whole,
+            whole: false,
+        }
+    }
+
+    /// What is due at the term of a part of this type.
+    pub fn of_part(ty: Ty) -> Target
+        ensures { (w : State) (t : Goal) → at_line (setting_of w result) ≡ in_part (setting_of w t) ty }
+    {
+        Target {
+            destination: Destination::Empty,
+            due: ty,
+            whole: false,
+        }
+    }
+
+    /// What is due behind a side, before its variables are in scope.
+    pub fn behind_side(&self, side: BoundSide) -> Result<Target, Memory>
+        ensures { (f : ℕ → Term) → IfOk result (λ t. (w : State) → setting_of w t ≡ past_side (side_from f side) (setting_of w self.now)) }
+    {
+        let destination = self.destination.behind_side(side)?;
         Ok(Target {
             destination,
             due: self.due,
@@ -138,8 +194,18 @@ impl Target {
 }
 
 impl Destination {
+    /// The destination behind a side.
+    pub fn behind_side(&self, side: BoundSide) -> Result<Destination, Memory>
+        ensures { (f : ℕ → Term) → IfOk result (λ d. destination_of d ≡ stands_behind (side_from f side) (destination_of self.now)) }
+    {
+        match side {
+            BoundSide::One(bound) => self.behind(bound.kind, bound.variable),
+            BoundSide::Several(_) => self.clone(),
+        }
+    }
+
     /// The destination behind a bound term.
-    pub fn behind(&self, kind: Kind, variable: Variable) -> Result<Destination, Memory>
+    fn behind(&self, kind: Kind, variable: Variable) -> Result<Destination, Memory>
         ensures { IfOk result (λ d. destination_of d ≡ stands_too kind variable (destination_of self.now)) }
     {
         match kind {
@@ -161,6 +227,7 @@ impl Destination {
             Destination::Nowhere => {}
             Destination::Empty => {}
             Destination::Open { standing, .. } => standing.push(field)?,
+            Destination::InParts(_) => {}
         }
         Ok(())
     }
@@ -184,6 +251,7 @@ impl Destination {
                     standing,
                 })
             }
+            Destination::InParts(types) => Ok(Destination::InParts(*types)),
         }
     }
 }

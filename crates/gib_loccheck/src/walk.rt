@@ -2,31 +2,37 @@
 
 ghost use Rattle.std.specs.Prelude.{◌<◌, length, false, Some};
 ghost use Rattle.std.specs.List.{AllByRecursion};
-ghost use Rattle.gib_core.specs.Tree.{CaseTerm, IfTerm, One, Both};
-ghost use Rattle.gib_core.specs.Arena.{Opens, IsEnd, IsBindingBelow, IsBranchBelow, layer, term_of, side_from, bind_from, branches_from};
+ghost use Rattle.gib_types.specs.Table.{tree_types};
+ghost use Rattle.gib_core.specs.PartTypes.{types_in};
+ghost use Rattle.gib_core.specs.Tree.{CaseTerm, IfTerm, Tuple as TupleTerm, One, Both};
+ghost use Rattle.gib_core.specs.Arena.{Opens, IsEnd, IsBindingBelow, IsBranchBelow, IsPartBelow, layer, term_in, term_of, side_from, bind_from, parts_from, branches_from};
 ghost use Rattle.gib_core.specs.Parts.{core_of};
-ghost use Rattle.gib_core.specs.Met.{met, met_bind, met_side, met_branches, in_arm};
+ghost use Rattle.gib_core.specs.Met.{met, met_bind, met_side, met_parts, met_branches, left_of, in_arm};
 ghost use Rattle.gib_loccheck.specs.Views.{setting_of, at_line};
-ghost use Rattle.gib_loccheck.specs.Judging.{Checks, ChecksBinding, with_other};
+ghost use Rattle.gib_loccheck.specs.Judging.{Checks, ChecksBinding, part_lines};
 
 use crate::fault::LocFault;
 use crate::index::indexed::IndexedCore;
 use crate::lines::arm::open_arm;
+use crate::lines::bound::{enter_side, open_side, tell_side};
 use crate::lines::call::judge_call;
 use crate::lines::case::judge_case;
 use crate::lines::condition::judge_if;
 use crate::lines::give::judge_give;
-use crate::lines::par::{add_other, enter_sides, judge_par};
+use crate::lines::par::{add_others, enter_sides, judge_par};
+use crate::lines::part::judge_part;
 use crate::lines::past::open_head;
 use crate::lines::point::judge_point;
 use crate::lines::prim::behind_operation;
 use crate::lines::reach::reach_field;
-use crate::lines::side::{enter_side, judge_side, tell};
+use crate::lines::tuple::{Tuple, judge_tuple};
 use crate::lines::write::{Head, judge_write};
 use crate::lines::{begin_line, leave, leave_line};
 use crate::state::Walk;
+use crate::table::packed_at;
 use crate::target::Target;
-use gib_core::{Atom, Binding, BoundTerm, Branch, Node, TermId, Variable};
+use gib_core::{Atom, Binding, BoundSide, Branch, Node, TermId};
+use gib_types::Ty;
 
 /// The term of a number.
 fn node_at(core: &IndexedCore, id: TermId) -> &Node
@@ -103,6 +109,18 @@ fn check_end(
             then_part,
             else_part,
         } => check_if(core, walk, target, *condition, *then_part, *else_part),
+        Node::Tuple {
+            types,
+            scalars,
+            parts,
+        } => {
+            let tuple = Tuple {
+                types: *types,
+                scalars,
+                parts,
+            };
+            check_tuple(core, walk, target, id, &tuple)
+        }
     }
 }
 
@@ -121,7 +139,7 @@ fn check_binding(
 {
     match binding {
         Binding::Past { head, constructor } => { open_head(core, walk, target, head, constructor) }
-        Binding::One(bound) => bind_side(core, walk, target, parent, bound),
+        Binding::One(side) => bind_side(core, walk, target, parent, side),
         Binding::Par { left, right, .. } => { bind_sides(core, walk, target, parent, left, right) }
         Binding::Prim {
             variable,
@@ -133,60 +151,59 @@ fn check_binding(
     }
 }
 
-/// Checks a variable that is bound to a term: its line, and the term's.
+/// Checks what is bound to a term: its line, and the term's.
 #[cycle(lines)]
 fn check_side(
     core: &IndexedCore,
     walk: &mut Walk,
     target: &Target,
     parent: TermId,
-    bound: BoundTerm,
+    side: BoundSide,
 ) -> Result<(), LocFault>
     requires inside { parent.0 < length core.now.terms }
-    requires below { bound.term.0 < parent.0 }
-    ensures { Checks (core_of core.now) walk.old walk.new (met_side core.now.table (setting_of walk.old target.now) (side_from (term_of core.now.terms) bound)) result }
+    requires below { (term_in side).0 < parent.0 }
+    ensures { Checks (core_of core.now) walk.old walk.new (met_side core.now.table (setting_of walk.old target.now) (side_from (term_of core.now.terms) side)) result }
 {
-    judge_side(core, walk, target, bound)?;
-    let inner = target.in_side(core.types(), bound.kind, bound.ty);
-    check_term(core, walk, inner, bound.term)
+    let inner = open_side(core, walk, target, side)?;
+    check_term(core, walk, inner, side.term())
 }
 
-/// Checks a variable that is bound to a term, which comes into scope; what is due behind it.
+/// Checks what is bound to a term and comes into scope; what is due behind it.
 #[cycle(lines)]
 fn bind_side(
     core: &IndexedCore,
     walk: &mut Walk,
     target: &Target,
     parent: TermId,
-    bound: BoundTerm,
+    side: BoundSide,
 ) -> Result<Target, LocFault>
     requires inside { parent.0 < length core.now.terms }
-    requires below { bound.term.0 < parent.0 }
-    ensures { ChecksBinding (core_of core.now) walk.old walk.new (setting_of walk.old target.now) (One (side_from (term_of core.now.terms) bound)) result }
+    requires below { (term_in side).0 < parent.0 }
+    ensures { ChecksBinding (core_of core.now) walk.old walk.new (setting_of walk.old target.now) (One (side_from (term_of core.now.terms) side)) result }
 {
-    check_side(core, walk, target, parent, bound)?;
-    let next = enter_side(walk, target, bound)?;
-    tell(core, walk, bound.term)?;
+    check_side(core, walk, target, parent, side)?;
+    let next = enter_side(walk, target, side)?;
+    tell_side(core, walk, side)?;
     Ok(next)
 }
 
-/// Checks a side of a par, where a variable is the other side's.
+/// Checks a side of a par, beside the other one.
 #[cycle(lines)]
 fn check_beside(
     core: &IndexedCore,
     walk: &mut Walk,
     target: &Target,
     parent: TermId,
-    bound: BoundTerm,
-    other: Variable,
+    side: BoundSide,
+    other: BoundSide,
 ) -> Result<(), LocFault>
     requires inside { parent.0 < length core.now.terms }
-    requires below { bound.term.0 < parent.0 }
-    ensures { Checks (core_of core.now) walk.old walk.new (met_side core.now.table (with_other other (setting_of walk.old target.now)) (side_from (term_of core.now.terms) bound)) result }
+    requires below { (term_in side).0 < parent.0 }
+    ensures { Checks (core_of core.now) walk.old walk.new (met_side core.now.table (left_of (setting_of walk.old target.now) (side_from (term_of core.now.terms) other)) (side_from (term_of core.now.terms) side)) result }
 {
     let outer = walk.others.len();
-    add_other(walk, other)?;
-    check_side(core, walk, target, parent, bound)?;
+    add_others(walk, other)?;
+    check_side(core, walk, target, parent, side)?;
     walk.others.truncate(outer);
     Ok(())
 }
@@ -198,18 +215,18 @@ fn check_sides(
     walk: &mut Walk,
     target: &Target,
     parent: TermId,
-    left: BoundTerm,
-    right: BoundTerm,
+    left: BoundSide,
+    right: BoundSide,
 ) -> Result<(), LocFault>
     requires inside { parent.0 < length core.now.terms }
-    requires left { left.term.0 < parent.0 }
-    requires right { right.term.0 < parent.0 }
+    requires left { (term_in left).0 < parent.0 }
+    requires right { (term_in right).0 < parent.0 }
     ensures { Checks (core_of core.now) walk.old walk.new (met_bind core.now.table (setting_of walk.old target.now) (Both false (side_from (term_of core.now.terms) left) (side_from (term_of core.now.terms) right))) result }
 {
     judge_par(walk)?;
-    check_beside(core, walk, target, parent, left, right.variable)?;
-    let next = target.behind_field(left.kind, left.variable)?;
-    check_beside(core, walk, &next, parent, right, left.variable)
+    check_beside(core, walk, target, parent, left, right)?;
+    let next = target.behind_side(left)?;
+    check_beside(core, walk, &next, parent, right, left)
 }
 
 /// Checks two sides, whose variables come into scope; what is due behind them.
@@ -219,17 +236,75 @@ fn bind_sides(
     walk: &mut Walk,
     target: &Target,
     parent: TermId,
-    left: BoundTerm,
-    right: BoundTerm,
+    left: BoundSide,
+    right: BoundSide,
 ) -> Result<Target, LocFault>
     requires inside { parent.0 < length core.now.terms }
-    requires left { left.term.0 < parent.0 }
-    requires right { right.term.0 < parent.0 }
+    requires left { (term_in left).0 < parent.0 }
+    requires right { (term_in right).0 < parent.0 }
     ensures { ChecksBinding (core_of core.now) walk.old walk.new (setting_of walk.old target.now) (Both false (side_from (term_of core.now.terms) left) (side_from (term_of core.now.terms) right)) result }
 {
     check_sides(core, walk, target, parent, left, right)?;
     let next = enter_sides(walk, target, left, right)?;
     Ok(next)
+}
+
+/// Checks a tuple: its line, and its parts.
+#[cycle(lines)]
+fn check_tuple(
+    core: &IndexedCore,
+    walk: &mut Walk,
+    target: &Target,
+    parent: TermId,
+    tuple: &Tuple<'_>,
+) -> Result<(), LocFault>
+    requires inside { parent.0 < length core.now.terms }
+    requires below { AllByRecursion (IsPartBelow parent.0) tuple.now.parts.now }
+    ensures { Checks (core_of core.now) walk.old walk.new (met core.now.table (setting_of walk.old target.now) (TupleTerm (types_in tuple.now.types) tuple.now.scalars.now (parts_from (term_of core.now.terms) tuple.now.parts.now))) result }
+{
+    judge_tuple(core, walk, target, tuple)?;
+    check_parts(core, walk, target, parent, tuple)
+}
+
+/// Checks the packed parts of a tuple, one after another.
+#[cycle(lines)]
+fn check_parts(
+    core: &IndexedCore,
+    walk: &mut Walk,
+    target: &Target,
+    parent: TermId,
+    tuple: &Tuple<'_>,
+) -> Result<(), LocFault>
+    requires inside { parent.0 < length core.now.terms }
+    requires below { AllByRecursion (IsPartBelow parent.0) tuple.now.parts.now }
+    ensures { Checks (core_of core.now) walk.old walk.new (met_parts core.now.table (setting_of walk.old target.now) (tree_types (types_in tuple.now.types)) (parts_from (term_of core.now.terms) tuple.now.parts.now)) result }
+{
+    let types = tuple.types.as_slice();
+    let mut place = 0;
+    let mut left = tuple.parts;
+    'parts: while let [part, after @ ..] = left {
+        let ty = packed_at(types, place);
+        check_part(core, walk, target, *part, ty)?;
+        place += 1;
+        left = after;
+    }
+    Ok(())
+}
+
+/// Checks a packed part of this type: its line, and its term.
+#[cycle(lines)]
+fn check_part(
+    core: &IndexedCore,
+    walk: &mut Walk,
+    target: &Target,
+    part: TermId,
+    ty: Ty,
+) -> Result<(), LocFault>
+    requires { part.0 < length core.now.terms }
+    ensures { Checks (core_of core.now) walk.old walk.new (part_lines core.now.table (setting_of walk.old target.now) ty (term_of core.now.terms part.0)) result }
+{
+    judge_part(walk)?;
+    check_term(core, walk, Target::of_part(ty), part)
 }
 
 /// Checks a case: its subject, and its branches.

@@ -4,25 +4,27 @@ use Rattle.std.proofs.lemmas.Bool.{eqb-true, or_cases, or_left, or_right}
 use Rattle.gib_types.specs.declared.table.Ty.{Ty}
 use Rattle.gib_types.specs.declared.table.Ty.TheVariants.{Whole, Truth, Tree}
 use Rattle.gib_types.specs.declared.table.ConId.{ConId}
-use Rattle.gib_types.specs.Table.{fields_at}
+use Rattle.gib_types.specs.Table.{fields_at, tree_types, first_type, further_types}
 use Rattle.gib_core.specs.declared.atom.Variable.{Variable}
 use Rattle.gib_core.specs.declared.atom.Atom.{Atom}
 use Rattle.gib_core.specs.declared.atom.Kind.{Kind}
 use Rattle.gib_core.specs.declared.scope.Known.{Known}
 use Rattle.gib_core.specs.declared.scope.Bound.{Bound}
-use Rattle.gib_core.specs.Tree.{Term, Then, Write, Point, CallTerm, Give, CaseTerm, IfTerm, Bind, Past, One, Both, Prim, Reach, On, Branches, NoBranch, BranchThen, prepend, CoreTree}
+use Rattle.gib_core.specs.Tree.{Term, Then, Write, Point, CallTerm, Give, CaseTerm, IfTerm, Tuple, PartTerms, NoPart, PartThen, Bind, Past, One, Both, Prim, Reach, Side, On, Several, Branches, NoBranch, BranchThen, prepend, CoreTree}
+use Rattle.gib_syntax.specs.Results as results
+use Rattle.gib_syntax.specs.Typing.{one_type}
 use Rattle.gib_core.specs.Inferring.{as_atoms, numbers_from}
-use Rattle.gib_core.specs.Numbering.{binders, bind_binders, IsNumbered, AreNumbered}
+use Rattle.gib_core.specs.Numbering.{binders, bind_binders, side_binders, part_binders, IsNumbered, AreNumbered}
 use Rattle.gib_base.specs.declared.name.Name.{Name}
-use Rattle.gib_core.specs.Met.{call_too, Setting, Line, PastLine, SideLine, ParLine, PrimLine, ReachLine, WriteLine, PointLine, CallLine, GiveLine, CaseLine, IfLine, Met, reached, in_side, behind, left_of, right_of, in_arm, in_branch, arms_of, met, met_bind, met_side, met_branches, with_parameters, result_place, Body, bodies, opening}
+use Rattle.gib_core.specs.Met.{call_too, Setting, Line, PastLine, SideLine, ParLine, PrimLine, ReachLine, WriteLine, PointLine, CallLine, GiveLine, CaseLine, IfLine, SeveralLine, TupleLine, PartLine, Met, reached, in_side, in_several, in_part, behind, left_of, right_of, in_arm, in_branch, arms_of, met, met_bind, met_side, met_parts, met_branches, with_parameters, result_place, Body, bodies, opening}
 use Rattle.gib_core.specs.Rules.{Before, is_among, arm_variables, rules, least, next, next_all, bind_parameters, before_body}
 use Rattle.gib_core.specs.Reachable.{all_reached, LinesAreReachable, IsReachable, AreReachable}
 use Rattle.gib_place.specs.declared.field.Field.{Field}
-use Rattle.gib_core.specs.Counting.{count, count_bind, count_branches, is_once}
-use Rattle.gib_place.specs.Placing.{pointing, place_line, as_bound, placed_inside, place_inner, inner_bind, inner_branches, place, place_body}
+use Rattle.gib_core.specs.Counting.{count, count_bind, count_side, count_parts, count_branches, is_once}
+use Rattle.gib_place.specs.Placing.{pointing, place_line, as_bound, placed_inside, place_inner, inner_bind, inner_side, inner_parts, inner_branches, place, place_body}
 use Rattle.gib_place.specs.Renaming.{Renaming, rename}
 use Rattle.gib_place.specs.Numbering.{place_in, variables_in, number_anew, place_anew, place_core}
-use Rattle.gib_core.proofs.Walks.{Keeps, same_arms, map_keeps, map_bind_keeps}
+use Rattle.gib_core.proofs.Walks.{Keeps, same_arms, same_count, map_keeps, map_bind_keeps}
 use Rattle.gib_core.proofs.After.{in_turn}
 use Rattle.gib_core.proofs.Maps.{map_behind}
 use Rattle.gib_core.proofs.Remade.{all_both, remade_so, same_call}
@@ -32,8 +34,8 @@ use Rattle.gib_place.proofs.Lays.{Lays, ends, opens, puts, stays, one, left, rig
 use Rattle.gib_place.proofs.Counts.{occurs, occurs_append, line_by_steps, ending_line, before_uses, before_binds, place_binds}
 use Rattle.gib_place.proofs.Positions.{place_tells}
 use Rattle.gib_place.proofs.Lines.{setting_by, before_lines_by, reachable_renamed, parameters_by, bound_parameters_by}
-use Rattle.gib_place.proofs.Wider.{nums, times, times_among, branch_terms, branch_occurs, case_nums, entry_casing, casing, casing_bind, casing_side, case_counts, casing_counts, bind_casing_counts, gains_term, cased_after, bind_cased_after, side_cased_after}
-use Rattle.gib_place.proofs.Weaken.{Scoped, Room, Ahead, ahead_less, ahead_first, Like, ahead_term, ahead_side, ahead_bound, ahead_two, reachable_append, ahead_behind, wider_term, wider_side, wider_branches}
+use Rattle.gib_place.proofs.Wider.{nums, times, times_among, branch_terms, branch_occurs, case_nums, entry_casing, casing, casing_bind, casing_side, case_counts, casing_counts, bind_casing_counts, gains_all, gains_term, cased_after, bind_cased_after, side_cased_after}
+use Rattle.gib_place.proofs.Weaken.{Scoped, Room, Ahead, ahead_less, ahead_first, Like, LikeSides, same_one, same_several, ahead_term, ahead_side, ahead_bound, ahead_two, reachable_append, ahead_behind, wider_term, wider_side, wider_parts, wider_branches}
 use Rattle.gib_place.proofs.Ended.{Uses, KeepsIt, line_keeps}
 use Rattle.gib_place.proofs.Cores.{body_differs, parameters_stay}
 
@@ -100,6 +102,27 @@ module _ (once : Variable → Bool) where
       let p = place_binds once t y in let q = terms_placed rest y in
       let m = occurs_append (binders (place once t)) (branch_terms (inner_branches once rest)) y in let n = occurs_append (binders t) (branch_terms rest) y in omega arith
 
+  side_binds : (side : Side) (y : ℕ) → occurs (side_binders (inner_side once side)) y ≤ occurs (side_binders side) y
+  side_binds (On kind x ty t) y = let p = place_binds once t y in omega arith
+  side_binds (Several xs tys t) y =
+      let ns = map (λ (x : Variable). x.0) xs in
+      let p = place_binds once t y in let m = occurs_append ns (binders (place once t)) y in let n = occurs_append ns (binders t) y in omega arith
+
+  parts_bind : (ps : PartTerms) (y : ℕ) → occurs (part_binders (inner_parts once ps)) y ≤ occurs (part_binders ps) y
+  parts_bind NoPart y = omega arith
+  parts_bind (PartThen t ps) y =
+      let p = place_binds once t y in let q = parts_bind ps y in
+      let m = occurs_append (binders (place once t)) (part_binders (inner_parts once ps)) y in let n = occurs_append (binders t) (part_binders ps) y in omega arith
+
+  -- The sides of a par stand beside the same variables.
+  left_placed : (r : Side) (s : Setting) → left_of s (inner_side once r) ≡ left_of s r
+  left_placed (On kind x ty t) s = refl
+  left_placed (Several xs tys t) s = refl
+
+  right_placed : (l : Side) (s : Setting) → right_of s (inner_side once l) ≡ right_of s l
+  right_placed (On kind x ty t) s = refl
+  right_placed (Several xs tys t) s = refl
+
   behind_placed : (s : Setting) (b : Bind) → behind s (inner_bind once b) ≡ behind s b
   behind_placed s b = map_behind as_bound (placed_inside once) (λ t cs. line_call once t cs) s b
 
@@ -117,6 +140,10 @@ module _ (core : CoreTree) (once : Variable → Bool) where
   like : (t : Term) → Like t (place once t)
   like t = record { binds = place_binds once t; cases = place_casing once t }
 
+  likes : (side : Side) → LikeSides side (inner_side once side)
+  likes (On kind x ty t) = same_one (like t)
+  likes (Several xs tys t) = same_several (like t)
+
   -- What is met twice with the same in scope.
   again : {from : List Known} {b : Before} {xs : List ℕ} → Scoped from b → Room b xs → Ahead from b from b xs
   again sc ro = record { wider = record { scope = λ y m. m; types = λ y m. refl; cased = refl }; scoped = sc; room = ro; room' = ro }
@@ -125,23 +152,19 @@ module _ (core : CoreTree) (once : Variable → Bool) where
   bind_again : (bd : Bind) (xs : List ℕ) (s : Setting) (b : Before) → Ahead s.scope b s.scope b (bind_binders bd ++ xs) → R b (met_bind core.table s bd)
       → Ahead (behind s bd).scope (next_all core.table b (met_bind core.table s bd)) (behind s bd).scope (next_all core.table b (met_bind core.table s (inner_bind once bd))) xs
   bind_again (Past h k) xs s b a r = ahead_behind core (Past h k) xs s b s.scope b a r
-  bind_again (One (On kind x ty t)) xs s b a r = ahead_bound core.table kind kind x ty t (place once t) xs s s (like t) a
-  bind_again (Both fork (On kind x ty t) (On other z uy u)) xs s b a r =
-      let l = On kind x ty t in
-      let rt = On other z uy u in
-      ahead_two core kind x ty t (place once t) other z uy u (place once u) xs (left_of s rt) (right_of s l) (left_of s rt) (right_of s l) (like t) (like u) a
+  bind_again (One side) xs s b a r = ahead_bound core.table side (inner_side once side) xs s s (likes side) a
+  bind_again (Both fork l rt) xs s b a r =
+      let l' = inner_side once l in
+      let rt' = inner_side once rt in
+      ahead_two core l l' rt rt' xs (left_of s rt) (right_of s l) (left_of s rt') (right_of s l') (likes l) (likes rt) a
   bind_again (Prim x f v w) xs s b a r = ahead_behind core (Prim x f v w) xs s b s.scope b a r
   bind_again (Reach x by) xs s b a r = absurd (reaches_none core b s x by r.0)
 
   in_scope : (s : Setting) (kind : Kind) (ty : Ty) (b : Before) (x : Variable) → Scoped s.scope b → Scoped (in_side core.table s kind ty).scope (next core.table b (SideLine kind x ty))
   in_scope s kind ty b x sc y m = let k = sc y (ap (λ (ks : List Known). has ks y) (sym (in_side_scope core.table s kind ty)) ∙ m) in omega arith
 
-  side_keeps : (kind : Kind) (x : Variable) (ty : Ty) (t : Term) → KeepsIt core once t (place_inner once t) → (s : Setting) (b : Before) → Scoped s.scope b → Room b (x.0 ∷ binders t)
-      → ((y : Variable) → once y ≡ true → times b.cased y.0 + count t y ≤ 1) → R b (met_side core.table s (On kind x ty t)) → R b (met_side core.table s (On kind x ty (place once t)))
-  side_keeps kind x ty t h s b sc ro us r = (
-    r.0,
-    whole_of t h (in_side core.table s kind ty) (next core.table b (SideLine kind x ty)) (in_scope s kind ty b x sc) (λ y. let o = ro y in omega arith) (λ y o. let v = us y o in omega arith) r.1,
-  )
+  several_scope : (s : Setting) (xs : List Variable) (tys : List Ty) (b : Before) → Scoped s.scope b → Scoped s.scope (next core.table b (SeveralLine xs tys))
+  several_scope s xs tys b sc y m = let k = sc y m in let g = (gains_all xs tys b).counts y.0 in omega arith
 
   mutual
     inner_keeps : (t : Term) → KeepsIt core once t (place_inner once t)
@@ -186,26 +209,61 @@ module _ (core : CoreTree) (once : Variable → Bool) where
               (whole_of u (λ s1 b2 c1 r1 u1 h. inner_keeps u s1 b2 c1 r1 u1 h) si b1 n.scoped n.room
               (λ y o. let z = us y o in let m = ap (λ c. times c y.0) (cased_after core.table t si b) in let p = casing_counts t b.cased y in omega arith) rs.1)),
         )
+    inner_keeps (Tuple tys ss ps) s b sc ro us r =
+        subst (λ (n : ℕ). (least (rules core b (all_reached s) (TupleLine tys ss n)) ≡ None) × R (next core.table b (TupleLine tys ss n)) (met_parts core.table s (tree_types tys) (inner_parts once ps))) (sym (same_count as_bound (placed_inside once) ps))
+        (r.0, parts_keep ps (tree_types tys) s b sc ro (λ y o. let u = us y o in omega arith) r.1)
+
+    parts_keep : (ps : PartTerms) (tys : List Ty) (s : Setting) (b : Before) → Scoped s.scope b → Room b (part_binders ps) → ((y : Variable) → once y ≡ true → times b.cased y.0 + count_parts ps y ≤ 1)
+        → R b (met_parts core.table s tys ps) → R b (met_parts core.table s tys (inner_parts once ps))
+    parts_keep NoPart tys s b sc ro us r = tt
+    parts_keep (PartThen t ps) tys s b sc ro us r =
+        let si = in_part s (first_type tys) in
+        let xs = met core.table si t in
+        let xs' = met core.table si (place once t) in
+        let rs = reachable_split core b xs (met_parts core.table s (further_types tys) ps) r.1 in
+        let b1 = next_all core.table b xs in
+        let a = again sc ro in
+        let n = ahead_term core.table t (place once t) (part_binders ps) si si (like t) a in (
+          refl,
+          reachable_append core b xs' (met_parts core.table s (further_types tys) (inner_parts once ps))
+              (whole_of t (λ s1 b2 c1 r1 u1 h. inner_keeps t s1 b2 c1 r1 u1 h) si b sc (ahead_first (binders t) (part_binders ps) a).room (λ y o. let z = us y o in omega arith) rs.0)
+              (wider_parts core (inner_parts once ps) (further_types tys) s b1 s.scope (next_all core.table b xs') (ahead_less n (parts_bind once ps))
+              (parts_keep ps (further_types tys) s b1 n.scoped n.room
+              (λ y o. let z = us y o in let m = ap (λ c. times c y.0) (cased_after core.table t si b) in let p = casing_counts t b.cased y in omega arith) rs.1)),
+        )
+
+    side_keeps : (side : Side) (s : Setting) (b : Before) → Scoped s.scope b → Room b (side_binders side) → ((y : Variable) → once y ≡ true → times b.cased y.0 + count_side side y ≤ 1) → R b (met_side core.table s side) → R b (met_side core.table s (inner_side once side))
+    side_keeps (On kind x ty t) s b sc ro us r = (
+      r.0,
+      whole_of t (λ s1 b2 c1 r1 u1 h. inner_keeps t s1 b2 c1 r1 u1 h) (in_side core.table s kind ty) (next core.table b (SideLine kind x ty)) (in_scope s kind ty b x sc) (λ y. let o = ro y in omega arith) (λ y o. let v = us y o in omega arith) r.1,
+    )
+    side_keeps (Several xs tys t) s b sc ro us r = (
+      r.0,
+      whole_of t (λ s1 b2 c1 r1 u1 h. inner_keeps t s1 b2 c1 r1 u1 h) (in_several s tys) (next core.table b (SeveralLine xs tys)) (several_scope s xs tys b sc)
+          (λ y. let o = ro y in let e = occurs_append (map (λ (x : Variable). x.0) xs) (binders t) y in let g = (gains_all xs tys b).counts y in omega arith) (λ y o. let v = us y o in omega arith) r.1,
+    )
 
     bind_keeps : (bd : Bind) (s : Setting) (b : Before) → Scoped s.scope b → Room b (bind_binders bd) → ((y : Variable) → once y ≡ true → times b.cased y.0 + count_bind bd y ≤ 1) → R b (met_bind core.table s bd) → R b (met_bind core.table s (inner_bind once bd))
     bind_keeps (Past h k) s b sc ro us r = r
-    bind_keeps (One (On kind x ty t)) s b sc ro us r = side_keeps kind x ty t (λ s1 b2 c1 r1 u1 h. inner_keeps t s1 b2 c1 r1 u1 h) s b sc ro (λ y o. let v = us y o in omega arith) r
-    bind_keeps (Both fork (On kind x ty t) (On other z uy u)) s b sc ro us r =
-        let l = On kind x ty t in
-        let rt = On other z uy u in
+    bind_keeps (One side) s b sc ro us r = side_keeps side s b sc ro us r
+    bind_keeps (Both fork l rt) s b sc ro us r =
+        let l' = inner_side once l in
+        let rt' = inner_side once rt in
         let sl = left_of s rt in
         let sr = right_of s l in
         let L = met_side core.table sl l in
-        let L' = met_side core.table sl (On kind x ty (place once t)) in
+        let L' = met_side core.table sl l' in
         let rs = reachable_split core b L (met_side core.table sr rt) r.1 in
         let a = again sc ro in
-        let n = ahead_side core.table kind kind x ty t (place once t) (z.0 ∷ binders u) sl sl (like t) a in (
+        let n = ahead_side core.table l l' (side_binders rt) sl sl (likes l) a in (
           refl,
-          reachable_append core b L' (met_side core.table sr (On other z uy (place once u)))
-              (side_keeps kind x ty t (λ s1 b2 c1 r1 u1 h. inner_keeps t s1 b2 c1 r1 u1 h) sl b sc (ahead_first (x.0 ∷ binders t) (z.0 ∷ binders u) a).room (λ y o. let v = us y o in omega arith) rs.0)
-              (wider_side core (On other z uy (place once u)) sr (next_all core.table b L) s.scope (next_all core.table b L') (ahead_less n (λ y. let p = place_binds once u y in omega arith))
-              (side_keeps other z uy u (λ s1 b2 c1 r1 u1 h. inner_keeps u s1 b2 c1 r1 u1 h) sr (next_all core.table b L) n.scoped n.room
-              (λ y o. let v = us y o in let m = ap (λ c. times c y.0) (side_cased_after core.table l sl b) in let p = casing_counts t b.cased y in omega arith) rs.1)),
+          subst (λ (z : Setting). R b (met_side core.table z l' ++ met_side core.table (right_of s l') rt')) (sym (left_placed once rt s))
+              (subst (λ (z : Setting). R b (L' ++ met_side core.table z rt')) (sym (right_placed once l s))
+              (reachable_append core b L' (met_side core.table sr rt')
+              (side_keeps l sl b sc (ahead_first (side_binders l) (side_binders rt) a).room (λ y o. let v = us y o in omega arith) rs.0)
+              (wider_side core rt' sr (next_all core.table b L) s.scope (next_all core.table b L') (ahead_less n (side_binds once rt))
+              (side_keeps rt sr (next_all core.table b L) n.scoped n.room
+              (λ y o. let v = us y o in let m = ap (λ c. times c y.0) (side_cased_after core.table l sl b) in let p = bind_casing_counts (One l) b.cased y in omega arith) rs.1)))),
         )
     bind_keeps (Prim x f v w) s b sc ro us r = r
     bind_keeps (Reach x by) s b sc ro us r = r
@@ -265,6 +323,9 @@ module _ (core : CoreTree) where
   line_placed b s (GiveLine x) e = e
   line_placed b s (CaseLine x arms) e = e
   line_placed b s (IfLine x) e = e
+  line_placed b s (SeveralLine xs tys) e = e
+  line_placed b s (TupleLine tys ss packed) e = e
+  line_placed b s PartLine e = e
 
   lines_placed : (b : Before) (ms : List Met) → LinesAreReachable core b ms → LinesAreReachable (place_core core) b ms
   lines_placed b [] h = tt
@@ -282,12 +343,13 @@ module _ (core : CoreTree) where
       go true y m = omega arith
       go false y m = let k = h y m in omega arith
 
-  result_by : (r : Renaming) (res : Ty) (s : Setting) → s.destination ≡ result_place res → (setting_by r s).destination ≡ result_place res
-  result_by r Whole s e = ap (λ d. (setting_by r (record s { destination = d })).destination) e
-  result_by r Truth s e = ap (λ d. (setting_by r (record s { destination = d })).destination) e
-  result_by r (Tree t) s e = ap (λ d. (setting_by r (record s { destination = d })).destination) e
+  result_by : (r : Renaming) (res : results.Results Ty) (s : Setting) → s.destination ≡ result_place res → (setting_by r s).destination ≡ result_place res
+  result_by r (results.One Whole) s e = ap (λ d. (setting_by r (record s { destination = d })).destination) e
+  result_by r (results.One Truth) s e = ap (λ d. (setting_by r (record s { destination = d })).destination) e
+  result_by r (results.One (Tree t)) s e = ap (λ d. (setting_by r (record s { destination = d })).destination) e
+  result_by r (results.Several tys) s e = ap (λ d. (setting_by r (record s { destination = d })).destination) e
 
-  body_reachable : (ps : List Ty) (res : Ty) (t : Term) → IsNumbered (record { parameters = ps; result = res; term = t }) → IsReachable core (record { parameters = ps; result = res; term = t })
+  body_reachable : (ps : List Ty) (res : results.Results Ty) (t : Term) → IsNumbered (record { parameters = ps; result = res; term = t }) → IsReachable core (record { parameters = ps; result = res; term = t })
       → IsReachable (place_core core) (record { parameters = ps; result = res; term = number_anew (length ps) (place_body t) })
   body_reachable ps res t numbered h =
       let body : Body = record { parameters = ps; result = res; term = t } in
@@ -301,7 +363,7 @@ module _ (core : CoreTree) where
       (λ y o. let same : count t y ≡ 1 = eqb-true (count t y) 1 o in omega arith) h in
       let renamed = reachable_renamed by (place_tells (variables_in (length ps) (place_body t))) core b s (place_body t) placed in
       let same_b : before_lines_by by b ≡ b = λ i. record { bound = bound_parameters_by by 0 ps [] stay i; cased = [] } in
-      let same_s : setting_by by s ≡ s = λ i. record { destination = result_by by res s refl i; due = res; scope = parameters_by by 0 ps [] stay i; others = []; whole = false; calls = [] } in
+      let same_s : setting_by by s ≡ s = λ i. record { destination = result_by by res s refl i; due = one_type res; scope = parameters_by by 0 ps [] stay i; others = []; whole = false; calls = [] } in
       lines_placed b (met core.table s (number_anew (length ps) (place_body t)))
       (subst (λ (z : Before). LinesAreReachable core z (met core.table s (rename by (place_body t)))) same_b
       (subst (λ (z : Setting). LinesAreReachable core (before_lines_by by b) (met core.table z (rename by (place_body t)))) same_s renamed))

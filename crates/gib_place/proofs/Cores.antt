@@ -8,7 +8,7 @@ use Rattle.gib_types.specs.Table.{Table}
 use Rattle.gib_types.specs.Tree.{Datum}
 use Rattle.gib_syntax.specs.Meaning.{Environment}
 use Rattle.gib_core.specs.declared.atom.Variable.{Variable}
-use Rattle.gib_core.specs.Tree.{Term, variables_from, CoreTree}
+use Rattle.gib_core.specs.Tree.{Term, variables_from, CoreTree, Results}
 use Rattle.gib_core.specs.Meaning.{Calls, bind, mean, core_calls, core_run}
 use Rattle.gib_core.specs.Inferring.{numbers_from}
 use Rattle.gib_core.specs.Numbering.{binders, IsNumbered, AreNumbered}
@@ -77,7 +77,7 @@ map_length f [] = refl
 map_length f (x ∷ xs) = ap suc (map_length f xs)
 
 -- A body that is numbered.
-module _ (ps : List Ty) (result : Ty) (t : Term) (numbered : IsNumbered (record { parameters = ps; result = result; term = t })) where
+module _ (ps : List Ty) (result : Results Ty) (t : Term) (numbered : IsNumbered (record { parameters = ps; result = result; term = t })) where
   abbrev placed : Term
   placed = place_body t
 

@@ -5,7 +5,7 @@ use Rattle.gib_types.specs.declared.table.ConId.{ConId}
 use Rattle.gib_core.specs.declared.atom.Variable.{Variable}
 use Rattle.gib_core.specs.declared.atom.Atom.{Atom}
 use Rattle.gib_core.specs.declared.atom.Kind.TheVariants.{Here, Region, Scalar}
-use Rattle.gib_core.specs.Tree.{Term, Then, Write, Point, CallTerm, Give, CaseTerm, IfTerm, Bind, Past, One, Both, Prim, Reach, On, prepend}
+use Rattle.gib_core.specs.Tree.{Term, Then, Write, Point, CallTerm, Give, CaseTerm, IfTerm, Tuple, Bind, Past, One, Both, Prim, Reach, On, Several, prepend}
 use Rattle.gib_core.specs.Inferring.{as_atoms}
 use Rattle.gib_core.specs.Numbering.{numbers_in, binders, bind_binders, side_binders}
 use Rattle.gib_core.proofs.Walks.{Maps, map_joins}
@@ -76,18 +76,21 @@ is_ending (CallTerm f xs) = tt
 is_ending (Give x) = tt
 is_ending (CaseTerm x bs) = tt
 is_ending (IfTerm x t u) = tt
+is_ending (Tuple tys ss ps) = tt
 is_ending (Then (Past h k) rest) = tt
 is_ending (Then (Both fork l r) rest) = tt
 is_ending (Then (Prim x f y z) rest) = tt
 is_ending (Then (Reach y by) rest) = tt
 is_ending (Then (One (On Region x ty t)) rest) = tt
 is_ending (Then (One (On Scalar x ty t)) rest) = tt
+is_ending (Then (One (Several xs tys t)) rest) = tt
 is_ending (Then (One (On Here x ty (Then b t))) rest) = tt
 is_ending (Then (One (On Here x ty (Write h k ss ps))) rest) = tt
 is_ending (Then (One (On Here x ty (CallTerm f xs))) rest) = tt
 is_ending (Then (One (On Here x ty (Give y))) rest) = tt
 is_ending (Then (One (On Here x ty (CaseTerm y bs))) rest) = tt
 is_ending (Then (One (On Here x ty (IfTerm y t u))) rest) = tt
+is_ending (Then (One (On Here x ty (Tuple tys ss ps))) rest) = tt
 is_ending (Then (One (On Here x ty (Point y))) rest) = field_more (record { variable = x; ty = ty; target = y }) rest (ending_of rest) (is_ending rest)
 
 room_more : (h : Variable) (k : ConId) (t : Term) (e : Option Ending) → IsEnding t e → IsFilling (Then (Past h k) t) (room_first h k e)
@@ -105,6 +108,7 @@ is_filling (CallTerm f xs) = tt
 is_filling (Give x) = tt
 is_filling (CaseTerm x bs) = tt
 is_filling (IfTerm x t u) = tt
+is_filling (Tuple tys ss ps) = tt
 is_filling (Then (Past h k) rest) = room_more h k rest (ending_of rest) (is_ending rest)
 is_filling (Then (One s) rest) = binding_more (One s) rest (filling_of rest) (is_filling rest)
 is_filling (Then (Both fork l r) rest) = binding_more (Both fork l r) rest (filling_of rest) (is_filling rest)

@@ -14,7 +14,7 @@ use Rattle.gib_core.specs.declared.scope.Known.{Known}
 use Rattle.gib_core.specs.Tree.{Term, Then, Write, Bind, Past, prepend, CoreTree}
 use Rattle.gib_core.specs.Inferring.{as_atoms}
 use Rattle.gib_core.specs.Numbering.{binders}
-use Rattle.gib_core.specs.Met.{Destination, Nowhere, Empty, Open, Setting, PastLine, SideLine, WriteLine, PointLine, Met, packed_types, field_due, with_field, in_side, behind, met, met_bind}
+use Rattle.gib_core.specs.Met.{Destination, Nowhere, Empty, Open, InParts, Setting, PastLine, SideLine, WriteLine, PointLine, Met, packed_types, field_due, with_field, in_side, behind, met, met_bind}
 use Rattle.gib_core.specs.Rules.{Before, same_type, is_empty, is_among, type_bound, is_type, has_type, have_types, is_usable, all_usable, is_other, any_other, is_of_type, are_variables, any_cased, further, may_write, are_scalars, rules, next, next_all, type_made}
 use Rattle.gib_core.specs.Reachable.{all_reached, LinesAreReachable}
 use Rattle.gib_place.specs.declared.field.Field.{Field}
@@ -48,6 +48,7 @@ are_empty : (d : Destination) → is_empty d ≡ true → d ≡ Empty
 are_empty Nowhere e = absurd cc
 are_empty Empty e = refl
 are_empty (Open h k standing) e = absurd cc
+are_empty (InParts tys) e = absurd cc
 
 first_others : (s : Setting) (xs ys : List Atom) → any_other s (xs ++ ys) ≡ false → (any_other s xs ≡ false) × (any_other s ys ≡ false)
 first_others s [] ys e = (refl, e)

@@ -10,15 +10,15 @@ use Rattle.gib_core.specs.declared.atom.Atom.{Atom}
 use Rattle.gib_core.specs.declared.atom.Atom.TheVariants as a
 use Rattle.gib_core.specs.declared.atom.Kind.{Kind}
 use Rattle.gib_core.specs.declared.atom.Kind.TheVariants.{Here, Region, Scalar}
-use Rattle.gib_core.specs.Tree.{Term, Then, Write, Point, CallTerm, Give, CaseTerm, IfTerm, Bind, Past, One, Both, Prim, Reach, On, Branches, NoBranch, BranchThen, prepend}
+use Rattle.gib_core.specs.Tree.{Term, Then, Write, Point, CallTerm, Give, CaseTerm, IfTerm, Tuple, PartTerms, NoPart, PartThen, Bind, Past, One, Both, Prim, Reach, Side, On, Several, Branches, NoBranch, BranchThen, prepend}
 use Rattle.gib_core.specs.Meaning.{merge}
-use Rattle.gib_core.specs.Erasing.{ident, nowhere, expression_of, arguments_of, Substitution, put_for, put_in, erase_atom, case_of, arm_before, left_out, let_or_put, erase, erase_bind, erase_branches}
+use Rattle.gib_core.specs.Erasing.{ident, nowhere, expression_of, arguments_of, Substitution, put_for, put_in, erase_atom, case_of, arm_before, left_out, let_or_put, type_name, parameters_of, side_parameters, par_of, erase, erase_bind, erase_side, erase_parts, erase_branches}
 use Rattle.gib_core.specs.Inferring.{as_atoms}
-use Rattle.gib_core.specs.Numbering.{binders, bind_binders, branch_binders}
+use Rattle.gib_core.specs.Numbering.{binders, bind_binders, side_binders, part_binders, branch_binders}
 use Rattle.gib_core.specs.Rules.{is_among}
 use Rattle.gib_place.specs.declared.field.Field.{Field}
-use Rattle.gib_core.specs.Counting.{count_atom, count_in, count, count_bind, count_branches}
-use Rattle.gib_place.specs.Placing.{pointing, Filling, bound_by, bound_in, is_one, are_fields, place_line, as_bound, placed_inside, place_inner, inner_bind, inner_branches, place}
+use Rattle.gib_core.specs.Counting.{count_atom, count_in, count, count_bind, count_side, count_parts, count_branches}
+use Rattle.gib_place.specs.Placing.{pointing, Filling, bound_by, bound_in, is_one, are_fields, place_line, as_bound, placed_inside, place_inner, inner_bind, inner_side, inner_parts, inner_branches, place}
 use Rattle.gib_place.proofs.Lays.{Lays, ends, opens, puts, stays, one, left, right, both, variables, fields_lay}
 use Rattle.gib_place.proofs.Counts.{occurs, occurs_append, targets, ending_line, filling_line, fields_named, line_by_steps, before_uses, before_binds}
 use Rattle.gib_place.proofs.Fitting.{own_count, not_among, is_told, Fit, fit_less, Unused, told, fields_fit, run_unused, scalars_unused}
@@ -88,6 +88,9 @@ out_free F Scalar (CaseTerm x bs) o = tt
 out_free F Here (IfTerm x t u) o = tt
 out_free F Region (IfTerm x t u) o = tt
 out_free F Scalar (IfTerm x t u) o = tt
+out_free F Here (Tuple tys ss ps) o = tt
+out_free F Region (Tuple tys ss ps) o = tt
+out_free F Scalar (Tuple tys ss ps) o = tt
 
 kinds_same : (t : Term) → left_out Here t ≡ left_out Region t
 kinds_same (Then b rest) = refl
@@ -97,6 +100,7 @@ kinds_same (CallTerm f xs) = refl
 kinds_same (Give x) = refl
 kinds_same (CaseTerm x bs) = refl
 kinds_same (IfTerm x t u) = refl
+kinds_same (Tuple tys ss ps) = refl
 
 abbrev erase_all : Table → List Bind → Substitution → (Substitution → Expression) → Expression
 erase_all tb [] sub go = go sub
@@ -134,15 +138,28 @@ module _ (tb : Table) (F : Variable → Bool) where
         λ i. Rattle.gib_syntax.specs.Tree.If nowhere (atom_free F x sub sub' (λ y m. let e = o y m in omega arith) h i)
         (erase_free t sub sub' (λ y m. let e = o y m in omega arith) h i)
         (erase_free u sub sub' (λ y m. let e = o y m in omega arith) h i)
+    erase_free (Tuple tys ss ps) sub sub' o h =
+        λ i. Rattle.gib_syntax.specs.Tree.Tuple nowhere (map (type_name tb) tys)
+        (arguments_of (merge tys (atoms_free F ss sub sub' (λ y m. let e = o y m in omega arith) h i) (parts_free ps sub sub' (λ y m. let e = o y m in omega arith) h i)))
+
+    side_free : (side : Side) (sub sub' : Substitution) → ((y : Variable) → F y ≡ true → count_side side y ≡ 0) → Agree F sub sub' → erase_side tb sub' side ≡ erase_side tb sub side
+    side_free (On kind x ty t) sub sub' o h = erase_free t sub sub' (λ y m. let e = o y m in omega arith) h
+    side_free (Several xs tys t) sub sub' o h = erase_free t sub sub' (λ y m. let e = o y m in omega arith) h
+
+    parts_free : (ps : PartTerms) (sub sub' : Substitution) → ((y : Variable) → F y ≡ true → count_parts ps y ≡ 0) → Agree F sub sub' → erase_parts tb sub' ps ≡ erase_parts tb sub ps
+    parts_free NoPart sub sub' o h = refl
+    parts_free (PartThen t ps) sub sub' o h =
+        λ i. erase_free t sub sub' (λ y m. let e = o y m in omega arith) h i ∷ parts_free ps sub sub' (λ y m. let e = o y m in omega arith) h i
 
     pub bind_free : (b : Bind) (sub sub' : Substitution) → ((y : Variable) → F y ≡ true → count_bind b y ≡ 0) → Agree F sub sub' → (go go' : Substitution → Expression) → Follows b sub sub' go go' → erase_bind tb sub' b go' ≡ erase_bind tb sub b go
     bind_free (Past c k) sub sub' o h go go' f = f sub sub' h (λ y p q. refl) (λ y p q. refl)
     bind_free (One (On kind x ty t)) sub sub' o h go go' f =
         let free : (y : Variable) → F y ≡ true → count t y ≡ 0 = λ y m. let e = o y m in omega arith in
         let_free (left_out kind t) x (erase tb sub t) (erase tb sub' t) sub sub' go go' (out_free F kind t free) (erase_free t sub sub' free h) h f
-    bind_free (Both fork (On kind x ty t) (On other z uy u)) sub sub' o h go go' f =
-        λ i. Rattle.gib_syntax.specs.Tree.Par nowhere (ident x.0) (erase_free t sub sub' (λ y m. let e = o y m in omega arith) h i) (ident z.0) (erase_free u sub sub' (λ y m. let e = o y m in omega arith) h i)
-        (f sub sub' h (λ y p q. refl) (λ y p q. refl) i)
+    bind_free (One (Several xs tys t)) sub sub' o h go go' f =
+        λ i. Rattle.gib_syntax.specs.Tree.LetSeveral nowhere (parameters_of tb xs tys) (erase_free t sub sub' (λ y m. let e = o y m in omega arith) h i) (f sub sub' h (λ y p q. refl) (λ y p q. refl) i)
+    bind_free (Both fork l r) sub sub' o h go go' f =
+        λ i. par_of tb l (side_free l sub sub' (λ y m. let e = o y m in omega arith) h i) r (side_free r sub sub' (λ y m. let e = o y m in omega arith) h i) (f sub sub' h (λ y p q. refl) (λ y p q. refl) i)
     bind_free (Prim x f' v w) sub sub' o h go go' f =
         λ i. Rattle.gib_syntax.specs.Tree.Let nowhere (ident x.0) (Rattle.gib_syntax.specs.Tree.Op nowhere f' (atom_free F v sub sub' (λ y m. let e = o y m in omega arith) h i) (atom_free F w sub sub' (λ y m. let e = o y m in omega arith) h i))
         (f sub sub' h (λ y p q. refl) (λ y p q. refl) i)
@@ -183,6 +200,15 @@ module _ (tb : Table) (F : Variable → Bool) where
     one_same : (x : Variable) (ty : Ty) (t : Term) (s : Substitution) (k : Substitution → Expression) → erase_bind tb s (One (On Here x ty t)) k ≡ erase_bind tb s (One (On Region x ty t)) k
     one_same x ty t s k = ap (λ o. let_or_put o x (erase tb s t) s k) (kinds_same t)
 
+    -- A side of a par is left whatever its kind is.
+    left_same : (x : Variable) (ty : Ty) (t : Term) (r : Side) (d e k : Expression) → par_of tb (On Here x ty t) d r e k ≡ par_of tb (On Region x ty t) d r e k
+    left_same x ty t (On kind z uy u) d e k = refl
+    left_same x ty t (Several zs tys u) d e k = refl
+
+    right_same : (x : Variable) (ty : Ty) (t : Term) (l : Side) (d e k : Expression) → par_of tb l d (On Here x ty t) e k ≡ par_of tb l d (On Region x ty t) e k
+    right_same x ty t (On kind z uy u) d e k = refl
+    right_same x ty t (Several zs tys u) d e k = refl
+
     pub lays_erase : {o : Bool} {bs : List Bind} {fs : List Field} {cs : List Bind} {xs : List Variable} → Lays once (Past room made) o bs fs cs xs → Unused F bs → Fit F bs fs → (sub sub' : Substitution) → Agree F sub sub'
         → (G G' : Substitution → List Atom → Expression) → Ends bs fs sub sub' G G'
         → erase_all tb cs sub' (λ e. G' e (map (put_in e) (as_atoms xs))) ≡ erase_all tb bs sub (λ e. G e (map (put_in e) (targets fs)))
@@ -211,12 +237,12 @@ module _ (tb : Table) (F : Variable → Bool) where
         (λ c c' g r s vs. ap (λ v. G' c' (v ∷ vs)) (placed_put f x c c' e fit.1 g) ∙ z c c' g (keeps_then b bs [] sub d c p r) (keeps_more (bound_in (b ∷ bs)) (variables fs) f.variable sub' c' (keeps_then b bs (variables fs) sub' d' c' q s)) (put_in c f.target ∷ vs)))
     lays_erase (left {fork = fork} {x = x} {ty = ty} {t = t} {r = r} {bs = bs} {f = f} {fs = fs} {cs = cs} o e l) u fit sub sub' h G G' z =
         let b : Bind = Both fork (On Region x ty t) r in
-        step b (Both fork (On Here x ty t) r) bs cs sub sub' (λ e. G e (map (put_in e) (targets (f ∷ fs)))) (λ e. G' e (map (put_in e) (as_atoms (x ∷ _)))) (λ s k. refl) (λ y m. let e = u y m in omega arith) h
+        step b (Both fork (On Here x ty t) r) bs cs sub sub' (λ e. G e (map (put_in e) (targets (f ∷ fs)))) (λ e. G' e (map (put_in e) (as_atoms (x ∷ _)))) (λ s k. left_same x ty t r (erase tb s t) (erase_side tb s r) (k s)) (λ y m. let e = u y m in omega arith) h
         (λ d d' k p q. lays_erase l (λ y m. let z = u y m in omega arith) (fit_less F b bs fs fit.4) d d' k (λ e vs. G e (put_in e f.target ∷ vs)) (λ e vs. G' e (put_in e (a.Variable x) ∷ vs))
         (λ c c' g r s vs. ap (λ v. G' c' (v ∷ vs)) (placed_put f x c c' e fit.1 g) ∙ z c c' g (keeps_then b bs [] sub d c p r) (keeps_more (bound_in (b ∷ bs)) (variables fs) f.variable sub' c' (keeps_then b bs (variables fs) sub' d' c' q s)) (put_in c f.target ∷ vs)))
     lays_erase (right {fork = fork} {l = side} {y = x} {uy = uy} {u = t} {bs = bs} {f = f} {fs = fs} {cs = cs} o e l) u fit sub sub' h G G' z =
         let b : Bind = Both fork side (On Region x uy t) in
-        step b (Both fork side (On Here x uy t)) bs cs sub sub' (λ e. G e (map (put_in e) (targets (f ∷ fs)))) (λ e. G' e (map (put_in e) (as_atoms (x ∷ _)))) (λ s k. refl) (λ y m. let e = u y m in omega arith) h
+        step b (Both fork side (On Here x uy t)) bs cs sub sub' (λ e. G e (map (put_in e) (targets (f ∷ fs)))) (λ e. G' e (map (put_in e) (as_atoms (x ∷ _)))) (λ s k. right_same x uy t side (erase_side tb s side) (erase tb s t) (k s)) (λ y m. let e = u y m in omega arith) h
         (λ d d' k p q. lays_erase l (λ y m. let z = u y m in omega arith) (fit_less F b bs fs fit.4) d d' k (λ e vs. G e (put_in e f.target ∷ vs)) (λ e vs. G' e (put_in e (a.Variable x) ∷ vs))
         (λ c c' g r s vs. ap (λ v. G' c' (v ∷ vs)) (placed_put f x c c' e fit.1 g) ∙ z c c' g (keeps_then b bs [] sub d c p r) (keeps_more (bound_in (b ∷ bs)) (variables fs) f.variable sub' c' (keeps_then b bs (variables fs) sub' d' c' q s)) (put_in c f.target ∷ vs)))
     lays_erase (both {fork = fork} {x = x} {ty = ty} {t = t} {y = w} {uy = uy} {u = v} {bs = bs} {f = f} {g = n} {fs = fs} {cs = cs} o e o' e' l) u fit sub sub' h G G' z =
@@ -297,6 +323,16 @@ module _ (tb : Table) (once : Variable → Bool) where
   term_leaves t few differs h sub =
       line_leaves (place_inner once t) (λ y o. let e = few y o in let f = before_uses once t y in omega arith) (λ y. let e = differs y in let f = before_binds once t y in omega arith) sub ∙ h few differs sub
 
+  -- The same variables are bound.
+  inner_parameters : (side : Side) → side_parameters tb (inner_side once side) ≡ side_parameters tb side
+  inner_parameters (On kind x ty t) = refl
+  inner_parameters (Several xs tys t) = refl
+
+  inner_par : (l r : Side) (d e k : Expression) → par_of tb (inner_side once l) d (inner_side once r) e k ≡ par_of tb l d r e k
+  inner_par (On kind x ty t) (On other z uy u) d e k = refl
+  inner_par (On kind x ty t) (Several zs tys u) d e k = refl
+  inner_par (Several xs tys t) r d e k = ap (λ qs. Rattle.gib_syntax.specs.Tree.ParSeveral nowhere (parameters_of tb xs tys) d qs e k) (inner_parameters r)
+
   mutual
     inner_leaves : (t : Term) → Few t → Differs t → (sub : Substitution) → erase tb sub (place_inner once t) ≡ erase tb sub t
     inner_leaves (Then b rest) few differs sub =
@@ -311,17 +347,30 @@ module _ (tb : Table) (once : Variable → Bool) where
         λ i. Rattle.gib_syntax.specs.Tree.If nowhere (erase_atom sub x)
         (term_leaves t (λ y o. let e = few y o in omega arith) (λ y. let e = differs y in let f = occurs_append (binders t) (binders u) y in omega arith) (λ fw df. inner_leaves t fw df) sub i)
         (term_leaves u (λ y o. let e = few y o in omega arith) (λ y. let e = differs y in let f = occurs_append (binders t) (binders u) y in omega arith) (λ fw df. inner_leaves u fw df) sub i)
+    inner_leaves (Tuple tys ss ps) few differs sub =
+        ap (λ es. Rattle.gib_syntax.specs.Tree.Tuple nowhere (map (type_name tb) tys) (arguments_of (merge tys (map (erase_atom sub) ss) es))) (parts_leave ps (λ y o. let e = few y o in omega arith) differs sub)
+
+    side_leaves : (side : Side) → ((y : Variable) → once y ≡ true → count_side side y ≤ 1) → ((y : ℕ) → occurs (side_binders side) y ≤ 1) → (sub : Substitution) → erase_side tb sub (inner_side once side) ≡ erase_side tb sub side
+    side_leaves (On kind x ty t) few differs sub = term_leaves t (λ y o. let e = few y o in omega arith) (λ y. let e = differs y in omega arith) (λ fw df. inner_leaves t fw df) sub
+    side_leaves (Several xs tys t) few differs sub =
+        term_leaves t (λ y o. let e = few y o in omega arith) (λ y. let e = differs y in let f = occurs_append (map (λ (x : Variable). x.0) xs) (binders t) y in omega arith) (λ fw df. inner_leaves t fw df) sub
+
+    parts_leave : (ps : PartTerms) → ((y : Variable) → once y ≡ true → count_parts ps y ≤ 1) → ((y : ℕ) → occurs (part_binders ps) y ≤ 1) → (sub : Substitution) → erase_parts tb sub (inner_parts once ps) ≡ erase_parts tb sub ps
+    parts_leave NoPart few differs sub = refl
+    parts_leave (PartThen t ps) few differs sub =
+        λ i. term_leaves t (λ y o. let e = few y o in omega arith) (λ y. let e = differs y in let f = occurs_append (binders t) (part_binders ps) y in omega arith) (λ fw df. inner_leaves t fw df) sub i
+        ∷ parts_leave ps (λ y o. let e = few y o in omega arith) (λ y. let e = differs y in let f = occurs_append (binders t) (part_binders ps) y in omega arith) sub i
 
     bind_leaves : (b : Bind) → ((y : Variable) → once y ≡ true → count_bind b y ≤ 1) → ((y : ℕ) → occurs (bind_binders b) y ≤ 1) → (sub : Substitution) (k k' : Substitution → Expression) → ((s : Substitution) → k' s ≡ k s) → erase_bind tb sub (inner_bind once b) k' ≡ erase_bind tb sub b k
     bind_leaves (Past h c) few differs sub k k' e = e sub
     bind_leaves (One (On kind x ty t)) few differs sub k k' e =
         λ i. let_or_put (place_out once kind t i) x (term_leaves t (λ y o. let e = few y o in omega arith) (λ y. let e = differs y in omega arith) (λ fw df. inner_leaves t fw df) sub i) sub (λ s. e s i)
-    bind_leaves (Both fork (On kind x ty t) (On other z uy u)) few differs sub k k' e =
-        λ i. Rattle.gib_syntax.specs.Tree.Par nowhere (ident x.0)
-        (term_leaves t (λ y o. let e = few y o in omega arith) (λ y. let e = differs y in let f = occurs_append (x.0 ∷ binders t) (z.0 ∷ binders u) y in omega arith) (λ fw df. inner_leaves t fw df) sub i)
-        (ident z.0)
-        (term_leaves u (λ y o. let e = few y o in omega arith) (λ y. let e = differs y in let f = occurs_append (x.0 ∷ binders t) (z.0 ∷ binders u) y in omega arith) (λ fw df. inner_leaves u fw df) sub i)
-        (e sub i)
+    bind_leaves (One (Several xs tys t)) few differs sub k k' e =
+        λ i. Rattle.gib_syntax.specs.Tree.LetSeveral nowhere (parameters_of tb xs tys) (side_leaves (Several xs tys t) few differs sub i) (e sub i)
+    bind_leaves (Both fork l r) few differs sub k k' e =
+        (λ i. par_of tb (inner_side once l) (side_leaves l (λ y o. let e = few y o in omega arith) (λ y. let e = differs y in let f = occurs_append (side_binders l) (side_binders r) y in omega arith) sub i)
+        (inner_side once r) (side_leaves r (λ y o. let e = few y o in omega arith) (λ y. let e = differs y in let f = occurs_append (side_binders l) (side_binders r) y in omega arith) sub i) (e sub i))
+        ∙ inner_par l r (erase_side tb sub l) (erase_side tb sub r) (k sub)
     bind_leaves (Prim x f v w) few differs sub k k' e = λ i. Rattle.gib_syntax.specs.Tree.Let nowhere (ident x.0) (Rattle.gib_syntax.specs.Tree.Op nowhere f (erase_atom sub v) (erase_atom sub w)) (e sub i)
     bind_leaves (Reach x by) few differs sub k k' e = e sub
 

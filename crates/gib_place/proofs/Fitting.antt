@@ -5,7 +5,7 @@ use Rattle.std.proofs.lemmas.List.{map-append}
 use Rattle.gib_core.specs.declared.atom.Variable.{Variable}
 use Rattle.gib_core.specs.declared.atom.Atom.{Atom}
 use Rattle.gib_core.specs.declared.atom.Atom.TheVariants as a
-use Rattle.gib_core.specs.Tree.{Bind, Past, One, Both, Prim, Reach, Side, On, variable_of}
+use Rattle.gib_core.specs.Tree.{Bind, Past, One, Both, Prim, Reach, Side, On, Several, variables_of}
 use Rattle.gib_core.specs.Inferring.{as_atoms}
 use Rattle.gib_core.specs.Numbering.{binders, bind_binders, side_binders}
 use Rattle.gib_core.specs.Rules.{is_among}
@@ -47,13 +47,19 @@ told_counted F (a.Variable y) h = false_from_ne_true (F y) (λ m. let e = h y m 
 told_counted F (a.Whole z) h = refl
 told_counted F (a.Truth b) h = refl
 
-side_occurs : (s : Side) (y : ℕ) → (if (variable_of s).0 == y then 1 else 0) ≤ occurs (side_binders s) y
+side_occurs : (s : Side) (y : ℕ) → occurs (map (λ (x : Variable). x.0) (variables_of s)) y ≤ occurs (side_binders s) y
 side_occurs (On kind x ty t) y = omega arith
+side_occurs (Several xs tys t) y = let m = occurs_append (map (λ (x : Variable). x.0) xs) (binders t) y in omega arith
 
 bound_occurs : (b : Bind) (y : ℕ) → occurs (map (λ (x : Variable). x.0) (bound_by b)) y ≤ occurs (bind_binders b) y
 bound_occurs (Past h k) y = omega arith
 bound_occurs (One s) y = let p = side_occurs s y in omega arith
-bound_occurs (Both fork l r) y = let p = side_occurs l y in let q = side_occurs r y in let m = occurs_append (side_binders l) (side_binders r) y in omega arith
+bound_occurs (Both fork l r) y =
+    let p = side_occurs l y in let q = side_occurs r y in
+    let m = occurs_append (side_binders l) (side_binders r) y in
+    let e = ap (λ zs. occurs zs y) (map-append (λ (x : Variable). x.0) (variables_of l) (variables_of r)) in
+    let n = occurs_append (map (λ (x : Variable). x.0) (variables_of l)) (map (λ (x : Variable). x.0) (variables_of r)) y in
+    omega arith
 bound_occurs (Prim x f v w) y = omega arith
 bound_occurs (Reach x by) y = omega arith
 

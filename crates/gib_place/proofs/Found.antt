@@ -9,7 +9,7 @@ use Rattle.gib_core.specs.declared.atom.Atom.{Atom}
 use Rattle.gib_core.specs.declared.atom.Kind.TheVariants.{Here, Region, Scalar}
 use Rattle.gib_core.specs.declared.node.Binding.{Binding}
 use Rattle.gib_core.specs.declared.node.Binding.TheVariants as b
-use Rattle.gib_core.specs.Tree.{Term, Then, Write, Point, CallTerm, Give, CaseTerm, IfTerm, Bind, Past, One, Both, Prim, Reach, On, prepend}
+use Rattle.gib_core.specs.Tree.{Term, Then, Write, Point, CallTerm, Give, CaseTerm, IfTerm, Tuple, Bind, Past, One, Both, Prim, Reach, On, Several, prepend}
 use Rattle.gib_core.specs.Arena.{IsBindingBelow, bind_from, binds_from}
 use Rattle.gib_place.specs.declared.field.Field.{Field}
 use Rattle.gib_place.specs.declared.line.Line.{Line}
@@ -30,8 +30,10 @@ ending_then (One (On Here x ty (CallTerm f xs))) rest = refl
 ending_then (One (On Here x ty (Give y))) rest = refl
 ending_then (One (On Here x ty (CaseTerm y branches))) rest = refl
 ending_then (One (On Here x ty (IfTerm y t u))) rest = refl
+ending_then (One (On Here x ty (Tuple tys ss ps))) rest = refl
 ending_then (One (On Region x ty t)) rest = refl
 ending_then (One (On Scalar x ty t)) rest = refl
+ending_then (One (Several xs tys t)) rest = refl
 ending_then (Both fork l r) rest = refl
 ending_then (Prim x f y z) rest = refl
 ending_then (Reach y by) rest = refl
@@ -49,8 +51,10 @@ field_points (One (On Here x ty (CallTerm g xs))) f e = absurd cc
 field_points (One (On Here x ty (Give y))) f e = absurd cc
 field_points (One (On Here x ty (CaseTerm y branches))) f e = absurd cc
 field_points (One (On Here x ty (IfTerm y t u))) f e = absurd cc
+field_points (One (On Here x ty (Tuple tys ss ps))) f e = absurd cc
 field_points (One (On Region x ty t)) f e = absurd cc
 field_points (One (On Scalar x ty t)) f e = absurd cc
+field_points (One (Several xs tys t)) f e = absurd cc
 field_points (Both fork l r) f e = absurd cc
 field_points (Prim x g y z) f e = absurd cc
 field_points (Reach y by) f e = absurd cc

@@ -15,22 +15,22 @@ use Rattle.gib_core.specs.declared.atom.Kind.{Kind}
 use Rattle.gib_core.specs.declared.atom.Kind.TheVariants.{Here, Region, Scalar}
 use Rattle.gib_core.specs.declared.scope.Known.{Known}
 use Rattle.gib_core.specs.declared.scope.Bound.{Bound}
-use Rattle.gib_core.specs.Tree.{Term, Then, Write, Bind, Past, One, Both, Prim, Reach, Side, On, prepend, CoreTree}
+use Rattle.gib_core.specs.Tree.{Term, Then, Write, Bind, Past, One, Both, Prim, Reach, Side, On, Several, variables_of, prepend, CoreTree}
 use Rattle.gib_core.specs.Inferring.{as_atoms}
 use Rattle.gib_core.specs.Numbering.{binders, bind_binders, side_binders}
-use Rattle.gib_core.specs.Met.{Destination, Nowhere, Empty, Open, Setting, PastLine, SideLine, PrimLine, WriteLine, PointLine, Met, reached, known, packed_types, stands_too, in_side, behind, behind_side, calls_behind, left_of, right_of, met, met_bind, met_side}
+use Rattle.gib_core.specs.Met.{Destination, Nowhere, Empty, Open, InParts, Setting, PastLine, SideLine, PrimLine, WriteLine, PointLine, Met, reached, known, packed_types, stands_too, stands_behind, with_variables, in_side, behind, behind_side, calls_behind, left_of, right_of, met, met_bind, met_side}
 use Rattle.gib_core.specs.Rules.{Before, same_type, is_empty, has_room, is_among, is_bound, type_bound, type_of, is_type, has_type, have_types, is_usable, all_usable, is_other, any_other, is_of_type, are_variables, any_cased, further, rules, next, next_all, type_made}
 use Rattle.gib_core.specs.Reachable.{all_reached, LinesAreReachable}
 use Rattle.gib_place.specs.declared.field.Field.{Field}
 use Rattle.gib_core.specs.Counting.{count}
 use Rattle.gib_place.specs.Placing.{bound_by, bound_in, is_one}
 use Rattle.gib_core.proofs.Along.{none_broken, least_none, next_append, reachable_split, same_variable}
-use Rattle.gib_core.proofs.Cased.{has, reached_where_has, reaches_none, has_less}
+use Rattle.gib_core.proofs.Cased.{has, reached_where_has, has_variables, reaches_none, has_less}
 use Rattle.gib_place.proofs.Lays.{Lays, ends, opens, puts, stays, one, left, right, both, variables}
 use Rattle.gib_place.proofs.Counts.{occurs, occurs_append, binders_all}
 use Rattle.gib_place.proofs.Fitting.{not_among}
 use Rattle.gib_place.proofs.Wider.{nums, times, new_there, own_time, Gains, gains_none, gains_both, gains_term, gains_bind, gains_side}
-use Rattle.gib_place.proofs.Weaken.{scoped, Scoped, Room, Wider, Ahead, ahead_less, ahead_first, like_itself, ahead_side, all_usable_more, types_same, other_eq, any_other_eq, reachable_append, ahead_behind, wider_side, wider_bind}
+use Rattle.gib_place.proofs.Weaken.{scoped, Scoped, Room, Wider, Ahead, ahead_less, ahead_first, likes_itself, ahead_side, all_usable_more, types_same, other_eq, any_other_eq, reachable_append, ahead_behind, wider_side, wider_bind}
 use Rattle.gib_core.proofs.Facts.{same_type_is}
 use Rattle.gib_core.proofs.Suited.{others_behind}
 
@@ -122,13 +122,18 @@ module _ (core : CoreTree) where
   side_empty Here x Nowhere e = e
   side_empty Here x Empty e = e
   side_empty Here x (Open h k standing) e = e
+  side_empty Here x (InParts tys) e = e
   side_empty Region x d e = e
   side_empty Scalar x d e = e
 
+  stands_empty : (side : Side) (d : Destination) → is_empty (stands_behind side d) ≡ true → is_empty d ≡ true
+  stands_empty (On kind x ty t) d e = side_empty kind x d e
+  stands_empty (Several xs tys t) d e = e
+
   was_empty : (bd : Bind) (s : Setting) → is_empty (behind s bd).destination ≡ true → is_empty s.destination ≡ true
   was_empty (Past h k) s e = absurd cc
-  was_empty (One (On kind x ty t)) s e = side_empty kind x s.destination e
-  was_empty (Both fork (On kind x ty t) (On other z uy u)) s e = side_empty kind x s.destination (side_empty other z (stands_too kind x s.destination) e)
+  was_empty (One side) s e = stands_empty side s.destination e
+  was_empty (Both fork l r) s e = stands_empty l s.destination (stands_empty r (stands_behind l s.destination) e)
   was_empty (Prim x f v w) s e = e
   was_empty (Reach y by) s e = e
 
@@ -140,13 +145,21 @@ module _ (core : CoreTree) where
   no_room Nowhere e = absurd cc
   no_room Empty e = refl
   no_room (Open h k standing) e = absurd cc
+  no_room (InParts tys) e = absurd cc
+
+  has_back : (xs : List Variable) (ks : List Known) (y : Variable) → is_among xs y ≡ false → has (with_variables xs ks) y ≡ true → has ks y ≡ true
+  has_back xs ks y o m = sym (ap (λ c. c || has ks y) o) ∙ (sym (has_variables xs ks y) ∙ m)
+
+  still_has : (xs : List Variable) (ks : List Known) (y : Variable) → has ks y ≡ true → has (with_variables xs ks) y ≡ true
+  still_has xs ks y m = has_variables xs ks y ∙ or_right (is_among xs y) (has ks y) m
 
   -- What is in scope behind a run, and is not bound by it, was in scope.
   scope_back : (bd : Bind) (s : Setting) (b : Before) (y : Variable) → R b (met_bind core.table s bd) → has (behind s bd).scope y ≡ true → is_among (bound_by bd) y ≡ false → has s.scope y ≡ true
   scope_back (Past h k) s b y r m o = m
-  scope_back (One (On kind x ty t)) s b y r m o = has_less x s.scope y (or_parts (x.0 == y.0) false o).0 m
-  scope_back (Both fork (On kind x ty t) (On other z uy u)) s b y r m o =
-      let p = or_parts (x.0 == y.0) (z.0 == y.0 || false) o in has_less x s.scope y p.0 (has_less z (reached x ∷ s.scope) y (or_parts (z.0 == y.0) false p.1).0 m)
+  scope_back (One side) s b y r m o = has_back (variables_of side) s.scope y o m
+  scope_back (Both fork l rt) s b y r m o =
+      let p = not_among (variables_of l) (variables_of rt) y o in
+      has_back (variables_of l) s.scope y p.0 (has_back (variables_of rt) (with_variables (variables_of l) s.scope) y p.1 m)
   scope_back (Prim x f v w) s b y r m o = has_less x s.scope y (or_parts (x.0 == y.0) false o).0 m
   scope_back (Reach x by) s b y r m o = absurd (reaches_none core b s x by r.0)
 
@@ -179,10 +192,12 @@ module _ (core : CoreTree) where
   IsApart (On Here x ty t) = ⊥
   IsApart (On Region x ty t) = Unit {0}
   IsApart (On Scalar x ty t) = Unit {0}
+  IsApart (Several xs tys t) = Unit {0}
 
   is_apart : (side : Side) (s : Setting) (b : Before) → is_empty s.destination ≡ true → R b (met_side core.table s side) → IsApart side
   is_apart (On Region x ty t) s b e r = tt
   is_apart (On Scalar x ty t) s b e r = tt
+  is_apart (Several xs tys t) s b e r = tt
   is_apart (On Here x ty t) s b e r =
       both_ways (has_room core.table s.destination) (no_room s.destination e) (not-false (has_room core.table s.destination) (none_broken (rules core b (all_reached s) (SideLine Here x ty)) r.0).0)
 
@@ -190,21 +205,24 @@ module _ (core : CoreTree) where
   still_empty (On Here x ty t) s c e = absurd c
   still_empty (On Region x ty t) s c e = e
   still_empty (On Scalar x ty t) s c e = e
+  still_empty (Several xs tys t) s c e = e
 
   step_left : {d d1 : Destination} {side side' : Side} → Step d d1 side side' → (s : Setting) (e : Destination) (ks : List Known) (w : Bool) → left_of (opened s e ks w) side' ≡ opened (left_of s side) e ks w
-  step_left (keeps {side = On kind x ty t}) s e ks w = refl
+  step_left keeps s e ks w = refl
   step_left (takes lt same) s e ks w = refl
 
   step_right : {d d1 : Destination} {side side' : Side} → Step d d1 side side' → IsApart side → (s : Setting) (ks : List Known) (w : Bool) → right_of (opened s d ks w) side' ≡ opened (right_of s side) d1 ks w
   step_right (keeps {side = On Here x ty t}) c s ks w = absurd c
   step_right (keeps {side = On Region x ty t}) c s ks w = refl
   step_right (keeps {side = On Scalar x ty t}) c s ks w = refl
+  step_right (keeps {side = Several xs tys t}) c s ks w = refl
   step_right (takes lt same) c s ks w = refl
 
   step_behind : {d d1 : Destination} {side side' : Side} → Step d d1 side side' → IsApart side → (s : Setting) (ks : List Known) (w : Bool) → behind_side (opened s d ks w) side' ≡ opened (behind_side s side) d1 (behind_side (scoped s ks) side).scope false
   step_behind (keeps {side = On Here x ty t}) c s ks w = absurd c
   step_behind (keeps {side = On Region x ty t}) c s ks w = refl
   step_behind (keeps {side = On Scalar x ty t}) c s ks w = refl
+  step_behind (keeps {side = Several xs tys t}) c s ks w = refl
   step_behind (takes lt same) c s ks w = refl
 
   calls_stay : {d d1 : Destination} {side side' : Side} → Step d d1 side side' → (cs : List (Name × List Atom)) → calls_behind side' cs ≡ calls_behind side cs
@@ -216,6 +234,7 @@ module _ (core : CoreTree) where
   side_step (keeps {side = On Here x ty t}) s b ks b' w e a r = absurd (is_apart (On Here x ty t) s b e r)
   side_step (keeps {side = On Region x ty t}) s b ks b' w e a r = record { lines = wider_side core (On Region x ty t) s b ks b' a r; after = refl }
   side_step (keeps {side = On Scalar x ty t}) s b ks b' w e a r = record { lines = wider_side core (On Scalar x ty t) s b ks b' a r; after = refl }
+  side_step (keeps {side = Several xs tys t}) s b ks b' w e a r = record { lines = wider_side core (Several xs tys t) s b ks b' a r; after = refl }
   side_step (takes {h = h} {k = k} {done = done} {x = x} {ty = ty} {t = t} lt same) s b ks b' w e a r =
       let due = get_or (packed_types core.table k) (length done) Whole in
       let so = opened s (Open h k done) ks w in
@@ -239,10 +258,8 @@ module _ (core : CoreTree) where
   -- The left side of a par is met at an empty place, and so is the right one where the left one is none of the fields.
   both_step : {d d1 d2 : Destination} (fork : Bool) (l l' r r' : Side) → Step d d1 l l' → Step d1 d2 r r' → (s : Setting) (b : Before) (ks : List Known) (b' : Before) (w : Bool) → is_empty s.destination ≡ true
       → Ahead s.scope b ks b' (side_binders l ++ side_binders r) → R b (met_bind core.table s (Both fork l r)) → BindNew s ks b' d d2 w (Both fork l r) (Both fork l' r')
-  both_step {d} {d1} {d2} fork (On kind x ty t) l' (On other z uy u) r' p q s b ks b' w e a h =
+  both_step {d} {d1} {d2} fork l l' r r' p q s b ks b' w e a h =
       let tb = core.table in
-      let l = On kind x ty t in
-      let r = On other z uy u in
       let L = met_side tb (left_of s r) l in
       let L' = met_side tb (left_of (opened s d ks w) r') l' in
       let R' = met_side tb (right_of (opened s d ks w) l') r' in
@@ -251,8 +268,8 @@ module _ (core : CoreTree) where
       let rs = reachable_split core b L (met_side tb (right_of s l) r) h.1 in
       let c = is_apart l (left_of s r) b e rs.0 in
       let e' = still_empty l s c e in
-      let m = side_step p (left_of s r) b ks b' w e (ahead_first (x.0 ∷ binders t) (z.0 ∷ binders u) a) rs.0 in
-      let n = side_step q (right_of s l) (next_all tb b L) ks (next_all tb b' N) w e' (ahead_side tb kind kind x ty t t (z.0 ∷ binders u) (left_of s r) (left_of (scoped s ks) r) (like_itself t) a) rs.1 in
+      let m = side_step p (left_of s r) b ks b' w e (ahead_first (side_binders l) (side_binders r) a) rs.0 in
+      let n = side_step q (right_of s l) (next_all tb b L) ks (next_all tb b' N) w e' (ahead_side tb l l (side_binders r) (left_of s r) (left_of (scoped s ks) r) (likes_itself l) a) rs.1 in
       let after_l : next_all tb b' L' ≡ next_all tb b' N = ap (λ (v : Setting). next_all tb b' (met_side tb v l')) (step_left q s d ks w) ∙ m.after in
       record {
         lines = (
@@ -264,7 +281,7 @@ module _ (core : CoreTree) where
             next_append tb b' L' R'
             ∙ (ap (λ (v : Before). next_all tb v R') after_l
             ∙ (ap (λ (v : Setting). next_all tb (next_all tb b' N) (met_side tb v r')) (step_right p c s ks w) ∙ (n.after ∙ sym (next_append tb b' N O))));
-        setting = ap (λ (v : Setting). behind_side v r') (step_behind p c s ks w) ∙ step_behind q (is_apart r (right_of s l) (next_all tb b L) e' rs.1) (behind_side s l) (reached x ∷ ks) false;
+        setting = ap (λ (v : Setting). behind_side v r') (step_behind p c s ks w) ∙ step_behind q (is_apart r (right_of s l) (next_all tb b L) e' rs.1) (behind_side s l) (with_variables (variables_of l) ks) false;
       }
 
   prim_stays : (x : Variable) (g : Rattle.gib_syntax.specs.declared.tree.Operator.Operator) (v u : Atom) (s : Setting) (b' : Before) (ks : List Known) (d : Destination) (w : Bool) → R b' (met_bind core.table (scoped s ks) (Prim x g v u)) → R b' (met_bind core.table (opened s d ks w) (Prim x g v u))
@@ -409,15 +426,15 @@ module _ (core : CoreTree) where
 
     has_behind : (bd : Bind) (s : Setting) (b : Before) (ks : List Known) (y : Variable) → R b (met_bind core.table s bd) → has ks y ≡ true → has (behind (scoped s ks) bd).scope y ≡ true
     has_behind (Past c j) s b ks y r m = m
-    has_behind (One (On kind x ty t)) s b ks y r m = or_right (x.0 == y.0) (has ks y) m
-    has_behind (Both fork (On kind x ty t) (On other z uy u)) s b ks y r m = or_right (z.0 == y.0) (x.0 == y.0 || has ks y) (or_right (x.0 == y.0) (has ks y) m)
+    has_behind (One side) s b ks y r m = still_has (variables_of side) ks y m
+    has_behind (Both fork l rt) s b ks y r m = still_has (variables_of rt) (with_variables (variables_of l) ks) y (still_has (variables_of l) ks y m)
     has_behind (Prim x g v w) s b ks y r m = or_right (x.0 == y.0) (has ks y) m
     has_behind (Reach x by) s b ks y r m = absurd (reaches_none core b s x by r.0)
 
     due_behind : (bd : Bind) (s : Setting) → (behind s bd).due ≡ s.due
     due_behind (Past c j) s = refl
-    due_behind (One (On kind x ty t)) s = refl
-    due_behind (Both fork (On kind x ty t) (On other z uy u)) s = refl
+    due_behind (One side) s = refl
+    due_behind (Both fork l r) s = refl
     due_behind (Prim x g v w) s = refl
     due_behind (Reach y by) s = refl
 
@@ -530,10 +547,10 @@ module _ (core : CoreTree) where
     here_has x ks = or_left (x.0 == x.0) (has ks x) (eq-eqb x.0 x.0 refl)
 
     left_has : (fork : Bool) (x : Variable) (ty : Ty) (t : Term) (r : Side) (s : Setting) (ks : List Known) → has (behind (scoped s ks) (Both fork (On Region x ty t) r)).scope x ≡ true
-    left_has fork x ty t (On kind z uy u) s ks = or_right (z.0 == x.0) (x.0 == x.0 || has ks x) (here_has x ks)
+    left_has fork x ty t r s ks = still_has (variables_of r) (reached x ∷ ks) x (here_has x ks)
 
     right_has : (fork : Bool) (l : Side) (z : Variable) (uy : Ty) (u : Term) (s : Setting) (ks : List Known) → has (behind (scoped s ks) (Both fork l (On Region z uy u))).scope z ≡ true
-    right_has fork (On kind x ty t) z uy u s ks = here_has z (reached x ∷ ks)
+    right_has fork l z uy u s ks = here_has z (with_variables (variables_of l) ks)
 
     -- A binding one of whose sides takes the place of the next field: what follows goes on behind it.
     one_more : (bd bd' : Bind) (x : Variable) (ty : Ty) {bs : List Bind} {f : Field} {fs : List Field} {cs : List Bind} → once x ≡ true → f.target ≡ a.Variable x → bind_binders bd' ≡ bind_binders bd

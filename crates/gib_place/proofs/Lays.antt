@@ -1,18 +1,18 @@
 -- How a run is laid, one step after another.
 use Rattle.std.proofs.Common.{◌≡◌, Bool, true, false, not, ◌||◌, ◌==◌, if◌then◌else◌, List, [], ◌∷◌, ◌++◌, map, Option, Some, None, refl, sym, ap, ◌∙◌, subst}
-use Rattle.std.proofs.lemmas.Bool.{eqb-true, and_parts, not-true}
+use Rattle.std.proofs.lemmas.Bool.{eqb-true, and_parts, not-true, or_parts, or_from}
 use Rattle.std.proofs.lemmas.List.{append_assoc}
 use Rattle.gib_types.specs.declared.table.Ty.{Ty}
 use Rattle.gib_core.specs.declared.atom.Variable.{Variable}
 use Rattle.gib_core.specs.declared.atom.Atom.{Atom}
 use Rattle.gib_core.specs.declared.atom.Atom.TheVariants as a
 use Rattle.gib_core.specs.declared.atom.Kind.TheVariants.{Here, Region, Scalar}
-use Rattle.gib_core.specs.Tree.{Term, Bind, Past, One, Both, Prim, Reach, Side, On, variable_of}
+use Rattle.gib_core.specs.Tree.{Term, Bind, Past, One, Both, Prim, Reach, Side, On, Several, variables_of}
 use Rattle.gib_core.specs.Reaching.{is_variable}
 use Rattle.gib_core.specs.Rules.{is_among}
 use Rattle.gib_place.specs.declared.field.Field.{Field}
 use Rattle.gib_place.specs.Placing.{pointing, Cut, before_cut, cut_at, bound_in, is_one, are_there, are_none, PlacedSide, place_at, place_side, PlacedBind, place_one, place_right, place_too, place_both, place_bind, Laid, lay_bind, lay}
-use Rattle.gib_core.proofs.Along.{differ_back}
+use Rattle.gib_core.proofs.Along.{differ_back, among_append}
 
 abbrev pub variables : List Field → List Variable
 variables fs = map (λ (f : Field). f.variable) fs
@@ -77,6 +77,7 @@ module _ (once : Variable → Bool) (room : Bind) where
   IsPlacedSide may (On Region x ty t) fields (Some p) = (once x ≡ true) × (may p.before ≡ true) × (p.side ≡ On Here x ty t) × Cuts x fields p.before p.left
   IsPlacedSide may (On Here x ty t) fields (Some p) = ⊥
   IsPlacedSide may (On Scalar x ty t) fields (Some p) = ⊥
+  IsPlacedSide may (Several xs tys t) fields (Some p) = ⊥
 
   at_placed : (may : List Field → Bool) (x : Variable) (ty : Ty) (t : Term) (fields : List Field) (c : Option Cut) → once x ≡ true → IsCut x fields c → IsPlacedSide may (On Region x ty t) fields (place_at may x ty t c)
   at_placed may x ty t fields None o h = tt
@@ -89,6 +90,7 @@ module _ (once : Variable → Bool) (room : Bind) where
   is_placed : (may : List Field → Bool) (s : Side) (fields : List Field) → IsPlacedSide may s fields (place_side once may s fields)
   is_placed may (On Here x ty t) fields = tt
   is_placed may (On Scalar x ty t) fields = tt
+  is_placed may (Several xs tys t) fields = tt
   is_placed may (On Region x ty t) fields = go (once x) refl
     where
       go : (b : Bool) → once x ≡ b → IsPlacedSide may (On Region x ty t) fields (if b then place_at may x ty t (cut_at x fields) else None)
@@ -105,33 +107,32 @@ module _ (once : Variable → Bool) (room : Bind) where
   out_one x late (a.Whole z) e h = refl
   out_one x late (a.Truth b) e h = refl
 
-  out_swap : (x z : Variable) (late : List Variable) (y : Atom) → is_one (x ∷ z ∷ late) y ≡ false → is_one (z ∷ x ∷ late) y ≡ false
-  out_swap x z late (a.Variable y) e = go (x.0 == y.0) (z.0 == y.0) e
-    where
-      go : (p q : Bool) → (p || (q || is_among late y)) ≡ false → (q || (p || is_among late y)) ≡ false
-      go true true e = absurd cc
-      go true false e = absurd cc
-      go false true e = absurd cc
-      go false false e = e
-  out_swap x z late (a.Whole w) e = refl
-  out_swap x z late (a.Truth b) e = refl
+  out_swap : (x : Variable) (zs late : List Variable) (y : Atom) → is_one (x ∷ (zs ++ late)) y ≡ false → is_one (zs ++ (x ∷ late)) y ≡ false
+  out_swap x zs late (a.Variable y) e =
+      let p = or_parts (x.0 == y.0) (is_among (zs ++ late) y) e in
+      let q = or_parts (is_among zs y) (is_among late y) (sym (among_append zs late y) ∙ p.1) in
+      among_append zs (x ∷ late) y ∙ or_from (is_among zs y) (is_among (x ∷ late) y) q.0 (or_from (x.0 == y.0) (is_among late y) p.0 q.1)
+  out_swap x zs late (a.Whole w) e = refl
+  out_swap x zs late (a.Truth b) e = refl
 
-  one_placed : (bs : List Bind) (s : Side) (fields : List Field) (p : Option PlacedSide) → IsPlacedSide (are_there (bound_in bs)) s fields p → IsPlacedBind bs (One s) fields (place_one (variable_of s) p)
+  one_placed : (bs : List Bind) (s : Side) (fields : List Field) (p : Option PlacedSide) → IsPlacedSide (are_there (bound_in bs)) s fields p → IsPlacedBind bs (One s) fields (place_one p)
   one_placed bs s fields None h = tt
+  one_placed bs (Several vs tys t) fields (Some p) h = absurd h
   one_placed bs (On Here x ty t) fields (Some p) h = absurd h
   one_placed bs (On Scalar x ty t) fields (Some p) h = absurd h
   one_placed bs (On Region x ty t) fields (Some p) h = λ cs xs l.
-      all_put h.3 (bound_in bs) (One (On Region x ty t) ∷ bs) (One p.side ∷ cs) (x ∷ xs) (out_one x (bound_in bs)) h.1
-      (λ f e. subst (λ (s : Side). Lays true (One (On Region x ty t) ∷ bs) (f ∷ p.left) (One s ∷ cs) (x ∷ xs)) (sym h.2) (one h.0 e l))
+      all_put h.3 (bound_in bs) (One (On Region x ty t) ∷ bs) (One p.side ∷ cs) (variables_of p.side ++ xs) (out_one x (bound_in bs)) h.1
+      (λ f e. subst (λ (s : Side). Lays true (One (On Region x ty t) ∷ bs) (f ∷ p.left) (One s ∷ cs) (variables_of s ++ xs)) (sym h.2) (one h.0 e l))
 
-  right_placed : (bs : List Bind) (fork : Bool) (l r : Side) (fields : List Field) (q : Option PlacedSide) → IsPlacedSide (are_there (variable_of l ∷ bound_in bs)) r fields q → IsPlacedBind bs (Both fork l r) fields (place_right fork l r q)
+  right_placed : (bs : List Bind) (fork : Bool) (l r : Side) (fields : List Field) (q : Option PlacedSide) → IsPlacedSide (are_there (variables_of l ++ bound_in bs)) r fields q → IsPlacedBind bs (Both fork l r) fields (place_right fork l q)
   right_placed bs fork l r fields None h = tt
+  right_placed bs fork l (Several vs tys t) fields (Some p) h = absurd h
   right_placed bs fork l (On Here x ty t) fields (Some p) h = absurd h
   right_placed bs fork l (On Scalar x ty t) fields (Some p) h = absurd h
   right_placed bs fork l (On Region y uy u) fields (Some q) h = λ cs xs k.
-      all_put h.3 (variable_of l ∷ bound_in bs) (Both fork l (On Region y uy u) ∷ bs) (Both fork l q.side ∷ cs) (y ∷ xs)
-      (λ z e o. out_swap y (variable_of l) (bound_in bs) z (out_one y (variable_of l ∷ bound_in bs) z e o)) h.1
-      (λ f e. subst (λ (s : Side). Lays true (Both fork l (On Region y uy u) ∷ bs) (f ∷ q.left) (Both fork l s ∷ cs) (y ∷ xs)) (sym h.2) (right h.0 e k))
+      all_put h.3 (variables_of l ++ bound_in bs) (Both fork l (On Region y uy u) ∷ bs) (Both fork l q.side ∷ cs) (variables_of q.side ++ xs)
+      (λ z e o. ap (λ zs. is_one zs z) (append_assoc (variables_of l) (y ∷ []) (bound_in bs)) ∙ out_swap y (variables_of l) (bound_in bs) z (out_one y (variables_of l ++ bound_in bs) z e o)) h.1
+      (λ f e. subst (λ (s : Side). Lays true (Both fork l (On Region y uy u) ∷ bs) (f ∷ q.left) (Both fork l s ∷ cs) (variables_of s ++ xs)) (sym h.2) (right h.0 e k))
 
   -- The first field is cut at.
   first_cut : {y : Variable} {fields pre post : List Field} → Cuts y fields pre post → are_none pre ≡ true → (P : List Field → Type 0) → ((g : Field) → g.target ≡ a.Variable y → P (g ∷ post)) → P fields
@@ -139,30 +140,32 @@ module _ (once : Variable → Bool) (room : Bind) where
   first_cut (there e c) m P h = absurd cc
 
   too_placed : (bs : List Bind) (fork : Bool) (x : Variable) (ty : Ty) (t : Term) (r : Side) (fields : List Field) (p : PlacedSide)
-      → IsPlacedSide (are_there (variable_of r ∷ bound_in bs)) (On Region x ty t) fields (Some p)
+      → IsPlacedSide (are_there (variables_of r ++ bound_in bs)) (On Region x ty t) fields (Some p)
       → (q : Option PlacedSide) → IsPlacedSide are_none r p.left q
-      → IsPlacedBind bs (Both fork (On Region x ty t) r) fields (Some (place_too fork (On Region x ty t) r p q))
+      → IsPlacedBind bs (Both fork (On Region x ty t) r) fields (Some (place_too fork r p q))
   too_placed bs fork x ty t r fields p h None k = λ cs xs l.
-      all_put h.3 (variable_of r ∷ bound_in bs) (Both fork (On Region x ty t) r ∷ bs) (Both fork p.side r ∷ cs) (x ∷ xs) (out_one x (variable_of r ∷ bound_in bs)) h.1
-      (λ f e. subst (λ (s : Side). Lays true (Both fork (On Region x ty t) r ∷ bs) (f ∷ p.left) (Both fork s r ∷ cs) (x ∷ xs)) (sym h.2) (left h.0 e l))
+      all_put h.3 (variables_of r ++ bound_in bs) (Both fork (On Region x ty t) r ∷ bs) (Both fork p.side r ∷ cs) (variables_of p.side ++ xs) (out_one x (variables_of r ++ bound_in bs)) h.1
+      (λ f e. subst (λ (s : Side). Lays true (Both fork (On Region x ty t) r ∷ bs) (f ∷ p.left) (Both fork s r ∷ cs) (variables_of s ++ xs)) (sym h.2) (left h.0 e l))
   too_placed bs fork x ty t (On Here y uy u) fields p h (Some q) k = absurd k
+  too_placed bs fork x ty t (Several vs tys u) fields p h (Some q) k = absurd k
   too_placed bs fork x ty t (On Scalar y uy u) fields p h (Some q) k = absurd k
   too_placed bs fork x ty t (On Region y uy u) fields p h (Some q) k = λ cs xs l.
-      all_put h.3 (y ∷ bound_in bs) (Both fork (On Region x ty t) (On Region y uy u) ∷ bs) (Both fork p.side q.side ∷ cs) (x ∷ y ∷ xs) (out_one x (y ∷ bound_in bs)) h.1
-      (λ f e. first_cut k.3 k.1 (λ (fs : List Field). Lays true (Both fork (On Region x ty t) (On Region y uy u) ∷ bs) (f ∷ fs) (Both fork p.side q.side ∷ cs) (x ∷ y ∷ xs))
-      (λ g d. subst (λ (s : Side). Lays true (Both fork (On Region x ty t) (On Region y uy u) ∷ bs) (f ∷ g ∷ q.left) (Both fork s q.side ∷ cs) (x ∷ y ∷ xs)) (sym h.2)
-      (subst (λ (s : Side). Lays true (Both fork (On Region x ty t) (On Region y uy u) ∷ bs) (f ∷ g ∷ q.left) (Both fork (On Here x ty t) s ∷ cs) (x ∷ y ∷ xs)) (sym k.2) (both h.0 e k.0 d l))))
+      all_put h.3 (y ∷ bound_in bs) (Both fork (On Region x ty t) (On Region y uy u) ∷ bs) (Both fork p.side q.side ∷ cs) ((variables_of p.side ++ variables_of q.side) ++ xs) (out_one x (y ∷ bound_in bs)) h.1
+      (λ f e. first_cut k.3 k.1 (λ (fs : List Field). Lays true (Both fork (On Region x ty t) (On Region y uy u) ∷ bs) (f ∷ fs) (Both fork p.side q.side ∷ cs) ((variables_of p.side ++ variables_of q.side) ++ xs))
+      (λ g d. subst (λ (s : Side). Lays true (Both fork (On Region x ty t) (On Region y uy u) ∷ bs) (f ∷ g ∷ q.left) (Both fork s q.side ∷ cs) ((variables_of s ++ variables_of q.side) ++ xs)) (sym h.2)
+      (subst (λ (s : Side). Lays true (Both fork (On Region x ty t) (On Region y uy u) ∷ bs) (f ∷ g ∷ q.left) (Both fork (On Here x ty t) s ∷ cs) ((x ∷ variables_of s) ++ xs)) (sym k.2) (both h.0 e k.0 d l))))
 
-  both_placed : (bs : List Bind) (fork : Bool) (l r : Side) (fields : List Field) (p : Option PlacedSide) → IsPlacedSide (are_there (variable_of r ∷ bound_in bs)) l fields p → IsPlacedBind bs (Both fork l r) fields (place_both once (bound_in bs) fork l r fields p)
-  both_placed bs fork l r fields None h = right_placed bs fork l r fields (place_side once (are_there (variable_of l ∷ bound_in bs)) r fields) (is_placed (are_there (variable_of l ∷ bound_in bs)) r fields)
+  both_placed : (bs : List Bind) (fork : Bool) (l r : Side) (fields : List Field) (p : Option PlacedSide) → IsPlacedSide (are_there (variables_of r ++ bound_in bs)) l fields p → IsPlacedBind bs (Both fork l r) fields (place_both once (bound_in bs) fork l r fields p)
+  both_placed bs fork l r fields None h = right_placed bs fork l r fields (place_side once (are_there (variables_of l ++ bound_in bs)) r fields) (is_placed (are_there (variables_of l ++ bound_in bs)) r fields)
   both_placed bs fork (On Here x ty t) r fields (Some p) h = absurd h
   both_placed bs fork (On Scalar x ty t) r fields (Some p) h = absurd h
+  both_placed bs fork (Several vs tys t) r fields (Some p) h = absurd h
   both_placed bs fork (On Region x ty t) r fields (Some p) h = too_placed bs fork x ty t r fields p h (place_side once are_none r p.left) (is_placed are_none r p.left)
 
   is_placed_bind : (bs : List Bind) (b : Bind) (fields : List Field) → IsPlacedBind bs b fields (place_bind once (bound_in bs) b fields)
   is_placed_bind bs (Past h k) fields = tt
   is_placed_bind bs (One s) fields = one_placed bs s fields (place_side once (are_there (bound_in bs)) s fields) (is_placed (are_there (bound_in bs)) s fields)
-  is_placed_bind bs (Both fork l r) fields = both_placed bs fork l r fields (place_side once (are_there (variable_of r ∷ bound_in bs)) l fields) (is_placed (are_there (variable_of r ∷ bound_in bs)) l fields)
+  is_placed_bind bs (Both fork l r) fields = both_placed bs fork l r fields (place_side once (are_there (variables_of r ++ bound_in bs)) l fields) (is_placed (are_there (variables_of r ++ bound_in bs)) l fields)
   is_placed_bind bs (Prim x f y z) fields = tt
   is_placed_bind bs (Reach y by) fields = tt
 

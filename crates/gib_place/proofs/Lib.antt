@@ -6,6 +6,7 @@ pub mod Renames
 pub mod Lines
 -- The walk's steps: the clock, spots, and lines that are laid.
 pub mod Timing
+pub mod Neighbours
 pub mod Cutting
 pub mod Found
 pub mod Lays

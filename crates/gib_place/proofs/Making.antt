@@ -1,5 +1,5 @@
 -- What the steps of the walk make of what their parts made.
-use Rattle.std.proofs.Common.{◌≡◌, ℕ, ◌+◌, ◌<◌, ◌≤◌, Bool, true, false, if◌then◌else◌, List, [], ◌∷◌, ◌++◌, map, length, drop, get_or, reverse, Option, Some, None, refl, sym, ap, ◌∙◌, subst, arith}
+use Rattle.std.proofs.Common.{◌≡◌, ℕ, ◌+◌, ◌<◌, ◌≤◌, Bool, true, false, if◌then◌else◌, List, [], ◌∷◌, ◌++◌, map, length, drop, get_or, reverse, Vec, Global, Option, Some, None, refl, sym, ap, ◌∙◌, subst, arith}
 use Rattle.std.specs.Prelude.{Result, Ok, Err, IfOk}
 use Rattle.std.specs.List.{AllByRecursion}
 use Rattle.std.proofs.lemmas.List.{drop_more, drop_all, reverse-append, append-nil, append_assoc, map_push}
@@ -8,22 +8,28 @@ use Rattle.gib_core.specs.declared.atom.Atom.{Atom}
 use Rattle.gib_core.specs.declared.node.Binding.{Binding}
 use Rattle.gib_core.specs.declared.node.Binding.TheVariants as b
 use Rattle.gib_core.specs.declared.node.BoundTerm.{BoundTerm}
+use Rattle.gib_core.specs.declared.node.BoundParts.{BoundParts}
+use Rattle.gib_core.specs.declared.node.BoundSide.{BoundSide}
+use Rattle.gib_core.specs.declared.node.BoundSide.TheVariants as s
+use Rattle.gib_core.specs.declared.part_types.PartTypes.{PartTypes}
+use Rattle.gib_core.specs.PartTypes.{types_in}
 use Rattle.gib_core.specs.declared.node.Branch.{Branch}
 use Rattle.gib_core.specs.declared.node.Node.{Node}
 use Rattle.gib_core.specs.declared.node.Node.TheVariants as n
 use Rattle.gib_core.specs.declared.node.TermId.{TermId}
-use Rattle.gib_core.specs.Tree.{Term, Then, Write, Point, Give, IfTerm, Bind, Past, One, Both, Prim, Reach, Side, On, BranchThen, prepend}
+use Rattle.gib_core.specs.Tree.{Term, Then, Write, Point, Give, CaseTerm, IfTerm, Tuple, PartThen, Bind, Past, One, Both, Prim, Reach, Side, On, Several, BranchThen, variables_from, prepend}
 use Rattle.gib_core.specs.Inferring.{as_atoms}
-use Rattle.gib_core.specs.Arena.{Grows, IsBindingBelow, IsLine, bind_from, binds_from, branches_from, layer, term_of}
+use Rattle.gib_core.specs.Arena.{Grows, IsBindingBelow, IsLine, PartsBelow, term_in, side_from, bind_from, binds_from, parts_from, branches_from, layer, term_of}
 use Rattle.gib_place.specs.declared.field.Field.{Field}
 use Rattle.gib_place.specs.declared.line.Head.{Head}
 use Rattle.gib_place.specs.declared.line.Line.{Line}
 use Rattle.gib_place.specs.declared.line.Laid.{Laid as Made}
-use Rattle.gib_place.specs.Placing.{binding_first, room_first, filling_of, ending_of, fill, are_fields, lay, laid_line, place_line, place_inner, inner_bind, inner_branches, place}
+use Rattle.gib_place.specs.Placing.{binding_first, room_first, filling_of, ending_of, fill, are_fields, lay, laid_line, place_line, place_inner, inner_bind, inner_side, inner_parts, inner_branches, place}
 use Rattle.gib_place.specs.Filled.{field_of, IsOtherEnd, LaysLine, filling_from, ending_with}
-use Rattle.gib_place.specs.Made.{MakesTerm, MakesBinding, MakesBindings, MakesSide, MakesBranch, MakesBranches}
+use Rattle.gib_place.specs.Made.{MakesTerm, MakesBinding, MakesBindings, MakesSide, MakesEnd, MakesParts, MakesBranch, MakesBranches}
 use Rattle.gib_place.proofs.Found.{with_field, ending_then}
-use Rattle.gib_core.proofs.Fronting.{below_more, branches_below_more, binds_same, branches_same, grows_more, grows_none}
+use Rattle.gib_core.proofs.Fronting.{below_more, parts_below_more, branches_below_more, binds_same, parts_same, branches_same, grows_more, grows_none}
+use Rattle.gib_core.proofs.Layers.{side_same}
 use Rattle.gib_core.proofs.Lining.{below_push}
 
 -- What holds of what was made, in each case.
@@ -56,6 +62,7 @@ others_none f (n.Call g xs) o = (refl, refl)
 others_none f (n.Give x) o = (refl, refl)
 others_none f (n.Case x branches) o = (refl, refl)
 others_none f (n.If x t u) o = (refl, refl)
+others_none f (n.Tuple tys ss ps) o = (refl, refl)
 
 pub other_made : (old new : List Node) (bs : List Binding) (made : TermId) (end : Node) → IsOtherEnd end → Grows old new → made.0 < length new → term_of new made.0 ≡ prepend (binds_from (term_of old) bs) (layer (term_of old) (Some end))
     → (once : Variable → Bool) → MakesTerm old new made (place_line once (prepend (binds_from (term_of old) bs) (layer (term_of old) (Some end))))
@@ -121,8 +128,26 @@ end_passed once terms old mid new id bs end node was (Ok made) g below opens is 
     end_made once old mid new bs made (layer (term_of mid) (Some end)) (place_inner once (term_of terms id)) g below (e ∙ sym (ap (place_inner once) (opens ∙ ap (λ z. layer (term_of terms) (Some z)) is))) (m once)
 end_passed once terms old mid new id bs end node was (Err x) g below opens is e m = tt
 
-pub if_made : (once : Variable → Bool) (f : ℕ → Term) (old mid new : List Node) (x : Atom) (t u t' u' : TermId) → MakesTerm old mid t' (place once (f t.0)) → MakesTerm mid new u' (place once (f u.0)) → layer (term_of new) (Some (n.If x t' u')) ≡ place_inner once (IfTerm x (f t.0) (f u.0))
-if_made once f old mid new x t u t' u' h k = λ i. IfTerm x ((k.grows.same t'.0 h.inside ∙ h.is) i) (k.is i)
+-- An end that goes on in other terms.
+pub branching_passed : {E : Type 0} (once : Variable → Bool) (terms old mid new : List Node) (id : ℕ) (bs : List Binding) (end was : Node) (o : Result TermId E) → AllByRecursion (IsBindingBelow (length old)) bs → term_of terms id ≡ layer (term_of terms) (Some was)
+    → MakesEnd old mid end (place_inner once (layer (term_of terms) (Some was))) → IfOk o (λ made. (by : Variable → Bool) → MakesTerm mid new made (place_line by (prepend (binds_from (term_of mid) bs) (layer (term_of mid) (Some end)))))
+    → IfOk o (λ made. MakesTerm old new made (place_line once (prepend (binds_from (term_of old) bs) (place_inner once (term_of terms id)))))
+branching_passed once terms old mid new id bs end was o below opens e m = end_passed once terms old mid new id bs end was was o e.grows below opens refl e.is m
+
+pub case_made : (once : Variable → Bool) (f : ℕ → Term) (old new : List Node) (node : Node) (x : Atom) (bs cs : Vec Branch Global) → node ≡ n.Case x bs → MakesBranches old new cs.items (inner_branches once (branches_from f bs.items)) → MakesEnd old new (n.Case x cs) (place_inner once (layer f (Some node)))
+case_made once f old new node x bs cs e h = record { grows = h.grows; inside = h.inside; other = tt; is = ap (CaseTerm x) h.are ∙ sym (ap (λ z. place_inner once (layer f (Some z))) e) }
+
+pub if_made : (once : Variable → Bool) (f : ℕ → Term) (old mid new : List Node) (node : Node) (x : Atom) (t u t' u' : TermId) → node ≡ n.If x t u → MakesTerm old mid t' (place once (f t.0)) → MakesTerm mid new u' (place once (f u.0)) → MakesEnd old new (n.If x t' u') (place_inner once (layer f (Some node)))
+if_made once f old mid new node x t u t' u' e h k = record {
+  grows = grows_more old mid new h.grows k.grows;
+  inside = (let lt = h.inside in let le = k.grows.longer in omega arith, k.inside);
+  other = tt;
+  is = (λ i. IfTerm x ((k.grows.same t'.0 h.inside ∙ h.is) i) (k.is i)) ∙ sym (ap (λ z. place_inner once (layer f (Some z))) e);
+}
+
+pub tuple_made : (once : Variable → Bool) (f : ℕ → Term) (old new : List Node) (node : Node) (tys : PartTypes) (ss zs : Vec Atom Global) (ps qs : Vec TermId Global) → node ≡ n.Tuple tys ss ps → zs.items ≡ ss.items
+    → MakesParts old new qs.items (inner_parts once (parts_from f ps.items)) → MakesEnd old new (n.Tuple tys zs qs) (place_inner once (layer f (Some node)))
+tuple_made once f old new node tys ss zs ps qs e es h = record { grows = h.grows; inside = h.inside; other = tt; is = (λ i. Tuple (types_in tys) (es i) (h.are i)) ∙ sym (ap (λ z. place_inner once (layer f (Some z))) e) }
 
 inner_line : (once : Variable → Bool) (bs : List Bind) (t : Term) → place_inner once (prepend bs t) ≡ prepend (map (inner_bind once) bs) (place_inner once t)
 inner_line once [] t = refl
@@ -177,18 +202,49 @@ binding_stays once old f (b.Par fork l r) below = absurd (let p = below.0 in ome
 binding_stays once old f (b.Prim x g y z) below = record { grows = grows_none old; inside = tt; is = refl }
 binding_stays once old f (b.Reach y by) below = record { grows = grows_none old; inside = tt; is = refl }
 
-pub one_made : (old new : List Node) (made : BoundTerm) (s : Side) → MakesSide old new made s → MakesBinding old new (b.One made) (One s)
+pub one_made : (old new : List Node) (made : BoundSide) (s : Side) → MakesSide old new made s → MakesBinding old new (b.One made) (One s)
 one_made old new made s h = record { grows = h.grows; inside = h.inside; is = ap One h.is }
 
-pub par_made : (old mid new : List Node) (fork : Bool) (left right : BoundTerm) (l r : Side) → MakesSide old mid left l → MakesSide mid new right r → MakesBinding old new (b.Par fork left right) (Both fork l r)
+pub par_made : (old mid new : List Node) (fork : Bool) (left right : BoundSide) (l r : Side) → MakesSide old mid left l → MakesSide mid new right r → MakesBinding old new (b.Par fork left right) (Both fork l r)
 par_made old mid new fork left right l r h k = record {
   grows = grows_more old mid new h.grows k.grows;
   inside = (let lt = h.inside in let le = k.grows.longer in omega arith, k.inside);
-  is = λ i. Both fork ((ap (On left.kind left.variable left.ty) (k.grows.same left.term.0 h.inside) ∙ h.is) i) (k.is i);
+  is = λ i. Both fork ((side_same (term_of new) (term_of mid) (length mid) left h.inside k.grows.same ∙ h.is) i) (k.is i);
 }
 
-pub side_made : (once : Variable → Bool) (old new : List Node) (s : BoundTerm) (id : TermId) (t : Term) → MakesTerm old new id (place once t) → MakesSide old new (record s { term = id }) (On s.kind s.variable s.ty (place once t))
-side_made once old new s id t h = record { grows = h.grows; inside = h.inside; is = ap (On s.kind s.variable s.ty) h.is }
+pub side_made : (once : Variable → Bool) (f : ℕ → Term) (old new : List Node) (side : BoundSide) (x : BoundTerm) (id : TermId) → side ≡ s.One x → MakesTerm old new id (place once (f (term_in side).0))
+    → MakesSide old new (s.One (record x { term = id })) (inner_side once (side_from f side))
+side_made once f old new side x id e h = record {
+  grows = h.grows;
+  inside = h.inside;
+  is = ap (On x.kind x.variable x.ty) (h.is ∙ ap (λ z. place once (f (term_in z).0)) e) ∙ sym (ap (λ z. inner_side once (side_from f z)) e);
+}
+
+pub several_made : (once : Variable → Bool) (f : ℕ → Term) (old new : List Node) (side : BoundSide) (x : BoundParts) (id : TermId) → side ≡ s.Several x → MakesTerm old new id (place once (f (term_in side).0))
+    → MakesSide old new (s.Several (record x { term = id })) (inner_side once (side_from f side))
+several_made once f old new side x id e h = record {
+  grows = h.grows;
+  inside = h.inside;
+  is = ap (Several (variables_from x.first.0 (types_in x.types)) (types_in x.types)) (h.is ∙ ap (λ z. place once (f (term_in z).0)) e) ∙ sym (ap (λ z. inner_side once (side_from f z)) e);
+}
+
+-- Parts.
+pub parts_none : (once : Variable → Bool) (old : List Node) (f : ℕ → Term) (ts : List TermId) (i : ℕ) → length ts ≤ i → MakesParts old old [] (inner_parts once (parts_from f (drop i ts)))
+parts_none once old f ts i le = record { grows = grows_none old; inside = tt; are = ap (λ z. inner_parts once (parts_from f z)) (sym (drop_all i ts le)) }
+
+pub parts_next : (once : Variable → Bool) (f : ℕ → Term) (old now new : List Node) (made x d : TermId) (done more ts : List TermId) (i j : ℕ) → j ≡ i + 1 → j ≤ length ts → x ≡ get_or ts i d → more ≡ done ++ made ∷ []
+    → MakesParts old now (reverse done) (inner_parts once (parts_from f (drop j ts))) → MakesTerm now new made (place once (f x.0)) → MakesParts old new (reverse more) (inner_parts once (parts_from f (drop i ts)))
+parts_next once f old now new made x d done more ts i j ej le ex em h m =
+    let rest = drop (i + 1) ts in
+    let left : drop i ts ≡ x ∷ rest = drop_more ts i d (omega arith) ∙ ap (λ (z : TermId). z ∷ rest) (sym ex) in
+    let turned : reverse more ≡ made ∷ reverse done = ap reverse em ∙ reverse-append done (made ∷ []) in
+    let h' : MakesParts old now (reverse done) (inner_parts once (parts_from f rest)) = subst (λ k. MakesParts old now (reverse done) (inner_parts once (parts_from f (drop k ts)))) ej h in
+    let both : MakesParts old new (made ∷ reverse done) (inner_parts once (parts_from f (x ∷ rest))) = record {
+      grows = grows_more old now new h.grows m.grows;
+      inside = (m.inside, parts_below_more (length now) (length new) (reverse done) m.grows.longer h.inside);
+      are = λ k. PartThen (m.is k) ((parts_same now new (reverse done) m.grows h'.inside ∙ h'.are) k);
+    } in
+    subst (λ z. MakesParts old new z (inner_parts once (parts_from f (drop i ts)))) (sym turned) (subst (λ z. MakesParts old new (made ∷ reverse done) (inner_parts once (parts_from f z))) (sym left) both)
 
 -- Branches.
 pub branches_none : (once : Variable → Bool) (old : List Node) (f : ℕ → Term) (bs : List Branch) (i : ℕ) → length bs ≤ i → MakesBranches old old [] (inner_branches once (branches_from f (drop i bs)))

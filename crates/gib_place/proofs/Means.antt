@@ -5,20 +5,20 @@ use Rattle.std.proofs.lemmas.Bool.{eq-eqb, both_ways, false_from_ne_true, or_par
 use Rattle.gib_types.specs.Table.{Table, fields_at}
 use Rattle.gib_types.specs.declared.table.ConId.{ConId}
 use Rattle.gib_types.specs.Tree.{Datum, whole, con, data_of}
-use Rattle.gib_syntax.specs.Meaning.{Outcome, Gives, Stops, Environment, value_in, number_in, outcome, choose, is_made_by, is_true, parts}
+use Rattle.gib_syntax.specs.Meaning.{Outcome, Gives, Stops, Environment, value_in, number_in, outcome, choose, is_made_by, is_true, parts, tuple, with_values}
 use Rattle.gib_core.specs.declared.atom.Variable.{Variable}
 use Rattle.gib_core.specs.declared.atom.Atom.{Atom}
 use Rattle.gib_core.specs.declared.atom.Atom.TheVariants as a
 use Rattle.gib_core.specs.declared.atom.Kind.TheVariants.{Region}
-use Rattle.gib_core.specs.Tree.{Term, Then, Write, Point, CallTerm, Give, CaseTerm, IfTerm, Bind, Past, One, Both, Prim, Reach, On, Branches, NoBranch, BranchThen, prepend}
+use Rattle.gib_core.specs.Tree.{Term, Then, Write, Point, CallTerm, Give, CaseTerm, IfTerm, Tuple, PartTerms, NoPart, PartThen, Bind, Past, One, Both, Prim, Reach, Side, On, Several, Branches, NoBranch, BranchThen, variables_of, prepend}
 use Rattle.gib_core.specs.Meaning as core
-use Rattle.gib_core.specs.Meaning.{Calls, value, merge, Reached, Went, from_there, having, mean, run, mean_side, mean_branches, run_all}
+use Rattle.gib_core.specs.Meaning.{Calls, value, bind_side, merge, Reached, Went, from_there, having, mean, run, mean_side, mean_parts, mean_branches, run_all}
 use Rattle.gib_core.specs.Inferring.{as_atoms}
-use Rattle.gib_core.specs.Numbering.{binders, bind_binders, branch_binders}
+use Rattle.gib_core.specs.Numbering.{binders, bind_binders, side_binders, part_binders, branch_binders}
 use Rattle.gib_core.specs.Rules.{is_among}
 use Rattle.gib_place.specs.declared.field.Field.{Field}
-use Rattle.gib_core.specs.Counting.{count_atom, count_in, count, count_bind, count_branches}
-use Rattle.gib_place.specs.Placing.{pointing, Filling, bound_by, bound_in, is_one, are_fields, place_line, place_inner, inner_bind, inner_branches, place}
+use Rattle.gib_core.specs.Counting.{count_atom, count_in, count, count_bind, count_side, count_parts, count_branches}
+use Rattle.gib_place.specs.Placing.{pointing, Filling, bound_by, bound_in, is_one, are_fields, place_line, place_inner, inner_bind, inner_side, inner_parts, inner_branches, place}
 use Rattle.gib_place.proofs.Lays.{Lays, ends, opens, puts, stays, one, left, right, both, variables, fields_lay}
 use Rattle.gib_place.proofs.Counts.{occurs, occurs_append, targets, ending_line, filling_line, fields_named, line_by_steps, before_uses, before_binds}
 use Rattle.gib_place.proofs.Fitting.{own_count, not_among, is_told, Fit, fit_less, Unused, told, fields_fit, run_unused, scalars_unused}
@@ -56,6 +56,10 @@ agree_bind F [] vs env env' h = h
 agree_bind F (x ∷ xs) [] env env' h = agree_bind F xs [] ((x.0, whole (pos 0)) ∷ env) ((x.0, whole (pos 0)) ∷ env') (agree_more F x.0 (whole (pos 0)) env env' h)
 agree_bind F (x ∷ xs) (v ∷ vs) env env' h = agree_bind F xs vs ((x.0, v) ∷ env) ((x.0, v) ∷ env') (agree_more F x.0 v env env' h)
 
+agree_side : (F : Variable → Bool) (side : Side) (v : Datum) (env env' : Environment) → Agree F env env' → Agree F (bind_side side v env) (bind_side side v env')
+agree_side F (On kind x ty t) v env env' h = agree_more F x.0 v env env' h
+agree_side F (Several xs tys t) v env env' h = agree_bind F xs (parts v) env env' h
+
 from_having : (o : Outcome) (f f' : Datum → Reached) (go go' : Environment → Outcome) → ((v : Datum) → from_there (f' v) go' ≡ from_there (f v) go) → from_there (having o f') go' ≡ from_there (having o f) go
 from_having (Stops why) f f' go go' h = refl
 from_having (Gives v) f f' go go' h = h v
@@ -69,10 +73,17 @@ value_here x v env = ap (λ b. if b then v else value_in env x.0) (eq-eqb x.0 x.
 keeps_one : (x : Variable) (v : Datum) (env : Environment) → Keeps (x ∷ []) [] env ((x.0, v) ∷ env)
 keeps_one x v env y e o = value_past x v env y (or_parts (x.0 == y.0) false e).0
 
-keeps_two : (x z : Variable) (v w : Datum) (env : Environment) → Keeps (x ∷ z ∷ []) [] env ((z.0, w) ∷ (x.0, v) ∷ env)
-keeps_two x z v w env y e o =
-    let p = or_parts (x.0 == y.0) (z.0 == y.0 || false) e in
-    value_past z w ((x.0, v) ∷ env) y (or_parts (z.0 == y.0) false p.1).0 ∙ value_past x v env y p.0
+keeps_bind : (xs : List Variable) (vs : List Datum) (env : Environment) → Keeps xs [] env (core.bind xs vs env)
+keeps_bind [] vs env y e o = refl
+keeps_bind (x ∷ xs) [] env y e o = let p = or_parts (x.0 == y.0) (is_among xs y) e in keeps_bind xs [] ((x.0, whole (pos 0)) ∷ env) y p.1 o ∙ value_past x (whole (pos 0)) env y p.0
+keeps_bind (x ∷ xs) (v ∷ vs) env y e o = let p = or_parts (x.0 == y.0) (is_among xs y) e in keeps_bind xs vs ((x.0, v) ∷ env) y p.1 o ∙ value_past x v env y p.0
+
+keeps_side : (side : Side) (v : Datum) (env : Environment) → Keeps (variables_of side) [] env (bind_side side v env)
+keeps_side (On kind x ty t) v env = keeps_one x v env
+keeps_side (Several xs tys t) v env = keeps_bind xs (parts v) env
+
+keeps_two : (l r : Side) (v w : Datum) (env : Environment) → Keeps (variables_of l ++ variables_of r) [] env (bind_side r w (bind_side l v env))
+keeps_two l r v w env y e o = let p = not_among (variables_of l) (variables_of r) y e in keeps_side r w (bind_side l v env) y p.1 o ∙ keeps_side l v env y p.0 o
 
 module _ (tb : Table) (call : Calls) (F : Variable → Bool) where
   -- One binding, and what follows.
@@ -96,19 +107,30 @@ module _ (tb : Table) (call : Calls) (F : Variable → Bool) where
         λ i. choose (is_true (value_free F x env env' (λ y m. let e = o y m in omega arith) h i))
         (mean_free t env env' (λ y m. let e = o y m in omega arith) h i)
         (mean_free u env env' (λ y m. let e = o y m in omega arith) h i)
+    mean_free (Tuple tys ss ps) env env' o h =
+        λ i. with_values (parts_free ps env env' (λ y m. let e = o y m in omega arith) h i) (λ vs. Gives (tuple (merge tys (values_free F ss env env' (λ y m. let e = o y m in omega arith) h i) vs)))
+
+    side_free : (side : Side) (env env' : Environment) → ((y : Variable) → F y ≡ true → count_side side y ≡ 0) → Agree F env env' → mean_side tb call side env' ≡ mean_side tb call side env
+    side_free (On kind x ty t) env env' o h = mean_free t env env' (λ y m. let e = o y m in omega arith) h
+    side_free (Several xs tys t) env env' o h = mean_free t env env' (λ y m. let e = o y m in omega arith) h
+
+    parts_free : (ps : PartTerms) (env env' : Environment) → ((y : Variable) → F y ≡ true → count_parts ps y ≡ 0) → Agree F env env' → mean_parts tb call ps env' ≡ mean_parts tb call ps env
+    parts_free NoPart env env' o h = refl
+    parts_free (PartThen t ps) env env' o h =
+        λ i. mean_free t env env' (λ y m. let e = o y m in omega arith) h i ∷ parts_free ps env env' (λ y m. let e = o y m in omega arith) h i
 
     pub run_free : (b : Bind) (env env' : Environment) → ((y : Variable) → F y ≡ true → count_bind b y ≡ 0) → Agree F env env' → (go go' : Environment → Outcome) → Follows b env env' go go' → from_there (run tb call b env') go' ≡ from_there (run tb call b env) go
     run_free (Past c k) env env' o h go go' f = f env env' h (λ y p q. refl) (λ y p q. refl)
-    run_free (One (On kind x ty t)) env env' o h go go' f =
-        ap (λ z. from_there (having z (λ v. Went ((x.0, v) ∷ env'))) go') (mean_free t env env' (λ y m. let e = o y m in omega arith) h)
-        ∙ from_having (mean tb call t env) (λ v. Went ((x.0, v) ∷ env)) (λ v. Went ((x.0, v) ∷ env')) go go'
-        (λ v. f ((x.0, v) ∷ env) ((x.0, v) ∷ env') (agree_more F x.0 v env env' h) (keeps_one x v env) (keeps_one x v env'))
-    run_free (Both fork (On kind x ty t) (On other z uy u)) env env' o h go go' f =
-        ap (λ w. from_there (having w (λ v. having (mean tb call u env') (λ w. Went ((z.0, w) ∷ (x.0, v) ∷ env')))) go') (mean_free t env env' (λ y m. let e = o y m in omega arith) h)
-        ∙ (ap (λ p. from_there (having (mean tb call t env) (λ v. having p (λ w. Went ((z.0, w) ∷ (x.0, v) ∷ env')))) go') (mean_free u env env' (λ y m. let e = o y m in omega arith) h)
-        ∙ from_having (mean tb call t env) (λ v. having (mean tb call u env) (λ w. Went ((z.0, w) ∷ (x.0, v) ∷ env))) (λ v. having (mean tb call u env) (λ w. Went ((z.0, w) ∷ (x.0, v) ∷ env'))) go go'
-        (λ v. from_having (mean tb call u env) (λ w. Went ((z.0, w) ∷ (x.0, v) ∷ env)) (λ w. Went ((z.0, w) ∷ (x.0, v) ∷ env')) go go'
-        (λ w. f ((z.0, w) ∷ (x.0, v) ∷ env) ((z.0, w) ∷ (x.0, v) ∷ env') (agree_more F z.0 w ((x.0, v) ∷ env) ((x.0, v) ∷ env') (agree_more F x.0 v env env' h)) (keeps_two x z v w env) (keeps_two x z v w env'))))
+    run_free (One side) env env' o h go go' f =
+        ap (λ z. from_there (having z (λ v. Went (bind_side side v env'))) go') (side_free side env env' o h)
+        ∙ from_having (mean_side tb call side env) (λ v. Went (bind_side side v env)) (λ v. Went (bind_side side v env')) go go'
+        (λ v. f (bind_side side v env) (bind_side side v env') (agree_side F side v env env' h) (keeps_side side v env) (keeps_side side v env'))
+    run_free (Both fork l r) env env' o h go go' f =
+        ap (λ w. from_there (having w (λ v. having (mean_side tb call r env') (λ w. Went (bind_side r w (bind_side l v env'))))) go') (side_free l env env' (λ y m. let e = o y m in omega arith) h)
+        ∙ (ap (λ p. from_there (having (mean_side tb call l env) (λ v. having p (λ w. Went (bind_side r w (bind_side l v env'))))) go') (side_free r env env' (λ y m. let e = o y m in omega arith) h)
+        ∙ from_having (mean_side tb call l env) (λ v. having (mean_side tb call r env) (λ w. Went (bind_side r w (bind_side l v env)))) (λ v. having (mean_side tb call r env) (λ w. Went (bind_side r w (bind_side l v env')))) go go'
+        (λ v. from_having (mean_side tb call r env) (λ w. Went (bind_side r w (bind_side l v env))) (λ w. Went (bind_side r w (bind_side l v env'))) go go'
+        (λ w. f (bind_side r w (bind_side l v env)) (bind_side r w (bind_side l v env')) (agree_side F r w (bind_side l v env) (bind_side l v env') (agree_side F l v env env' h)) (keeps_two l r v w env) (keeps_two l r v w env'))))
     run_free (Prim x f' v w) env env' o h go go' f =
         ap (λ z. from_there (having z (λ u. Went ((x.0, u) ∷ env'))) go')
         (λ i. outcome f' (number_in (value_free F v env env' (λ y m. let e = o y m in omega arith) h i)) (number_in (value_free F w env env' (λ y m. let e = o y m in omega arith) h i)))
@@ -245,6 +267,11 @@ module _ (tb : Table) (call : Calls) (once : Variable → Bool) where
   term_means : (t : Term) → Few t → Differs t → (Few t → Differs t → (env : Environment) → mean tb call (place_inner once t) env ≡ mean tb call t env) → (env : Environment) → mean tb call (place once t) env ≡ mean tb call t env
   term_means t few differs h env = whole_means t few differs (h few differs) env
 
+  -- The same variables are bound.
+  inner_bound : (side : Side) (v : Datum) (env : Environment) → bind_side (inner_side once side) v env ≡ bind_side side v env
+  inner_bound (On kind x ty t) v env = refl
+  inner_bound (Several xs tys t) v env = refl
+
   mutual
     inner_means : (t : Term) → Few t → Differs t → (env : Environment) → mean tb call (place_inner once t) env ≡ mean tb call t env
     inner_means (Then b rest) few differs env =
@@ -259,14 +286,26 @@ module _ (tb : Table) (call : Calls) (once : Variable → Bool) where
         λ i. choose (is_true (value env x))
         (term_means t (λ y o. let e = few y o in omega arith) (λ y. let e = differs y in let f = occurs_append (binders t) (binders u) y in omega arith) (λ fw df. inner_means t fw df) env i)
         (term_means u (λ y o. let e = few y o in omega arith) (λ y. let e = differs y in let f = occurs_append (binders t) (binders u) y in omega arith) (λ fw df. inner_means u fw df) env i)
+    inner_means (Tuple tys ss ps) few differs env = λ i. with_values (parts_means ps (λ y o. let e = few y o in omega arith) differs env i) (λ vs. Gives (tuple (merge tys (map (value env) ss) vs)))
+
+    side_means : (side : Side) → ((y : Variable) → once y ≡ true → count_side side y ≤ 1) → ((y : ℕ) → occurs (side_binders side) y ≤ 1) → (env : Environment) → mean_side tb call (inner_side once side) env ≡ mean_side tb call side env
+    side_means (On kind x ty t) few differs env = term_means t (λ y o. let e = few y o in omega arith) (λ y. let e = differs y in omega arith) (λ fw df. inner_means t fw df) env
+    side_means (Several xs tys t) few differs env =
+        term_means t (λ y o. let e = few y o in omega arith) (λ y. let e = differs y in let f = occurs_append (map (λ (x : Variable). x.0) xs) (binders t) y in omega arith) (λ fw df. inner_means t fw df) env
+
+    parts_means : (ps : PartTerms) → ((y : Variable) → once y ≡ true → count_parts ps y ≤ 1) → ((y : ℕ) → occurs (part_binders ps) y ≤ 1) → (env : Environment) → mean_parts tb call (inner_parts once ps) env ≡ mean_parts tb call ps env
+    parts_means NoPart few differs env = refl
+    parts_means (PartThen t ps) few differs env =
+        λ i. term_means t (λ y o. let e = few y o in omega arith) (λ y. let e = differs y in let f = occurs_append (binders t) (part_binders ps) y in omega arith) (λ fw df. inner_means t fw df) env i
+        ∷ parts_means ps (λ y o. let e = few y o in omega arith) (λ y. let e = differs y in let f = occurs_append (binders t) (part_binders ps) y in omega arith) env i
 
     bind_means : (b : Bind) → ((y : Variable) → once y ≡ true → count_bind b y ≤ 1) → ((y : ℕ) → occurs (bind_binders b) y ≤ 1) → (env : Environment) → run tb call (inner_bind once b) env ≡ run tb call b env
     bind_means (Past h k) few differs env = refl
-    bind_means (One (On kind x ty t)) few differs env =
-        ap (λ o. having o (λ v. Went ((x.0, v) ∷ env))) (term_means t (λ y o. let e = few y o in omega arith) (λ y. let e = differs y in omega arith) (λ fw df. inner_means t fw df) env)
-    bind_means (Both fork (On kind x ty t) (On other z uy u)) few differs env =
-        λ i. having (term_means t (λ y o. let e = few y o in omega arith) (λ y. let e = differs y in let f = occurs_append (x.0 ∷ binders t) (z.0 ∷ binders u) y in omega arith) (λ fw df. inner_means t fw df) env i)
-        (λ v. having (term_means u (λ y o. let e = few y o in omega arith) (λ y. let e = differs y in let f = occurs_append (x.0 ∷ binders t) (z.0 ∷ binders u) y in omega arith) (λ fw df. inner_means u fw df) env i) (λ w. Went ((z.0, w) ∷ (x.0, v) ∷ env)))
+    bind_means (One side) few differs env = λ i. having (side_means side few differs env i) (λ v. Went (inner_bound side v env i))
+    bind_means (Both fork l r) few differs env =
+        λ i. having (side_means l (λ y o. let e = few y o in omega arith) (λ y. let e = differs y in let f = occurs_append (side_binders l) (side_binders r) y in omega arith) env i)
+        (λ v. having (side_means r (λ y o. let e = few y o in omega arith) (λ y. let e = differs y in let f = occurs_append (side_binders l) (side_binders r) y in omega arith) env i)
+        (λ w. Went ((ap (bind_side (inner_side once r) w) (inner_bound l v env) ∙ inner_bound r w (bind_side l v env)) i)))
     bind_means (Prim x f v w) few differs env = refl
     bind_means (Reach x by) few differs env = refl
 

@@ -17,7 +17,7 @@ use Rattle.gib_place.specs.declared.line.Laid.{Laid as Made}
 use Rattle.gib_place.specs.Late.{Seen, is_late, Timed, binding_variables, run_variables}
 use Rattle.gib_place.specs.Placing.{pointing, bound_by, bound_in, Laid, fields_laid, laid_behind, lay_bind, place_bind, lay}
 use Rattle.gib_place.specs.Filled.{ArePointing, placed_at, AreLate, room_left, laid_with, room_binding, standing_of, Opens, Puts, LaysSpot, Lays, LaysLine, IsLineOf}
-use Rattle.gib_place.proofs.Cutting.{tail_is}
+use Rattle.gib_place.proofs.Cutting.{tail_is, same_variables}
 use Rattle.gib_core.proofs.Lining.{below_push}
 
 -- What was laid behind other things is laid behind them all.
@@ -107,8 +107,8 @@ spot_laid (Err x) once seen moment line old new binding spot items same le below
 -- What a run binds in its line.
 bound_same : (f : ℕ → Term) (x : Binding) → bound_by (bind_from f x) ≡ binding_variables x
 bound_same f (b.Past h k) = refl
-bound_same f (b.One s) = refl
-bound_same f (b.Par fork l r) = refl
+bound_same f (b.One s) = same_variables f s
+bound_same f (b.Par fork l r) = λ i. same_variables f l i ++ same_variables f r i
 bound_same f (b.Prim x g y z) = refl
 bound_same f (b.Reach y by) = refl
 

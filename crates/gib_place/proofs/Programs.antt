@@ -13,7 +13,8 @@ use Rattle.gib_core.specs.declared.program.CoreFunction.{CoreFunction}
 use Rattle.gib_core.specs.declared.program.CoreMain.{CoreMain}
 use Rattle.gib_core.specs.Tree.{Term, FunctionTerm, MainTerm, CoreTree}
 use Rattle.gib_core.specs.Arena.{Grows, term_of}
-use Rattle.gib_core.specs.Parts.{Parts, AreInside, IsFunctionInside, AreDeclared, IsDeclared, function_term, main_term, core_of}
+use Rattle.gib_core.specs.Parts.{Parts, AreInside, IsFunctionInside, AreDeclared, IsDeclared, results_of, function_term, main_term, core_of}
+use Rattle.gib_syntax.specs.Results as results
 use Rattle.gib_core.specs.Meaning.{core_calls, core_run}
 use Rattle.gib_core.specs.Erasing.{erase_core}
 use Rattle.gib_core.specs.Inferring.{numbers_from}
@@ -63,7 +64,7 @@ pub function_made : (old new : List Node) (f : CoreFunction) (g : ℕ → Term) 
 function_made old new f g body n e m = record {
   grows = m.grows;
   inside = m.inside;
-  is = λ i. record { name = f.name; parameters = f.parameters.items; result = f.result; body = (m.is ∙ ap (λ k. number_anew k (place_body (g f.body.0))) e) i };
+  is = λ i. record { name = f.name; parameters = f.parameters.items; result = results_of f.result; body = (m.is ∙ ap (λ k. number_anew k (place_body (g f.body.0))) e) i };
 }
 
 pub main_made : (old new : List Node) (m : CoreMain) (g : ℕ → Term) (body : TermId) → MakesTerm old new body (number_anew 1 (place_body (g m.body.0))) → PlacesMain old new (record m { body = body }) (main_term g m)
@@ -130,14 +131,14 @@ parts_inside was table terms all main old now new functions first offsets marked
     let n = length table.types in
     let known = subst (λ (t : Table). AllByRecursion (IsDeclared (length t.types)) was.functions) (sym et) h.types in
     let types = functions_declared n (term_of terms) all (subst (λ (ds : List CoreFunction). AllByRecursion (IsDeclared n) ds) (sym ef) known) in
-    let main_known = subst (λ (t : Table). AreDeclared (length t.types) (was.main.parameter ∷ []) was.main.result) (sym et) h.main_types in
-    let main_types = subst (λ (x : CoreMain). AreDeclared n (x.parameter ∷ []) x.result) (sym em) main_known in
+    let main_known = subst (λ (t : Table). AreDeclared (length t.types) (was.main.parameter ∷ []) (results.One was.main.result)) (sym et) h.main_types in
+    let main_types = subst (λ (x : CoreMain). AreDeclared n (x.parameter ∷ []) (results.One x.result)) (sym em) main_known in
     record {
       functions = f.inside;
       main = (let l = f.grows.longer in let k = m.inside in omega (arith, l, k));
       types = declared_functions n (term_of new) functions (subst (λ (gs : List FunctionTerm). AllByRecursion (λ (g : FunctionTerm). AreDeclared n g.parameters g.result) gs) (sym f.are)
           (placed_declared n (map (function_term (term_of terms)) all) types));
-      main_types = subst (λ (x : MainTerm). AreDeclared n (x.parameter ∷ []) x.result) (sym m.is) main_types;
+      main_types = subst (λ (x : MainTerm). AreDeclared n (x.parameter ∷ []) (results.One x.result)) (sym m.is) main_types;
     }
 
 -- What the new core is, where the parts of the old one are these.

@@ -1,18 +1,26 @@
--- Branches that are copied one after another.
-use Rattle.std.proofs.Common.{◌≡◌, ℕ, ◌+◌, List, [], ◌∷◌, ◌++◌, length, drop, get_or, reverse, ◌≤◌, Vec, Global, refl, sym, ap, ◌∙◌, subst, arith, ⊎_elim}
+-- Branches and parts that are copied one after another.
+use Rattle.std.proofs.Common.{◌≡◌, ℕ, ◌+◌, Bool, List, [], ◌∷◌, ◌++◌, map, length, drop, get_or, reverse, ◌≤◌, Vec, Global, refl, sym, ap, ◌∙◌, subst, arith, ⊎_elim}
 use Rattle.gib_core.specs.declared.node.Branch.{Branch}
 use Rattle.std.proofs.str.Laws.{order}
 use Rattle.std.proofs.lemmas.List.{drop_more, reverse-append}
+use Rattle.gib_core.specs.declared.node.BoundTerm.{BoundTerm}
+use Rattle.gib_core.specs.declared.node.BoundParts.{BoundParts}
+use Rattle.gib_core.specs.declared.node.BoundSide.{BoundSide}
+use Rattle.gib_core.specs.declared.node.BoundSide.TheVariants as s
 use Rattle.gib_core.specs.declared.node.Binding.{Binding}
+use Rattle.gib_core.specs.declared.node.Binding.TheVariants as b
+use Rattle.gib_core.specs.declared.part_types.PartTypes.{PartTypes}
+use Rattle.gib_core.specs.PartTypes.{types_in}
+use Rattle.gib_core.specs.declared.atom.Variable.{Variable}
 use Rattle.gib_core.specs.declared.node.TermId.{TermId}
 use Rattle.gib_core.specs.declared.node.Node.TheVariants as n
 use Rattle.gib_core.specs.declared.atom.Atom.{Atom}
 use Rattle.gib_core.specs.declared.node.Node.{Node}
-use Rattle.gib_core.specs.Tree.{Then, CaseTerm, BranchThen}
-use Rattle.gib_core.specs.Arena.{term_of, Opens, Makes}
-use Rattle.gib_place.specs.Renaming.{Renaming, rename_atom, rename}
+use Rattle.gib_core.specs.Tree.{Then, CaseTerm, Tuple, PartThen, One, Both, On, Several, BranchThen, variables_from}
+use Rattle.gib_core.specs.Arena.{term_in, term_of, Opens, Makes}
+use Rattle.gib_place.specs.Renaming.{Renaming, rename_variable, rename_atom, rename}
 use Rattle.gib_place.specs.Numbering.{place_in}
-use Rattle.gib_place.specs.Shifting.{BindingShifted, BranchShifted, BranchesShifted, NodeShifted, Copies}
+use Rattle.gib_place.specs.Shifting.{SideShifted, BindingShifted, PartsShifted, BranchShifted, BranchesShifted, NodeShifted, Copies}
 
 pub shifted_none : (r : Renaming) (base : ℕ) → BranchesShifted r base [] []
 shifted_none r base = record { below = λ id h. tt; are = λ id f g h s. refl }
@@ -32,6 +40,49 @@ branches_next r base done more bs made b d i j ej le eb em h p =
     let h' : BranchesShifted r base rest (reverse done) = subst (λ n. BranchesShifted r base (drop n bs) (reverse done)) ej h in
     let left : drop i bs ≡ b ∷ rest = drop_more bs i d (omega (arith, ej, le)) ∙ ap (λ (z : Branch). z ∷ rest) (sym eb) in
     subst (λ z. BranchesShifted r base (drop i bs) z) (sym (reverse-push done more made em)) (subst (λ z. BranchesShifted r base z (made ∷ reverse done)) (sym left) (shifted_first r base b made rest (reverse done) p h'))
+
+-- Parts.
+pub parts_shifted_none : (base : ℕ) → PartsShifted base [] []
+parts_shifted_none base = record { below = λ id h. tt; are = λ r id f g h s. refl }
+
+part_first : (base : ℕ) (x y : TermId) (xs ys : List TermId) → y.0 ≡ base + x.0 → PartsShifted base xs ys → PartsShifted base (x ∷ xs) (y ∷ ys)
+part_first base x y xs ys e k = record {
+  below = λ id b. (let l = b.0 in omega arith, k.below id b.1);
+  are = λ r id f g b s. λ i. PartThen ((ap g e ∙ s x.0 b.0) i) (k.are r id f g b.1 s i);
+}
+
+pub parts_shifted_next : (base : ℕ) (done more ts : List TermId) (made t d : TermId) (i j : ℕ) → j ≡ i + 1 → j ≤ length ts → t ≡ get_or ts i d → more ≡ done ++ made ∷ [] → PartsShifted base (drop j ts) (reverse done) → made.0 ≡ base + t.0 → PartsShifted base (drop i ts) (reverse more)
+parts_shifted_next base done more ts made t d i j ej le et em h p =
+    let rest = drop (i + 1) ts in
+    let h' : PartsShifted base rest (reverse done) = subst (λ n. PartsShifted base (drop n ts) (reverse done)) ej h in
+    let left : drop i ts ≡ t ∷ rest = drop_more ts i d (omega (arith, ej, le)) ∙ ap (λ (z : TermId). z ∷ rest) (sym et) in
+    subst (λ z. PartsShifted base (drop i ts) z) (sym (ap reverse em ∙ reverse-append done (made ∷ []))) (subst (λ z. PartsShifted base z (made ∷ reverse done)) (sym left) (part_first base t made rest (reverse done) p h'))
+
+pub tuple_shifted : (r : Renaming) (base : ℕ) (tys : PartTypes) (ss zs : Vec Atom Global) (ps qs : Vec TermId Global) → zs.items ≡ map (rename_atom r) ss.items → PartsShifted base ps.items qs.items → NodeShifted r base (n.Tuple tys ss ps) (n.Tuple tys zs qs)
+tuple_shifted r base tys ss zs ps qs e h = record {
+  below = λ id b. h.below id b;
+  is = λ id f g b s. λ i. Tuple (types_in tys) (e i) (h.are r id f g b s i);
+}
+
+-- Sides, in a binding.
+pub one_shifted : (r : Renaming) (base : ℕ) (x y : BoundSide) → SideShifted r base x y → BindingShifted r base (b.One x) (b.One y)
+one_shifted r base x y h = record {
+  below = λ id l. (let e = h.term in omega arith);
+  is = λ id f g l s. ap One (h.is f g (s (term_in x).0 l));
+}
+
+pub par_shifted : (r : Renaming) (base : ℕ) (fork : Bool) (x y z w : BoundSide) → SideShifted r base x y → SideShifted r base z w → BindingShifted r base (b.Par fork x z) (b.Par fork y w)
+par_shifted r base fork x y z w h k = record {
+  below = λ id l. (let e = h.term in let p = l.0 in omega arith, let e = k.term in let p = l.1 in omega arith);
+  is = λ id f g l s. λ i. Both fork (h.is f g (s (term_in x).0 l.0) i) (k.is f g (s (term_in z).0 l.1) i);
+}
+
+pub side_shifted : (r : Renaming) (base : ℕ) (x : BoundTerm) (y : Variable) (t : TermId) → y ≡ rename_variable r x.variable → t.0 ≡ base + x.term.0 → SideShifted r base (s.One x) (s.One (record x { variable = y; term = t }))
+side_shifted r base x y t ey et = record { term = et; is = λ f g e. λ i. On x.kind (ey i) x.ty ((ap g et ∙ e) i) }
+
+pub several_shifted : (r : Renaming) (base : ℕ) (x : BoundParts) (y : Variable) (t : TermId) → variables_from y.0 (types_in x.types) ≡ map (rename_variable r) (variables_from x.first.0 (types_in x.types)) → t.0 ≡ base + x.term.0
+    → SideShifted r base (s.Several x) (s.Several (record x { first = y; term = t }))
+several_shifted r base x y t ey et = record { term = et; is = λ f g e. λ i. Several (ey i) (types_in x.types) ((ap g et ∙ e) i) }
 
 pub then_shifted : (r : Renaming) (base : ℕ) (x y : Binding) (t u : TermId) → BindingShifted r base x y → u.0 ≡ base + t.0 → NodeShifted r base (n.Then x t) (n.Then y u)
 then_shifted r base x y t u h e = record {

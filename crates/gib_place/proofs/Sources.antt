@@ -4,7 +4,7 @@ use Rattle.std.proofs.lemmas.Bool.{eqb-true}
 use Rattle.gib_types.specs.declared.table.Ty.{Ty}
 use Rattle.gib_types.specs.Table.{Table}
 use Rattle.gib_syntax.specs.Tree.{DataTree}
-use Rattle.gib_core.specs.Tree.{Term, FunctionTerm, CoreTree}
+use Rattle.gib_core.specs.Tree.{Term, FunctionTerm, CoreTree, Results}
 use Rattle.gib_core.specs.Erasing.{erase, type_name, parameters_from, erase_function, erase_core, ident}
 use Rattle.gib_core.specs.Numbering.{IsNumbered, AreNumbered}
 use Rattle.std.specs.List.{AllByRecursion}
@@ -28,7 +28,7 @@ names_stay r tb n (p ∷ ps) h =
     λ i. record { name = ident (sym (sym (ap r e) ∙ (h 0 (omega arith) ∙ e)) i); ty = type_name tb p }
     ∷ names_stay r tb (n + 1) ps (λ j lt. let d : n + 1 + j ≡ n + suc j = omega arith in ap r d ∙ (h (suc j) (omega arith) ∙ sym d)) i
 
-module _ (tb : Table) (ps : List Ty) (result : Ty) (t : Term) (numbered : IsNumbered (record { parameters = ps; result = result; term = t })) where
+module _ (tb : Table) (ps : List Ty) (result : Results Ty) (t : Term) (numbered : IsNumbered (record { parameters = ps; result = result; term = t })) where
   abbrev by : Renaming
   by = place_in (variables_in (length ps) (place_body t))
 
@@ -78,9 +78,9 @@ core_left datas c h =
         renaming = place_in vs;
         apart = tells_apart (place_in vs) (place_tells vs);
         same = λ i. record {
-          parameter = record { name = ident (sym (parameters_stay ps c.main.result c.main.body numbered 0 (omega arith)) i); ty = type_name c.table c.main.parameter };
+          parameter = record { name = ident (sym (parameters_stay ps main.result c.main.body numbered 0 (omega arith)) i); ty = type_name c.table c.main.parameter };
           result = type_name c.table c.main.result;
-          body = body_left c.table ps c.main.result c.main.body numbered i;
+          body = body_left c.table ps main.result c.main.body numbered i;
         };
       };
     }

@@ -1,5 +1,6 @@
 -- When variables were bound.
-use Rattle.std.proofs.Common.{◌≡◌, ℕ, ◌+◌, ◌<◌, ◌≤◌, Bool, true, false, ◌||◌, ◌==◌, nat_lt, if◌then◌else◌, List, [], ◌∷◌, length, drop, get_or, refl, sym, ap, ◌∙◌, arith, ⊎_elim}
+use Rattle.std.proofs.Common.{◌≡◌, ℕ, ◌+◌, ◌<◌, ◌≤◌, Bool, true, false, ◌||◌, ◌==◌, nat_lt, if◌then◌else◌, List, [], ◌∷◌, ◌++◌, length, drop, get_or, refl, sym, ap, ◌∙◌, arith, ⊎_elim}
+use Rattle.std.specs.Prelude.{Result, Ok, Err, OnOk}
 use Rattle.gib_place.specs.Numbered.{number_at}
 use Rattle.std.proofs.str.Laws.{order}
 use Rattle.std.proofs.lemmas.Bool.{lt-ltb, le-ltb}
@@ -10,40 +11,51 @@ use Rattle.gib_core.specs.declared.node.Binding.{Binding}
 use Rattle.gib_core.specs.Rules.{is_among}
 use Rattle.gib_core.proofs.Along.{among_append}
 use Rattle.gib_core.specs.Noted.{Seen, ArePast, Ticks, Notes}
-use Rattle.gib_place.specs.Late.{is_late, Binds, Timed, binding_variables, run_variables}
+use Rattle.gib_place.specs.Late.{is_late, NotesAll, Binds, Timed, binding_variables, run_variables}
 
--- One variable is bound, or none, or two.
-pub binds_one : (old mid new : Seen) (binding : Binding) (x : Variable) → Ticks old mid → Notes mid new x → binding_variables binding ≡ x ∷ [] → Binds old new binding
-binds_one old mid new binding x t m e = record {
-  clock = m.clock ∙ t.clock;
-  each = λ y. m.each y.0 ∙ (λ i. if x.0 == y.0 then t.clock i else number_at (t.times i) y.0) ∙ go y (x.0 == y.0) ∙ ap (λ xs. if is_among xs y then old.clock + 1 else number_at old.times y.0) (sym e);
+-- Variables are noted: none, one, and one more.
+pub notes_none : (seen : Seen) → NotesAll seen seen []
+notes_none seen = record { clock = refl; each = λ y. refl }
+
+one_or : {A : Type 0} (b : Bool) (p q : A) → (if b then p else q) ≡ (if b || false then p else q)
+one_or true p q = refl
+one_or false p q = refl
+
+pub notes_one : (old new : Seen) (x : Variable) → Notes old new x → NotesAll old new (x ∷ [])
+notes_one old new x n = record { clock = n.clock; each = λ y. n.each y.0 ∙ one_or (x.0 == y.0) old.clock (number_at old.times y.0) }
+
+later_or : {A : Type 0} (b c : Bool) (p q : A) → (if c then p else (if b then p else q)) ≡ (if b || c then p else q)
+later_or true true p q = refl
+later_or true false p q = refl
+later_or false true p q = refl
+later_or false false p q = refl
+
+pub notes_then : (old mid new : Seen) (xs ys : List Variable) → NotesAll old mid xs → NotesAll mid new ys → NotesAll old new (xs ++ ys)
+notes_then old mid new xs ys m n = record {
+  clock = n.clock ∙ m.clock;
+  each = λ y.
+      n.each y
+      ∙ (λ i. if is_among ys y then m.clock i else m.each y i)
+      ∙ later_or (is_among xs y) (is_among ys y) old.clock (number_at old.times y.0)
+      ∙ ap (λ b. if b then old.clock else number_at old.times y.0) (sym (among_append xs ys y));
 }
-  where
-    go : (y : Variable) (b : Bool) → (if b then old.clock + 1 else number_at old.times y.0) ≡ (if b || false then old.clock + 1 else number_at old.times y.0)
-    go y true = refl
-    go y false = refl
+
+-- What was noted is bound: the variables of a side, those of two, one variable, or none.
+pub binds_side : (old mid new : Seen) (binding : Binding) (xs : List Variable) → Ticks old mid → NotesAll mid new xs → binding_variables binding ≡ xs → Binds old new binding
+binds_side old mid new binding xs t m e = record {
+  clock = m.clock ∙ t.clock;
+  each = λ y. m.each y ∙ (λ i. if is_among xs y then t.clock i else number_at (t.times i) y.0) ∙ ap (λ zs. if is_among zs y then old.clock + 1 else number_at old.times y.0) (sym e);
+}
+
+pub binds_passed : {T : Type 0} {E : Type 0} (o : Result T E) (old mid after new : Seen) (binding : Binding) (xs ys : List Variable) → Ticks old mid → NotesAll mid after xs → OnOk o (NotesAll after new ys) → binding_variables binding ≡ xs ++ ys → OnOk o (Binds old new binding)
+binds_passed (Ok x) old mid after new binding xs ys t m n e = binds_side old mid new binding (xs ++ ys) t (notes_then mid after new xs ys m n) e
+binds_passed (Err x) old mid after new binding xs ys t m n e = tt
+
+pub binds_one : (old mid new : Seen) (binding : Binding) (x : Variable) → Ticks old mid → Notes mid new x → binding_variables binding ≡ x ∷ [] → Binds old new binding
+binds_one old mid new binding x t m e = binds_side old mid new binding (x ∷ []) t (notes_one mid new x m) e
 
 pub binds_none : (old new : Seen) (binding : Binding) → Ticks old new → binding_variables binding ≡ [] → Binds old new binding
-binds_none old new binding t e = record {
-  clock = t.clock;
-  each = λ y. ap (λ ts. number_at ts y.0) t.times ∙ ap (λ xs. if is_among xs y then old.clock + 1 else number_at old.times y.0) (sym e);
-}
-
-pub binds_two : (old mid after new : Seen) (binding : Binding) (x z : Variable) → Ticks old mid → Notes mid after x → Notes after new z → binding_variables binding ≡ x ∷ z ∷ [] → Binds old new binding
-binds_two old mid after new binding x z t m n e = record {
-  clock = n.clock ∙ (m.clock ∙ t.clock);
-  each = λ y.
-      n.each y.0
-      ∙ (λ i. if z.0 == y.0 then (m.clock ∙ t.clock) i else (m.each y.0 ∙ (λ j. if x.0 == y.0 then t.clock j else number_at (t.times j) y.0)) i)
-      ∙ go y (x.0 == y.0) (z.0 == y.0)
-      ∙ ap (λ xs. if is_among xs y then old.clock + 1 else number_at old.times y.0) (sym e);
-}
-  where
-    go : (y : Variable) (b c : Bool) → (if c then old.clock + 1 else (if b then old.clock + 1 else number_at old.times y.0)) ≡ (if b || (c || false) then old.clock + 1 else number_at old.times y.0)
-    go y true true = refl
-    go y true false = refl
-    go y false true = refl
-    go y false false = refl
+binds_none old new binding t e = binds_side old new new binding [] t (notes_none new) e
 
 -- A run is bound so far.
 pub record Timing (start : ℕ) (run : List Binding) (k : ℕ) (seen : Seen) : Type 0 where

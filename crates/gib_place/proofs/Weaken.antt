@@ -1,12 +1,11 @@
 -- Lines that break no rule break none where more is in scope and other variables were bound.
-use Rattle.std.proofs.Common.{◌≡◌, ◌⊎◌, inl, inr, ⊎_elim, ℕ, ◌+◌, ◌≤◌, Bool, true, false, not, ◌&&◌, ◌||◌, ◌==◌, if◌then◌else◌, List, [], ◌∷◌, ◌++◌, length, Option, Some, None, refl, sym, ap, ◌∙◌, subst, arith}
+use Rattle.std.proofs.Common.{◌≡◌, ◌⊎◌, inl, inr, ⊎_elim, ℕ, ◌+◌, ◌≤◌, Bool, true, false, not, ◌&&◌, ◌||◌, ◌==◌, if◌then◌else◌, List, [], ◌∷◌, ◌++◌, map, length, Option, Some, None, refl, sym, ap, ◌∙◌, subst, arith}
 use Rattle.std.proofs.lemmas.Bool.{both_ways, not-false, or_parts, or_from, or_cases, or_left, or_right, and_parts}
 use Rattle.std.proofs.lemmas.List.{append_assoc}
 use Rattle.gib_types.specs.declared.table.Ty.{Ty}
 use Rattle.gib_types.specs.declared.table.Ty.TheVariants.{Whole, Truth}
 use Rattle.gib_types.specs.declared.table.ConId.{ConId}
-use Rattle.gib_types.specs.Table.{Table, fields_at, scalar_types}
-use Rattle.gib_syntax.specs.Meaning.{is_scalar}
+use Rattle.gib_types.specs.Table.{Table, fields_at, scalar_types, tree_types}
 use Rattle.gib_syntax.specs.Typing.{operator_type}
 use Rattle.gib_core.specs.declared.atom.Variable.{Variable}
 use Rattle.gib_core.specs.declared.atom.Atom.{Atom}
@@ -15,16 +14,17 @@ use Rattle.gib_core.specs.declared.atom.Kind.{Kind}
 use Rattle.gib_core.specs.declared.atom.Kind.TheVariants.{Here, Region, Scalar}
 use Rattle.gib_core.specs.declared.scope.Known.{Known}
 use Rattle.gib_core.specs.declared.scope.Bound.{Bound}
-use Rattle.gib_core.specs.Tree.{Term, Then, Write, Point, CallTerm, Give, CaseTerm, IfTerm, Bind, Past, One, Both, Prim, Reach, Side, On, Branches, NoBranch, BranchThen, FunctionTerm, CoreTree}
+use Rattle.gib_core.specs.Inferring.{first_type, further_types}
+use Rattle.gib_core.specs.Tree.{Term, Then, Write, Point, CallTerm, Give, CaseTerm, IfTerm, Tuple, PartTerms, NoPart, PartThen, parts_count, Bind, Past, One, Both, Prim, Reach, Side, On, Several, Branches, NoBranch, BranchThen, variables_of, FunctionTerm, CoreTree}
 use Rattle.gib_core.specs.Meaning.{function_at}
-use Rattle.gib_core.specs.Numbering.{binders, bind_binders, side_binders}
-use Rattle.gib_core.specs.Met.{Destination, Nowhere, Empty, Open, Setting, PastLine, SideLine, PrimLine, WriteLine, PointLine, CallLine, GiveLine, CaseLine, IfLine, Met, reached, in_side, behind, left_of, right_of, with_arm, in_arm, in_branch, arms_of, met, met_bind, met_side, met_branches}
-use Rattle.gib_core.specs.Rules.{Before, same_type, is_among, is_bound, type_bound, type_of, is_type, have_types, is_usable, all_usable, is_other, any_other, may_write, are_scalars, call_fits, cover, any_bound, arm_variables, rules, least, cases_on, next, next_all, type_made}
+use Rattle.gib_core.specs.Numbering.{binders, bind_binders, side_binders, part_binders}
+use Rattle.gib_core.specs.Met.{Destination, Nowhere, Empty, Open, InParts, Setting, PastLine, SideLine, PrimLine, WriteLine, PointLine, CallLine, GiveLine, CaseLine, IfLine, SeveralLine, TupleLine, Met, reached, in_side, in_several, in_part, with_variables, behind, left_of, right_of, with_arm, in_arm, in_branch, arms_of, met, met_bind, met_side, met_parts, met_branches}
+use Rattle.gib_core.specs.Rules.{Before, same_types, are_declared, are_parts, result_fits, is_among, is_bound, type_bound, type_of, is_type, have_types, is_usable, all_usable, is_other, any_other, may_write, are_scalars, call_fits, cover, bind_fields, any_bound, arm_variables, rules, least, cases_on, next, next_all, type_made}
 use Rattle.gib_core.specs.Reachable.{all_reached, LinesAreReachable}
 use Rattle.gib_core.proofs.Along.{none_broken, least_none, next_append, reachable_split}
-use Rattle.gib_core.proofs.Cased.{has, reached_where_has, has_arm, in_side_scope, reaches_none, has_less}
+use Rattle.gib_core.proofs.Cased.{has, reached_where_has, has_arm, has_variables, in_side_scope, reaches_none, has_less}
 use Rattle.gib_place.proofs.Counts.{occurs, occurs_append}
-use Rattle.gib_place.proofs.Wider.{nums, times, new_there, times_among, none_among, own_time, branch_occurs, arms_types, case_nums, branch_terms, casing, Gains, gains_one, gains_term, gains_side, cased_after, side_cased_after}
+use Rattle.gib_place.proofs.Wider.{nums, times, new_there, times_among, none_among, own_time, branch_occurs, fields_types, arms_types, case_nums, branch_terms, casing, Gains, gains_one, gains_all, gains_then, gains_term, cased_after}
 use Rattle.gib_core.proofs.Orders.{usable_apart}
 
 abbrev pub scoped : Setting → List Known → Setting
@@ -86,6 +86,15 @@ pub record Like (t u : Term) : Type 0 where
 pub like_itself : (t : Term) → Like t t
 like_itself t = record { binds = λ y. omega arith; cases = λ c. refl }
 
+-- Sides of the same variables with the same types, whose terms are like.
+pub data LikeSides : Side → Side → Type 0 where
+  same_one : {kind kind' : Kind} {x : Variable} {ty : Ty} {t u : Term} → Like t u → LikeSides (On kind x ty t) (On kind' x ty u)
+  same_several : {xs : List Variable} {tys : List Ty} {t u : Term} → Like t u → LikeSides (Several xs tys t) (Several xs tys u)
+
+pub likes_itself : (side : Side) → LikeSides side side
+likes_itself (On kind x ty t) = same_one (like_itself t)
+likes_itself (Several xs tys t) = same_several (like_itself t)
+
 pub usable_more : (s : Setting) (b b' : Before) (ks : List Known) (x : Atom) → Wider s.scope b ks b' → is_usable (all_reached s) x ≡ true → is_usable (all_reached (scoped s ks)) x ≡ true
 usable_more s b b' ks (a.Variable x) w e = reached_where_has ks x ∙ w.scope x (sym (reached_where_has s.scope x) ∙ e)
 usable_more s b b' ks (a.Whole z) w e = refl
@@ -142,8 +151,8 @@ module _ (tb : Table) where
 
   pub scoped_behind : (bind : Bind) (s : Setting) (ks : List Known) → behind (scoped s ks) bind ≡ scoped (behind s bind) (behind (scoped s ks) bind).scope
   scoped_behind (Past h k) s ks = refl
-  scoped_behind (One (On kind x ty t)) s ks = refl
-  scoped_behind (Both fork (On kind x ty t) (On other z uy u)) s ks = refl
+  scoped_behind (One side) s ks = refl
+  scoped_behind (Both fork l r) s ks = refl
   scoped_behind (Prim x f v w) s ks = refl
   scoped_behind (Reach y by) s ks = refl
 
@@ -154,8 +163,24 @@ module _ (tb : Table) where
       go true m h = omega arith
       go false m h = let k = h m in omega arith
 
-  scoped_bound : (kind : Kind) (x : Variable) (ty : Ty) (t : Term) (s : Setting) (from : List Known) (b : Before) → Scoped from b → Scoped (reached x ∷ from) (next_all tb b (met_side tb s (On kind x ty t)))
-  scoped_bound kind x ty t s from b sc y m = let k = has_counts x from b y sc m in let g = (gains_side tb (On kind x ty t) s b).counts y.0 in omega arith
+  -- Behind the line of variables.
+  abbrev behind_own : List Variable → List Ty → Before → Before
+  behind_own xs tys b = record { bound = bind_fields xs tys b.bound; cased = b.cased }
+
+  all_count : (xs : List Variable) (ks : List Known) (b : Before) (y : Variable) → Scoped ks b → has (with_variables xs ks) y ≡ true → 1 ≤ times xs y.0 + occurs (nums b.bound) y.0
+  all_count xs ks b y sc m =
+      ⊎_elim (λ n. let k = times_among xs y n in omega arith) (λ n. let k = sc y n in omega arith) (or_cases (is_among xs y) (has ks y) (sym (has_variables xs ks y) ∙ m))
+
+  scoped_all : (xs : List Variable) (tys : List Ty) (t : Term) (s : Setting) (from : List Known) (b : Before) → Scoped from b → Scoped (with_variables xs from) (next_all tb (behind_own xs tys b) (met tb s t))
+  scoped_all xs tys t s from b sc y m =
+      let k = all_count xs from b y sc m in
+      let g = (gains_all xs tys b).counts y.0 in
+      let h = (gains_term tb t s (behind_own xs tys b)).counts y.0 in
+      omega arith
+
+  scoped_bound : (side : Side) (s : Setting) (from : List Known) (b : Before) → Scoped from b → Scoped (with_variables (variables_of side) from) (next_all tb b (met_side tb s side))
+  scoped_bound (On kind x ty t) s from b sc = scoped_all (x ∷ []) (ty ∷ []) t (in_side tb s kind ty) from b sc
+  scoped_bound (Several xs tys t) s from b sc = scoped_all xs tys t (in_several s tys) from b sc
 
   has_more : (x : Variable) (from ks : List Known) (y : Variable) → (has from y ≡ true → has ks y ≡ true) → (x.0 == y.0 || has from y) ≡ true → (x.0 == y.0 || has ks y) ≡ true
   has_more x from ks y h m = go (x.0 == y.0) m
@@ -170,30 +195,63 @@ module _ (tb : Table) where
         ahead_past (binders t) (binders u) xs a (gains_term tb t s b) (gains_term tb u z b') like.binds
         (cased_after tb u z b' ∙ (like.cases b'.cased ∙ (ap (casing t) a.wider.cased ∙ sym (cased_after tb t s b))))
 
-    pub ahead_side : (kind kind' : Kind) (x : Variable) (ty : Ty) (t u : Term) (xs : List ℕ) (s z : Setting) → Like t u → Ahead from b ks b' ((x.0 ∷ binders t) ++ xs)
-        → Ahead from (next_all tb b (met_side tb s (On kind x ty t))) ks (next_all tb b' (met_side tb z (On kind' x ty u))) xs
-    ahead_side kind kind' x ty t u xs s z like a =
-        ahead_past (x.0 ∷ binders t) (x.0 ∷ binders u) xs a (gains_side tb (On kind x ty t) s b) (gains_side tb (On kind' x ty u) z b') (λ y. let l = like.binds y in omega arith)
-        (side_cased_after tb (On kind' x ty u) z b' ∙ (like.cases b'.cased ∙ (ap (casing t) a.wider.cased ∙ sym (side_cased_after tb (On kind x ty t) s b))))
+    -- Behind a term, and the line before it that bound these variables.
+    ahead_inner : (xs : List Variable) (tys : List Ty) (t u : Term) (zs : List ℕ) (s z : Setting) → Like t u → Ahead from b ks b' ((map (λ (x : Variable). x.0) xs ++ binders t) ++ zs)
+        → Ahead from (next_all tb (behind_own xs tys b) (met tb s t)) ks (next_all tb (behind_own xs tys b') (met tb z u)) zs
+    ahead_inner xs tys t u zs s z like a =
+        let c = behind_own xs tys b in
+        let c' = behind_own xs tys b' in
+        let ns = map (λ (x : Variable). x.0) xs in
+        ahead_past (ns ++ binders t) (ns ++ binders u) zs a
+        (gains_then b c (next_all tb c (met tb s t)) ns (binders t) (gains_all xs tys b) (gains_term tb t s c))
+        (gains_then b' c' (next_all tb c' (met tb z u)) ns (binders u) (gains_all xs tys b') (gains_term tb u z c'))
+        (λ y. let l = like.binds y in let p = occurs_append ns (binders t) y in let q = occurs_append ns (binders u) y in omega arith)
+        (cased_after tb u z c' ∙ (like.cases b'.cased ∙ (ap (casing t) a.wider.cased ∙ sym (cased_after tb t s c))))
 
-    -- The variable of a side comes into scope behind it.
-    pub ahead_bound : (kind kind' : Kind) (x : Variable) (ty : Ty) (t u : Term) (xs : List ℕ) (s z : Setting) → Like t u → Ahead from b ks b' ((x.0 ∷ binders t) ++ xs)
-        → Ahead (reached x ∷ from) (next_all tb b (met_side tb s (On kind x ty t))) (reached x ∷ ks) (next_all tb b' (met_side tb z (On kind' x ty u))) xs
-    ahead_bound kind kind' x ty t u xs s z like a =
-        let n = ahead_side kind kind' x ty t u xs s z like a in
+    ahead_all : (xs : List Variable) (tys : List Ty) (t u : Term) (zs : List ℕ) (s z : Setting) → Like t u → Ahead from b ks b' ((map (λ (x : Variable). x.0) xs ++ binders t) ++ zs)
+        → Ahead (with_variables xs from) (next_all tb (behind_own xs tys b) (met tb s t)) (with_variables xs ks) (next_all tb (behind_own xs tys b') (met tb z u)) zs
+    ahead_all xs tys t u zs s z like a =
+        let c = behind_own xs tys b in
+        let c' = behind_own xs tys b' in
+        let ns = map (λ (x : Variable). x.0) xs in
+        let n = ahead_inner xs tys t u zs s z like a in
         record {
           wider = record {
-            scope = λ y m. has_more x from ks y (a.wider.scope y) m;
+            scope = λ y m.
+                has_variables xs ks y
+                ∙ ⊎_elim (λ o. or_left (is_among xs y) (has ks y) o) (λ o. or_right (is_among xs y) (has ks y) (a.wider.scope y o)) (or_cases (is_among xs y) (has from y) (sym (has_variables xs from y) ∙ m));
             types = λ y m.
-                let k = has_counts x from b y a.scoped m in let o = a.room y.0 in let r = occurs_append (x.0 ∷ binders t) xs y.0 in let l = like.binds y.0 in
-                (gains_term tb u (in_side tb z kind' ty) (next tb b' (SideLine kind' x ty))).types y (omega arith)
-                ∙ (type_middle x ty b.bound b'.bound y (λ e. a.wider.types y (has_less x from y e m)) ∙ sym ((gains_term tb t (in_side tb s kind ty) (next tb b (SideLine kind x ty))).types y (omega arith)));
+                let k = all_count xs from b y a.scoped m in
+                let o = a.room y.0 in
+                let p = occurs_append (ns ++ binders t) zs y.0 in
+                let q = occurs_append ns (binders t) y.0 in
+                let l = like.binds y.0 in
+                (gains_term tb u z c').types y (omega arith)
+                ∙ (fields_types xs tys b.bound b'.bound y (λ e. a.wider.types y (sym (or_first (is_among xs y) (has from y) e) ∙ (sym (has_variables xs from y) ∙ m)))
+                ∙ sym ((gains_term tb t s c).types y (omega arith)));
             cased = n.wider.cased;
           };
-          scoped = scoped_bound kind x ty t s from b a.scoped;
+          scoped = scoped_all xs tys t s from b a.scoped;
           room = n.room;
           room' = n.room';
         }
+      where
+        or_first : (p q : Bool) → p ≡ false → (p || q) ≡ q
+        or_first p q e = ap (λ c. c || q) e
+
+    pub ahead_side : (side side' : Side) (xs : List ℕ) (s z : Setting) → LikeSides side side' → Ahead from b ks b' (side_binders side ++ xs) → Ahead from (next_all tb b (met_side tb s side)) ks (next_all tb b' (met_side tb z side')) xs
+    ahead_side (On kind x ty t) (On kind' x' ty' u) xs s z (same_one like) a = ahead_inner (x ∷ []) (ty ∷ []) t u xs (in_side tb s kind ty) (in_side tb z kind' ty) like a
+    ahead_side (On kind x ty t) (Several vs' tys' u) xs s z p a = elim p [ ]
+    ahead_side (Several vs tys t) (On kind' x' ty' u) xs s z p a = elim p [ ]
+    ahead_side (Several vs tys t) (Several vs' tys' u) xs s z (same_several like) a = ahead_inner vs tys t u xs (in_several s tys) (in_several z tys) like a
+
+    -- The variables of a side come into scope behind it.
+    pub ahead_bound : (side side' : Side) (xs : List ℕ) (s z : Setting) → LikeSides side side' → Ahead from b ks b' (side_binders side ++ xs)
+        → Ahead (with_variables (variables_of side) from) (next_all tb b (met_side tb s side)) (with_variables (variables_of side) ks) (next_all tb b' (met_side tb z side')) xs
+    ahead_bound (On kind x ty t) (On kind' x' ty' u) xs s z (same_one like) a = ahead_all (x ∷ []) (ty ∷ []) t u xs (in_side tb s kind ty) (in_side tb z kind' ty) like a
+    ahead_bound (On kind x ty t) (Several vs' tys' u) xs s z p a = elim p [ ]
+    ahead_bound (Several vs tys t) (On kind' x' ty' u) xs s z p a = elim p [ ]
+    ahead_bound (Several vs tys t) (Several vs' tys' u) xs s z (same_several like) a = ahead_all vs tys t u xs (in_several s tys) (in_several z tys) like a
 
 module _ (core : CoreTree) where
   pub reachable_append : (b : Before) (xs ys : List Met) → LinesAreReachable core b xs → LinesAreReachable core (next_all core.table b xs) ys → LinesAreReachable core b (xs ++ ys)
@@ -203,36 +261,35 @@ module _ (core : CoreTree) where
   -- What is in scope behind a binding was bound.
   pub scoped_after : (bind : Bind) (s : Setting) (b : Before) → Scoped s.scope b → LinesAreReachable core b (met_bind core.table s bind) → Scoped (behind s bind).scope (next_all core.table b (met_bind core.table s bind))
   scoped_after (Past h k) s b sc r y m = let e = sc y m in omega arith
-  scoped_after (One (On kind x ty t)) s b sc r y m = scoped_bound core.table kind x ty t s s.scope b sc y m
-  scoped_after (Both fork (On kind x ty t) (On other z uy u)) s b sc r y m =
-      let L = met_side core.table (left_of s (On other z uy u)) (On kind x ty t) in
-      subst (Scoped (reached z ∷ reached x ∷ s.scope)) (sym (next_append core.table b L (met_side core.table (right_of s (On kind x ty t)) (On other z uy u))))
-      (scoped_bound core.table other z uy u (right_of s (On kind x ty t)) (reached x ∷ s.scope) (next_all core.table b L) (scoped_bound core.table kind x ty t (left_of s (On other z uy u)) s.scope b sc)) y m
+  scoped_after (One side) s b sc r y m = scoped_bound core.table side s s.scope b sc y m
+  scoped_after (Both fork left right) s b sc r y m =
+      let L = met_side core.table (left_of s right) left in
+      subst (Scoped (with_variables (variables_of right) (with_variables (variables_of left) s.scope))) (sym (next_append core.table b L (met_side core.table (right_of s left) right)))
+      (scoped_bound core.table right (right_of s left) (with_variables (variables_of left) s.scope) (next_all core.table b L) (scoped_bound core.table left (left_of s right) s.scope b sc)) y m
   scoped_after (Prim x f v w) s b sc r y m = let n = has_counts core.table x s.scope b y sc m in omega arith
   scoped_after (Reach x by) s b sc r y m = absurd (reaches_none core b s x by r.0)
 
   -- Two sides, of which the second binding has like ones.
-  pub ahead_two : {from ks : List Known} {b b' : Before} (kind : Kind) (x : Variable) (ty : Ty) (t t' : Term) (other : Kind) (z : Variable) (uy : Ty) (u u' : Term) (xs : List ℕ) (s1 s2 z1 z2 : Setting) → Like t t' → Like u u'
-      → Ahead from b ks b' (((x.0 ∷ binders t) ++ (z.0 ∷ binders u)) ++ xs)
-      → Ahead (reached z ∷ reached x ∷ from) (next_all core.table b (met_side core.table s1 (On kind x ty t) ++ met_side core.table s2 (On other z uy u))) (reached z ∷ reached x ∷ ks) (next_all core.table b' (met_side core.table z1 (On kind x ty t') ++ met_side core.table z2 (On other z uy u'))) xs
-  ahead_two {from} {ks} {b} {b'} kind x ty t t' other z uy u u' xs s1 s2 z1 z2 p q a =
+  pub ahead_two : {from ks : List Known} {b b' : Before} (l l' r r' : Side) (xs : List ℕ) (s1 s2 z1 z2 : Setting) → LikeSides l l' → LikeSides r r' → Ahead from b ks b' ((side_binders l ++ side_binders r) ++ xs)
+      → Ahead (with_variables (variables_of r) (with_variables (variables_of l) from)) (next_all core.table b (met_side core.table s1 l ++ met_side core.table s2 r)) (with_variables (variables_of r) (with_variables (variables_of l) ks)) (next_all core.table b' (met_side core.table z1 l' ++ met_side core.table z2 r')) xs
+  ahead_two {from} {ks} {b} {b'} l l' r r' xs s1 s2 z1 z2 p q a =
       let tb = core.table in
-      let L = met_side tb s1 (On kind x ty t) in
-      let L' = met_side tb z1 (On kind x ty t') in
-      let C = next_all tb b' (L' ++ met_side tb z2 (On other z uy u')) in
-      subst (λ (c : Before). Ahead (reached z ∷ reached x ∷ from) c (reached z ∷ reached x ∷ ks) C xs) (sym (next_append tb b L (met_side tb s2 (On other z uy u))))
-      (subst (λ (c : Before). Ahead (reached z ∷ reached x ∷ from) (next_all tb (next_all tb b L) (met_side tb s2 (On other z uy u))) (reached z ∷ reached x ∷ ks) c xs) (sym (next_append tb b' L' (met_side tb z2 (On other z uy u'))))
-      (ahead_bound tb other other z uy u u' xs s2 z2 q (ahead_bound tb kind kind x ty t t' ((z.0 ∷ binders u) ++ xs) s1 z1 p (subst (Ahead from b ks b') (append_assoc (x.0 ∷ binders t) (z.0 ∷ binders u) xs) a))))
+      let F = with_variables (variables_of r) (with_variables (variables_of l) from) in
+      let K = with_variables (variables_of r) (with_variables (variables_of l) ks) in
+      let L = met_side tb s1 l in
+      let L' = met_side tb z1 l' in
+      let C = next_all tb b' (L' ++ met_side tb z2 r') in
+      subst (λ (c : Before). Ahead F c K C xs) (sym (next_append tb b L (met_side tb s2 r)))
+      (subst (λ (c : Before). Ahead F (next_all tb (next_all tb b L) (met_side tb s2 r)) K c xs) (sym (next_append tb b' L' (met_side tb z2 r')))
+      (ahead_bound tb r r' xs s2 z2 q (ahead_bound tb l l' (side_binders r ++ xs) s1 z1 p (subst (Ahead from b ks b') (append_assoc (side_binders l) (side_binders r) xs) a))))
 
   -- What stands behind a binding.
   pub ahead_behind : (bind : Bind) (xs : List ℕ) (s : Setting) (b : Before) (ks : List Known) (b' : Before) → Ahead s.scope b ks b' (bind_binders bind ++ xs) → LinesAreReachable core b (met_bind core.table s bind)
       → Ahead (behind s bind).scope (next_all core.table b (met_bind core.table s bind)) (behind (scoped s ks) bind).scope (next_all core.table b' (met_bind core.table (scoped s ks) bind)) xs
   ahead_behind (Past h k) xs s b ks b' a r = ahead_past (h.0 ∷ []) (h.0 ∷ []) xs a (gains_one h (type_made core.table k) b) (gains_one h (type_made core.table k) b') (λ y. omega arith) a.wider.cased
-  ahead_behind (One (On kind x ty t)) xs s b ks b' a r = ahead_bound core.table kind kind x ty t t xs s (scoped s ks) (like_itself t) a
-  ahead_behind (Both fork (On kind x ty t) (On other z uy u)) xs s b ks b' a r =
-      let l = On kind x ty t in
-      let rt = On other z uy u in
-      ahead_two kind x ty t t other z uy u u xs (left_of s rt) (right_of s l) (left_of (scoped s ks) rt) (right_of (scoped s ks) l) (like_itself t) (like_itself u) a
+  ahead_behind (One side) xs s b ks b' a r = ahead_bound core.table side side xs s (scoped s ks) (likes_itself side) a
+  ahead_behind (Both fork left right) xs s b ks b' a r =
+      ahead_two left left right right xs (left_of s right) (right_of s left) (left_of (scoped s ks) right) (right_of (scoped s ks) left) (likes_itself left) (likes_itself right) a
   ahead_behind (Prim x f v w) xs s b ks b' a r =
       let n = ahead_past (x.0 ∷ []) (x.0 ∷ []) xs a (gains_one x (operator_type f) b) (gains_one x (operator_type f) b') (λ y. omega arith) a.wider.cased in
       record {
@@ -259,21 +316,34 @@ module _ (core : CoreTree) where
       let h = none_broken (rules core b (all_reached s) (SideLine Scalar x ty)) e in
       least_none (rules core b' (all_reached (scoped s ks)) (SideLine Scalar x ty)) (n, (h.1.0, tt))
 
+  several_line : (s : Setting) (b b' : Before) (ks : List Known) (xs : List Variable) (tys : List Ty) → any_bound xs [] b'.bound ≡ false → least (rules core b (all_reached s) (SeveralLine xs tys)) ≡ None → least (rules core b' (all_reached (scoped s ks)) (SeveralLine xs tys)) ≡ None
+  several_line s b b' ks xs tys n e =
+      let h = none_broken (rules core b (all_reached s) (SeveralLine xs tys)) e in
+      least_none (rules core b' (all_reached (scoped s ks)) (SeveralLine xs tys)) (n, (h.1.0, tt))
+
   usable_part : (c : Bool) (u : Bool) → (c || not u) ≡ false → u ≡ true
   usable_part c u e = not-false u (or_parts c (not u) e).1
 
   call_more : (s : Setting) (b b' : Before) (ks : List Known) (xs : List Atom) (f : Option FunctionTerm) → Wider s.scope b ks b' → all_usable (all_reached s) xs ≡ true → call_fits b' (all_reached (scoped s ks)) xs f ≡ call_fits b (all_reached s) xs f
   call_more s b b' ks xs None w u = refl
-  call_more s b b' ks xs (Some f) w u = ap (λ c. c && (same_type f.result s.due && (not (is_scalar f.result) || s.whole))) (types_same s b b' xs f.parameters w.types u)
+  call_more s b b' ks xs (Some f) w u = ap (λ c. c && result_fits s.destination s.due s.whole f.result) (types_same s b b' xs f.parameters w.types u)
 
   scalars_more : (s : Setting) (b b' : Before) (ks : List Known) (d : Destination) (ss : List Atom) → Wider s.scope b ks b' → all_usable (all_reached s) ss ≡ true → are_scalars core.table b' d ss ≡ are_scalars core.table b d ss
   scalars_more s b b' ks Nowhere ss w u = refl
   scalars_more s b b' ks Empty ss w u = refl
+  scalars_more s b b' ks (InParts tys) ss w u = refl
   scalars_more s b b' ks (Open h k standing) ss w u = types_same s b b' ss (scalar_types (fields_at core.table k.0)) w.types u
+
+  parts_more : (s : Setting) (b b' : Before) (ks : List Known) (d : Destination) (tys : List Ty) (ss : List Atom) (packed : ℕ) → Wider s.scope b ks b' → all_usable (all_reached s) ss ≡ true → are_parts core.table b' d tys ss packed ≡ are_parts core.table b d tys ss packed
+  parts_more s b b' ks Nowhere tys ss packed w u = refl
+  parts_more s b b' ks Empty tys ss packed w u = refl
+  parts_more s b b' ks (Open h k standing) tys ss packed w u = refl
+  parts_more s b b' ks (InParts due) tys ss packed w u = λ i. same_types tys due && (are_declared core.table tys && (types_same s b b' ss (scalar_types tys) w.types u i && packed == length (tree_types tys)))
 
   write_more : (b b' : Before) (d : Destination) (h : Variable) (k : ConId) (ps : List Atom) → b'.cased ≡ b.cased → may_write core.table b' d h k ps ≡ may_write core.table b d h k ps
   write_more b b' Nowhere h k ps e = refl
   write_more b b' Empty h k ps e = refl
+  write_more b b' (InParts tys) h k ps e = refl
   write_more b b' (Open head con standing) h k ps e =
       ap (λ (c : List Variable). (head.0 == h.0 && con.0 == k.0) && ((length standing == length (Rattle.gib_core.specs.Met.packed_types core.table con) && Rattle.gib_core.specs.Rules.are_variables standing ps) && not (Rattle.gib_core.specs.Rules.any_cased c (Rattle.gib_core.specs.Rules.further standing)))) e
 
@@ -284,15 +354,13 @@ module _ (core : CoreTree) where
   both_more : (left right : Side) → SideMore left → SideMore right → (s : Setting) (b : Before) (ks : List Known) (b' : Before) → Ahead s.scope b ks b' (side_binders left ++ side_binders right)
       → LinesAreReachable core b (met_side core.table (left_of s right) left ++ met_side core.table (right_of s left) right)
       → LinesAreReachable core b' (met_side core.table (left_of (scoped s ks) right) left ++ met_side core.table (right_of (scoped s ks) left) right)
-  both_more (On kind x ty t) (On other z uy u) more_left more_right s b ks b' a r =
-      let l = On kind x ty t in
-      let rt = On other z uy u in
-      let L = met_side core.table (left_of s rt) l in
-      let L' = met_side core.table (left_of (scoped s ks) rt) l in
-      let rs = reachable_split core b L (met_side core.table (right_of s l) rt) r in
-      reachable_append b' L' (met_side core.table (right_of (scoped s ks) l) rt)
-      (more_left (left_of s rt) b ks b' (ahead_first (x.0 ∷ binders t) (z.0 ∷ binders u) a) rs.0)
-      (more_right (right_of s l) (next_all core.table b L) ks (next_all core.table b' L') (ahead_side core.table kind kind x ty t t (z.0 ∷ binders u) (left_of s rt) (left_of (scoped s ks) rt) (like_itself t) a) rs.1)
+  both_more left right more_left more_right s b ks b' a r =
+      let L = met_side core.table (left_of s right) left in
+      let L' = met_side core.table (left_of (scoped s ks) right) left in
+      let rs = reachable_split core b L (met_side core.table (right_of s left) right) r in
+      reachable_append b' L' (met_side core.table (right_of (scoped s ks) left) right)
+      (more_left (left_of s right) b ks b' (ahead_first (side_binders left) (side_binders right) a) rs.0)
+      (more_right (right_of s left) (next_all core.table b L) ks (next_all core.table b' L') (ahead_side core.table left left (side_binders right) (left_of s right) (left_of (scoped s ks) right) (likes_itself left) a) rs.1)
 
   mutual
     pub wider_term : (t : Term) (s : Setting) (b : Before) (ks : List Known) (b' : Before) → Ahead s.scope b ks b' (binders t) → LinesAreReachable core b (met core.table s t) → LinesAreReachable core b' (met core.table (scoped s ks) t)
@@ -354,6 +422,26 @@ module _ (core : CoreTree) where
               (wider_term t (in_branch s) b ks b' (ahead_first (binders t) (binders u) a) rs.0)
               (wider_term u (in_branch s) (next_all core.table b xs) ks (next_all core.table b' (met core.table (in_branch (scoped s ks)) t)) (ahead_term core.table t t (binders u) (in_branch s) (in_branch (scoped s ks)) (like_itself t) a) rs.1),
         )
+    wider_term (Tuple tys ss ps) s b ks b' a r =
+        let f = none_broken (rules core b (all_reached s) (TupleLine tys ss (parts_count ps))) r.0 in
+        let u = not-false (all_usable (all_reached s) ss) f.1.0 in (
+          least_none (rules core b' (all_reached (scoped s ks)) (TupleLine tys ss (parts_count ps))) (any_other_eq (all_reached (scoped s ks)) (all_reached s) ss refl ∙ f.0, (ap not (all_usable_more s b b' ks ss a.wider u), (ap not (parts_more s b b' ks s.destination tys ss (parts_count ps) a.wider u) ∙ f.1.1.0, (f.1.1.1.0, tt)))),
+          wider_parts ps (tree_types tys) s b ks b' a r.1,
+        )
+
+    pub wider_parts : (ps : PartTerms) (tys : List Ty) (s : Setting) (b : Before) (ks : List Known) (b' : Before) → Ahead s.scope b ks b' (part_binders ps) → LinesAreReachable core b (met_parts core.table s tys ps) → LinesAreReachable core b' (met_parts core.table (scoped s ks) tys ps)
+    wider_parts NoPart tys s b ks b' a r = tt
+    wider_parts (PartThen t ps) tys s b ks b' a r =
+        let inner = in_part s (first_type tys) in
+        let inner' = in_part (scoped s ks) (first_type tys) in
+        let xs = met core.table inner t in
+        let xs' = met core.table inner' t in
+        let rs = reachable_split core b xs (met_parts core.table s (further_types tys) ps) r.1 in (
+          refl,
+          reachable_append b' xs' (met_parts core.table (scoped s ks) (further_types tys) ps)
+              (wider_term t inner b ks b' (ahead_first (binders t) (part_binders ps) a) rs.0)
+              (wider_parts ps (further_types tys) s (next_all core.table b xs) ks (next_all core.table b' xs') (ahead_term core.table t t (part_binders ps) inner inner' (like_itself t) a) rs.1),
+        )
 
     pub wider_bind : (bind : Bind) (s : Setting) (b : Before) (ks : List Known) (b' : Before) → Ahead s.scope b ks b' (bind_binders bind) → LinesAreReachable core b (met_bind core.table s bind) → LinesAreReachable core b' (met_bind core.table (scoped s ks) bind)
     wider_bind (Past h k) s b ks b' a r =
@@ -375,6 +463,12 @@ module _ (core : CoreTree) where
               (wider_term t inner (next core.table b (SideLine kind x ty)) ks (next core.table b' (SideLine kind x ty))
               (subst (λ (o : List Known). Ahead o (next core.table b (SideLine kind x ty)) ks (next core.table b' (SideLine kind x ty)) (binders t)) (sym (in_side_scope core.table s kind ty))
               (ahead_past (x.0 ∷ []) (x.0 ∷ []) (binders t) a (gains_one x ty b) (gains_one x ty b') (λ y. omega arith) a.wider.cased)) r.1),
+        )
+    wider_side (Several xs tys t) s b ks b' a r =
+        let ns = map (λ (x : Variable). x.0) xs in (
+          several_line s b b' ks xs tys (any_new xs [] b'.bound (λ y. let o = a.room' y in let e = occurs_append ns (binders t) y in omega arith)) r.0,
+          wider_term t (in_several s tys) (next core.table b (SeveralLine xs tys)) ks (next core.table b' (SeveralLine xs tys))
+              (ahead_past ns ns (binders t) a (gains_all xs tys b) (gains_all xs tys b') (λ y. omega arith) a.wider.cased) r.1,
         )
 
     pub wider_branches : (bs : Branches) (s : Setting) (b : Before) (ks : List Known) (b' : Before) → ((y : Variable) → has s.scope y ≡ true → has ks y ≡ true)

@@ -3,15 +3,15 @@ use Rattle.std.proofs.Common.{◌≡◌, ℕ, zero, suc, ◌+◌, ◌≤◌, Boo
 use Rattle.std.proofs.lemmas.Bool.{eq-eqb, false_from_ne_true, or_from}
 use Rattle.gib_types.specs.declared.table.Ty.{Ty}
 use Rattle.gib_types.specs.declared.table.ConId.{ConId}
-use Rattle.gib_types.specs.Table.{Table, fields_at}
+use Rattle.gib_types.specs.Table.{Table, fields_at, tree_types}
 use Rattle.gib_core.specs.declared.atom.Variable.{Variable}
 use Rattle.gib_core.specs.declared.atom.Atom.{Atom}
 use Rattle.gib_core.specs.declared.atom.Atom.TheVariants as a
 use Rattle.gib_core.specs.declared.scope.Bound.{Bound}
-use Rattle.gib_core.specs.Tree.{Term, Then, Write, Point, CallTerm, Give, CaseTerm, IfTerm, Bind, Past, One, Both, Prim, Reach, Side, On, Branches, NoBranch, BranchThen}
+use Rattle.gib_core.specs.Tree.{Term, Then, Write, Point, CallTerm, Give, CaseTerm, IfTerm, Tuple, PartTerms, NoPart, PartThen, Bind, Past, One, Both, Prim, Reach, Side, On, Several, Branches, NoBranch, BranchThen}
 use Rattle.gib_core.specs.Inferring.{first_type, further_types}
-use Rattle.gib_core.specs.Numbering.{binders, bind_binders, side_binders, branch_binders}
-use Rattle.gib_core.specs.Met.{Setting, Met, PastLine, SideLine, ParLine, PrimLine, ReachLine, WriteLine, PointLine, CallLine, GiveLine, CaseLine, IfLine, in_side, behind, left_of, right_of, in_arm, in_branch, arms_of, met, met_bind, met_side, met_branches}
+use Rattle.gib_core.specs.Numbering.{binders, bind_binders, side_binders, part_binders, branch_binders}
+use Rattle.gib_core.specs.Met.{Setting, Met, PastLine, SideLine, ParLine, PrimLine, ReachLine, WriteLine, PointLine, CallLine, GiveLine, CaseLine, IfLine, SeveralLine, TupleLine, PartLine, in_side, in_several, in_part, behind, left_of, right_of, in_arm, in_branch, arms_of, met, met_bind, met_side, met_parts, met_branches}
 use Rattle.gib_core.specs.Rules.{Before, is_among, is_bound, type_bound, bind_fields, bind_arms, arm_variables, cases_on, next, next_all}
 use Rattle.gib_core.specs.Walk.{Entry, AtLine, AtArm, walk, walk_bind, walk_side}
 use Rattle.gib_core.proofs.Walks.{Joins, walk_joins, bind_joins, side_joins}
@@ -86,7 +86,7 @@ arms_nums tb (arm ∷ arms) bound y =
 pub case_nums : (tb : Table) (x : Atom) (arms : List (ConId × List Variable)) (b : Before) (y : ℕ) → occurs (nums (next tb b (CaseLine x arms)).bound) y ≡ times (arm_variables arms) y + occurs (nums b.bound) y
 case_nums tb x arms b y = arms_nums tb arms b.bound y
 
-fields_types : (xs : List Variable) (types : List Ty) (bound bound' : List Bound) (y : Variable) → (is_among xs y ≡ false → type_bound bound' y ≡ type_bound bound y) → type_bound (bind_fields xs types bound') y ≡ type_bound (bind_fields xs types bound) y
+pub fields_types : (xs : List Variable) (types : List Ty) (bound bound' : List Bound) (y : Variable) → (is_among xs y ≡ false → type_bound bound' y ≡ type_bound bound y) → type_bound (bind_fields xs types bound') y ≡ type_bound (bind_fields xs types bound) y
 fields_types [] types bound bound' y h = h refl
 fields_types (x ∷ xs) types bound bound' y h =
     fields_types xs (further_types types) (record { variable = x; ty = first_type types } ∷ bound) (record { variable = x; ty = first_type types } ∷ bound') y (λ o. go (x.0 == y.0) (λ e. h (or_from (x.0 == y.0) (is_among xs y) e o)) refl)
@@ -150,6 +150,9 @@ entry_casing_counts y (AtLine (PointLine x)) c = omega arith
 entry_casing_counts y (AtLine (CallLine f xs)) c = omega arith
 entry_casing_counts y (AtLine (GiveLine x)) c = omega arith
 entry_casing_counts y (AtLine (IfLine x)) c = omega arith
+entry_casing_counts y (AtLine (SeveralLine xs tys)) c = omega arith
+entry_casing_counts y (AtLine (TupleLine tys ss packed)) c = omega arith
+entry_casing_counts y (AtLine PartLine) c = omega arith
 entry_casing_counts y (AtArm k xs) c = omega arith
 
 -- A variable is used where a case is on it.
@@ -180,6 +183,9 @@ gains_none b = record { counts = λ y. omega arith; types = λ y o. refl }
 pub gains_one : (x : Variable) (ty : Ty) (b : Before) → Gains b (record { bound = record { variable = x; ty = ty } ∷ b.bound; cased = b.cased }) (x.0 ∷ [])
 gains_one x ty b = record { counts = λ y. omega arith; types = λ y o. one_past x ty b.bound y o }
 
+pub gains_all : (xs : List Variable) (types : List Ty) (b : Before) → Gains b (record { bound = bind_fields xs types b.bound; cased = b.cased }) (map (λ (x : Variable). x.0) xs)
+gains_all xs types b = record { counts = λ y. let e = fields_nums xs types b.bound y in omega arith; types = λ y o. fields_past xs types b.bound y o }
+
 pub gains_then : (b c d : Before) (xs ys : List ℕ) → Gains b c xs → Gains c d ys → Gains b d (xs ++ ys)
 gains_then b c d xs ys p q = record {
   counts = λ y. let m = p.counts y in let n = q.counts y in let r = occurs_append xs ys y in omega arith;
@@ -207,6 +213,7 @@ module _ (tb : Table) where
         }
     gains_term (IfTerm x t u) s b =
         let ls = met tb (in_branch s) t in gains_both b ls (met tb (in_branch s) u) (binders t) (binders u) (gains_term t (in_branch s) b) (gains_term u (in_branch s) (next_all tb b ls))
+    gains_term (Tuple tys ss ps) s b = gains_parts ps (tree_types tys) s b
 
     pub gains_bind : (bind : Bind) (s : Setting) (b : Before) → Gains b (next_all tb b (met_bind tb s bind)) (bind_binders bind)
     gains_bind (Past h k) s b = gains_one h (Rattle.gib_core.specs.Rules.type_made tb k) b
@@ -219,6 +226,15 @@ module _ (tb : Table) where
     pub gains_side : (side : Side) (s : Setting) (b : Before) → Gains b (next_all tb b (met_side tb s side)) (side_binders side)
     gains_side (On kind x ty t) s b =
         let c = next tb b (SideLine kind x ty) in gains_then b c (next_all tb c (met tb (in_side tb s kind ty) t)) (x.0 ∷ []) (binders t) (gains_one x ty b) (gains_term t (in_side tb s kind ty) c)
+    gains_side (Several xs tys t) s b =
+        let c = next tb b (SeveralLine xs tys) in
+        gains_then b c (next_all tb c (met tb (in_several s tys) t)) (map (λ (x : Variable). x.0) xs) (binders t) (gains_all xs tys b) (gains_term t (in_several s tys) c)
+
+    gains_parts : (ps : PartTerms) (tys : List Ty) (s : Setting) (b : Before) → Gains b (next_all tb b (met_parts tb s tys ps)) (part_binders ps)
+    gains_parts NoPart tys s b = gains_none b
+    gains_parts (PartThen t ps) tys s b =
+        let ls = met tb (in_part s (first_type tys)) t in
+        gains_both b ls (met_parts tb s (further_types tys) ps) (binders t) (part_binders ps) (gains_term t (in_part s (first_type tys)) b) (gains_parts ps (further_types tys) s (next_all tb b ls))
 
     gains_branches : (bs : Branches) (s : Setting) (b : Before) → Gains b (next_all tb b (met_branches tb s bs)) (branch_terms bs)
     gains_branches NoBranch s b = gains_none b

@@ -8,8 +8,8 @@ use Rattle.gib_core.specs.declared.atom.Atom.{Atom}
 use Rattle.gib_core.specs.declared.atom.Kind.TheVariants.{Here}
 use Rattle.gib_core.specs.declared.node.Binding.{Binding}
 use Rattle.gib_core.specs.declared.node.Binding.TheVariants as b
-use Rattle.gib_core.specs.declared.node.BoundTerm.{BoundTerm}
-use Rattle.gib_core.specs.Tree.{Term, Bind, Past, One, Both, Prim, Reach, On, Then, Write, Point, CallTerm, Give, CaseTerm, IfTerm}
+use Rattle.gib_core.specs.declared.node.BoundSide.TheVariants as s
+use Rattle.gib_core.specs.Tree.{Term, Bind, Past, One, Both, Prim, Reach, On, Several, Then, Write, Point, CallTerm, Give, CaseTerm, IfTerm, Tuple}
 use Rattle.gib_core.specs.Arena.{IsBindingBelow, bind_from, binds_from, side_from}
 use Rattle.gib_core.specs.Rules.{is_among}
 use Rattle.gib_place.specs.declared.field.Field.{Field}
@@ -18,6 +18,7 @@ use Rattle.gib_core.specs.declared.node.Node.TheVariants as n
 use Rattle.gib_place.specs.declared.line.Head.{Head}
 use Rattle.gib_place.specs.declared.line.Line.{Line}
 use Rattle.gib_place.specs.declared.line.Spot.{Spot}
+use Rattle.gib_place.specs.declared.line.Taken.{Taken}
 use Rattle.gib_place.specs.declared.line.Laid.{Laid as Made}
 use Rattle.gib_place.specs.Late.{Seen, is_late}
 use Rattle.gib_place.specs.Numbered.{number_at}
@@ -37,7 +38,9 @@ field_of (One (On Here x ty (CallTerm f xs))) = None
 field_of (One (On Here x ty (Give y))) = None
 field_of (One (On Here x ty (CaseTerm y branches))) = None
 field_of (One (On Here x ty (IfTerm y t u))) = None
+field_of (One (On Here x ty (Tuple tys ss ps))) = None
 field_of (One (On kind x ty t)) = None
+field_of (One (Several xs tys t)) = None
 field_of (Both fork l r) = None
 field_of (Prim x f y z) = None
 field_of (Reach y by) = None
@@ -52,20 +55,34 @@ abbrev pub cut_from : List Field → Option ℕ → Option Cut
 cut_from fields None = None
 cut_from fields (Some i) = Some (record { before = take i fields; behind = drop (suc i) fields })
 
--- A side at the place of a field.
-abbrev pub put_here : BoundTerm → BoundTerm
-put_here s = record s { kind = Here }
+-- The side that takes the part of a field, the fields before that one, and those behind it.
+abbrev pub taken : (ℕ → Term) → List Field → Taken → PlacedSide
+taken f fields t = record { before = take t.place fields; side = side_from f (s.One t.side); left = drop (suc t.place) fields }
 
--- A side that takes the part of a field of this number, where the fields before it may be put before it.
-abbrev pub side_at : (ℕ → Term) → (List Field → Bool) → BoundTerm → List Field → Option ℕ → Option PlacedSide
-side_at f may s fields None = None
-side_at f may s fields (Some i) =
-    if may (take i fields) then Some (record { before = take i fields; side = side_from f (put_here s); left = drop (suc i) fields }) else None
+-- A side that takes the part of a field, where the fields before that one may be put before it.
+abbrev pub side_at : (ℕ → Term) → (List Field → Bool) → List Field → Option Taken → Option PlacedSide
+side_at f may fields None = None
+side_at f may fields (Some t) = if may (take t.place fields) then Some (taken f fields t) else None
 
--- A side that takes the part of a field of this number.
-abbrev pub side_placed : (ℕ → Term) → BoundTerm → List Field → Option ℕ → Option PlacedSide
-side_placed f s fields None = None
-side_placed f s fields (Some i) = Some (record { before = take i fields; side = side_from f (put_here s); left = drop (suc i) fields })
+-- A side that takes the part of a field.
+abbrev pub side_placed : (ℕ → Term) → List Field → Option Taken → Option PlacedSide
+side_placed f fields None = None
+side_placed f fields (Some t) = Some (taken f fields t)
+
+-- The field whose part it takes is there.
+abbrev pub IsTaken : ℕ → Option Taken → Type 0
+IsTaken n None = Unit {0}
+IsTaken n (Some t) = t.place < n
+
+-- The term of the side has a smaller number.
+abbrev pub IsTakenBelow : ℕ → Option Taken → Type 0
+IsTakenBelow n None = Unit {0}
+IsTakenBelow n (Some t) = t.side.term.0 < n
+
+-- It takes the part of the first field.
+abbrev pub IsFirst : Option Taken → Type 0
+IsFirst None = Unit {0}
+IsFirst (Some t) = t.place ≡ 0
 
 -- The number is that of an item.
 abbrev pub IsPlace : ℕ → Option ℕ → Type 0
@@ -167,6 +184,18 @@ IsOtherEnd (n.Call f xs) = Unit {0}
 IsOtherEnd (n.Give x) = Unit {0}
 IsOtherEnd (n.Case x branches) = Unit {0}
 IsOtherEnd (n.If x t u) = Unit {0}
+IsOtherEnd (n.Tuple tys ss ps) = Unit {0}
+
+-- A node that goes on in other terms.
+abbrev pub IsBranching : Node → Type 0
+IsBranching (n.Then binding rest) = ⊥
+IsBranching (n.Write head constructor scalars packed) = ⊥
+IsBranching (n.Point atom) = ⊥
+IsBranching (n.Call name arguments) = ⊥
+IsBranching (n.Give atom) = ⊥
+IsBranching (n.Case subject branches) = Unit {0}
+IsBranching (n.If condition then' else') = Unit {0}
+IsBranching (n.Tuple types scalars parts) = Unit {0}
 
 -- What stands behind the room for a head, with what its end is.
 abbrev pub ending_from : Variable → ConId → List Atom → List Atom → Option (Vec Field) → Option Ending

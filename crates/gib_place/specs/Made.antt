@@ -1,18 +1,19 @@
 -- What the walk that places fields leaves behind.
-use Rattle.std.specs.Prelude.{◌≡◌, ◌<◌, List, length, map}
+use Rattle.std.specs.Prelude.{◌≡◌, ◌<◌, List, length, map, Some}
 use Rattle.std.specs.List.{AllByRecursion}
 use Rattle.gib_core.specs.declared.node.Binding.{Binding}
-use Rattle.gib_core.specs.declared.node.BoundTerm.{BoundTerm}
+use Rattle.gib_core.specs.declared.node.BoundSide.{BoundSide}
 use Rattle.gib_core.specs.declared.node.Branch.{Branch}
 use Rattle.gib_core.specs.declared.node.Node.{Node}
 use Rattle.gib_core.specs.declared.node.TermId.{TermId}
 use Rattle.gib_core.specs.declared.program.CoreFunction.{CoreFunction}
 use Rattle.gib_core.specs.declared.program.CoreMain.{CoreMain}
-use Rattle.gib_core.specs.Tree.{Term, Bind, Side, Branches, FunctionTerm, MainTerm}
+use Rattle.gib_core.specs.Tree.{Term, Bind, Side, PartTerms, Branches, FunctionTerm, MainTerm}
 use Rattle.gib_core.specs.Parts.{IsFunctionInside, function_term, main_term}
 use Rattle.gib_core.specs.Walk.{with_body, with_main}
 use Rattle.gib_place.specs.Numbering.{place_anew}
-use Rattle.gib_core.specs.Arena.{Grows, IsBindingBelow, IsBranchBelow, term_of, bind_from, binds_from, side_from, branches_from}
+use Rattle.gib_core.specs.Arena.{Grows, IsBindingBelow, IsBranchBelow, IsPartBelow, PartsBelow, term_in, term_of, bind_from, binds_from, side_from, parts_from, branches_from, layer}
+use Rattle.gib_place.specs.Filled.{IsOtherEnd}
 
 -- A term was made, and those that were there stay.
 pub record MakesTerm (old new : List Node) (id : TermId) (term : Term) : Type 0 where
@@ -33,10 +34,23 @@ pub record MakesBindings (old new : List Node) (made : List Binding) (binds : Li
   pub are : binds_from (term_of new) made ≡ binds
 
 -- A side was made.
-pub record MakesSide (old new : List Node) (made : BoundTerm) (side : Side) : Type 0 where
+pub record MakesSide (old new : List Node) (made : BoundSide) (side : Side) : Type 0 where
   pub grows : Grows old new
-  pub inside : made.term.0 < length new
+  pub inside : (term_in made).0 < length new
   pub is : side_from (term_of new) made ≡ side
+
+-- The end of a line that fills no head was made.
+pub record MakesEnd (old new : List Node) (made : Node) (end : Term) : Type 0 where
+  pub grows : Grows old new
+  pub inside : PartsBelow made (length new)
+  pub other : IsOtherEnd made
+  pub is : layer (term_of new) (Some made) ≡ end
+
+-- Parts were made.
+pub record MakesParts (old new : List Node) (made : List TermId) (parts : PartTerms) : Type 0 where
+  pub grows : Grows old new
+  pub inside : AllByRecursion (IsPartBelow (length new)) made
+  pub are : parts_from (term_of new) made ≡ parts
 
 -- A branch like another one was made, with this term.
 pub record MakesBranch (old new : List Node) (made was : Branch) (term : Term) : Type 0 where

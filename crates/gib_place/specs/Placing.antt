@@ -9,9 +9,9 @@ use Rattle.gib_core.specs.declared.atom.Variable.{Variable}
 use Rattle.gib_core.specs.declared.atom.Atom.{Atom}
 use Rattle.gib_core.specs.declared.atom.Atom.TheVariants as a
 use Rattle.gib_core.specs.declared.atom.Kind.TheVariants.{Here, Region, Scalar}
-use Rattle.gib_core.specs.Tree.{Term, Then, Write, Point, Bind, Past, One, Both, Prim, Reach, Side, On, Branches, variable_of, prepend, CoreTree}
+use Rattle.gib_core.specs.Tree.{Term, Then, Write, Point, Bind, Past, One, Both, Prim, Reach, Side, On, Several, PartTerms, Branches, variables_of, prepend, CoreTree}
 use Rattle.gib_core.specs.Counting.{is_once}
-use Rattle.gib_core.specs.Walk.{Nested, map_term, map_bind, map_side, map_branches, with_bodies}
+use Rattle.gib_core.specs.Walk.{Nested, map_term, map_bind, map_side, map_parts, map_branches, with_bodies}
 use Rattle.gib_core.specs.Inferring.{as_atoms}
 use Rattle.gib_core.specs.Reaching.{is_variable}
 use Rattle.gib_core.specs.Rules.{is_among}
@@ -84,8 +84,8 @@ cut_at x (f ∷ fs) = if is_variable x f.target then Some (record { before = [];
 -- The variables that a binding binds in its line.
 abbrev pub bound_by : Bind → List Variable
 bound_by (Past h k) = h ∷ []
-bound_by (One s) = variable_of s ∷ []
-bound_by (Both fork l r) = variable_of l ∷ variable_of r ∷ []
+bound_by (One s) = variables_of s
+bound_by (Both fork l r) = variables_of l ++ variables_of r
 bound_by (Prim x f y z) = x ∷ []
 bound_by (Reach y by) = []
 
@@ -122,11 +122,12 @@ abbrev pub place_at : (List Field → Bool) → Variable → Ty → Term → Opt
 place_at may x ty t None = None
 place_at may x ty t (Some c) = if may c.before then Some (record { before = c.before; side = On Here x ty t; left = c.behind }) else None
 
--- A side: a region is placed where it can be, any other side is not.
+-- A side: a region is placed where it can be, any other side is not. Several variables stay.
 abbrev pub place_side : (Variable → Bool) → (List Field → Bool) → Side → List Field → Option PlacedSide
 place_side once may (On Region x ty t) fields = if once x then place_at may x ty t (cut_at x fields) else None
 place_side once may (On Here x ty t) fields = None
 place_side once may (On Scalar x ty t) fields = None
+place_side once may (Several xs tys t) fields = None
 
 -- A binding one or both of whose sides are placed: the fields that are put before it, the variables that stand for fields behind
 -- these, and the fields that are left.
@@ -137,31 +138,33 @@ pub record PlacedBind : Type 0 where
   pub left : List Field
 
 -- A binding of one side, where that side is placed.
-abbrev pub place_one : Variable → Option PlacedSide → Option PlacedBind
-place_one x None = None
-place_one x (Some p) = Some (record { before = p.before; bind = One p.side; standing = x ∷ []; left = p.left })
+abbrev pub place_one : Option PlacedSide → Option PlacedBind
+place_one None = None
+place_one (Some p) = Some (record { before = p.before; bind = One p.side; standing = variables_of p.side; left = p.left })
 
 -- The right side of a par whose left side stays.
-abbrev pub place_right : Bool → Side → Side → Option PlacedSide → Option PlacedBind
-place_right fork l r None = None
-place_right fork l r (Some q) = Some (record { before = q.before; bind = Both fork l q.side; standing = variable_of r ∷ []; left = q.left })
+abbrev pub place_right : Bool → Side → Option PlacedSide → Option PlacedBind
+place_right fork l None = None
+place_right fork l (Some q) = Some (record { before = q.before; bind = Both fork l q.side; standing = variables_of q.side; left = q.left })
 
 -- The right side of a par whose left side is placed.
-abbrev pub place_too : Bool → Side → Side → PlacedSide → Option PlacedSide → PlacedBind
-place_too fork l r p None = record { before = p.before; bind = Both fork p.side r; standing = variable_of l ∷ []; left = p.left }
-place_too fork l r p (Some q) = record { before = p.before; bind = Both fork p.side q.side; standing = variable_of l ∷ variable_of r ∷ []; left = q.left }
+abbrev pub place_too : Bool → Side → PlacedSide → Option PlacedSide → PlacedBind
+place_too fork r p None = record { before = p.before; bind = Both fork p.side r; standing = variables_of p.side; left = p.left }
+place_too fork r p (Some q) =
+    record { before = p.before; bind = Both fork p.side q.side; standing = variables_of p.side ++ variables_of q.side; left = q.left }
 
 -- The left side of a par, and then its right side. Fields are put before the whole par, so none is for a right side whose left side
 -- is placed.
 abbrev pub place_both : (Variable → Bool) → List Variable → Bool → Side → Side → List Field → Option PlacedSide → Option PlacedBind
-place_both once late fork l r fields None = place_right fork l r (place_side once (are_there (variable_of l ∷ late)) r fields)
-place_both once late fork l r fields (Some p) = Some (place_too fork l r p (place_side once are_none r p.left))
+place_both once late fork l r fields None = place_right fork l (place_side once (are_there (variables_of l ++ late)) r fields)
+place_both once late fork l r fields (Some p) = Some (place_too fork r p (place_side once are_none r p.left))
 
 -- A binding, before others that bind these variables.
 abbrev pub place_bind : (Variable → Bool) → List Variable → Bind → List Field → Option PlacedBind
 place_bind once late (Past h k) fields = None
-place_bind once late (One s) fields = place_one (variable_of s) (place_side once (are_there late) s fields)
-place_bind once late (Both fork l r) fields = place_both once late fork l r fields (place_side once (are_there (variable_of r ∷ late)) l fields)
+place_bind once late (One s) fields = place_one (place_side once (are_there late) s fields)
+place_bind once late (Both fork l r) fields =
+    place_both once late fork l r fields (place_side once (are_there (variables_of r ++ late)) l fields)
 place_bind once late (Prim x f y z) fields = None
 place_bind once late (Reach y by) fields = None
 
@@ -218,16 +221,23 @@ as_bound b = b
 abbrev pub placed_inside : (Variable → Bool) → Nested → Term → Term
 placed_inside once at t = place_line once t
 
--- A term, with the lines placed that are nested in it; a binding, a side, branches, with the lines of their terms placed.
+-- A term, with the lines placed that are nested in it; a binding, a side, parts, branches, with the lines of their terms placed.
 abbrev pub place_inner : (Variable → Bool) → Term → Term
 place_inner once t = map_term as_bound (placed_inside once) t
 
+-- A binding, with the lines of its terms placed.
 abbrev pub inner_bind : (Variable → Bool) → Bind → Bind
 inner_bind once b = map_bind as_bound (placed_inside once) b
 
+-- A side, with the lines of its term placed.
 abbrev pub inner_side : (Variable → Bool) → Side → Side
 inner_side once s = map_side as_bound (placed_inside once) s
 
+-- Parts, with the lines of their terms placed.
+abbrev pub inner_parts : (Variable → Bool) → PartTerms → PartTerms
+inner_parts once ps = map_parts as_bound (placed_inside once) ps
+
+-- Branches, with the lines of their terms placed.
 abbrev pub inner_branches : (Variable → Bool) → Branches → Branches
 inner_branches once bs = map_branches as_bound (placed_inside once) bs
 

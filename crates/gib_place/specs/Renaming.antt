@@ -6,7 +6,7 @@ use Rattle.gib_core.specs.declared.atom.Atom.{Atom}
 use Rattle.gib_core.specs.declared.atom.Atom.TheVariants as a
 use Rattle.gib_core.specs.declared.atom.Access.{Access}
 use Rattle.gib_core.specs.declared.atom.Access.TheVariants.{Offset, Skip, End}
-use Rattle.gib_core.specs.Tree.{Term, Then, Write, Point, CallTerm, Give, CaseTerm, IfTerm, Bind, Past, One, Both, Prim, Reach, Side, On, Branches, NoBranch, BranchThen}
+use Rattle.gib_core.specs.Tree.{Term, Then, Write, Point, CallTerm, Give, CaseTerm, IfTerm, Tuple, PartTerms, NoPart, PartThen, Bind, Past, One, Both, Prim, Reach, Side, On, Several, Branches, NoBranch, BranchThen}
 
 -- Other numbers for variables.
 abbrev pub Renaming : Type 0
@@ -38,6 +38,7 @@ abbrev mutual
   rename r (Give x) = Give (rename_atom r x)
   rename r (CaseTerm x branches) = CaseTerm (rename_atom r x) (rename_branches r branches)
   rename r (IfTerm x t u) = IfTerm (rename_atom r x) (rename r t) (rename r u)
+  rename r (Tuple tys ss ps) = Tuple tys (map (rename_atom r) ss) (rename_parts r ps)
 
   -- A binding with other numbers for its variables.
   pub rename_bind : Renaming → Bind → Bind
@@ -50,6 +51,12 @@ abbrev mutual
   -- A side with other numbers for its variables.
   pub rename_side : Renaming → Side → Side
   rename_side r (On kind x ty t) = On kind (rename_variable r x) ty (rename r t)
+  rename_side r (Several xs tys t) = Several (map (rename_variable r) xs) tys (rename r t)
+
+  -- Parts with other numbers for their variables.
+  pub rename_parts : Renaming → PartTerms → PartTerms
+  rename_parts r NoPart = NoPart
+  rename_parts r (PartThen t ps) = PartThen (rename r t) (rename_parts r ps)
 
   -- Branches with other numbers for their variables.
   pub rename_branches : Renaming → Branches → Branches

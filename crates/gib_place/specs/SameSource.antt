@@ -2,12 +2,16 @@
 use Rattle.std.specs.Prelude.{◌≡◌, ℕ, List, [], ◌∷◌, map}
 use Rattle.gib_syntax.specs.declared.tree.Ident.{Ident}
 use Rattle.gib_syntax.specs.declared.tree.Parameter.{Parameter}
-use Rattle.gib_syntax.specs.Tree.{Expression, Arguments, Arms, Var, Num, Bit, Paren, Op, Call, Make, Let, Par, If, Case, NoArgument, Argument, LastArm, NextArm, FunctionTree, MainTree, ProgramTree}
+use Rattle.gib_syntax.specs.Tree.{Expression, Arguments, Arms, Var, Num, Bit, Paren, Op, Call, Make, Let, Par, If, Case, Tuple, LetSeveral, ParSeveral, NoArgument, Argument, LastArm, NextArm, FunctionTree, MainTree, ProgramTree}
 use Rattle.gib_place.specs.Renaming.{Renaming}
 
 -- A name, at the same place.
 abbrev pub rename_ident : Renaming → Ident → Ident
 rename_ident r x = record { name = record { 0 = r x.name.0 }; span = x.span }
+
+-- A variable with its type, by its other name.
+abbrev pub rename_parameter : Renaming → Parameter → Parameter
+rename_parameter r q = record { name = rename_ident r q.name; ty = q.ty }
 
 abbrev mutual
   -- An expression with other names for its variables. The names of functions and constructors stay.
@@ -23,6 +27,10 @@ abbrev mutual
   rename_expression r (Par p x d y e f) = Par p (rename_ident r x) (rename_expression r d) (rename_ident r y) (rename_expression r e) (rename_expression r f)
   rename_expression r (If p c d e) = If p (rename_expression r c) (rename_expression r d) (rename_expression r e)
   rename_expression r (Case p x arms) = Case p (rename_ident r x) (rename_arms r arms)
+  rename_expression r (Tuple p tys xs) = Tuple p tys (rename_arguments r xs)
+  rename_expression r (LetSeveral p qs d e) = LetSeveral p (map (rename_parameter r) qs) (rename_expression r d) (rename_expression r e)
+  rename_expression r (ParSeveral p qs d rs e f) =
+      ParSeveral p (map (rename_parameter r) qs) (rename_expression r d) (map (rename_parameter r) rs) (rename_expression r e) (rename_expression r f)
 
   -- Arguments with other names for their variables.
   pub rename_arguments : Renaming → Arguments → Arguments
@@ -33,10 +41,6 @@ abbrev mutual
   pub rename_arms : Renaming → Arms → Arms
   rename_arms r (LastArm k xs e) = LastArm k (map (rename_ident r) xs) (rename_expression r e)
   rename_arms r (NextArm k xs e arms) = NextArm k (map (rename_ident r) xs) (rename_expression r e) (rename_arms r arms)
-
--- A parameter by its other name.
-abbrev pub rename_parameter : Renaming → Parameter → Parameter
-rename_parameter r q = record { name = rename_ident r q.name; ty = q.ty }
 
 -- A function with other names for its variables. Its own name stays.
 abbrev pub rename_function : Renaming → FunctionTree → FunctionTree

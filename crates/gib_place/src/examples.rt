@@ -9,7 +9,7 @@ ghost use Rattle.gib_core.specs.declared.atom.Atom.TheVariants as a;
 ghost use Rattle.gib_core.specs.declared.atom.Kind.TheVariants as kind;
 ghost use Rattle.gib_core.specs.declared.atom.Variable.{Variable as X};
 ghost use Rattle.gib_base.specs.declared.name.Name.{Name as Fun};
-ghost use Rattle.gib_core.specs.Tree.{Term, Then, Write, Point, CallTerm, Past, One, Both, Prim, On, var};
+ghost use Rattle.gib_core.specs.Tree.{Term, Then, Write, Point, CallTerm, Tuple, NoPart, PartThen, Past, One, Both, Prim, Side, On, Several, var};
 ghost use Rattle.gib_place.specs.Placing.{place_body};
 ghost use Rattle.gib_place.specs.Numbering.{number_anew};
 
@@ -87,4 +87,40 @@ pub fn division()
         (Then (Past (x 3) cons) (Then (One (On kind.Here (x 4) list (Point (var 1)))) (Write (x 3) cons (var 2 ∷ []) (var 4 ∷ [])))))))
         ≡ Then (Past (x 1) cons) (Then (One (On kind.Here (x 2) list call)) (Then (Prim (x 3) o.Quotient (a.Whole (pos 7)) (a.Whole (pos 0)))
         (Write (x 1) cons (var 3 ∷ []) (var 2 ∷ [])))) }
+{}
+
+/// Results of several parts. `g` gives two trees, `f` one.
+pub fn parts()
+    // `let par (a, b) = g v and c = f v in Node c a`: the side of several variables stays, the other one is placed.
+    ensures beside { let node : Con = record { 0 = 1 } in
+        let tree : FieldType = ty.Tree (record { 0 = 0 }) in
+        let x : ℕ → X = λ n. record { 0 = n } in
+        let two : X → X → Side = λ a b. Several (a ∷ b ∷ []) (tree ∷ tree ∷ []) (CallTerm (record { 0 = 4 }) (var 0 ∷ [])) in
+        let call : Term = CallTerm (record { 0 = 3 }) (var 0 ∷ []) in
+        number_anew 1 (place_body (
+        Then (Both false (two (x 1) (x 2)) (On kind.Region (x 3) tree call))
+        (Then (Past (x 4) node) (Then (One (On kind.Here (x 5) tree (Point (var 3)))) (Then (One (On kind.Here (x 6) tree (Point (var 1))))
+        (Write (x 4) node [] (var 5 ∷ var 6 ∷ [])))))))
+        ≡ Then (Past (x 1) node) (Then (Both false (two (x 2) (x 3)) (On kind.Here (x 4) tree call))
+        (Then (One (On kind.Here (x 5) tree (Point (var 2)))) (Write (x 1) node [] (var 4 ∷ var 5 ∷ [])))) }
+    // `let par c = f v and (a, b) = g v in Node b c`: the value of the field before `c` is bound beside it, so `c` stays.
+    ensures late { let node : Con = record { 0 = 1 } in
+        let tree : FieldType = ty.Tree (record { 0 = 0 }) in
+        let x : ℕ → X = λ n. record { 0 = n } in
+        let two : Side = Several (x 2 ∷ x 3 ∷ []) (tree ∷ tree ∷ []) (CallTerm (record { 0 = 4 }) (var 0 ∷ [])) in
+        let t : Term = Then (Both false (On kind.Region (x 1) tree (CallTerm (record { 0 = 3 }) (var 0 ∷ []))) two)
+        (Then (Past (x 4) node) (Then (One (On kind.Here (x 5) tree (Point (var 3)))) (Then (One (On kind.Here (x 6) tree (Point (var 1))))
+        (Write (x 4) node [] (var 5 ∷ var 6 ∷ []))))) in
+        number_anew 1 (place_body t) ≡ t }
+    // `let (a, n) = (let c = f v in Node c v, 7) in a`: fields are placed in a part, and in the term of several variables.
+    ensures inside { let node : Con = record { 0 = 1 } in
+        let tree : FieldType = ty.Tree (record { 0 = 0 }) in
+        let x : ℕ → X = λ n. record { 0 = n } in
+        let call : Term = CallTerm (record { 0 = 3 }) (var 0 ∷ []) in
+        let bound : Term → Term = λ part. Then (One (Several (x 1 ∷ x 2 ∷ []) (tree ∷ ty.Whole ∷ []) (Tuple (tree ∷ ty.Whole ∷ []) (a.Whole (pos 7) ∷ []) (PartThen part NoPart)))) (Point (var 1)) in
+        number_anew 1 (place_body (bound (
+        Then (One (On kind.Region (x 3) tree call)) (Then (Past (x 4) node) (Then (One (On kind.Here (x 5) tree (Point (var 3))))
+        (Then (One (On kind.Here (x 6) tree (Point (var 0)))) (Write (x 4) node [] (var 5 ∷ var 6 ∷ []))))))))
+        ≡ bound (Then (Past (x 3) node) (Then (One (On kind.Here (x 4) tree call)) (Then (One (On kind.Here (x 5) tree (Point (var 0))))
+        (Write (x 3) node [] (var 4 ∷ var 5 ∷ []))))) }
 {}

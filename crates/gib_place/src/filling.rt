@@ -16,7 +16,7 @@ use crate::laying::{are_fields, atoms_of, lay};
 use crate::line::{Head, Line};
 use crate::placing::{Placing, Scratch};
 use gib_base::Memory;
-use gib_core::{Binding, Kind, Node, TermId, Terms, Variable};
+use gib_core::{Binding, BoundSide, Kind, Node, TermId, Terms, Variable};
 use gib_types::ConId;
 use std::alloc::Global;
 
@@ -25,7 +25,7 @@ fn field_of(terms: &Terms, binding: Binding) -> Option<Field>
     requires { IsBindingBelow (length terms.now) binding }
     ensures { result ≡ field_in (bind_from (term_of terms.now) binding) }
 {
-    let Binding::One(side) = binding else {
+    let Binding::One(BoundSide::One(side)) = binding else {
         return None;
     };
     match side.kind {

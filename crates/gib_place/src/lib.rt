@@ -21,6 +21,7 @@ mod laying;
 pub mod line;
 mod placing;
 mod renumber;
+mod several;
 mod spots;
 mod times;
 mod walk;
@@ -48,7 +49,8 @@ fn placed(alloc: Global, core: Core) -> Result<Core, Memory>
 ///
 /// # Errors
 ///
-/// Want of memory, where no further number of a term, a variable or a moment is left too.
+/// Want of memory, where no further number of a term, a variable or a moment is left too. So too where variables of several
+/// parts would no longer stand one behind another, since they were bound before.
 pub fn place(alloc: Global, core: Core) -> Result<Core, Memory>
     ensures core { IfOk result (λ made. core_of made ≡ place_core (core_of core)) }
     // Where the fields of the core only had to be reached, they still only have to be.

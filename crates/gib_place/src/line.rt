@@ -4,7 +4,7 @@ ghost use Rattle.std.specs.Prelude.{◌≡◌, IfOk};
 
 use crate::field::Field;
 use gib_base::Memory;
-use gib_core::{Atom, Binding, Variable};
+use gib_core::{Atom, Binding, BoundTerm, Variable};
 use gib_types::ConId;
 use std::alloc::Global;
 
@@ -51,6 +51,13 @@ impl Head {
             packed,
         })
     }
+}
+
+/// A side that takes the part of a field: which one of those that are left, and the side at its place.
+#[derive(Clone, Copy)]
+pub struct Taken {
+    pub place: usize,
+    pub side: BoundTerm,
 }
 
 /// How a binding is placed: how many of the fields that are left are put before it, what it becomes, the variables that

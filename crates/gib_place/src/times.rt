@@ -6,6 +6,7 @@
 ghost use Rattle.std.specs.Prelude.{◌≡◌, IfOk, OnOk};
 ghost use Rattle.gib_place.specs.Late.{is_late, Binds, Timed};
 
+use crate::several::note_side;
 use gib_base::Memory;
 use gib_core::{Binding, Clock, Variable};
 
@@ -16,10 +17,10 @@ fn bind(times: &mut Clock, binding: Binding) -> Result<(), Memory>
     times.tick()?;
     match binding {
         Binding::Past { head, .. } => times.note(head),
-        Binding::One(side) => times.note(side.variable),
+        Binding::One(side) => note_side(times, side),
         Binding::Par { left, right, .. } => {
-            times.note(left.variable)?;
-            times.note(right.variable)
+            note_side(times, left)?;
+            note_side(times, right)
         }
         Binding::Prim { variable, .. } => times.note(variable),
         Binding::Reach { .. } => Ok(()),

@@ -1,21 +1,21 @@
 //! The walk that places the fields of all lines of a term. The lines that are nested in a line come first.
 
-ghost use Rattle.std.specs.Prelude.{◌≡◌, ◌<◌, map, length, IfOk};
+ghost use Rattle.std.specs.Prelude.{◌≡◌, ◌<◌, map, length, Some, IfOk};
 ghost use Rattle.std.specs.List.{AllByRecursion};
-ghost use Rattle.gib_core.specs.Arena.{IsBindingBelow, IsBranchBelow, IsEnd, term_of, side_from, bind_from, binds_from, branches_from};
+ghost use Rattle.gib_core.specs.Arena.{IsBindingBelow, IsBranchBelow, IsPartBelow, PartsBelow, IsEnd, term_in, term_of, side_from, bind_from, binds_from, parts_from, branches_from, layer};
 ghost use Rattle.gib_core.specs.Tree.{prepend};
-ghost use Rattle.gib_place.specs.Placing.{place, place_line, place_inner, inner_bind, inner_side, inner_branches};
-ghost use Rattle.gib_place.specs.Filled.{once_by};
-ghost use Rattle.gib_place.specs.Made.{MakesTerm, MakesBinding, MakesBindings, MakesSide, MakesBranch, MakesBranches};
+ghost use Rattle.gib_place.specs.Placing.{place, place_line, place_inner, inner_bind, inner_side, inner_parts, inner_branches};
+ghost use Rattle.gib_place.specs.Filled.{once_by, IsBranching};
+ghost use Rattle.gib_place.specs.Made.{MakesTerm, MakesBinding, MakesBindings, MakesSide, MakesEnd, MakesParts, MakesBranch, MakesBranches};
 
 use crate::filling::{fill, put_other_line};
 use crate::line::Head;
 use crate::placing::{Placing, Scratch};
 use gib_base::Memory;
-use gib_core::{Binding, BoundTerm, Branch, Node, TermId};
+use gib_core::{Binding, BoundParts, BoundSide, BoundTerm, Branch, Node, TermId};
 
-/// A term with the fields of all its lines placed. This recurses as deep as terms are nested in bindings and branches,
-/// and not along a line.
+/// A term with the fields of all its lines placed. This recurses as deep as terms are nested in bindings, parts and
+/// branches, and not along a line.
 #[cycle(place)]
 pub fn place_term(placing: &Placing, scratch: &mut Scratch, id: TermId) -> Result<TermId, Memory>
     requires { id.0 < length placing.now.terms.now }
@@ -76,18 +76,21 @@ fn place_binding(
     }
 }
 
-/// A variable with the term that it is bound to.
+/// What is bound to a term.
 #[cycle(place)]
 fn place_side(
     placing: &Placing,
     scratch: &mut Scratch,
-    side: BoundTerm,
-) -> Result<BoundTerm, Memory>
-    requires { side.term.0 < length placing.now.terms.now }
+    side: BoundSide,
+) -> Result<BoundSide, Memory>
+    requires { (term_in side).0 < length placing.now.terms.now }
     ensures { IfOk result (λ made. MakesSide scratch.old.terms scratch.new.terms made (inner_side (once_by placing.now.once.now) (side_from (term_of placing.now.terms.now) side))) }
 {
-    let term = place_term(placing, scratch, side.term)?;
-    Ok(BoundTerm { term, ..side })
+    let term = place_term(placing, scratch, side.term())?;
+    match side {
+        BoundSide::One(side) => Ok(BoundSide::One(BoundTerm { term, ..side })),
+        BoundSide::Several(side) => Ok(BoundSide::Several(BoundParts { term, ..side })),
+    }
 }
 
 /// The end of a line, with its bindings in front, whose nested lines are placed.
@@ -103,7 +106,8 @@ fn place_end(
     requires below { AllByRecursion (IsBindingBelow (length scratch.old.terms)) bindings.items }
     ensures { IfOk result (λ made. MakesTerm scratch.old.terms scratch.new.terms made (place_line (once_by placing.now.once.now) (prepend (binds_from (term_of scratch.old.terms) bindings.items) (place_inner (once_by placing.now.once.now) (term_of placing.now.terms.now id.0))))) }
 {
-    match placing.terms.node(id) {
+    let node = placing.terms.node(id);
+    match node {
         Node::Then(_, _) => unreachable!(),
         Node::Write {
             head,
@@ -120,10 +124,31 @@ fn place_end(
             put_other_line(scratch, bindings, Node::Call(*name, arguments))
         }
         Node::Give(atom) => put_other_line(scratch, bindings, Node::Give(*atom)),
+        Node::Case { .. } | Node::If { .. } | Node::Tuple { .. } => {
+            let end = place_branching(placing, scratch, id, node)?;
+            put_other_line(scratch, bindings, end)
+        }
+    }
+}
+
+/// The node of a number, which goes on in other terms.
+#[cycle(place)]
+fn place_branching(
+    placing: &Placing,
+    scratch: &mut Scratch,
+    parent: TermId,
+    node: &Node,
+) -> Result<Node, Memory>
+    requires inside { parent.0 < length placing.now.terms.now }
+    requires below { PartsBelow node.now parent.0 }
+    requires branching { IsBranching node.now }
+    ensures { IfOk result (λ made. MakesEnd scratch.old.terms scratch.new.terms made (place_inner (once_by placing.now.once.now) (layer (term_of placing.now.terms.now) (Some node.now)))) }
+{
+    match node {
         Node::Case { subject, branches } => {
-            let branches = place_branches(placing, scratch, id, branches)?;
+            let branches = place_branches(placing, scratch, parent, branches)?;
             let subject = *subject;
-            put_other_line(scratch, bindings, Node::Case { subject, branches })
+            Ok(Node::Case { subject, branches })
         }
         Node::If {
             condition,
@@ -132,14 +157,50 @@ fn place_end(
         } => {
             let then_part = place_term(placing, scratch, *then_part)?;
             let else_part = place_term(placing, scratch, *else_part)?;
-            let end = Node::If {
+            Ok(Node::If {
                 condition: *condition,
                 then_part,
                 else_part,
-            };
-            put_other_line(scratch, bindings, end)
+            })
         }
+        Node::Tuple {
+            types,
+            scalars,
+            parts,
+        } => {
+            let scalars = Vec::from_slice(placing.alloc, scalars)?;
+            let parts = place_parts(placing, scratch, parent, parts)?;
+            Ok(Node::Tuple {
+                types: *types,
+                scalars,
+                parts,
+            })
+        }
+        _ => unreachable!(),
     }
+}
+
+/// The parts of the tuple of a number, from the last one to the first.
+#[cycle(place)]
+fn place_parts(
+    placing: &Placing,
+    scratch: &mut Scratch,
+    parent: TermId,
+    parts: &[TermId],
+) -> Result<Vec<TermId>, Memory>
+    requires inside { parent.0 < length placing.now.terms.now }
+    requires below { AllByRecursion (IsPartBelow parent.0) parts.now }
+    ensures { IfOk result (λ made. MakesParts scratch.old.terms scratch.new.terms made.items (inner_parts (once_by placing.now.once.now) (parts_from (term_of placing.now.terms.now) parts.now))) }
+{
+    let mut reversed = Vec::new(placing.alloc);
+    let mut i = parts.len();
+    'parts: while i > 0 {
+        i -= 1;
+        let part = place_term(placing, scratch, parts[i])?;
+        reversed.push(part)?;
+    }
+    reversed.reverse();
+    Ok(reversed)
 }
 
 /// The branches of the case of a number.

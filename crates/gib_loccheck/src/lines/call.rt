@@ -3,10 +3,10 @@
 ghost use Rattle.std.specs.Prelude.{◌≡◌, ◌||◌, not, [], None, Some};
 ghost use Rattle.gib_types.specs.Table.{is_scalar as scalar};
 ghost use Rattle.gib_core.specs.Arena.{term_of};
-ghost use Rattle.gib_core.specs.Parts.{core_of, function_term};
+ghost use Rattle.gib_core.specs.Parts.{core_of, function_term, results_of};
 ghost use Rattle.gib_core.specs.Met.{CallLine};
-ghost use Rattle.gib_core.specs.Rules.{least, rules as all_rules, call_fits as fits};
-ghost use Rattle.gib_loccheck.specs.Views.{setting_of, before_of, call_rules, numbered};
+ghost use Rattle.gib_core.specs.Rules.{least, rules as all_rules, is_packed as packed, result_fits as fits_due, call_fits as fits};
+ghost use Rattle.gib_loccheck.specs.Views.{destination_of, setting_of, before_of, call_rules, numbered};
 ghost use Rattle.gib_loccheck.specs.Judging.{one, Checks};
 
 use crate::atoms::{all_usable, any_other, have_types};
@@ -16,7 +16,7 @@ use crate::lines::judge;
 use crate::state::Walk;
 use crate::target::Target;
 use gib_base::Name;
-use gib_core::{Atom, CoreFunction, Rule};
+use gib_core::{Atom, CoreFunction, CoreResult, Rule};
 use gib_types::Ty;
 
 /// Whether a scalar call may stand here: it is the whole right side of a `scalar`.
@@ -26,13 +26,31 @@ fn may_give(target: &Target, ty: Ty) -> bool
     !ty.is_scalar() || target.whole
 }
 
+/// Whether one packed value is given.
+fn is_packed(given: CoreResult) -> bool
+    ensures { result ≡ packed (results_of given) }
+{
+    match given {
+        CoreResult::One(ty) => !ty.is_scalar(),
+        CoreResult::Several(_) => false,
+    }
+}
+
+/// Whether what is given is what is due.
+fn result_fits(target: &Target, given: CoreResult) -> bool
+    ensures { result ≡ fits_due (destination_of target.now.destination) target.now.due target.now.whole (results_of given) }
+{
+    match given {
+        CoreResult::One(ty) => ty.is(target.due) && may_give(target, ty),
+        CoreResult::Several(types) => target.are_due(types.as_slice()),
+    }
+}
+
 /// Whether a call fits its function.
 fn call_fits(walk: &Walk, target: &Target, arguments: &[Atom], function: &CoreFunction) -> bool
     ensures { result ≡ fits (before_of walk.now) (setting_of walk.now target.now) arguments.now (Some (function_term (term_of []) function.now)) }
 {
-    have_types(walk, arguments, &function.parameters)
-        && function.result.is(target.due)
-        && may_give(target, function.result)
+    have_types(walk, arguments, &function.parameters) && result_fits(target, function.result)
 }
 
 /// The rule that a call of this function breaks first, or none.
@@ -48,7 +66,7 @@ fn known_call_rule(
     if any_other(walk, arguments) {
         return Some(Rule::Sides);
     }
-    if !function.result.is_scalar() && !target.is_empty() {
+    if is_packed(function.result) && !target.is_empty() {
         return Some(Rule::Place);
     }
     if !all_usable(walk, arguments) {

@@ -4,19 +4,20 @@ ghost use Rattle.std.specs.Prelude.{◌≡◌, ◌==◌, ◌&&◌, [], length, r
 ghost use Rattle.gib_types.specs.Table.{fields_at, constructors_of as all_of};
 ghost use Rattle.gib_core.specs.Parts.{core_of};
 ghost use Rattle.gib_core.specs.Met.{CaseLine};
-ghost use Rattle.gib_core.specs.Rules.{least, rules, cover, are_arms as arms_are, arm_variables, any_bound as bound_again, bind_fields as fields_bound, bind_arms as arms_bound};
+ghost use Rattle.gib_core.specs.Rules.{least, rules, cover, are_arms as arms_are, arm_variables, bind_arms as arms_bound};
 ghost use Rattle.gib_loccheck.specs.Views.{setting_of, before_of, arms_in, numbered};
 ghost use Rattle.gib_loccheck.specs.Judging.{one, Checks, CasesToo};
 
+use crate::atoms::any_bound;
 use crate::fault::LocFault;
 use crate::index::bound::BoundVariables;
 use crate::index::indexed::IndexedCore;
-use crate::lines::judge;
-use crate::state::{Walk, is_listed};
+use crate::lines::{bind_variables, judge};
+use crate::state::Walk;
 use crate::target::Target;
 use gib_base::Memory;
-use gib_core::{Atom, Bound, Branch, Rule, Variable};
-use gib_types::{ConId, Ty, TyId, TypeTable, first_type, further_types};
+use gib_core::{Atom, Branch, Rule, Variable};
+use gib_types::{ConId, Ty, TyId, TypeTable};
 use std::alloc::Global;
 
 /// Whether a branch is one of this constructor, with a variable for each field.
@@ -77,22 +78,6 @@ fn variables_of(alloc: Global, branches: &[Branch]) -> Result<Vec<Variable>, Mem
     Ok(variables)
 }
 
-/// Whether one of these variables was bound before, or is there twice.
-fn any_bound(walk: &Walk, variables: &[Variable]) -> Result<bool, Memory>
-    ensures { IfOk result (λ again. again ≡ bound_again variables.now [] (before_of walk.now).bound) }
-{
-    let mut seen = Vec::new(walk.alloc);
-    let mut left = variables;
-    'variables: while let [variable, after @ ..] = left {
-        if walk.bound.has(*variable) || is_listed(&seen, *variable) {
-            return Ok(true);
-        }
-        seen.push(*variable)?;
-        left = after;
-    }
-    Ok(false)
-}
-
 /// The rule that a case breaks first, or none.
 #[tactic(auto, using(crate::proofs::Scoping::other_same, crate::proofs::Scoping::usable_same))]
 fn case_rule(
@@ -120,27 +105,6 @@ fn case_rule(
     Ok(None)
 }
 
-/// The fields of an arm were bound, with their types.
-fn bind_fields(
-    bound: &mut BoundVariables,
-    variables: &[Variable],
-    types: &[Ty],
-) -> Result<(), Memory>
-    ensures { OnOk result (reverse bound.new.items ≡ fields_bound variables.now types.now (reverse bound.old.items)) }
-{
-    let mut types_left = types;
-    let mut left = variables;
-    'variables: while let [variable, after @ ..] = left {
-        bound.push(Bound {
-            variable: *variable,
-            ty: first_type(types_left),
-        })?;
-        types_left = further_types(types_left);
-        left = after;
-    }
-    Ok(())
-}
-
 /// The fields of all branches were bound.
 fn bind_arms(
     types: &TypeTable,
@@ -151,7 +115,7 @@ fn bind_arms(
 {
     let mut left = branches;
     'branches: while let [branch, after @ ..] = left {
-        bind_fields(bound, &branch.variables, types.fields(branch.constructor))?;
+        bind_variables(bound, &branch.variables, types.fields(branch.constructor))?;
         left = after;
     }
     Ok(())

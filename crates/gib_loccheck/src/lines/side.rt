@@ -1,18 +1,17 @@
 //! `here`, `region`, `scalar`: a variable is bound to a term.
 
-ghost use Rattle.std.specs.Prelude.{◌≡◌, length, IfOk, ◌<◌, OnOk};
+ghost use Rattle.std.specs.Prelude.{◌≡◌, length, ◌<◌, OnOk};
 ghost use Rattle.gib_types.specs.Table.{Table};
 ghost use Rattle.gib_core.specs.Parts.{core_of};
-ghost use Rattle.gib_core.specs.Met.{SideLine, behind_side};
+ghost use Rattle.gib_core.specs.Met.{SideLine, call_too};
 ghost use Rattle.gib_core.specs.Rules.{least, rules, side_rules};
-ghost use Rattle.gib_core.specs.Tree.{Term, On};
 ghost use Rattle.gib_core.specs.Arena.{term_of};
-ghost use Rattle.gib_loccheck.specs.Views.{setting_of, in_scope, before_of, numbered};
-ghost use Rattle.gib_loccheck.specs.Judging.{one, Checks, Binds, Stays, Tells};
+ghost use Rattle.gib_loccheck.specs.Views.{setting_of, in_scope, before_of, calls_of, numbered};
+ghost use Rattle.gib_loccheck.specs.Judging.{one, Checks, Tells};
 
 use crate::fault::LocFault;
 use crate::index::indexed::IndexedCore;
-use crate::lines::{bind, enter, judge};
+use crate::lines::{bind, judge};
 use crate::state::{Told, Walk};
 use crate::target::Target;
 use gib_base::Memory;
@@ -92,24 +91,10 @@ pub fn judge_side(
     bind(walk, bound.variable, bound.ty)
 }
 
-/// The variable of a side comes into scope. What is due behind the side.
-pub fn enter_side(walk: &mut Walk, target: &Target, bound: BoundTerm) -> Result<Target, Memory>
-    ensures binds { IfOk result (λ t. (inner : Term) → Binds walk.old walk.new t (behind_side (setting_of walk.old target.now) (On bound.kind bound.variable bound.ty inner))) }
-    ensures stays { IfOk result (λ _. Stays walk.old walk.new) }
-{
-    let destination = target.destination.behind(bound.kind, bound.variable)?;
-    enter(walk, bound.variable)?;
-    Ok(Target {
-        destination,
-        due: target.due,
-        whole: false,
-    })
-}
-
 /// A term to which a variable was bound stands before, where it is a call.
 pub fn tell(core: &IndexedCore, walk: &mut Walk, id: TermId) -> Result<(), Memory>
     requires { id.0 < length core.now.terms }
-    ensures { OnOk result (Tells walk.old walk.new (term_of core.now.terms id.0)) }
+    ensures { OnOk result (Tells walk.old walk.new (call_too (term_of core.now.terms id.0) (calls_of walk.old))) }
 {
     match core.terms().node(id) {
         Node::Call(name, arguments) => {
@@ -125,6 +110,7 @@ pub fn tell(core: &IndexedCore, walk: &mut Walk, id: TermId) -> Result<(), Memor
         Node::Give(_) => {}
         Node::Case { .. } => {}
         Node::If { .. } => {}
+        Node::Tuple { .. } => {}
     }
     Ok(())
 }

@@ -56,6 +56,7 @@ fn may_write(types: &TypeTable, walk: &Walk, target: &Target, head: &Head<'_>) -
             }
             !any_cased(walk, further(standing))
         }
+        Destination::InParts(_) => false,
     }
 }
 
@@ -69,6 +70,7 @@ fn are_scalars(types: &TypeTable, walk: &Walk, target: &Target, scalars: &[Atom]
         Destination::Open { constructor, .. } => {
             have_scalar_types(walk, scalars, types.fields(*constructor))
         }
+        Destination::InParts(_) => true,
     }
 }
 

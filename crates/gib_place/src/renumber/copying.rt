@@ -4,14 +4,21 @@
 
 ghost use Rattle.std.specs.Prelude.{◌≡◌, ◌<◌, ◌+◌, map, length, IfOk};
 ghost use Rattle.gib_core.specs.Arena.{term_of};
+ghost use Rattle.gib_core.specs.PartTypes.{types_in};
+ghost use Rattle.gib_core.specs.Tree.{variables_from};
 ghost use Rattle.gib_place.specs.Made.{MakesTerm};
 ghost use Rattle.gib_place.specs.Renaming.{rename, rename_variable, rename_atom, rename_access};
 ghost use Rattle.gib_place.specs.Numbering.{place_in};
-ghost use Rattle.gib_place.specs.Shifting.{SideShifted, BindingShifted, BranchShifted, BranchesShifted, IsBranching, NodeShifted, Copies};
+ghost use Rattle.gib_place.specs.Filled.{IsBranching};
+ghost use Rattle.gib_place.specs.Shifting.{SideShifted, BindingShifted, PartsShifted, BranchShifted, BranchesShifted, NodeShifted, Copies};
 
 use super::numbers::Numbers;
+use crate::several::variable_behind;
 use gib_base::Memory;
-use gib_core::{Access, Atom, Binding, BoundTerm, Branch, Node, TermId, Terms, Variable};
+use gib_core::{
+    Access, Atom, Binding, BoundParts, BoundSide, BoundTerm, Branch, Node, PartTypes, TermId,
+    Terms, Variable,
+};
 use std::alloc::{AllocError, Global};
 
 /// A number so much further on.
@@ -41,18 +48,52 @@ fn renamed_access(numbers: &Numbers, access: Access) -> Result<Access, Memory>
     }
 }
 
+/// The first one of as many variables as there are types, one behind another, whose numbers are one behind another too.
+///
+/// # Errors
+///
+/// Want of memory, where no further number is left too. So too where their numbers are not one behind another, since they
+/// were bound before.
+fn renamed_first(numbers: &Numbers, first: Variable, types: PartTypes) -> Result<Variable, Memory>
+    ensures { IfOk result (λ new. variables_from new.0 (types_in types) ≡ map (rename_variable (place_in numbers.now)) (variables_from first.0 (types_in types))) }
+{
+    let renamed = numbers.number(first)?;
+    let mut i = 0;
+    'variables: while i < types.len() {
+        let x = variable_behind(first, i)?;
+        let number = numbers.number(x)?;
+        let due = variable_behind(renamed, i)?;
+        if number.0 != due.0 {
+            return Err(AllocError);
+        }
+        i += 1;
+    }
+    Ok(renamed)
+}
+
 /// A side.
-fn renamed_side(numbers: &Numbers, base: u32, side: BoundTerm) -> Result<BoundTerm, Memory>
+fn renamed_side(numbers: &Numbers, base: u32, side: BoundSide) -> Result<BoundSide, Memory>
     ensures { IfOk result (λ new. SideShifted (place_in numbers.now) base side new) }
 {
-    let variable = numbers.number(side.variable)?;
-    let term = shifted(base, side.term)?;
-    Ok(BoundTerm {
-        kind: side.kind,
-        variable,
-        ty: side.ty,
-        term,
-    })
+    let term = shifted(base, side.term())?;
+    match side {
+        BoundSide::One(side) => {
+            let variable = numbers.number(side.variable)?;
+            Ok(BoundSide::One(BoundTerm {
+                variable,
+                term,
+                ..side
+            }))
+        }
+        BoundSide::Several(side) => {
+            let first = renamed_first(numbers, side.first, side.types)?;
+            Ok(BoundSide::Several(BoundParts {
+                first,
+                term,
+                ..side
+            }))
+        }
+    }
 }
 
 /// A binding.
@@ -167,7 +208,22 @@ fn renamed_branches(
     Ok(reversed)
 }
 
-/// A node that goes on in one of several terms.
+/// Parts so much further on.
+fn shifted_parts(alloc: Global, base: u32, parts: &[TermId]) -> Result<Vec<TermId>, Memory>
+    ensures { IfOk result (λ new. PartsShifted base parts.now new.items) }
+{
+    let mut reversed = Vec::new(alloc);
+    let mut i = parts.len();
+    'parts: while i > 0 {
+        i -= 1;
+        let part = shifted(base, parts[i])?;
+        reversed.push(part)?;
+    }
+    reversed.reverse();
+    Ok(reversed)
+}
+
+/// A node that goes on in other terms.
 fn renamed_branching(
     alloc: Global,
     numbers: &Numbers,
@@ -195,6 +251,19 @@ fn renamed_branching(
                 condition,
                 then_part,
                 else_part,
+            })
+        }
+        Node::Tuple {
+            types,
+            scalars,
+            parts,
+        } => {
+            let scalars = renamed_atoms(alloc, numbers, scalars)?;
+            let parts = shifted_parts(alloc, base, parts)?;
+            Ok(Node::Tuple {
+                types: *types,
+                scalars,
+                parts,
             })
         }
         _ => unreachable!(),
@@ -239,7 +308,9 @@ fn renamed_node(alloc: Global, numbers: &Numbers, base: u32, node: &Node) -> Res
             let atom = numbers.number_atom(*atom)?;
             Ok(Node::Give(atom))
         }
-        Node::Case { .. } | Node::If { .. } => renamed_branching(alloc, numbers, base, node),
+        Node::Case { .. } | Node::If { .. } | Node::Tuple { .. } => {
+            renamed_branching(alloc, numbers, base, node)
+        }
     }
 }
 

@@ -1,6 +1,6 @@
 use Rattle.std.proofs.Common.{◌≡◌, ◌≤◌, ◌+◌, ◌*◌, ◌-◌, length, drop}
-use Rattle.gib_core.specs.Arena.{term_of, branches_from}
-use Rattle.gib_core.specs.Reaching.{branches_use}
+use Rattle.gib_core.specs.Arena.{term_in, term_of, parts_from, branches_from}
+use Rattle.gib_core.specs.Reaching.{parts_use, branches_use}
 use Rattle.gib_access.proofs.UsesLine.{UsesSoFar}
 use Rattle.gib_access.proofs.planning.+uses.Given as goal
 
@@ -12,6 +12,19 @@ decreases-end_uses l = 4 * l.id.0 + 2
 
 abbrev pub decreases-binding_uses : goal.decreases-binding_uses
 decreases-binding_uses l = 4 * l.parent.0 + 2
+
+abbrev pub decreases-side_uses_it : goal.decreases-side_uses_it
+decreases-side_uses_it l = 4 * (term_in l.side).0 + 4
+
+abbrev pub decreases-parts_use_it : goal.decreases-parts_use_it
+decreases-parts_use_it l = 4 * l.parent.0 + 1
+
+abbrev pub invariant-parts_use_it-parts : goal.invariant-parts_use_it-parts
+invariant-parts_use_it-parts l =
+    (l.i ≤ length l.parts) × (parts_use (parts_from (term_of l.terms) l.parts) l.x ≡ parts_use (parts_from (term_of l.terms) (drop l.i l.parts)) l.x)
+
+abbrev pub decreases-parts_use_it-parts : goal.decreases-parts_use_it-parts
+decreases-parts_use_it-parts l = length l.parts - l.i
 
 abbrev pub decreases-branches_use_it : goal.decreases-branches_use_it
 decreases-branches_use_it l = 4 * l.parent.0 + 1

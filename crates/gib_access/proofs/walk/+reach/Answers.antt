@@ -7,12 +7,17 @@ use Rattle.gib_access.specs.Used.{since, offset_by}
 use Rattle.gib_access.specs.Sources.{way_of}
 use Rattle.gib_access.specs.Planned.{later_of}
 use Rattle.gib_access.proofs.Arms.{branch_reached, branches_next}
+use Rattle.gib_access.proofs.Tuples.{parts_next}
 use Rattle.gib_access.proofs.Lining.{line_first, line_below, line_next, line_whole}
 use Rattle.gib_access.proofs.walk.+reach.Goals as goal
 
 pub reach_branches-branches-preserved : goal.reach_branches-branches-preserved
 reach_branches-branches-preserved t c =
     (omega arith, branches_next (way_of c.args.source.now) (term_of c.args.source.now.terms.now) c.args.work.now c.branches.work c.reach_branch.new.work c.in_ok-branch.branch c.index-branches-i.result c.index-branches-i.result c.branches.reversed.items c.push.new.self.items c.args.branches.now (c.branches.i - 1) c.branches.i (omega arith) c.branches.invariant.0 c.index-branches-i.is c.in_ok-push.ensures.items c.branches.invariant.1 c.in_ok-branch.ensures)
+
+pub reach_parts-parts-preserved : goal.reach_parts-parts-preserved
+reach_parts-parts-preserved t c =
+    (omega arith, parts_next (way_of c.args.source.now) (term_of c.args.source.now.terms.now) c.args.work.now c.parts.work c.reach_term.new.work c.in_ok-part.part _ (record { 0 = 0 }) c.parts.reversed.items c.push.new.self.items c.args.parts.now (c.parts.i - 1) c.parts.i (omega arith) c.parts.invariant.0 refl c.in_ok-push.ensures.items c.parts.invariant.1 c.in_ok-part.ensures)
 
 pub reach_branch-returns : goal.reach_branch-returns
 reach_branch-returns t c =

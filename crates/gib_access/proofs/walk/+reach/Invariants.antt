@@ -1,6 +1,6 @@
 use Rattle.std.proofs.Common.{◌≤◌, ◌+◌, ◌*◌, length, drop, reverse}
-use Rattle.gib_core.specs.Arena.{term_of, branches_from}
-use Rattle.gib_access.specs.Made.{ReachesBranches}
+use Rattle.gib_core.specs.Arena.{term_in, term_of, parts_from, branches_from}
+use Rattle.gib_access.specs.Made.{ReachesParts, ReachesBranches}
 use Rattle.gib_access.specs.Sources.{way_of}
 use Rattle.gib_access.proofs.Lining.{LineSoFar}
 use Rattle.gib_access.proofs.walk.+reach.Given as goal
@@ -18,7 +18,19 @@ abbrev pub decreases-reach_binding : goal.decreases-reach_binding
 decreases-reach_binding l = 6 * l.parent.0 + 2
 
 abbrev pub decreases-reach_side : goal.decreases-reach_side
-decreases-reach_side l = 6 * l.side.term.0 + 6
+decreases-reach_side l = 6 * (term_in l.side).0 + 6
+
+abbrev pub decreases-reach_tuple : goal.decreases-reach_tuple
+decreases-reach_tuple l = 6 * l.parent.0 + 2
+
+abbrev pub decreases-reach_parts : goal.decreases-reach_parts
+decreases-reach_parts l = 6 * l.parent.0 + 1
+
+abbrev pub invariant-reach_parts-parts : goal.invariant-reach_parts-parts
+invariant-reach_parts-parts l = (l.i ≤ length l.parts) × ReachesParts (way_of l.source) l.fn.work l.work (reverse l.reversed.items) (parts_from (term_of l.source.terms.now) (drop l.i l.parts))
+
+abbrev pub decreases-reach_parts-parts : goal.decreases-reach_parts-parts
+decreases-reach_parts-parts l = l.i
 
 abbrev pub decreases-reach_if : goal.decreases-reach_if
 decreases-reach_if l = 6 * l.parent.0 + 2

@@ -1,6 +1,7 @@
 use Rattle.std.proofs.Common.{◌+◌, ◌*◌, max, length}
 use Rattle.gib_infer.proofs.Calls.{ArgumentsSoFar}
 use Rattle.gib_infer.proofs.Cases.{CaseSoFar}
+use Rattle.gib_infer.proofs.Parting.{PartsSoFar}
 use Rattle.gib_infer.proofs.walk.+infer.Given as goal
 
 abbrev pub decreases-arguments : goal.decreases-arguments
@@ -39,6 +40,24 @@ decreases-let_par l = 8 * max (max l.left.value.0 l.right.value.0) l.body.0 + 6
 abbrev pub decreases-if_else : goal.decreases-if_else
 decreases-if_else l = 8 * max (max l.condition.0 l.then_part.0) l.else_part.0 + 6
 
+abbrev pub decreases-tuple : goal.decreases-tuple
+decreases-tuple l = 8 * l.id.0 + 1
+
+abbrev pub decreases-part_terms : goal.decreases-part_terms
+decreases-part_terms l = 8 * l.id.0
+
+abbrev pub decreases-let_several : goal.decreases-let_several
+decreases-let_several l = 8 * max l.bound.now.value.0 l.body.0 + 7
+
+abbrev pub decreases-par_several : goal.decreases-par_several
+decreases-par_several l = 8 * max (max l.left.now.value.0 l.right.now.value.0) l.body.0 + 7
+
+abbrev pub decreases-bound_names : goal.decreases-bound_names
+decreases-bound_names l = 8 * l.bound.now.value.0 + 6
+
+abbrev pub decreases-several_names : goal.decreases-several_names
+decreases-several_names l = 8 * l.bound.now.value.0 + 4
+
 abbrev pub decreases-case : goal.decreases-case
 decreases-case l = 8 * l.id.0 + 2
 
@@ -71,3 +90,9 @@ invariant-case-constructors l = CaseSoFar l.typed l.typed.exprs l.arms l.fn.work
 
 abbrev pub decreases-case-constructors : goal.decreases-case-constructors
 decreases-case-constructors l = l.left
+
+abbrev pub invariant-part_terms-parts : goal.invariant-part_terms-parts
+invariant-part_terms-parts l = PartsSoFar l.typed l.typed.exprs l.fn.id.0 l.fn.work l.work l.ids l.left l.terms.items
+
+abbrev pub decreases-part_terms-parts : goal.decreases-part_terms-parts
+decreases-part_terms-parts l = length l.left

@@ -2,7 +2,10 @@ use Rattle.std.proofs.Common.{◌+◌, ◌*◌, max, length}
 use Rattle.gib_core.specs.Arena.{term_of}
 use Rattle.gib_core.specs.Parts.{core_of}
 use Rattle.gib_loccheck.proofs.Lining.{LineSoFar}
+use Rattle.gib_types.specs.Table.{tree_types}
+use Rattle.gib_core.specs.PartTypes.{types_in}
 use Rattle.gib_loccheck.proofs.Branching.{ArmsSoFar}
+use Rattle.gib_loccheck.proofs.Parting.{PartsSoFar}
 use Rattle.gib_loccheck.proofs.walk.+lines.Given as goal
 
 abbrev pub decreases-check_term : goal.decreases-check_term
@@ -29,6 +32,15 @@ decreases-bind_side l = 8 * l.parent.0 + 2
 abbrev pub decreases-check_side : goal.decreases-check_side
 decreases-check_side l = 8 * l.parent.0 + 1
 
+abbrev pub decreases-check_tuple : goal.decreases-check_tuple
+decreases-check_tuple l = 8 * l.parent.0 + 5
+
+abbrev pub decreases-check_parts : goal.decreases-check_parts
+decreases-check_parts l = 8 * l.parent.0 + 4
+
+abbrev pub decreases-check_part : goal.decreases-check_part
+decreases-check_part l = 8 * l.part.0 + 8
+
 abbrev pub decreases-check_case : goal.decreases-check_case
 decreases-check_case l = 8 * l.parent.0 + 5
 
@@ -52,3 +64,9 @@ invariant-check_term-bindings l = LineSoFar (core_of l.core) l.core.terms l.fn.w
 
 abbrev pub decreases-check_term-bindings : goal.decreases-check_term-bindings
 decreases-check_term-bindings l = l.rest.0
+
+abbrev pub invariant-check_parts-parts : goal.invariant-check_parts-parts
+invariant-check_parts-parts l = PartsSoFar (core_of l.core) l.fn.walk l.walk l.target (term_of l.core.terms) (tree_types (types_in l.tuple.types)) l.tuple.parts.now l.left l.place l.fn.parent.0
+
+abbrev pub decreases-check_parts-parts : goal.decreases-check_parts-parts
+decreases-check_parts-parts l = length l.left

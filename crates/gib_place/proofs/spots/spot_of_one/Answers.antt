@@ -7,4 +7,4 @@ pub returns-in-None-clause-bind : goal.returns-in-None-clause-bind
 returns-in-None-clause-bind c = λ f late h. one_stays (once_by c.args.at.now.once.now) c.args.at.now.times.now c.args.at.now.time f late c.args.side c.args.fields.now h (c.in-None.ensures.side f)
 
 pub returns-in-Some-clause-bind : goal.returns-in-Some-clause-bind
-returns-in-Some-clause-bind c = λ f late h. one_placed (once_by c.args.at.now.once.now) c.args.at.now.times.now c.args.at.now.time f late c.args.side c.put_here.result c.args.fields.now c.in-Some.count (c.in-Some.count + 1) h refl c.put_here.ensures (c.in-Some.ensures.side f)
+returns-in-Some-clause-bind c = λ f late h. one_placed (once_by c.args.at.now.once.now) c.args.at.now.times.now c.args.at.now.time f late c.args.side c.args.fields.now c.in-Some.taken (c.in-Some.taken.place + 1) h refl (c.in-Some.ensures.side f)

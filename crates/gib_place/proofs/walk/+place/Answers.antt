@@ -6,7 +6,7 @@ use Rattle.gib_core.specs.Tree.{CallTerm, CaseTerm}
 use Rattle.gib_place.specs.Made.{MakesBindings}
 use Rattle.gib_place.specs.Placing.{inner_bind, inner_branches}
 use Rattle.gib_place.specs.Filled.{once_by}
-use Rattle.gib_place.proofs.Making.{bindings_next, branches_next, made_passed, end_passed, if_made, line_placed}
+use Rattle.gib_place.proofs.Making.{bindings_next, parts_next, branches_next, made_passed, end_passed, branching_passed, line_placed}
 use Rattle.gib_core.proofs.Fronting.{grows_none, grows_more}
 use Rattle.gib_place.proofs.walk.+place.Goals as goal
 
@@ -20,29 +20,24 @@ place_branches-branches-preserved t c =
 
 pub place_end-returns-in-Point : goal.place_end-returns-in-Point
 place_end-returns-in-Point t c =
-    end_passed (once_by c.args.placing.now.once.now) c.args.placing.now.terms.now c.args.scratch.now.terms c.args.scratch.now.terms c.put_other_line.new.scratch.terms c.args.id.0 c.args.bindings.items (n.Point c.in-Point.atom) (n.Point c.in-Point.atom) c.node.result.now c.put_other_line.result (grows_none c.args.scratch.now.terms) c.requires.below c.node.ensures.0 c.in-Point.is refl c.put_other_line.ensures
+    end_passed (once_by c.args.placing.now.once.now) c.args.placing.now.terms.now c.args.scratch.now.terms c.args.scratch.now.terms c.put_other_line.new.scratch.terms c.args.id.0 c.args.bindings.items (n.Point c.in-Point.atom) (n.Point c.in-Point.atom) c.node-node.result.now c.put_other_line.result (grows_none c.args.scratch.now.terms) c.requires.below c.node-node.ensures.0 c.in-Point.is refl c.put_other_line.ensures
 
 pub place_end-returns-in_ok-arguments-in-Call : goal.place_end-returns-in_ok-arguments-in-Call
 place_end-returns-in_ok-arguments-in-Call t c =
-    end_passed (once_by c.args.placing.now.once.now) c.args.placing.now.terms.now c.args.scratch.now.terms c.args.scratch.now.terms c.put_other_line-in-Call.new.scratch.terms c.args.id.0 c.args.bindings.items (n.Call c.in-Call.name c.in_ok-arguments-in-Call.arguments) (n.Call c.in-Call.name c.in-Call.arguments) c.node.result.now c.put_other_line-in-Call.result (grows_none c.args.scratch.now.terms) c.requires.below c.node.ensures.0 c.in-Call.is
+    end_passed (once_by c.args.placing.now.once.now) c.args.placing.now.terms.now c.args.scratch.now.terms c.args.scratch.now.terms c.put_other_line-in-Call.new.scratch.terms c.args.id.0 c.args.bindings.items (n.Call c.in-Call.name c.in_ok-arguments-in-Call.arguments) (n.Call c.in-Call.name c.in-Call.arguments) c.node-node.result.now c.put_other_line-in-Call.result (grows_none c.args.scratch.now.terms) c.requires.below c.node-node.ensures.0 c.in-Call.is
     (ap (CallTerm c.in-Call.name) (c.in_ok-arguments-in-Call.ensures.items ∙ c.deref-in-Call.ensures.value)) c.put_other_line-in-Call.ensures
 
 pub place_end-returns-in-Give : goal.place_end-returns-in-Give
 place_end-returns-in-Give t c =
-    end_passed (once_by c.args.placing.now.once.now) c.args.placing.now.terms.now c.args.scratch.now.terms c.args.scratch.now.terms c.put_other_line-in-Give.new.scratch.terms c.args.id.0 c.args.bindings.items (n.Give c.in-Give.atom) (n.Give c.in-Give.atom) c.node.result.now c.put_other_line-in-Give.result (grows_none c.args.scratch.now.terms) c.requires.below c.node.ensures.0 c.in-Give.is refl c.put_other_line-in-Give.ensures
+    end_passed (once_by c.args.placing.now.once.now) c.args.placing.now.terms.now c.args.scratch.now.terms c.args.scratch.now.terms c.put_other_line-in-Give.new.scratch.terms c.args.id.0 c.args.bindings.items (n.Give c.in-Give.atom) (n.Give c.in-Give.atom) c.node-node.result.now c.put_other_line-in-Give.result (grows_none c.args.scratch.now.terms) c.requires.below c.node-node.ensures.0 c.in-Give.is refl c.put_other_line-in-Give.ensures
 
-pub place_end-returns-in_ok-branches-in-Case : goal.place_end-returns-in_ok-branches-in-Case
-place_end-returns-in_ok-branches-in-Case t c =
-    end_passed (once_by c.args.placing.now.once.now) c.args.placing.now.terms.now c.args.scratch.now.terms c.place_branches.new.scratch.terms c.put_other_line-in-Case.new.scratch.terms c.args.id.0 c.args.bindings.items (n.Case c.in-Case.subject c.in_ok-branches-in-Case.branches) (n.Case c.in-Case.subject c.in-Case.branches) c.node.result.now c.put_other_line-in-Case.result c.in_ok-branches-in-Case.ensures.grows c.requires.below c.node.ensures.0 c.in-Case.is
-    (ap (CaseTerm c.in-Case.subject) (c.in_ok-branches-in-Case.ensures.are ∙ ap (λ z. inner_branches (once_by c.args.placing.now.once.now) (branches_from (term_of c.args.placing.now.terms.now) z)) c.deref-in-Case.ensures.value)) c.put_other_line-in-Case.ensures
+pub place_end-returns-in_ok-end-in-Case : goal.place_end-returns-in_ok-end-in-Case
+place_end-returns-in_ok-end-in-Case t c =
+    branching_passed (once_by c.args.placing.now.once.now) c.args.placing.now.terms.now c.args.scratch.now.terms c.place_branching.new.scratch.terms c.put_other_line-in-Case.new.scratch.terms c.args.id.0 c.args.bindings.items c.in_ok-end-in-Case.end c.node-node.result.now c.put_other_line-in-Case.result c.requires.below c.node-node.ensures.0 c.in_ok-end-in-Case.ensures c.put_other_line-in-Case.ensures
 
-pub place_end-returns-in_ok-else_part-in-If : goal.place_end-returns-in_ok-else_part-in-If
-place_end-returns-in_ok-else_part-in-If t c =
-    let a = c.in_ok-then_part-in-If.ensures in
-    let b = c.in_ok-else_part-in-If.ensures in
-    end_passed (once_by c.args.placing.now.once.now) c.args.placing.now.terms.now c.args.scratch.now.terms c.place_term-in-If.new.scratch.terms c.put_other_line-in-If.new.scratch.terms c.args.id.0 c.args.bindings.items (n.If c.in-If.condition c.in_ok-then_part-in-If.then_part c.in_ok-else_part-in-If.else_part) (n.If c.in-If.condition c.in-If.then_part c.in-If.else_part) c.node.result.now c.put_other_line-in-If.result
-    (grows_more c.args.scratch.now.terms c.place_term.new.scratch.terms c.place_term-in-If.new.scratch.terms a.grows b.grows) c.requires.below c.node.ensures.0 c.in-If.is
-    (if_made (once_by c.args.placing.now.once.now) (term_of c.args.placing.now.terms.now) c.args.scratch.now.terms c.place_term.new.scratch.terms c.place_term-in-If.new.scratch.terms c.in-If.condition c.in-If.then_part c.in-If.else_part c.in_ok-then_part-in-If.then_part c.in_ok-else_part-in-If.else_part a b) c.put_other_line-in-If.ensures
+pub place_parts-parts-preserved : goal.place_parts-parts-preserved
+place_parts-parts-preserved t c =
+    (omega arith, parts_next (once_by c.args.placing.now.once.now) (term_of c.args.placing.now.terms.now) c.args.scratch.now.terms c.parts.scratch.terms c.place_term.new.scratch.terms c.in_ok-part.part _ _ c.parts.reversed.items c.push.new.self.items c.args.parts.now (c.parts.i - 1) c.parts.i (omega arith) c.parts.invariant.0 refl c.in_ok-push.ensures.items c.parts.invariant.1 c.in_ok-part.ensures)
 
 pub place_term-returns : goal.place_term-returns
 place_term-returns t c =

@@ -1,6 +1,6 @@
 use Rattle.std.proofs.Common.{◌≡◌, length, reverse}
 use Rattle.gib_core.specs.Rules.{bind_fields}
-use Rattle.gib_loccheck.proofs.lines.case.bind_fields.Given as goal
+use Rattle.gib_loccheck.proofs.lines.bind_variables.Given as goal
 
 abbrev pub invariant-variables : goal.invariant-variables
 invariant-variables l = bind_fields l.left l.types_left (reverse l.bound.items) ≡ bind_fields l.variables l.types (reverse l.fn.bound.items)
