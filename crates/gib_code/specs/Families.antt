@@ -16,6 +16,8 @@ pub data Family : Type 0 where
   Forking : Family
   -- where the value of a variable ends
   Telling : Family
+  -- a part of a result is put, given or taken
+  Parting : Family
 
 -- The family of an instruction.
 abbrev pub family_of : Instruction → Family
@@ -39,10 +41,14 @@ family_of (i.Call f ss) = Calling
 family_of (i.CallScalar d f ss) = Calling
 family_of i.Return = Calling
 family_of (i.Give s) = Calling
-family_of (i.Fork r j kind b ty) = Forking
+family_of (i.Fork r j kind xs result) = Forking
 family_of i.Join = Forking
 family_of i.Back = Forking
 family_of (i.Got z k) = Telling
 family_of (i.OverEnd x y) = Telling
 family_of (i.LeafEnd x k) = Telling
 family_of (i.EndOf d z) = Telling
+family_of (i.Into n k) = Parting
+family_of (i.Out n k) = Parting
+family_of (i.GiveParts ss) = Parting
+family_of (i.Part d n) = Parting

@@ -51,6 +51,7 @@ abbrev pub kind_text : Kind → List ℕ
 kind_text k.Here = codes " here"
 kind_text k.Region = codes " region"
 kind_text k.Scalar = codes " scalar"
+kind_text k.Several = codes " several"
 
 -- A constructor by its name.
 abbrev pub constructor_text : List (List ℕ) → Table → ℕ → List ℕ
@@ -97,13 +98,17 @@ instruction_text names code (i.Call g ss) = codes " call" ++ (function_text name
 instruction_text names code (i.CallScalar d g ss) = codes " callv" ++ (slot_text d ++ (function_text names code.functions g ++ flat_map operand_text ss))
 instruction_text names code i.Return = codes " ret"
 instruction_text names code (i.Give v) = codes " give" ++ operand_text v
-instruction_text names code (i.Fork r j kind b ty) = codes " fork" ++ (number_text r ++ (number_text j ++ (kind_text kind ++ slot_text b)))
+instruction_text names code (i.Fork r j kind xs result) = codes " fork" ++ (number_text r ++ (number_text j ++ (kind_text kind ++ flat_map slot_text xs)))
 instruction_text names code i.Join = codes " join"
 instruction_text names code i.Back = codes " back"
 instruction_text names code (i.Got z k) = codes " got" ++ (slot_text z ++ number_text k)
 instruction_text names code (i.OverEnd x y) = codes " over" ++ (slot_text x ++ slot_text y)
 instruction_text names code (i.LeafEnd x k) = codes " leafend" ++ (slot_text x ++ number_text k)
 instruction_text names code (i.EndOf d z) = codes " end" ++ (slot_text d ++ slot_text z)
+instruction_text names code (i.Into n k) = codes " into" ++ number_text n
+instruction_text names code (i.Out n k) = codes " out"
+instruction_text names code (i.GiveParts ss) = codes " gives" ++ flat_map operand_text ss
+instruction_text names code (i.Part d n) = codes " part" ++ (slot_text d ++ number_text n)
 
 -- The line of an instruction: its number, and its text.
 abbrev pub line_text : List (List ℕ) → CodeTree → ℕ → Instruction → List ℕ

@@ -1,7 +1,6 @@
 //! What a run answers, and where the right side of a `par` begins.
 
-use crate::instruction::Kind;
-use gib_types::Ty;
+use crate::instruction::{AnswerType, Kind, Targets};
 use std::alloc::Global;
 
 /// Why a run has no value.
@@ -22,6 +21,8 @@ pub enum Answer {
     Truth(bool),
     /// The address at which a packed value begins.
     At(u64),
+    /// Several parts in declared order: the words of scalars and the addresses at which packed values begin; 0 behind them.
+    Parts([u64; 8]),
     /// A call had no depth left.
     Deep,
     /// A number was divided by 0.
@@ -43,8 +44,8 @@ pub struct Side {
     pub level: u32,
     /// Where its value is put.
     pub kind: Kind,
-    /// The slot that its value sets.
-    pub variable: u32,
+    /// The slots that its value sets.
+    pub targets: Targets,
     /// The type of its value.
-    pub result: Ty,
+    pub result: AnswerType,
 }

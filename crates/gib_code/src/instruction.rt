@@ -39,6 +39,35 @@ pub enum Kind {
     Region,
     /// Into a slot alone.
     Scalar,
+    /// Several parts, each into a slot, and each packed one into a region of its own, which the right side's code opens and finishes.
+    Several,
+}
+
+/// Slots one behind another, which the value of a right side sets: one, or one for each of its parts, in declared order.
+#[derive(Clone, Copy, Debug, PartialEq, Eq)]
+pub struct Targets {
+    pub first: u32,
+    pub count: u8,
+}
+
+/// The type of what a function or a right side gives.
+#[derive(Clone, Copy, Debug, PartialEq, Eq)]
+pub enum AnswerType {
+    /// One value of this type.
+    One(Ty),
+    /// Several parts.
+    Parts,
+}
+
+/// A fork: its right side begins at the label `right`, and behind both sides the code goes on at the label `joint`. The value of the
+/// right side is of type `result` and sets the slots `targets`.
+#[derive(Clone, Copy, Debug, PartialEq, Eq)]
+pub struct Fork {
+    pub right: u32,
+    pub joint: u32,
+    pub kind: Kind,
+    pub targets: Targets,
+    pub result: AnswerType,
 }
 
 /// Where a switch goes on for a constructor.
@@ -140,15 +169,8 @@ pub enum Instr {
     Return,
     /// The end of a call with a scalar result.
     Give(Operand),
-    /// The left side of a `par` follows, the right side begins at the label `right`, and behind both the code goes on at
-    /// the label `joint`. The value of the right side is of type `result` and sets the slot `variable`.
-    Fork {
-        right: u32,
-        joint: u32,
-        kind: Kind,
-        variable: u32,
-        result: Ty,
-    },
+    /// The left side of a `par` follows.
+    Fork(Fork),
     /// The end of a left side.
     Join,
     /// The end of a right side.
@@ -174,6 +196,24 @@ pub enum Instr {
         to: u32,
         from: u32,
     },
+    /// Of the newest `count` open regions the one of this number, in the order in which they were opened, becomes the innermost one:
+    /// what follows puts the packed part of this number into it.
+    Into {
+        part: u8,
+        count: u8,
+    },
+    /// The innermost region goes back to its place of this number among the newest `count` ones.
+    Out {
+        part: u8,
+        count: u8,
+    },
+    /// The end of a call with a result of several parts, with its scalar parts.
+    GiveParts(Vec<Operand>),
+    /// Sets the slot to the scalar part of this number of the call just returned.
+    Part {
+        to: u32,
+        part: u8,
+    },
 }
 
 /// A function in the code.
@@ -186,5 +226,5 @@ pub struct Entry {
     /// How many slots a frame of it has.
     pub slots: u32,
     /// The type of its value.
-    pub result: Ty,
+    pub result: AnswerType,
 }

@@ -4,13 +4,13 @@ ghost use Rattle.std.specs.Prelude.{◌≡◌, ◌++◌, [], ◌∷◌, ◌==◌
 ghost use Rattle.std.specs.List.{flat_map};
 ghost use Rattle.std.specs.Fmt.{decimal, signed_decimal};
 ghost use Rattle.std.specs.Int.{w64, cast_signed};
-ghost use Rattle.gib_code.specs.Instruction.{instruction_of};
+ghost use Rattle.gib_code.specs.Instruction.{instruction_of, target_slots};
 ghost use Rattle.gib_code.specs.Program.{CodeTree};
-ghost use Rattle.gib_code.specs.Families.{family_of, Setting, Putting, Jumping, Calling, Forking, Telling};
+ghost use Rattle.gib_code.specs.Families.{family_of, Setting, Putting, Jumping, Calling, Forking, Telling, Parting};
 ghost use Rattle.gib_code.specs.ListingText.{name_text, number_text, slot_text, operand_text, operation_text, kind_text, constructor_text, called, function_text, label_text, instruction_text, line_text, title, head_text, head_at, later_than, lines_text, listing_text};
 
 use crate::code::Code;
-use crate::instruction::{Arm, Entry, Instr, Kind, Operand, Operation};
+use crate::instruction::{Arm, Entry, Instr, Kind, Operand, Operation, Targets};
 use crate::names::{name_text, push_behind_space};
 use gib_base::{Memory, Name, Texts, push_decimal, push_signed};
 use gib_types::{ConId, TypeTable};
@@ -60,12 +60,19 @@ fn push_number(alloc: Global, out: &mut Vec<u8>, number: u32) -> Result<(), Memo
     push_decimal(alloc, out, u64::from(number))
 }
 
-fn push_slot(alloc: Global, out: &mut Vec<u8>, slot: u32) -> Result<(), Memory>
+/// A slot by its number, which may be more than any that code has.
+fn push_slot_at(alloc: Global, out: &mut Vec<u8>, slot: u64) -> Result<(), Memory>
     ensures { OnOk result (out.new.items ≡ out.old.items ++ slot_text slot) }
 {
     out.push(b' ')?;
     out.push(b'%')?;
-    push_decimal(alloc, out, u64::from(slot))
+    push_decimal(alloc, out, slot)
+}
+
+fn push_slot(alloc: Global, out: &mut Vec<u8>, slot: u32) -> Result<(), Memory>
+    ensures { OnOk result (out.new.items ≡ out.old.items ++ slot_text slot) }
+{
+    push_slot_at(alloc, out, u64::from(slot))
 }
 
 fn push_whole(alloc: Global, out: &mut Vec<u8>, value: i64) -> Result<(), Memory>
@@ -106,6 +113,19 @@ fn push_slots(alloc: Global, out: &mut Vec<u8>, slots: &[u32]) -> Result<(), Mem
     Ok(())
 }
 
+/// The slots that the value of a right side sets.
+fn push_targets(alloc: Global, out: &mut Vec<u8>, targets: Targets) -> Result<(), Memory>
+    ensures { OnOk result (out.new.items ≡ out.old.items ++ flat_map slot_text (target_slots targets)) }
+{
+    let mut slot = u64::from(targets.first);
+    let behind = slot + u64::from(targets.count);
+    'slots: while slot < behind {
+        push_slot_at(alloc, out, slot)?;
+        slot += 1;
+    }
+    Ok(())
+}
+
 fn push_labels(alloc: Global, out: &mut Vec<u8>, arms: &[Arm]) -> Result<(), Memory>
     ensures { OnOk result (out.new.items ≡ out.old.items ++ flat_map label_text arms.now) }
 {
@@ -138,6 +158,7 @@ fn kind_text(kind: Kind) -> &'static [u8]
         Kind::Here => b" here",
         Kind::Region => b" region",
         Kind::Scalar => b" scalar",
+        Kind::Several => b" several",
     }
 }
 
@@ -310,17 +331,12 @@ fn push_forking(alloc: Global, out: &mut Vec<u8>, instr: &Instr) -> Result<(), M
     ensures { (names : List (List ℕ)) (code : CodeTree) → OnOk result (out.new.items ≡ out.old.items ++ instruction_text names code (instruction_of instr.now)) }
 {
     match instr {
-        Instr::Fork {
-            right,
-            joint,
-            kind,
-            variable,
-            ..
-        } => {
+        Instr::Fork(fork) => {
             push_bytes(out, b" fork")?;
-            push_number(alloc, out, *right)?;
-            push_number(alloc, out, *joint)?;
-            push_one(alloc, out, kind_text(*kind), *variable)
+            push_number(alloc, out, fork.right)?;
+            push_number(alloc, out, fork.joint)?;
+            push_bytes(out, kind_text(fork.kind))?;
+            push_targets(alloc, out, fork.targets)
         }
         Instr::Join => push_bytes(out, b" join"),
         Instr::Back => push_bytes(out, b" back"),
@@ -354,6 +370,29 @@ fn push_telling(alloc: Global, out: &mut Vec<u8>, instr: &Instr) -> Result<(), M
     }
 }
 
+/// Writes an instruction on a part of a result.
+fn push_parting(alloc: Global, out: &mut Vec<u8>, instr: &Instr) -> Result<(), Memory>
+    requires { family_of (instruction_of instr.now) ≡ Parting }
+    ensures { (names : List (List ℕ)) (code : CodeTree) → OnOk result (out.new.items ≡ out.old.items ++ instruction_text names code (instruction_of instr.now)) }
+{
+    match instr {
+        Instr::Into { part, .. } => {
+            push_bytes(out, b" into")?;
+            push_number(alloc, out, u32::from(*part))
+        }
+        Instr::Out { .. } => push_bytes(out, b" out"),
+        Instr::GiveParts(scalars) => {
+            push_bytes(out, b" gives")?;
+            push_operands(alloc, out, scalars)
+        }
+        Instr::Part { to, part } => {
+            push_one(alloc, out, b" part", *to)?;
+            push_number(alloc, out, u32::from(*part))
+        }
+        _ => unreachable!(),
+    }
+}
+
 /// Writes an instruction.
 fn push_instruction(given: &Given<'_>, out: &mut Vec<u8>, instr: &Instr) -> Result<(), Memory>
     ensures { OnOk result (out.new.items ≡ out.old.items ++ instruction_text given.now.names.now.long given.now.code.now (instruction_of instr.now)) }
@@ -371,9 +410,12 @@ fn push_instruction(given: &Given<'_>, out: &mut Vec<u8>, instr: &Instr) -> Resu
         Instr::Call { .. } | Instr::CallScalar { .. } | Instr::Return | Instr::Give(_) => {
             push_calling(given, out, instr)
         }
-        Instr::Fork { .. } | Instr::Join | Instr::Back => push_forking(given.alloc, out, instr),
+        Instr::Fork(_) | Instr::Join | Instr::Back => push_forking(given.alloc, out, instr),
         Instr::Got { .. } | Instr::OverEnd { .. } | Instr::LeafEnd { .. } | Instr::EndOf { .. } =>
             push_telling(given.alloc, out, instr),
+        Instr::Into { .. } | Instr::Out { .. } | Instr::GiveParts(_) | Instr::Part { .. } => {
+            push_parting(given.alloc, out, instr)
+        }
         _ => push_setting(given.alloc, out, instr),
     }
 }

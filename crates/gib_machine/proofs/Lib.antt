@@ -3,6 +3,7 @@ pub mod Windows
 pub mod Tops
 pub mod Unwinds
 pub mod Latest
+pub mod Eights
 pub mod Fronts
 -- Runs of bytes in one word.
 pub mod Runs

@@ -1,37 +1,16 @@
 //! Calls and their ends: they have no memory action.
 
 ghost use Rattle.std.specs.Prelude.{◌≡◌, ◌<◌, ◌+◌, ◌^◌, ℕ, List};
-ghost use Rattle.gib_machine.specs.State.{word, words, widest};
-ghost use Rattle.gib_machine.specs.Machine.{called, returned, gives, unwound, slots_at};
+ghost use Rattle.gib_machine.specs.State.{Over, doing, word, words, widest};
+ghost use Rattle.gib_machine.specs.Machine.{word_answer, called, returned, gives, unwound, slots_at};
 ghost use Rattle.gib_machine.specs.Machine as m;
 ghost use Rattle.gib_machine.specs.Stepping.{with_tails};
 ghost use Rattle.gib_machine.specs.declared.turn.Turn.TheVariants as turns;
 
-use crate::state::{Doing, Machine};
+use crate::state::{Doing, End, Machine};
 use crate::turn::Turn;
-use gib_code::{Answer, Code, Operand, Reason};
+use gib_code::{AnswerType, Code, Operand, Reason};
 use gib_types::Ty;
-
-/// A word as an answer of the type.
-pub(crate) fn answer_of(ty: Ty, word: u64) -> Answer
-    ensures { result ≡ m.answer_of ty word }
-{
-    match ty {
-        Ty::Whole => Answer::Whole(word.cast_signed()),
-        Ty::Truth => Answer::Truth(word != 0),
-        Ty::Tree(_) => Answer::At(word),
-    }
-}
-
-/// The answer of a task that has no value.
-fn stopped(why: Reason) -> Answer
-    ensures { result ≡ m.stopped why }
-{
-    match why {
-        Reason::Deep => Answer::Deep,
-        Reason::Trap => Answer::Trap,
-    }
-}
 
 /// Where a function starts; 0 for no function.
 #[tactic(auto, using(crate::proofs::Steps::start_here, crate::proofs::Steps::start_past))]
@@ -62,13 +41,35 @@ fn slots_of(code: &Code, function: u32) -> u32
 }
 
 impl Machine {
+    /// The task has no value, and ends.
+    fn stops(&mut self, why: Reason)
+        ensures { self.new ≡ doing self.old (Over (m.stopped why)) }
+    {
+        match why {
+            Reason::Deep => self.doing = Doing::Over(End::Deep),
+            Reason::Trap => self.doing = Doing::Over(End::Trap),
+        }
+    }
+
+    /// The task ends with a word, by the type of its answer. No code ends so where several parts are due.
+    pub(crate) fn answers(&mut self, word: u64)
+        ensures { self.new ≡ doing self.old (Over (word_answer self.old.result word)) }
+    {
+        match self.result {
+            AnswerType::One(Ty::Whole) => self.doing = Doing::Over(End::Whole(word.cast_signed())),
+            AnswerType::One(Ty::Truth) => self.doing = Doing::Over(End::Truth(word != 0)),
+            AnswerType::One(Ty::Tree(_)) => self.doing = Doing::Over(End::At(word)),
+            AnswerType::Parts => self.doing = Doing::Over(End::Deep),
+        }
+    }
+
     /// Goes on at the join of the newest `par` whose left side runs, or ends: the task has no value.
     #[tactic(auto, using(crate::proofs::Unwinds::unwound_none, crate::proofs::Unwinds::unwound_some))]
     pub(crate) fn unwinds(&mut self, why: Reason)
         ensures { (ts : List ℕ) → with_tails self.new ts ≡ unwound why (with_tails self.old ts) self.old.pars }
     {
         match self.openings.unwind() {
-            None => self.doing = Doing::Over(stopped(why)),
+            None => self.stops(why),
             Some(join) => {
                 self.ip = join;
                 self.doing = Doing::Unwinding(why);
@@ -106,7 +107,7 @@ impl Machine {
         ensures turn { result ≡ turns.Went }
     {
         if self.frames.is_first() {
-            self.doing = Doing::Over(Answer::At(self.openings.start()));
+            self.doing = Doing::Over(End::At(self.openings.start()));
         } else {
             let (back, _) = self.frames.leave();
             self.went_to(back);
@@ -120,7 +121,7 @@ impl Machine {
     {
         let word = self.frames.word(from);
         if self.frames.is_first() {
-            self.doing = Doing::Over(answer_of(self.result, word));
+            self.answers(word);
         } else {
             let (back, answer) = self.frames.leave();
             self.went_to(back);

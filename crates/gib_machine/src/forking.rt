@@ -1,16 +1,16 @@
 //! Forks, joins and the ends of right sides: they have no memory action.
 
-ghost use Rattle.std.specs.Prelude.{◌≡◌, ◌<◌, ◌+◌, ◌-◌, ◌^◌, ℕ};
+ghost use Rattle.std.specs.Prelude.{◌≡◌, ◌<◌, ◌+◌, ◌-◌, ◌^◌, ℕ, length, map};
 ghost use Rattle.gib_mem.specs.Memory.{Memory};
-ghost use Rattle.gib_machine.specs.Machine.{enters, forks_at, joins_at, backs_at};
+ghost use Rattle.gib_machine.specs.State.{slot};
+ghost use Rattle.gib_machine.specs.Machine.{enters, forks_at, joins_at, backs_at, ends_with};
+ghost use Rattle.gib_code.specs.Instruction.{target_slots};
 ghost use Rattle.gib_machine.specs.Stepping.{Makes};
 
-use crate::calling::answer_of;
 use crate::regions::Forked;
-use crate::starting::ForkParts;
-use crate::state::{Doing, Machine};
+use crate::state::{Doing, End, Machine};
 use crate::turn::Turn;
-use gib_code::Answer;
+use gib_code::{AnswerType, Fork};
 
 /// The label before one.
 fn before(label: u32) -> u32
@@ -21,19 +21,19 @@ fn before(label: u32) -> u32
 
 impl Machine {
     /// Enters a `par` whose left side begins at this level, where there is room for it.
-    pub(crate) fn enters(&mut self, left: bool, level: u32, fork: ForkParts)
+    pub(crate) fn enters(&mut self, left: bool, level: u32, fork: &Fork)
         requires next { self.old.ip + 1 < 2 ^ 32 }
-        ensures { self.new ≡ enters self.old left level fork.right fork.joint fork.kind fork.variable self.old.room }
+        ensures { self.new ≡ enters self.old left level fork.now.right fork.now.joint fork.now.kind (target_slots fork.now.targets) self.old.room }
     {
         if self.openings.is_full() {
-            self.doing = Doing::Over(Answer::Deep);
+            self.doing = Doing::Over(End::Deep);
         } else {
             self.openings.push_par(Forked {
                 left,
                 join: before(fork.right),
                 joint: fork.joint,
                 kind: fork.kind,
-                variable: fork.variable,
+                targets: fork.targets,
                 level: self.level,
             });
             self.level = level;
@@ -42,9 +42,9 @@ impl Machine {
     }
 
     /// Stands at a fork where a level is left; else the `par` is in place.
-    pub(crate) fn forks(&mut self, fork: ForkParts) -> Turn
+    pub(crate) fn forks(&mut self, fork: &Fork) -> Turn
         requires next { self.old.ip + 1 < 2 ^ 32 }
-        ensures { (v : Memory) → Makes (λ s. forks_at s fork.right fork.joint fork.kind fork.variable s.level) self.old self.new v v result }
+        ensures { (v : Memory) → Makes (λ s. forks_at s fork.now.right fork.now.joint fork.now.kind (target_slots fork.now.targets) s.level) self.old self.new v v result }
     {
         if self.level > 0 {
             return Turn::AtFork;
@@ -78,13 +78,33 @@ impl Machine {
                 self.openings.pop_par();
                 self.went();
             }
-            None => match self.side {
-                Some(variable) => {
-                    self.doing = Doing::Over(answer_of(self.result, self.frames.slot(variable)));
+            None => {
+                if self.side.count == 0 {
+                    self.went();
+                } else {
+                    self.ends_side();
                 }
-                None => self.went(),
-            },
+            }
         }
         Turn::Went
+    }
+
+    /// A right side that is a task of its own ends with its variables.
+    #[tactic(auto, using(crate::proofs::Eights::side_ended_one, crate::proofs::Eights::side_ended_parts))]
+    fn ends_side(&mut self)
+        requires { 0 < length self.old.side }
+        ensures { self.new ≡ ends_with self.old self.old.result (map (slot self.old.words) self.old.side) }
+    {
+        match self.result {
+            AnswerType::One(_) => {
+                let word = self.frames.slot(self.side.first);
+                self.answers(word);
+            }
+            AnswerType::Parts => {
+                let parts = self.frames.parts_at(self.side);
+                self.parts = parts;
+                self.doing = Doing::Over(End::Parts);
+            }
+        }
     }
 }

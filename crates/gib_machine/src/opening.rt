@@ -6,9 +6,8 @@ ghost use Rattle.gib_machine.specs.Machine.{opens, closed};
 ghost use Rattle.gib_machine.specs.Stepping.{Made, with_tails};
 ghost use Rattle.gib_machine.specs.declared.turn.Turn.TheVariants as turns;
 
-use crate::state::{Doing, Machine};
+use crate::state::{Doing, End, Machine};
 use crate::turn::Turn;
-use gib_code::Answer;
 use gib_mem::Mem;
 use gib_region::{Tails, begin};
 
@@ -20,7 +19,7 @@ impl Machine {
         ensures { Made (opens (with_tails self.old tails.old) self.old.room (λ t a. sets t to a)) (with_tails self.old tails.old) (with_tails self.new tails.new) (M.view mem.old) (M.view mem.new) result }
     {
         if self.openings.is_full() {
-            self.doing = Doing::Over(Answer::Deep);
+            self.doing = Doing::Over(End::Deep);
             return Turn::Went;
         }
         match begin(mem, tails) {
@@ -40,7 +39,7 @@ impl Machine {
         ensures { Made (opens (with_tails self.old tails.old) self.old.room (λ t a. t)) (with_tails self.old tails.old) (with_tails self.new tails.new) (M.view mem.old) (M.view mem.new) result }
     {
         if self.openings.is_full() {
-            self.doing = Doing::Over(Answer::Deep);
+            self.doing = Doing::Over(End::Deep);
             return Turn::Went;
         }
         match begin(mem, tails) {

@@ -1,19 +1,20 @@
 //! What becomes of a right side at a fork and at a join. Whoever runs the tasks decides it.
 
-ghost use Rattle.std.specs.Prelude.{◌≡◌, ◌<◌, ◌≤◌, ◌+◌, ◌-◌, ◌^◌, ℕ, List, drop, length, None, Some, IfOk, IfSome, IfNone, slice_get};
+ghost use Rattle.std.specs.Prelude.{◌≡◌, ◌<◌, ◌≤◌, ◌+◌, ◌-◌, ◌^◌, ℕ, List, drop, length, None, Some, IfOk, IfSome, IfNone, slice_get, get_or};
 ghost use Rattle.gib_machine.specs.State.{AtFork, AtJoin};
 ghost use Rattle.gib_machine.specs.Machine.{next, unwound};
 ghost use Rattle.gib_machine.specs.Sides.{fork_of, right_of, left_starts, takes, joins, unwinding};
 ghost use Rattle.gib_machine.specs.Sides as m;
 ghost use Rattle.gib_machine.specs.Frames.{FitsFrame};
+ghost use Rattle.gib_code.specs.Instruction.{target_slots};
 ghost use Rattle.gib_machine.specs.Starting.{forking_of, waiting_of};
 ghost use Rattle.gib_code.specs.Program.{Runs};
 ghost use Rattle.gib_machine.specs.Stepping.{with_tails};
 
-use crate::starting::{ForkParts, fork_parts};
+use crate::starting::fork_in;
 use crate::state::{Doing, Machine};
 use gib_base::Memory;
-use gib_code::{Answer, Code, Kind, Reason, Side};
+use gib_code::{Answer, Code, Fork, Kind, Reason, Side, Targets};
 use std::alloc::Global;
 
 /// The label before the one where a `par` is left.
@@ -24,10 +25,17 @@ fn back_of(joint: u32) -> u32
     if joint > 0 { joint - 1 } else { 0 }
 }
 
+/// The first of the slots that a right side sets; 0 where there is none.
+fn first_of(targets: Targets) -> u32
+    ensures { result ≡ get_or (target_slots targets) 0 0 }
+{
+    if targets.count > 0 { targets.first } else { 0 }
+}
+
 impl Machine {
     /// The fork at the running label; None where none stands there.
     #[tactic(auto, using(crate::proofs::Steps::at_place, crate::proofs::Steps::no_place))]
-    fn fork_here(&self, code: &Code) -> Option<ForkParts>
+    fn fork_here(&self, code: &Code) -> Option<Fork>
         ensures some { IfSome result (λ f. fork_of (slice_get code.now.instructions self.now.ip) ≡ Some (forking_of f)) }
         ensures none { IfNone result (fork_of (slice_get code.now.instructions self.now.ip) ≡ None) }
     {
@@ -36,7 +44,7 @@ impl Machine {
         if place >= instructions.len() {
             return None;
         }
-        fork_parts(&instructions[place])
+        fork_in(&instructions[place])
     }
 
     /// The right side of the fork at which the machine stands, for whoever begins it: it has the words and ends of the frame, its calls,
@@ -63,7 +71,7 @@ impl Machine {
                     depth: self.frames.depth(),
                     level: self.level - 1,
                     kind: fork.kind,
-                    variable: fork.variable,
+                    targets: fork.targets,
                     result: fork.result,
                 })
             }
@@ -79,7 +87,7 @@ impl Machine {
     {
         match self.fork_here(code) {
             None => unreachable!(),
-            Some(fork) => self.enters(true, self.level - 1, fork),
+            Some(fork) => self.enters(true, self.level - 1, &fork),
         }
     }
 
@@ -138,22 +146,24 @@ impl Machine {
                         self.level = forked.level;
                         self.ip = back_of(forked.joint);
                         self.doing = Doing::Ready;
-                        self.answered(forked.kind, forked.variable, answer);
+                        self.answered(forked.kind, forked.targets, answer);
                     }
                 }
             }
         }
     }
 
-    /// The right side's variable gets its answer: a field's tree is pointed to at the cursor.
-    fn answered(&mut self, kind: Kind, variable: u32, answer: Answer)
+    /// The right side's variables get its answer: a field's tree is pointed to at the cursor.
+    fn answered(&mut self, kind: Kind, targets: Targets, answer: Answer)
         requires next { self.old.ip + 1 < 2 ^ 32 }
-        ensures { (tails : List ℕ) → with_tails self.new tails ≡ m.answered (with_tails self.old tails) kind variable answer }
+        ensures { (tails : List ℕ) → with_tails self.new tails ≡ m.answered (with_tails self.old tails) kind (target_slots targets) answer }
     {
+        let first = first_of(targets);
         match answer {
-            Answer::Whole(value) => self.sets(variable, value.cast_unsigned()),
-            Answer::Truth(value) => self.sets(variable, value as u64),
-            Answer::At(target) => self.stands_at(kind, variable, target),
+            Answer::Whole(value) => self.sets(first, value.cast_unsigned()),
+            Answer::Truth(value) => self.sets(first, value as u64),
+            Answer::At(target) => self.stands_at(kind, first, target),
+            Answer::Parts(words) => self.sets_all(targets, &words),
             Answer::Deep => self.unwinds(Reason::Deep),
             Answer::Trap => self.unwinds(Reason::Trap),
         }
@@ -173,6 +183,7 @@ impl Machine {
             }
             Kind::Region => self.sets(variable, target),
             Kind::Scalar => self.sets(variable, target),
+            Kind::Several => self.sets(variable, target),
         }
     }
 }

@@ -1,12 +1,14 @@
 //! Where a machine stands, without a step.
 
-ghost use Rattle.std.specs.Prelude.{◌≡◌, ℕ, List, Some, slice_get};
+ghost use Rattle.std.specs.Prelude.{◌≡◌, ℕ, List, Some, slice_get, IfSome, IfNone};
+ghost use Rattle.gib_code.specs.declared.answer.Answer.TheVariants as answers;
 ghost use Rattle.gib_code.specs.Instruction.{instruction_of};
 ghost use Rattle.gib_code.specs.Program.{CodeTree};
+ghost use Rattle.gib_machine.specs.State.{Ended, Over, Ready};
 ghost use Rattle.gib_machine.specs.Machine.{begin, next};
 ghost use Rattle.gib_machine.specs.Stepping.{stand_of, with_tails};
 
-use crate::state::{Doing, Machine};
+use crate::state::{Doing, End, Machine};
 use gib_code::{Answer, Code, Instr};
 
 /// Where a machine stands.
@@ -19,7 +21,7 @@ pub enum Stand {
     /// At the join of a `par` whose left side runs here.
     Join,
     /// At its end.
-    End(Answer),
+    End,
 }
 
 impl Machine {
@@ -30,9 +32,49 @@ impl Machine {
     {
         match self.doing {
             Doing::Ready => self.stand_here(code),
-            Doing::Over(answer) => Stand::End(answer),
+            Doing::Over(_) => Stand::End,
             Doing::Unwinding(_) => Stand::Join,
             _ => Stand::Goes,
+        }
+    }
+
+    /// What the machine has ended with; None where it has not ended.
+    #[tactic(auto, using(crate::proofs::Stands::ended_with, crate::proofs::Stands::not_ended))]
+    pub fn answer(&self, code: &Code) -> Option<Answer>
+        ensures some { IfSome result (λ a. (tails : List ℕ) → next code.now (with_tails self.now tails) ≡ Ended a) }
+        ensures none { IfNone result ((tails : List ℕ) (a : Answer) → next code.now (with_tails self.now tails) ≡ Ended a → ⊥) }
+    {
+        match self.stand(code) {
+            Stand::End => Some(self.end()),
+            Stand::Goes => None,
+            Stand::Fork => None,
+            Stand::Join => None,
+        }
+    }
+
+    /// What the machine has ended with, where it has.
+    pub fn ended_with(&self, code: &Code) -> Answer
+        requires { (tails : List ℕ) × (a : Answer) × (next code.now (with_tails self.now tails) ≡ Ended a) }
+        ensures { (tails : List ℕ) → next code.now (with_tails self.now tails) ≡ Ended result }
+    {
+        match self.answer(code) {
+            None => unreachable!(),
+            Some(answer) => answer,
+        }
+    }
+
+    /// What a machine that has ended did so with; behind the code, that depth ran out.
+    fn end(&self) -> Answer
+        ensures over { (a : Answer) → self.now.doing ≡ Over a → result ≡ a }
+        ensures rests { self.now.doing ≡ Ready → result ≡ answers.Deep }
+    {
+        match self.doing {
+            Doing::Over(End::Whole(value)) => Answer::Whole(value),
+            Doing::Over(End::Truth(value)) => Answer::Truth(value),
+            Doing::Over(End::At(place)) => Answer::At(place),
+            Doing::Over(End::Parts) => Answer::Parts(self.parts),
+            Doing::Over(End::Trap) => Answer::Trap,
+            _ => Answer::Deep,
         }
     }
 
@@ -44,7 +86,7 @@ impl Machine {
         let instructions = code.instructions();
         let place = self.ip as usize;
         if place >= instructions.len() {
-            return Stand::End(Answer::Deep);
+            return Stand::End;
         }
         self.stand_at(&instructions[place])
     }
@@ -55,7 +97,7 @@ impl Machine {
         ensures { (code : CodeTree) (tails : List ℕ) → result ≡ stand_of (begin code (with_tails self.now tails) (Some (instruction_of instr.now))) }
     {
         match instr {
-            Instr::Fork { .. } => {
+            Instr::Fork(_) => {
                 if self.level > 0 {
                     return Stand::Fork;
                 }

@@ -1,10 +1,11 @@
 //! A machine at its first instruction.
 
-ghost use Rattle.std.specs.Prelude.{◌≡◌, ◌≤◌, ◌<◌, ◌+◌, ◌-◌, ◌^◌, ℕ, length, map, Option, Some, None, IfOk, IfErr, IfSome, IfNone, IsTrue, if◌then◌else◌};
-ghost use Rattle.gib_code.specs.Instruction.{instruction_of};
+ghost use Rattle.std.specs.Prelude.{◌≡◌, ◌≤◌, ◌<◌, ◌+◌, ◌-◌, ◌^◌, ℕ, [], length, map, Option, Some, None, IfOk, IfErr, IfSome, IfNone, IsTrue, if◌then◌else◌};
+ghost use Rattle.gib_code.specs.Instruction.{instruction_of, target_slots};
 ghost use Rattle.gib_machine.specs.State.{Ready, Opening, nesting_from};
 ghost use Rattle.gib_machine.specs.Sides.{fork_of, side_doing, side_start};
-ghost use Rattle.gib_machine.specs.State as m;
+ghost use Rattle.gib_machine.specs.State as st;
+ghost use Rattle.gib_machine.specs.Machine as m;
 ghost use Rattle.gib_machine.specs.Frames.{FitsFrame};
 ghost use Rattle.gib_machine.specs.Starting.{begun, is_packed, main_entry, started, forking_of, waiting_of};
 ghost use Rattle.gib_machine.specs.Starting as s;
@@ -14,11 +15,11 @@ use crate::item::Item;
 use crate::regions::Openings;
 use crate::state::{Doing, Machine};
 use gib_base::Memory;
-use gib_code::{Code, Entry, Instr, Kind, Side};
+use gib_code::{AnswerType, Code, Entry, Fork, Instr, Kind, Side, Targets};
 use gib_types::Ty;
 use std::alloc::{AllocError, Global};
 
-/// How a machine begins: where, with how many slots, how many calls and forks may nest, with which variable where it is a right
+/// How a machine begins: where, with how many slots, how many calls and forks may nest, with which slots it ends where it is a right
 /// side, with what type of answer, and whether it opens a region first.
 #[derive(Clone, Copy, Debug)]
 pub struct Start {
@@ -26,24 +27,14 @@ pub struct Start {
     pub slots: u32,
     pub depth: u32,
     pub level: u32,
-    pub side: Option<u32>,
-    pub result: Ty,
+    pub side: Targets,
+    pub result: AnswerType,
     pub opens: bool,
-}
-
-/// What a fork says of its right side.
-#[derive(Clone, Copy, Debug)]
-pub struct ForkParts {
-    pub right: u32,
-    pub joint: u32,
-    pub kind: Kind,
-    pub variable: u32,
-    pub result: Ty,
 }
 
 /// The slots of the widest frame.
 fn widest(functions: &[Entry]) -> u32
-    ensures { result ≡ m.widest functions.now }
+    ensures { result ≡ st.widest functions.now }
 {
     let mut rest = functions;
     let mut most = 0;
@@ -54,15 +45,23 @@ fn widest(functions: &[Entry]) -> u32
     most
 }
 
-/// Whether a value of the type is packed.
-fn is_packed(ty: Ty) -> bool
-    ensures { result ≡ is_packed ty }
+/// Whether the answer is one packed value.
+fn is_packed(due: AnswerType) -> bool
+    ensures { result ≡ is_packed due }
 {
-    match ty {
-        Ty::Whole => false,
-        Ty::Truth => false,
-        Ty::Tree(_) => true,
+    match due {
+        AnswerType::One(Ty::Whole) => false,
+        AnswerType::One(Ty::Truth) => false,
+        AnswerType::One(Ty::Tree(_)) => true,
+        AnswerType::Parts => false,
     }
+}
+
+/// No slots: a machine that is no right side ends with none.
+fn no_targets() -> Targets
+    ensures { target_slots result ≡ [] }
+{
+    Targets { first: 0, count: 0 }
 }
 
 /// Whether a right side that is a task of its own begins with a region.
@@ -73,6 +72,7 @@ fn opens_region(kind: Kind) -> bool
         Kind::Here => true,
         Kind::Region => false,
         Kind::Scalar => false,
+        Kind::Several => false,
     }
 }
 
@@ -80,7 +80,7 @@ fn opens_region(kind: Kind) -> bool
 #[tactic(auto, using(crate::proofs::Starts::main_is_last, crate::proofs::Starts::last_fits, crate::proofs::Starts::main_none))]
 fn main_of(functions: &[Entry]) -> Option<Entry>
     ensures some { IfSome result (λ e. main_entry functions.now ≡ Some e) }
-    ensures fits { IfSome result (λ e. e.slots ≤ m.widest functions.now) }
+    ensures fits { IfSome result (λ e. e.slots ≤ st.widest functions.now) }
     ensures none { IfNone result (main_entry functions.now ≡ None) }
 {
     if functions.len() == 0 {
@@ -89,38 +89,26 @@ fn main_of(functions: &[Entry]) -> Option<Entry>
     Some(functions[functions.len() - 1])
 }
 
-/// What a fork says; None where the instruction is no fork.
-pub(crate) fn fork_parts(instr: &Instr) -> Option<ForkParts>
+/// The fork; None where the instruction is none.
+pub(crate) fn fork_in(instr: &Instr) -> Option<Fork>
     ensures some { IfSome result (λ f. fork_of (Some (instruction_of instr.now)) ≡ Some (forking_of f)) }
     ensures none { IfNone result (fork_of (Some (instruction_of instr.now)) ≡ None) }
 {
     match instr {
-        Instr::Fork {
-            right,
-            joint,
-            kind,
-            variable,
-            result,
-        } => Some(ForkParts {
-            right: *right,
-            joint: *joint,
-            kind: *kind,
-            variable: *variable,
-            result: *result,
-        }),
+        Instr::Fork(fork) => Some(*fork),
         _ => None,
     }
 }
 
 /// The first fork whose right side begins at the label.
 #[tactic(auto, using(crate::proofs::Starts::fork_here, crate::proofs::Starts::fork_other, crate::proofs::Starts::fork_later))]
-fn fork_to(code: &Code, label: u32) -> Option<ForkParts>
+fn fork_to(code: &Code, label: u32) -> Option<Fork>
     ensures some { IfSome result (λ f. s.fork_to code.now.instructions label ≡ Some (forking_of f)) }
     ensures none { IfNone result (s.fork_to code.now.instructions label ≡ None) }
 {
     let mut rest = code.instructions();
     'instructions: while let [instr, after @ ..] = rest {
-        if let Some(found) = fork_parts(instr) {
+        if let Some(found) = fork_in(instr) {
             if found.right == label {
                 return Some(found);
             }
@@ -143,11 +131,11 @@ fn one_more(count: u32) -> Result<u32, Memory>
 
 /// How many regions and `par`s are open behind an instruction, before which `before` are.
 fn open_behind(before: u32, instr: &Instr) -> Result<u32, Memory>
-    ensures { IfOk result (λ behind. behind ≡ m.open_behind before (instruction_of instr.now)) }
+    ensures { IfOk result (λ behind. behind ≡ st.open_behind before (instruction_of instr.now)) }
 {
     match instr {
         Instr::Begin(_) => one_more(before),
-        Instr::Fork { .. } => one_more(before),
+        Instr::Fork(_) => one_more(before),
         Instr::Done => Ok(before.saturating_sub(1)),
         Instr::Back => Ok(before.saturating_sub(1)),
         _ => Ok(before),
@@ -171,7 +159,7 @@ fn nesting(instructions: &[Instr]) -> Result<u32, Memory>
 
 /// As many slots as there are words, which are no more than a frame of the code may have.
 fn slots_for(code: &Code, words: &[u64]) -> u32
-    requires { length words.now ≤ m.widest code.now.functions }
+    requires { length words.now ≤ st.widest code.now.functions }
     ensures { result ≡ length words.now }
 {
     let width = widest(code.functions());
@@ -187,7 +175,7 @@ fn begin(
     words: &[u64],
     ends: &[u64],
 ) -> Result<Machine, Memory>
-    requires { start.slots ≤ m.widest code.now.functions }
+    requires { start.slots ≤ st.widest code.now.functions }
     ensures { IfOk result (λ machine. machine ≡ begun code.now start words.now ends.now) }
 {
     let width = widest(code.functions());
@@ -207,6 +195,7 @@ fn begin(
         openings,
         result: start.result,
         item: Item::new(),
+        parts: [0; 8],
         doing,
     })
 }
@@ -220,10 +209,11 @@ impl Machine {
             ip: 0,
             frames: Frames::gone(alloc),
             level: 0,
-            side: None,
+            side: no_targets(),
             openings: Openings::gone(alloc),
-            result: Ty::Whole,
+            result: AnswerType::One(Ty::Whole),
             item: Item::new(),
+            parts: [0; 8],
             doing: Doing::Ready,
         }
     }
@@ -243,7 +233,7 @@ impl Machine {
         depth: u32,
         level: u32,
     ) -> Result<Machine, Memory>
-        requires { length words.now ≤ m.widest code.now.functions }
+        requires { length words.now ≤ st.widest code.now.functions }
         ensures { IfOk result (λ machine. machine ≡ started code.now start words.now depth level) }
     {
         if let Some(main) = main_of(code.functions()) {
@@ -253,7 +243,7 @@ impl Machine {
                     slots: main.slots,
                     depth,
                     level,
-                    side: None,
+                    side: no_targets(),
                     result: main.result,
                     opens: is_packed(main.result),
                 };
@@ -267,7 +257,7 @@ impl Machine {
                 slots,
                 depth,
                 level,
-                side: Some(fork.variable),
+                side: fork.targets,
                 result: fork.result,
                 opens: opens_region(fork.kind),
             },
@@ -276,8 +266,8 @@ impl Machine {
                 slots,
                 depth,
                 level,
-                side: None,
-                result: Ty::Whole,
+                side: no_targets(),
+                result: AnswerType::One(Ty::Whole),
                 opens: false,
             },
         };
@@ -291,7 +281,7 @@ impl Machine {
     /// Want of memory.
     #[tactic(auto, using(crate::proofs::Starts::whole_frame))]
     pub fn of_side(alloc: Global, code: &Code, side: &Side) -> Result<Machine, Memory>
-        requires { FitsFrame (m.widest code.now.functions) (waiting_of side.now).words }
+        requires { FitsFrame (st.widest code.now.functions) (waiting_of side.now).words }
         ensures { IfOk result (λ machine. machine ≡ side_start code.now (waiting_of side.now)) }
     {
         let start = Start {
@@ -299,7 +289,7 @@ impl Machine {
             slots: slots_for(code, &side.words),
             depth: side.depth,
             level: side.level,
-            side: Some(side.variable),
+            side: side.targets,
             result: side.result,
             opens: opens_region(side.kind),
         };
@@ -310,7 +300,7 @@ impl Machine {
     /// machine is then of no use but for another try. A machine that was made for the same code and as many calls has enough.
     #[tactic(auto, using(crate::proofs::Starts::whole_frame, crate::proofs::Starts::room_is))]
     pub fn restart(&mut self, code: &Code, side: &Side) -> bool
-        requires { FitsFrame (m.widest code.now.functions) (waiting_of side.now).words }
+        requires { FitsFrame (st.widest code.now.functions) (waiting_of side.now).words }
         ensures { IsTrue result → self.new ≡ side_start code.now (waiting_of side.now) }
     {
         let width = widest(code.functions());
@@ -332,8 +322,9 @@ impl Machine {
         }
         self.ip = side.start;
         self.level = side.level;
-        self.side = Some(side.variable);
+        self.side = side.targets;
         self.result = side.result;
+        self.parts = [0; 8];
         self.item.clear();
         self.doing = if opens_region(side.kind) {
             Doing::Opening

@@ -7,10 +7,9 @@ ghost use Rattle.gib_machine.specs.Machine.{begin, next};
 ghost use Rattle.gib_code.specs.Program.{Runs};
 ghost use Rattle.gib_machine.specs.Stepping.{with_tails, at_rest, Made, Can, CanStep, IsSmallAsk};
 
-use crate::starting::ForkParts;
 use crate::state::{Doing, Machine};
 use crate::turn::Turn;
-use gib_code::{Answer, Code, Instr};
+use gib_code::{Code, Instr};
 use gib_mem::{Mem, WORD_BYTES};
 use gib_region::Tails;
 
@@ -63,7 +62,7 @@ impl Machine {
         match self.doing {
             Doing::Ready => unreachable!(),
             Doing::Opening => self.begins_whole(mem, tails),
-            Doing::Over(answer) => Turn::Ended(answer),
+            Doing::Over(_) => Turn::Ended,
             Doing::Unwinding(_) => Turn::AtJoin,
             Doing::Joining { to, target } => self.points_joined(to, target, mem),
             Doing::Putting(at) => self.puts_on(at, mem),
@@ -100,7 +99,7 @@ impl Machine {
         let instructions = code.instructions();
         let place = self.ip as usize;
         if place >= instructions.len() {
-            return Turn::Ended(Answer::Deep);
+            return Turn::Ended;
         }
         self.begins_with(code, &instructions[place], mem, tails)
     }
@@ -139,19 +138,7 @@ impl Machine {
                 self.points(target, mem)
             }
             Instr::Done => self.finishes(tails),
-            Instr::Fork {
-                right,
-                joint,
-                kind,
-                variable,
-                result,
-            } => self.forks(ForkParts {
-                right: *right,
-                joint: *joint,
-                kind: *kind,
-                variable: *variable,
-                result: *result,
-            }),
+            Instr::Fork(fork) => self.forks(fork),
             Instr::Join => self.joins(),
             Instr::Back => self.goes_back(),
             Instr::Move { to, from } => self.moves(*to, *from),
@@ -191,6 +178,13 @@ impl Machine {
             }
             Instr::Return => self.returns(),
             Instr::Give(from) => self.gives(*from),
+            Instr::Into { part, count } => self.goes_into(*part, *count),
+            Instr::Out { part, count } => self.goes_out(*part, *count),
+            Instr::GiveParts(scalars) => {
+                self.gives_parts(scalars);
+                Turn::Went
+            }
+            Instr::Part { to, part } => self.takes_part(*to, *part),
         }
     }
 }

@@ -1,7 +1,5 @@
 //! What a micro-step did.
 
-use gib_code::Answer;
-
 /// What a micro-step did.
 #[derive(Clone, Copy, Debug, PartialEq, Eq)]
 pub enum Turn {
@@ -11,8 +9,8 @@ pub enum Turn {
     AtFork,
     /// Nothing: the machine stands at a join.
     AtJoin,
-    /// Nothing: the machine has ended.
-    Ended(Answer),
+    /// Nothing: the machine has ended. What with is not told here, since an answer is long, and each step tells its turn.
+    Ended,
     /// Nothing: it draws, and all chunks are drawn.
     Full,
 }
