@@ -9,7 +9,7 @@ use Rattle.gib_core.specs.declared.atom.Variable.{Variable}
 use Rattle.gib_core.specs.declared.atom.Atom.{Atom}
 use Rattle.gib_core.specs.declared.node.Node.{Node}
 use Rattle.gib_core.specs.declared.node.Binding.{Binding}
-use Rattle.gib_core.specs.Tree.{Term, Then, Write, Point, CallTerm, Give, CaseTerm, IfTerm, Bind, CoreTree, prepend}
+use Rattle.gib_core.specs.Tree.{Term, Then, Write, Point, CallTerm, Give, CaseTerm, IfTerm, Tuple, Bind, CoreTree, prepend}
 use Rattle.gib_core.specs.Arena.{IsLine, term_of, binds_from}
 use Rattle.gib_base.specs.declared.name.Name.{Name}
 use Rattle.gib_core.specs.Ending.{Within}
@@ -47,6 +47,7 @@ no_call (CallTerm g xs) call other h = absurd h
 no_call (Give x) call other h = refl
 no_call (CaseTerm x bs) call other h = refl
 no_call (IfTerm x t u) call other h = refl
+no_call (Tuple tys ss ps) call other h = refl
 
 -- The fields of an arm come before the others.
 

@@ -6,6 +6,8 @@ pub mod Named
 pub mod Along
 pub mod Lowers
 pub mod Wholes
+-- Results of several parts.
+pub mod PartMoves
 -- Ends that calls tell.
 pub mod TellingLine
 pub mod Tellings

@@ -21,16 +21,17 @@ use Rattle.gib_core.specs.declared.atom.Atom.TheVariants as atom
 use Rattle.gib_core.specs.Ending.{Within, within_par, within_function, within_main, has_ended}
 use Rattle.gib_core.specs.Ending.{ended as ended_of}
 use Rattle.gib_core.specs.declared.atom.Kind.TheVariants.{Here, Region, Scalar}
-use Rattle.gib_core.specs.Tree.{Term, Then, Write, Point, CallTerm, Give, CaseTerm, IfTerm, Bind, Past, One, Both, Prim, Reach, Side, On, Branches, NoBranch, BranchThen, FunctionTerm, CoreTree}
+use Rattle.gib_core.specs.Tree.{Term, Then, Write, Point, CallTerm, Give, CaseTerm, IfTerm, Tuple, PartTerms, NoPart, PartThen, parts_count, Bind, Past, One, Both, Prim, Reach, Side, On, Several, Branches, NoBranch, BranchThen, FunctionTerm, CoreTree}
 use Rattle.gib_core.specs.Low as low
-use Rattle.gib_core.specs.Low.{laid_of, operand, operands, slot_of, slots_of, operation, kind_of, function_number, Field, with_fields, scalar_reads, first_reach, arm_opening, Over, over_all, End, Returns, To, ending, giving, got_from, gots, arm_end, LeafAt, reaching, IsNoCall, Low, LowArms, LowBind, LowSide, LowFunctions, IsLowered}
-use Rattle.gib_lower.specs.Lowering.{leaf_end, leaf_of, lowered, lowered_bind, lowered_side, lowered_branches, lowered_functions, label_in, arm_in, numbered, begun, entry_in, lower_program}
+use Rattle.gib_core.specs.Low.{laid_of, operand, operands, slot_of, slots_of, operation, function_number, Field, with_fields, scalar_reads, first_reach, arm_opening, Over, over_all, End, Returns, To, ToParts, ending, call_ending, giving, moves, giving_parts, takes_parts, packed_slots, scalar_slots, begin_all, done_all, side_kind, side_slots, side_type, got_from, gots, arm_end, LeafAt, reaching, IsNoCall, Low, LowParts, LowArms, LowBind, LowSide, LowFunctions, IsLowered}
+use Rattle.gib_lower.specs.Lowering.{leaf_end, leaf_of, lowered, lowered_parts, lowered_bind, lowered_side, lowered_branches, lowered_functions, label_in, arm_in, numbered, begun, entry_in, lower_program}
 use Rattle.gib_lower.proofs.Standing.{Stands, at_first, behind, next, counted, label_at, IsNumbered, is_at, are_at}
 
 -- An end, with its label as the number of an instruction.
 abbrev pub end_in : ℕ → End → End
 end_in n (Returns os) = Returns os
 end_in n (To l d) = To (label_in n l) d
+end_in n (ToParts l ds) = ToParts (label_in n l) ds
 
 -- Instructions without labels stay.
 
@@ -48,10 +49,41 @@ overs_stay n (o ∷ os) = ap (λ l. i.OverEnd o.tree o.field ∷ l) (overs_stay 
 ending_stays : (n : ℕ) (e : End) → map (numbered n) (ending e) ≡ ending (end_in n e)
 ending_stays n (Returns os) = together n (over_all os) (i.Return ∷ []) (i.Return ∷ []) (overs_stay n os) refl
 ending_stays n (To l d) = refl
+ending_stays n (ToParts l ds) = refl
 
 giving_stays : (n : ℕ) (v : Operand) (e : End) → map (numbered n) (giving v e) ≡ giving v (end_in n e)
 giving_stays n v (Returns os) = together n (over_all os) (i.Give v ∷ []) (i.Give v ∷ []) (overs_stay n os) refl
 giving_stays n v (To l d) = refl
+giving_stays n v (ToParts l ds) = refl
+
+-- What moves several parts stays.
+
+moves_stay : (n : ℕ) (ds : List ℕ) (ss : List Operand) → map (numbered n) (moves ds ss) ≡ moves ds ss
+moves_stay n [] ss = refl
+moves_stay n (d ∷ ds) [] = refl
+moves_stay n (d ∷ ds) (s ∷ ss) = ap (λ l. i.Move d s ∷ l) (moves_stay n ds ss)
+
+takes_stay : (n k : ℕ) (ds : List ℕ) → map (numbered n) (takes_parts k ds) ≡ takes_parts k ds
+takes_stay n k [] = refl
+takes_stay n k (d ∷ ds) = ap (λ l. i.Part d k ∷ l) (takes_stay n (suc k) ds)
+
+begins_stay : (n : ℕ) (xs : List ℕ) → map (numbered n) (begin_all xs) ≡ begin_all xs
+begins_stay n [] = refl
+begins_stay n (x ∷ xs) = ap (λ l. i.Begin x ∷ l) (begins_stay n xs)
+
+dones_stay : (n : ℕ) (xs : List ℕ) → map (numbered n) (done_all xs) ≡ done_all xs
+dones_stay n [] = refl
+dones_stay n (x ∷ xs) = ap (λ l. i.Done ∷ l) (dones_stay n xs)
+
+giving_parts_stays : (n : ℕ) (ss : List Operand) (e : End) → map (numbered n) (giving_parts ss e) ≡ giving_parts ss (end_in n e)
+giving_parts_stays n ss (Returns os) = together n (over_all os) (i.GiveParts ss ∷ []) (i.GiveParts ss ∷ []) (overs_stay n os) refl
+giving_parts_stays n ss (To l d) = refl
+giving_parts_stays n ss (ToParts l ds) = together n (moves ds ss) (i.Jump l ∷ []) (i.Jump (label_in n l) ∷ []) (moves_stay n ds ss) refl
+
+call_ending_stays : (n : ℕ) (e : End) → map (numbered n) (call_ending e) ≡ call_ending (end_in n e)
+call_ending_stays n (Returns os) = ending_stays n (Returns os)
+call_ending_stays n (To l d) = refl
+call_ending_stays n (ToParts l ds) = together n (takes_parts 0 ds) (i.Jump l ∷ []) (i.Jump (label_in n l) ∷ []) (takes_stay n 0 ds) refl
 
 -- What is told behind a call stays.
 one_stays : (b : Bool) (n z k : ℕ) (l : List Instruction) → map (numbered n) l ≡ l → map (numbered n) (cond b (i.Got z k ∷ l) l) ≡ cond b (i.Got z k ∷ l) l
@@ -75,6 +107,7 @@ gots_stay n w core f xs = in_par w.par n (got_from (ended_of core) f 0 xs) (from
 arm_end_in : (n : ℕ) (w : Within) (core : CoreTree) (x : ℕ) (c : ConId) (ys : List Variable) (u : Term) (e : End) → end_in n (arm_end w core x c ys u e) ≡ arm_end w core x c ys u (end_in n e)
 arm_end_in n w core x c ys u (Returns os) = refl
 arm_end_in n w core x c ys u (To l d) = refl
+arm_end_in n w core x c ys u (ToParts l ds) = refl
 
 -- An arm without packed fields.
 leaf_at : (code : CodeTree) (whole rest : List Instruction) (must : Bool) (x size many l : ℕ) → IsNumbered code whole → Stands whole l (leaf_end must x size many ++ rest) → LeafAt code must x size many l (l + length (leaf_end must x size many))
@@ -137,6 +170,11 @@ pub record LowersArms (core : CoreTree) (code : CodeTree) (whole : List Instruct
   pub is : LowArms core code w fs x a (map (arm_in (length whole)) arms) bs (end_in (length whole) e) up_to
   pub after : Stands whole up_to rest
 
+pub record LowersParts (core : CoreTree) (code : CodeTree) (whole : List Instruction) (w : Within) (fs : List Field) (a k count : ℕ) (ps : PartTerms) (rest : List Instruction) : Type 0 where
+  pub up_to : ℕ
+  pub is : LowParts core code w fs a k count ps up_to
+  pub after : Stands whole up_to rest
+
 -- An instruction without a label, and an end.
 with_end : (code : CodeTree) (whole rest : List Instruction) (a : ℕ) (x : Instruction) (e : End) → IsNumbered code whole
     → Stands whole a (x ∷ (ending e ++ rest)) → numbered (length whole) x ≡ x → AreAt code a (x ∷ ending (end_in (length whole) e)) (a + length (x ∷ ending e))
@@ -156,27 +194,27 @@ fork_bind : (core : CoreTree) (code : CodeTree) (whole : List Instruction) (w : 
     → (hl : LowersSide core code whole (within_par w) fs (a + 1) l (i.Join ∷ lowered_side core (within_par w) fs r (i.Back ∷ rest)))
     → LowersSide core code whole (within_par w) fs (hl.up_to + 1) r (i.Back ∷ rest)
     → LowersBind core code whole w fs a (Both true l r) rest
-fork_bind core code whole w fs a l (On c x ty t) rest num s hl hr =
+fork_bind core code whole w fs a l r rest num s hl hr =
     let n = length whole in
-    let right = lowered_side core (within_par w) fs (On c x ty t) (i.Back ∷ rest) in
+    let right = lowered_side core (within_par w) fs r (i.Back ∷ rest) in
     let left = lowered_side core (within_par w) fs l (i.Join ∷ right) in
-    let at = is_at code whole left a (i.Fork (length right) (length rest) (kind_of c) x.0 ty) num s in
+    let at = is_at code whole left a (i.Fork (length right) (length rest) (side_kind r) (side_slots r) (side_type r)) num s in
     let after = next whole rest hr.up_to i.Back hr.after in
     let r_at = label_at whole right (hl.up_to + 1) (next whole right hl.up_to i.Join hl.after) in
     let j_at = label_at whole rest (hr.up_to + 1) after in
-    let at_r = subst (λ m. IsAt code a (i.Fork m (label_in n (length rest)) (kind_of c) x.0 ty)) r_at at in
+    let at_r = subst (λ m. IsAt code a (i.Fork m (label_in n (length rest)) (side_kind r) (side_slots r) (side_type r))) r_at at in
     record {
       up_to = hr.up_to + 1;
-      is = low.forked (subst (λ m. IsAt code a (i.Fork (hl.up_to + 1) m (kind_of c) x.0 ty)) j_at at_r) hl.is (is_at code whole right hl.up_to i.Join num hl.after) hr.is (is_at code whole rest hr.up_to i.Back num hr.after);
+      is = low.forked (subst (λ m. IsAt code a (i.Fork (hl.up_to + 1) m (side_kind r) (side_slots r) (side_type r))) j_at at_r) hl.is (is_at code whole right hl.up_to i.Join num hl.after) hr.is (is_at code whole rest hr.up_to i.Back num hr.after);
       after = after;
     }
 
 -- The left side begins behind the fork.
 fork_left : (core : CoreTree) (whole : List Instruction) (w : Within) (fs : List Field) (a : ℕ) (l r : Side) (rest : List Instruction) → Stands whole a (lowered_bind core w fs (Both true l r) rest)
     → Stands whole (a + 1) (lowered_side core (within_par w) fs l (i.Join ∷ lowered_side core (within_par w) fs r (i.Back ∷ rest)))
-fork_left core whole w fs a l (On c x ty t) rest s =
-    let right = lowered_side core (within_par w) fs (On c x ty t) (i.Back ∷ rest) in
-    next whole (lowered_side core (within_par w) fs l (i.Join ∷ right)) a (i.Fork (length right) (length rest) (kind_of c) x.0 ty) s
+fork_left core whole w fs a l r rest s =
+    let right = lowered_side core (within_par w) fs r (i.Back ∷ rest) in
+    next whole (lowered_side core (within_par w) fs l (i.Join ∷ right)) a (i.Fork (length right) (length rest) (side_kind r) (side_slots r) (side_type r)) s
 
 mutual
   pub low_term : (core : CoreTree) (code : CodeTree) (whole : List Instruction) → IsNumbered code whole → (t : Term) (w : Within) (fs : List Field) (a : ℕ) (e : End) (rest : List Instruction)
@@ -194,9 +232,9 @@ mutual
   low_term core code whole num (CallTerm g xs) w fs a e rest s =
       let x = i.Call (function_number core.functions g.0) (operands xs) in
       let told = gots w core g.0 xs in
-      let all = x ∷ (told ++ ending e) in
-      let at_all = subst (λ l. Stands whole a (x ∷ l)) (sym (append_assoc told (ending e) rest)) s in
-      let same = ap (λ l. x ∷ l) (together (length whole) told (ending e) (ending (end_in (length whole) e)) (gots_stay (length whole) w core g.0 xs) (ending_stays (length whole) e)) in
+      let all = x ∷ (told ++ call_ending e) in
+      let at_all = subst (λ l. Stands whole a (x ∷ l)) (sym (append_assoc told (call_ending e) rest)) s in
+      let same = ap (λ l. x ∷ l) (together (length whole) told (call_ending e) (call_ending (end_in (length whole) e)) (gots_stay (length whole) w core g.0 xs) (call_ending_stays (length whole) e)) in
       record {
         up_to = a + length all;
         is = low.call (subst (λ l. AreAt code a l (a + length all)) same (are_at code whole all rest a num at_all));
@@ -225,6 +263,31 @@ mutual
         up_to = hu.up_to;
         is = low.branch (subst (λ l. IsAt code a (i.Unless (operand y) l)) (label_at whole other ht.up_to ht.after) at) ht.is hu.is;
         after = hu.after;
+      }
+  low_term core code whole num (Tuple tys ss ps) w fs a e rest s =
+      let xs = giving_parts (operands ss) e in
+      let hp = low_parts core code whole num ps w fs a 0 (parts_count ps) (xs ++ rest) s in
+      let h = are_at code whole xs rest hp.up_to num hp.after in
+      record {
+        up_to = hp.up_to + length xs;
+        is = low.tuple hp.is (subst (λ l. AreAt code hp.up_to l (hp.up_to + length xs)) (giving_parts_stays (length whole) (operands ss) e) h);
+        after = behind whole xs rest hp.up_to hp.after;
+      }
+
+  low_parts : (core : CoreTree) (code : CodeTree) (whole : List Instruction) → IsNumbered code whole → (ps : PartTerms) (w : Within) (fs : List Field) (a k count : ℕ) (rest : List Instruction)
+      → Stands whole a (lowered_parts core w fs k count ps rest) → LowersParts core code whole w fs a k count ps rest
+  low_parts core code whole num NoPart w fs a k count rest s = record { up_to = a; is = low.no_part; after = s }
+  low_parts core code whole num (PartThen t ps) w fs a k count rest s =
+      let others = lowered_parts core w fs (suc k) count ps rest in
+      let finish = i.Out k count ∷ others in
+      let body = lowered core w fs t (To (length finish) 0) finish in
+      let ht = low_term core code whole num t w fs (a + 1) (To (length finish) 0) finish (next whole body a (i.Into k count) s) in
+      let hs = low_parts core code whole num ps w fs (ht.up_to + 1) (suc k) count rest (next whole others ht.up_to (i.Out k count) ht.after) in
+      let term = subst (λ l. Low core code w fs (a + 1) t (To l 0) ht.up_to) (label_at whole finish ht.up_to ht.after) ht.is in
+      record {
+        up_to = hs.up_to;
+        is = low.part (is_at code whole body a (i.Into k count) num s) term (is_at code whole others ht.up_to (i.Out k count) num ht.after) hs.is;
+        after = hs.after;
       }
 
   low_bind : (core : CoreTree) (code : CodeTree) (whole : List Instruction) → IsNumbered code whole → (b : Bind) (w : Within) (fs : List Field) (a : ℕ) (rest : List Instruction)
@@ -296,6 +359,22 @@ mutual
       scalar_side core code whole w fs a x ty (CaseTerm y bs) rest tt (low_term core code whole num (CaseTerm y bs) w fs a (To (length rest) x.0) rest s)
   low_side core code whole num (On Scalar x ty (IfTerm y t u)) w fs a rest s =
       scalar_side core code whole w fs a x ty (IfTerm y t u) rest tt (low_term core code whole num (IfTerm y t u) w fs a (To (length rest) x.0) rest s)
+  low_side core code whole num (On Scalar x ty (Tuple tys ss ps)) w fs a rest s =
+      scalar_side core code whole w fs a x ty (Tuple tys ss ps) rest tt (low_term core code whole num (Tuple tys ss ps) w fs a (To (length rest) x.0) rest s)
+  low_side core code whole num (Several xs tys t) w fs a rest s =
+      let n = length whole in
+      let packed = packed_slots tys xs in
+      let begins = begin_all packed in
+      let finish = done_all packed ++ rest in
+      let e = ToParts (length finish) (scalar_slots tys xs) in
+      let body = lowered core w fs t e finish in
+      let b = a + length begins in
+      let h = low_term core code whole num t w fs b e finish (behind whole begins body a s) in
+      let z = h.up_to + length (done_all packed) in
+      let begun = subst (λ q. AreAt code a q b) (begins_stay n packed) (are_at code whole begins body a num s) in
+      let term = subst (λ l. Low core code w fs b t (ToParts l (scalar_slots tys xs)) h.up_to) (label_at whole finish h.up_to h.after) h.is in
+      let finished = subst (λ q. AreAt code h.up_to q z) (dones_stay n packed) (are_at code whole (done_all packed) rest h.up_to num h.after) in
+      record { up_to = z; is = low.several begun term finished; after = behind whole (done_all packed) rest h.up_to h.after }
 
   low_arms : (core : CoreTree) (code : CodeTree) (whole : List Instruction) → IsNumbered code whole → (bs : Branches) (w : Within) (fs : List Field) (x a : ℕ) (e : End) (rest : List Instruction)
       → Stands whole a (lowered_branches core w fs x bs e rest).code → LowersArms core code whole w fs x a (lowered_branches core w fs x bs e rest).arms bs e rest

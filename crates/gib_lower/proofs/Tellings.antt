@@ -13,7 +13,7 @@ use Rattle.gib_core.specs.declared.atom.Ended.{Ended}
 use Rattle.gib_core.specs.declared.atom.Atom.TheVariants as a
 use Rattle.gib_core.specs.Tree.{Term, CoreTree}
 use Rattle.gib_core.specs.Ending.{Within, has_ended, ended, last_packed, if_some, is_known}
-use Rattle.gib_core.specs.Low.{Over, over_all, got_from, with_over, arm_overs}
+use Rattle.gib_core.specs.Low.{Over, got_from, with_over, arm_overs}
 use Rattle.gib_lower.specs.Lowering.{leaf_end, got_one}
 
 -- One more argument of a call.
@@ -32,9 +32,9 @@ got_next es f k next x xs old new all e g h =
     ap (λ l. l ++ got_from es f next xs) g ∙ ap (λ m. (old ++ got_one es f k x) ++ got_from es f m xs) n
     ∙ append_assoc old (got_one es f k x) (got_from es f (suc k) xs) ∙ ap (λ l. old ++ l) (sym (got_split es f k x xs)) ∙ e
 
--- Ends are told before an instruction.
-pub before_end : (os : List Over) (x : Instruction) (old mid new told : List Instruction) → mid ≡ x ∷ old → told ≡ over_all os → new ≡ told ++ mid → new ≡ (over_all os ++ x ∷ []) ++ old
-before_end os x old mid new told e f g = g ∙ ap (λ l. l ++ mid) f ∙ ap (λ l. over_all os ++ l) e ∙ sym (append_assoc (over_all os) (x ∷ []) old)
+-- Other instructions stand before the last one: ends are told, parts are moved.
+pub before_end : (xs : List Instruction) (x : Instruction) (old mid new told : List Instruction) → mid ≡ x ∷ old → told ≡ xs → new ≡ told ++ mid → new ≡ (xs ++ x ∷ []) ++ old
+before_end xs x old mid new told e f g = g ∙ ap (λ l. l ++ mid) f ∙ ap (λ l. xs ++ l) e ∙ sym (append_assoc xs (x ∷ []) old)
 
 -- An arm without packed fields.
 pub leaf_unmarked : (must : Bool) (x size many : ℕ) (old : List Instruction) → must ≡ false → old ≡ leaf_end must x size many ++ old

@@ -1,7 +1,9 @@
 -- Ends as the code keeps them.
 use Rattle.std.specs.Prelude.{List}
 use Rattle.gib_core.specs.Ending.{Within}
-use Rattle.gib_core.specs.Low.{Over, End, Returns, To}
+use Rattle.gib_core.specs.Low.{Over, End, Returns, To, ToParts, scalar_slots}
+use Rattle.gib_core.specs.PartTypes.{types_in}
+use Rattle.gib_core.specs.Tree.{variables_from}
 use Rattle.gib_lower.specs.declared.ending.Ending.{Ending as Kept}
 use Rattle.gib_lower.specs.declared.ending.Ending.TheVariants as k
 use Rattle.gib_lower.specs.declared.ending.Around.{Around}
@@ -15,6 +17,7 @@ over_of o = record { tree = o.tree; field = o.field }
 abbrev pub end_of : Kept → List Over → End
 end_of k.Returns os = Returns os
 end_of (k.To l d) os = To l d
+end_of (k.ToParts l x tys) os = ToParts l (scalar_slots (types_in tys) (variables_from x.0 (types_in tys)))
 
 -- Where a term stands.
 abbrev pub within_of : Around → Within

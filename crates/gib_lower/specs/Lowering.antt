@@ -3,12 +3,13 @@
 -- The code of a term is put in front of the code that follows it, so a label is known before it is used: while code is made,
 -- a label is how many instructions there are from its place to the end of the program. Once all code is there, labels
 -- become numbers of instructions.
-use Rattle.std.specs.Prelude.{ℕ, ◌+◌, ◌-◌, ◌==◌, ◌&&◌, Bool, true, false, if◌then◌else◌, List, [], ◌∷◌, ◌++◌, map, length, Option, Some, None}
+use Rattle.std.specs.Prelude.{ℕ, suc, ◌+◌, ◌-◌, ◌==◌, ◌&&◌, Bool, true, false, if◌then◌else◌, List, [], ◌∷◌, ◌++◌, map, length, Option, Some, None}
 use Rattle.gib_base.specs.declared.name.Name.{Name}
 use Rattle.gib_types.specs.declared.table.ConId.{ConId}
-use Rattle.gib_types.specs.declared.table.Ty.{Ty}
 use Rattle.gib_types.specs.Table.{fields_at}
 use Rattle.gib_types.specs.Layout.{head_size, packed_count}
+use Rattle.gib_code.specs.declared.instruction.AnswerType.{AnswerType}
+use Rattle.gib_code.specs.declared.instruction.AnswerType.TheVariants as of
 use Rattle.gib_code.specs.declared.instruction.Arm.{Arm}
 use Rattle.gib_code.specs.declared.instruction.Entry.{Entry}
 use Rattle.gib_code.specs.Instruction as i
@@ -19,10 +20,10 @@ use Rattle.gib_core.specs.declared.atom.Atom.{Atom}
 use Rattle.gib_core.specs.declared.atom.Atom.TheVariants as a
 use Rattle.gib_core.specs.declared.atom.Ended.{Ended}
 use Rattle.gib_core.specs.declared.atom.Kind.TheVariants.{Here, Region, Scalar}
-use Rattle.gib_core.specs.Tree.{Term, Then, Write, Point, CallTerm, Give, CaseTerm, IfTerm, Bind, Past, One, Both, Prim, Reach, Side, On, Branches, NoBranch, BranchThen, FunctionTerm, CoreTree}
+use Rattle.gib_core.specs.Tree.{Term, Then, Write, Point, CallTerm, Give, CaseTerm, IfTerm, Tuple, PartTerms, NoPart, PartThen, parts_count, Bind, Past, One, Both, Prim, Reach, Side, On, Several, Branches, NoBranch, BranchThen, FunctionTerm, CoreTree}
 use Rattle.gib_core.specs.Numbering.{binders}
 use Rattle.gib_core.specs.Ending.{has_ended, Within, within_par, within_function, within_main}
-use Rattle.gib_core.specs.Low.{laid_of, operand, operands, slot_of, slots_of, operation, kind_of, function_number, Field, with_fields, arm_opening, End, Returns, To, ending, giving, gots, arm_end, reaching}
+use Rattle.gib_core.specs.Low.{laid_of, operand, operands, slot_of, slots_of, operation, function_number, Field, with_fields, arm_opening, End, Returns, To, ToParts, ending, call_ending, giving, giving_parts, packed_slots, scalar_slots, begin_all, done_all, side_kind, side_slots, side_type, answer_type, gots, arm_end, reaching}
 
 -- The code of branches, with each constructor's label.
 pub record Switched : Type 0 where
@@ -46,10 +47,11 @@ call_or (Point x) call other = other
 call_or (Give x) call other = other
 call_or (CaseTerm x branches) call other = other
 call_or (IfTerm x t u) call other = other
+call_or (Tuple tys ss ps) call other = other
 
 -- A fork, before the left side's code: it tells where the right side's code begins, and what follows both.
 abbrev pub fork : Side → List Instruction → List Instruction → List Instruction → List Instruction
-fork (On kind x ty t) left right rest = i.Fork (length right) (length rest) (kind_of kind) x.0 ty ∷ left
+fork r left right rest = i.Fork (length right) (length rest) (side_kind r) (side_slots r) (side_type r) ∷ left
 
 -- Two sides, and then the rest, by whether they are marked. The right side comes as what it is before any code.
 abbrev pub both : Bool → Side → (List Instruction → List Instruction) → (List Instruction → List Instruction) → List Instruction → List Instruction
@@ -76,12 +78,20 @@ abbrev mutual
   lowered core w fs (Then b t) e rest = lowered_bind core w fs b (lowered core w fs t e rest)
   lowered core w fs (Write h k ss ps) e rest = i.Fill h.0 k.0 (operands ss) (slots_of ps) ∷ (ending e ++ rest)
   lowered core w fs (Point x) e rest = i.Point (slot_of x) ∷ (ending e ++ rest)
-  lowered core w fs (CallTerm g xs) e rest = i.Call (function_number core.functions g.0) (operands xs) ∷ (gots w core g.0 xs ++ (ending e ++ rest))
+  lowered core w fs (CallTerm g xs) e rest = i.Call (function_number core.functions g.0) (operands xs) ∷ (gots w core g.0 xs ++ (call_ending e ++ rest))
   lowered core w fs (Give x) e rest = giving (operand x) e ++ rest
   lowered core w fs (CaseTerm x branches) e rest = switch (slot_of x) (lowered_branches core w fs (slot_of x) branches e rest)
   lowered core w fs (IfTerm x t u) e rest =
       let other = lowered core w fs u e rest in
       i.Unless (operand x) (length other) ∷ lowered core w fs t e other
+  lowered core w fs (Tuple tys ss ps) e rest = lowered_parts core w fs 0 (parts_count ps) ps (giving_parts (operands ss) e ++ rest)
+
+  -- Packed parts from a number on, of so many, each in its region, and then the rest.
+  pub lowered_parts : CoreTree → Within → List Field → (part count : ℕ) → PartTerms → List Instruction → List Instruction
+  lowered_parts core w fs part count NoPart rest = rest
+  lowered_parts core w fs part count (PartThen t ps) rest =
+      let finish = i.Out part count ∷ lowered_parts core w fs (suc part) count ps rest in
+      i.Into part count ∷ lowered core w fs t (To (length finish) 0) finish
 
   -- A binding, and then the rest.
   pub lowered_bind : CoreTree → Within → List Field → Bind → List Instruction → List Instruction
@@ -99,6 +109,9 @@ abbrev mutual
       i.Begin x.0 ∷ lowered core w fs t (To (length finish) 0) finish
   lowered_side core w fs (On Scalar x ty t) rest =
       call_or t (λ g xs. i.CallScalar x.0 (function_number core.functions g.0) (operands xs) ∷ (gots w core g.0 xs ++ rest)) (lowered core w fs t (To (length rest) x.0) rest)
+  lowered_side core w fs (Several xs tys t) rest =
+      let finish = done_all (packed_slots tys xs) ++ rest in
+      begin_all (packed_slots tys xs) ++ lowered core w fs t (ToParts (length finish) (scalar_slots tys xs)) finish
 
   -- The branches of a case on the slot x, one after another, and then the rest.
   pub lowered_branches : CoreTree → Within → List Field → ℕ → Branches → End → List Instruction → Switched
@@ -152,22 +165,26 @@ numbered n (i.Call g ss) = i.Call g ss
 numbered n (i.CallScalar d g ss) = i.CallScalar d g ss
 numbered n i.Return = i.Return
 numbered n (i.Give v) = i.Give v
-numbered n (i.Fork r j kind b ty) = i.Fork (label_in n r) (label_in n j) kind b ty
+numbered n (i.Fork r j kind xs result) = i.Fork (label_in n r) (label_in n j) kind xs result
 numbered n i.Join = i.Join
 numbered n i.Back = i.Back
 numbered n (i.Got z k) = i.Got z k
 numbered n (i.OverEnd x y) = i.OverEnd x y
 numbered n (i.LeafEnd x k) = i.LeafEnd x k
 numbered n (i.EndOf d z) = i.EndOf d z
+numbered n (i.Into p k) = i.Into p k
+numbered n (i.Out p k) = i.Out p k
+numbered n (i.GiveParts ss) = i.GiveParts ss
+numbered n (i.Part d p) = i.Part d p
 
 -- A function in the code: its name, where it begins, a slot for each variable, and the type of its value.
-abbrev pub entry_of : Option Name → Ty → ℕ → ℕ → Term → Entry
+abbrev pub entry_of : Option Name → AnswerType → ℕ → ℕ → Term → Entry
 entry_of name result start parameters body = record { name = name; start = start; slots = parameters + length (binders body); result = result }
 
 -- The functions in the code, main last; each begins where so many instructions are left.
 abbrev pub begun : CoreTree → List FunctionTerm → List Entry
-begun core [] = entry_of None core.main.result (length (lowered_functions core [])) 1 core.main.body ∷ []
-begun core (g ∷ gs) = entry_of (Some g.name) g.result (length (lowered_functions core (g ∷ gs))) (length g.parameters) g.body ∷ begun core gs
+begun core [] = entry_of None (of.One core.main.result) (length (lowered_functions core [])) 1 core.main.body ∷ []
+begun core (g ∷ gs) = entry_of (Some g.name) (answer_type g.result) (length (lowered_functions core (g ∷ gs))) (length g.parameters) g.body ∷ begun core gs
 
 -- A function with its start as the number of an instruction.
 abbrev pub entry_in : ℕ → Entry → Entry

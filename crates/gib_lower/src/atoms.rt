@@ -1,11 +1,15 @@
 //! Atoms as operands, and other things of the core as those of the code.
 
-ghost use Rattle.std.specs.Prelude.{◌≡◌, map, IfOk};
-ghost use Rattle.gib_core.specs.Low.{operand as operand_spec, operands as operands_spec, slot_of as slot_spec, slots_of as slots_spec, operation as operation_spec, kind_of as kind_spec};
+ghost use Rattle.std.specs.Prelude.{◌≡◌, ℕ, map, IfOk};
+ghost use Rattle.gib_core.specs.Low.{operand as operand_spec, operands as operands_spec, slot_of as slot_spec, slots_of as slots_spec, operation as operation_spec, kind_of as kind_spec, answer_type as answer_spec, side_kind as side_kind_spec, side_slots, side_type as side_type_spec};
+ghost use Rattle.gib_core.specs.Arena.{side_from};
+ghost use Rattle.gib_core.specs.Parts.{results_of};
+ghost use Rattle.gib_core.specs.Tree.{Term};
+ghost use Rattle.gib_code.specs.Instruction.{target_slots};
 
 use gib_base::Memory;
-use gib_code::{Kind as SideKind, Operand, Operation};
-use gib_core::{Atom, Kind};
+use gib_code::{AnswerType, Kind as SideKind, Operand, Operation, Targets};
+use gib_core::{Atom, BoundSide, CoreResult, Kind};
 use gib_syntax::Operator;
 use std::alloc::Global;
 
@@ -80,5 +84,51 @@ pub(crate) fn kind_of(kind: Kind) -> SideKind
         Kind::Here => SideKind::Here,
         Kind::Region => SideKind::Region,
         Kind::Scalar => SideKind::Scalar,
+    }
+}
+
+/// Where the value of a right side is put.
+pub(crate) fn side_kind(side: BoundSide) -> SideKind
+    ensures { (f : ℕ → Term) → result ≡ side_kind_spec (side_from f side) }
+{
+    match side {
+        BoundSide::One(side) => kind_of(side.kind),
+        BoundSide::Several(_) => SideKind::Several,
+    }
+}
+
+/// The slots that a right side sets.
+pub(crate) fn side_targets(side: BoundSide) -> Targets
+    ensures { (f : ℕ → Term) → target_slots result ≡ side_slots (side_from f side) }
+{
+    match side {
+        BoundSide::One(side) => Targets {
+            first: side.variable.0,
+            count: 1,
+        },
+        BoundSide::Several(side) => Targets {
+            first: side.first.0,
+            count: side.types.len() as u8,
+        },
+    }
+}
+
+/// The type of what a right side gives.
+pub(crate) fn side_type(side: BoundSide) -> AnswerType
+    ensures { (f : ℕ → Term) → result ≡ side_type_spec (side_from f side) }
+{
+    match side {
+        BoundSide::One(side) => AnswerType::One(side.ty),
+        BoundSide::Several(_) => AnswerType::Parts,
+    }
+}
+
+/// The type of what a function gives.
+pub(crate) fn answer_type(given: CoreResult) -> AnswerType
+    ensures { result ≡ answer_spec (results_of given) }
+{
+    match given {
+        CoreResult::One(ty) => AnswerType::One(ty),
+        CoreResult::Several(_) => AnswerType::Parts,
     }
 }

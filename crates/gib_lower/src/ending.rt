@@ -7,15 +7,25 @@ ghost use Rattle.gib_lower.specs.Ends.{over_of};
 
 use gib_base::Memory;
 use gib_code::Instr;
+use gib_core::{PartTypes, Variable};
 use std::alloc::Global;
 use std::marker::Model;
 
 /// What follows a term: the call returns, and before it the ends of the trees of the cases around are told; or the code goes on
-/// at a label. A scalar is then left in the slot; a packed value sets none.
+/// at a label. A scalar is then left in the slot; a packed value sets none. Several parts go to variables one behind another, of
+/// these types.
 #[derive(Clone, Copy, Debug)]
 pub(crate) enum Ending {
     Returns,
-    To { label: u32, slot: u32 },
+    To {
+        label: u32,
+        slot: u32,
+    },
+    ToParts {
+        label: u32,
+        first: Variable,
+        types: PartTypes,
+    },
 }
 
 /// Where a term stands: in a function whose ends are told; in a side of a `par`.
@@ -55,6 +65,20 @@ impl Around {
         At {
             around: self,
             ending: Ending::To { label, slot },
+        }
+    }
+
+    /// Here, and then the code goes on at a label, with several parts in variables from one on.
+    pub(crate) fn going_to_parts(self, label: u32, first: Variable, types: PartTypes) -> At
+        ensures { result ≡ record { around = self; ending = k.ToParts label first types } }
+    {
+        At {
+            around: self,
+            ending: Ending::ToParts {
+                label,
+                first,
+                types,
+            },
         }
     }
 

@@ -11,6 +11,7 @@ mod functions;
 pub mod law;
 mod numbering;
 mod opening;
+mod parts;
 mod program;
 mod source;
 mod telling;

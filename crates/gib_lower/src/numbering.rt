@@ -35,9 +35,9 @@ fn number(count: u32, instr: &mut Instr)
         Instr::Jump(label) => *label = label_in(count, *label),
         Instr::Unless { label, .. } => *label = label_in(count, *label),
         Instr::Switch { arms, .. } => number_arms(count, arms),
-        Instr::Fork { right, joint, .. } => {
-            *right = label_in(count, *right);
-            *joint = label_in(count, *joint);
+        Instr::Fork(fork) => {
+            fork.right = label_in(count, fork.right);
+            fork.joint = label_in(count, fork.joint);
         }
         Instr::Move { .. }
         | Instr::Operate { .. }
@@ -61,7 +61,11 @@ fn number(count: u32, instr: &mut Instr)
         | Instr::Got { .. }
         | Instr::OverEnd { .. }
         | Instr::LeafEnd { .. }
-        | Instr::EndOf { .. } => {}
+        | Instr::EndOf { .. }
+        | Instr::Into { .. }
+        | Instr::Out { .. }
+        | Instr::GiveParts(_)
+        | Instr::Part { .. } => {}
     }
 }
 

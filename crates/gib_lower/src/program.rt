@@ -3,16 +3,18 @@
 ghost use Rattle.std.specs.Prelude.{◌≡◌, ◌<◌, ◌^◌, ◌∷◌, [], Some, length, map, reverse, IfOk, OnOk};
 ghost use Rattle.std.specs.List.{AllByRecursion};
 ghost use Rattle.gib_core.specs.Arena.{term_of};
-ghost use Rattle.gib_core.specs.Parts.{IsFunctionInside, core_of, function_term};
+ghost use Rattle.gib_core.specs.Parts.{IsFunctionInside, core_of, function_term, results_of};
 ghost use Rattle.gib_code.specs.Instruction.{instruction_of};
 ghost use Rattle.gib_core.specs.Ending.{within_function, within_main, main_ended};
-ghost use Rattle.gib_core.specs.Low.{laid_of, Returns};
+ghost use Rattle.gib_core.specs.Low.{laid_of, Returns, answer_type as answer_spec};
+ghost use Rattle.gib_code.specs.declared.instruction.AnswerType.TheVariants as of;
 ghost use Rattle.gib_lower.specs.Ends.{within_of};
 ghost use Rattle.gib_core.specs.Numbering.{AreNumbered};
 ghost use Rattle.gib_core.specs.Fits.{AllFit, EachFits};
 ghost use Rattle.gib_lower.specs.Counting.{variables_of};
 ghost use Rattle.gib_lower.specs.Lowering.{label_in, entry_in, entry_of, numbered, lowered, lowered_functions, begun, lower_program};
 
+use crate::atoms::answer_type;
 use crate::counts::{Counts, count_of, plus};
 use crate::emitted::Emitted;
 use crate::ending::{Around, Overs};
@@ -23,7 +25,7 @@ use crate::source::Source;
 use crate::telling::has_telling;
 use crate::walk::{Lowering, lower_term};
 use gib_base::Memory;
-use gib_code::{Code, Entry, Instr};
+use gib_code::{AnswerType, Code, Entry, Instr};
 use gib_core::known::is_known;
 use gib_core::law::{built_fits, code_that_fits_can_be_run};
 use gib_core::{Checked, CoreFunction, Lowered, TermId, Variable};
@@ -82,7 +84,7 @@ fn lower_function(
     ensures code { IfOk result (λ _. out.new.code ≡ lowered (core_of source.now) (within_function (core_of source.now) (function_term (term_of source.now.terms) function.now)) [] (term_of source.now.terms function.now.body.0) (Returns []) out.old.code) }
     ensures outside { IfOk result (λ _. out.new.fields ≡ []) }
     ensures none { IfOk result (λ _. out.new.overs ≡ []) }
-    ensures entry { IfOk result (λ entry. entry ≡ entry_of (Some function.now.name) function.now.result (length out.new.code) (length function.now.parameters.items) (term_of source.now.terms function.now.body.0)) }
+    ensures entry { IfOk result (λ entry. entry ≡ entry_of (Some function.now.name) (answer_spec (results_of function.now.result)) (length out.new.code) (length function.now.parameters.items) (term_of source.now.terms function.now.body.0)) }
 {
     let around = around_function(out.alloc, source, function)?;
     let start = lower_body(source, around, function.body, out)?;
@@ -92,7 +94,7 @@ fn lower_function(
         name: Some(function.name),
         start,
         slots,
-        result: function.result,
+        result: answer_type(function.result),
     })
 }
 
@@ -152,7 +154,7 @@ fn lower_main(source: &Source, counts: &Counts, out: &mut Lowering) -> Result<En
         name: None,
         start,
         slots,
-        result: main.result,
+        result: AnswerType::One(main.result),
     })
 }
 

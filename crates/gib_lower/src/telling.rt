@@ -2,8 +2,8 @@
 
 ghost use Rattle.std.specs.Prelude.{◌≡◌, ◌<◌, length, IfOk};
 ghost use Rattle.std.specs.List.{AllByRecursion};
-ghost use Rattle.gib_core.specs.Arena.{IsBindingBelow, IsBranchBelow, IsEnd, term_of, bind_from, branches_from};
-ghost use Rattle.gib_core.specs.Ending.{call_ends_some, has_telling as telling, bind_telling, branches_telling};
+ghost use Rattle.gib_core.specs.Arena.{IsBindingBelow, IsBranchBelow, IsPartBelow, IsEnd, term_of, bind_from, branches_from, parts_from};
+ghost use Rattle.gib_core.specs.Ending.{call_ends_some, has_telling as telling, bind_telling, branches_telling, parts_telling};
 
 use gib_base::{Memory, Name};
 use gib_core::{Atom, Binding, Branch, EndedSet, Node, TermId, Terms};
@@ -67,7 +67,7 @@ fn binding_tells(
 {
     match binding {
         Binding::Past { .. } => Ok(false),
-        Binding::One(side) => has_telling(alloc, terms, ended, side.term),
+        Binding::One(side) => has_telling(alloc, terms, ended, side.term()),
         Binding::Par { .. } => Ok(false),
         Binding::Prim { .. } => Ok(false),
         Binding::Reach { .. } => Ok(false),
@@ -98,7 +98,31 @@ fn end_tells(alloc: Global, terms: &Terms, ended: &EndedSet, id: TermId) -> Resu
             }
             has_telling(alloc, terms, ended, *else_part)
         }
+        Node::Tuple { parts, .. } => parts_tell(alloc, terms, ended, id, parts),
     }
+}
+
+/// Whether a part of the tuple of a number has.
+#[cycle(telling)]
+fn parts_tell(
+    alloc: Global,
+    terms: &Terms,
+    ended: &EndedSet,
+    parent: TermId,
+    parts: &[TermId],
+) -> Result<bool, Memory>
+    requires inside { parent.0 < length terms.now }
+    requires below { AllByRecursion (IsPartBelow parent.0) parts.now }
+    ensures { IfOk result (λ tells. tells ≡ parts_telling ended.now (parts_from (term_of terms.now) parts.now)) }
+{
+    let mut i = 0;
+    'parts: while i < parts.len() {
+        if has_telling(alloc, terms, ended, parts[i])? {
+            return Ok(true);
+        }
+        i += 1;
+    }
+    Ok(false)
 }
 
 /// Whether a branch of the case of a number has.

@@ -5,13 +5,15 @@ ghost use Rattle.gib_types.specs.Layout.{head_size, packed_at};
 ghost use Rattle.gib_code.specs.Instruction.{instruction_of};
 ghost use Rattle.gib_core.specs.Arena.{term_of};
 ghost use Rattle.gib_core.specs.Parts.{core_of};
-ghost use Rattle.gib_core.specs.Low.{Over, giving, got_from as gots_from, gots as all_gots, ending as ending_spec, arm_overs, arm_end};
+ghost use Rattle.gib_core.specs.Low.{Over, giving, got_from as gots_from, gots as all_gots, operands as operands_spec, ending as ending_spec, call_ending, giving_parts, arm_overs, arm_end};
 ghost use Rattle.gib_lower.specs.Ends.{over_of, end_of, within_of};
 ghost use Rattle.gib_lower.specs.Lowering.{leaf_end, got_one};
 
+use crate::atoms::operands;
 use crate::counts::plus;
 use crate::emitted::Emitted;
 use crate::ending::{Around, At, Ending, LastField, Overs};
+use crate::parts::{moves, slots_at, takes_parts};
 use crate::source::Source;
 use gib_base::{Memory, Name};
 use gib_code::{Instr, Operand};
@@ -101,6 +103,63 @@ pub(crate) fn put_ending(
             Ok(())
         }
         Ending::To { label, .. } => code.put(Instr::Jump(label)),
+        Ending::ToParts { label, .. } => code.put(Instr::Jump(label)),
+    }
+}
+
+/// Puts what stands behind a call: the scalar parts that it gave go to their slots.
+#[tactic(auto, using(crate::proofs::PartMoves::taken_before))]
+pub(crate) fn put_call_ending(
+    alloc: Global,
+    overs: &Overs,
+    ending: Ending,
+    code: &mut Emitted,
+) -> Result<(), Memory>
+    ensures { OnOk result (code.new ≡ call_ending (end_of ending overs.now) ++ code.old) }
+{
+    match ending {
+        Ending::Returns => put_ending(alloc, overs, ending, code),
+        Ending::To { .. } => put_ending(alloc, overs, ending, code),
+        Ending::ToParts {
+            label,
+            first,
+            types,
+        } => {
+            code.put(Instr::Jump(label))?;
+            let slots = slots_at(alloc, true, first, types)?;
+            code.put_all(takes_parts(alloc, &slots)?)
+        }
+    }
+}
+
+/// Puts what gives several parts, behind the packed ones.
+#[tactic(auto, using(crate::proofs::Tellings::before_end, crate::proofs::PartMoves::moved_before))]
+pub(crate) fn give_parts(
+    alloc: Global,
+    overs: &Overs,
+    ending: Ending,
+    scalars: &[Atom],
+    code: &mut Emitted,
+) -> Result<(), Memory>
+    ensures { OnOk result (code.new ≡ giving_parts (operands_spec scalars.now) (end_of ending overs.now) ++ code.old) }
+{
+    match ending {
+        Ending::Returns => {
+            let values = operands(alloc, scalars)?;
+            code.put(Instr::GiveParts(values))?;
+            let told = overs.told(alloc)?;
+            code.put_all(told)
+        }
+        Ending::To { label, .. } => code.put(Instr::Jump(label)),
+        Ending::ToParts {
+            label,
+            first,
+            types,
+        } => {
+            code.put(Instr::Jump(label))?;
+            let slots = slots_at(alloc, true, first, types)?;
+            code.put_all(moves(alloc, &slots, scalars)?)
+        }
     }
 }
 
@@ -129,6 +188,7 @@ pub(crate) fn give(
                 from: value,
             })
         }
+        Ending::ToParts { label, .. } => code.put(Instr::Jump(label)),
     }
 }
 
@@ -207,6 +267,7 @@ pub(crate) fn enter_arm(
 {
     match at.ending {
         Ending::To { .. } => Ok(()),
+        Ending::ToParts { .. } => Ok(()),
         Ending::Returns => match last_of(source, at.around, tree, branch) {
             None => Ok(()),
             Some(last) => {

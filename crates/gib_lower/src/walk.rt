@@ -6,25 +6,32 @@
 ghost use Rattle.std.specs.Prelude.{◌≡◌, ◌<◌, ◌∷◌, ◌++◌, true, length, map, reverse, IfOk, OnOk, MatchOption};
 ghost use Rattle.std.specs.List.{AllByRecursion};
 ghost use Rattle.gib_types.specs.Table.{fields_at};
-ghost use Rattle.gib_core.specs.Arena.{IsBindingBelow, IsBranchBelow, IsEnd, term_of, side_from, bind_from, branches_from};
+ghost use Rattle.gib_core.specs.Arena.{IsBindingBelow, IsBranchBelow, IsPartBelow, IsEnd, term_in, term_of, side_from, bind_from, branches_from, parts_from};
 ghost use Rattle.gib_core.specs.Parts.{core_of};
 ghost use Rattle.gib_core.specs.Tree.{CallTerm, Both};
-ghost use Rattle.gib_core.specs.Low.{laid_of, IsNoCall, function_number, with_fields, arm_opening, gots as gots_spec, operands as operands_spec, slots_of as slots_spec, ending as ending_spec, reaching};
+ghost use Rattle.gib_core.specs.Low.{laid_of, IsNoCall, function_number, with_fields, arm_opening, gots as gots_spec, operands as operands_spec, slots_of as slots_spec, ending as ending_spec, call_ending, done_all, reaching};
+ghost use Rattle.gib_core.specs.declared.node.BoundSide.TheVariants as side_of;
 ghost use Rattle.gib_code.specs.Instruction as i;
 ghost use Rattle.gib_code.specs.Instruction.{instruction_of};
 ghost use Rattle.gib_lower.specs.Ends.{end_of, within_of};
-ghost use Rattle.gib_lower.specs.Lowering.{lowered, lowered_bind, lowered_side, lowered_branches, switch, scalar_lowered, branch_lowered};
+ghost use Rattle.gib_lower.specs.Lowering.{lowered, lowered_bind, lowered_side, lowered_parts, lowered_branches, switch, scalar_lowered, branch_lowered};
 
-use crate::atoms::{kind_of, operand, operands, operation, slot_of, slots_of};
+use crate::atoms::{
+    operand, operands, operation, side_kind, side_targets, side_type, slot_of, slots_of,
+};
 use crate::emitted::Emitted;
 use crate::ending::{Around, At, Ending, Overs};
 use crate::fields::Fields;
 use crate::opening::opening;
+use crate::parts::{begins, part_number, slots_at};
 use crate::source::Source;
-use crate::told::{enter_arm, give, gots, put_ending, put_leaf};
+use crate::told::{enter_arm, give, give_parts, gots, put_call_ending, put_ending, put_leaf};
 use gib_base::{Memory, Name};
-use gib_code::{Arm, Instr};
-use gib_core::{Access, Atom, Binding, BoundTerm, Branch, Kind, Node, TermId, Terms, Variable};
+use gib_code::{Arm, Fork, Instr};
+use gib_core::{
+    Access, Atom, Binding, BoundParts, BoundSide, BoundTerm, Branch, Kind, Node, TermId, Terms,
+    Variable,
+};
 use gib_types::ConId;
 use std::alloc::Global;
 
@@ -104,6 +111,18 @@ fn finish(out: &mut Emitted) -> Result<u32, Memory>
     Ok(out.label())
 }
 
+/// The ends of regions, one for each slot.
+fn finish_all(slots: &[u32], out: &mut Emitted) -> Result<(), Memory>
+    ensures { OnOk result (out.new ≡ done_all slots.now ++ out.old) }
+{
+    let mut i = 0;
+    'slots: while i < slots.len() {
+        out.put(Instr::Done)?;
+        i += 1;
+    }
+    Ok(())
+}
+
 /// A switch to arms, the last of which was made first.
 fn put_switch(out: &mut Emitted, tree: u32, reversed: Vec<Arm>) -> Result<(), Memory>
     ensures { OnOk result (out.new ≡ i.Switch tree (reverse reversed.items) ∷ out.old) }
@@ -126,6 +145,7 @@ fn call_alone(terms: &Terms, id: TermId) -> Option<(Name, &[Atom])>
         Node::Give(_) => None,
         Node::Case { .. } => None,
         Node::If { .. } => None,
+        Node::Tuple { .. } => None,
     }
 }
 
@@ -137,11 +157,11 @@ fn lower_call(
     arguments: &[Atom],
     out: &mut Lowering,
 ) -> Result<(), Memory>
-    ensures code { OnOk result (out.new.code ≡ i.Call (function_number (core_of source.now).functions name.0) (operands_spec arguments.now) ∷ (gots_spec (within_of at.around) (core_of source.now) name.0 arguments.now ++ (ending_spec (end_of at.ending out.old.overs) ++ out.old.code))) }
+    ensures code { OnOk result (out.new.code ≡ i.Call (function_number (core_of source.now).functions name.0) (operands_spec arguments.now) ∷ (gots_spec (within_of at.around) (core_of source.now) name.0 arguments.now ++ (call_ending (end_of at.ending out.old.overs) ++ out.old.code))) }
     ensures fields { OnOk result (out.new.fields ≡ out.old.fields) }
     ensures overs { OnOk result (out.new.overs ≡ out.old.overs) }
 {
-    put_ending(out.alloc, &out.overs, at.ending, &mut out.code)?;
+    put_call_ending(out.alloc, &out.overs, at.ending, &mut out.code)?;
     let told = gots(out.alloc, source, at.around, name, arguments)?;
     out.code.put_all(told)?;
     let arguments = operands(out.alloc, arguments)?;
@@ -246,6 +266,10 @@ fn lower_end(source: &Source, id: TermId, at: At, out: &mut Lowering) -> Result<
                 label,
             })
         }
+        Node::Tuple { scalars, parts, .. } => {
+            give_parts(out.alloc, &out.overs, at.ending, scalars, &mut out.code)?;
+            lower_parts(source, id, at.around, parts, out)
+        }
     }
 }
 
@@ -299,13 +323,13 @@ fn lower_fork(
     source: &Source,
     around: Around,
     parent: TermId,
-    left: BoundTerm,
-    right: BoundTerm,
+    left: BoundSide,
+    right: BoundSide,
     out: &mut Lowering,
 ) -> Result<(), Memory>
     requires inside { parent.0 < length source.now.terms }
-    requires left { left.term.0 < parent.0 }
-    requires right { right.term.0 < parent.0 }
+    requires left { (term_in left).0 < parent.0 }
+    requires right { (term_in right).0 < parent.0 }
     ensures code { OnOk result (out.new.code ≡ lowered_bind (core_of source.now) (within_of around) out.old.fields (Both true (side_from (term_of source.now.terms) left) (side_from (term_of source.now.terms) right)) out.old.code) }
     ensures fields { OnOk result (out.new.fields ≡ out.old.fields) }
     ensures overs { OnOk result (out.new.overs ≡ out.old.overs) }
@@ -316,25 +340,94 @@ fn lower_fork(
     let begin = out.code.label();
     out.code.put(Instr::Join)?;
     lower_side(source, around.in_par(), left, out)?;
-    out.code.put(Instr::Fork {
+    out.code.put(Instr::Fork(Fork {
         right: begin,
         joint,
-        kind: kind_of(right.kind),
-        variable: right.variable.0,
-        result: right.ty,
-    })
+        kind: side_kind(right),
+        targets: side_targets(right),
+        result: side_type(right),
+    }))
+}
+
+/// The code of packed parts of the term of a number: each goes into its region.
+#[cycle(lower)]
+fn lower_parts(
+    source: &Source,
+    parent: TermId,
+    around: Around,
+    parts: &[TermId],
+    out: &mut Lowering,
+) -> Result<(), Memory>
+    requires inside { parent.0 < length source.now.terms }
+    requires below { AllByRecursion (IsPartBelow parent.0) parts.now }
+    ensures code { OnOk result (out.new.code ≡ lowered_parts (core_of source.now) (within_of around) out.old.fields 0 (length parts.now) (parts_from (term_of source.now.terms) parts.now) out.old.code) }
+    ensures fields { OnOk result (out.new.fields ≡ out.old.fields) }
+    ensures overs { OnOk result (out.new.overs ≡ out.old.overs) }
+{
+    let count = part_number(parts.len())?;
+    let mut i = parts.len();
+    'parts: while i > 0 {
+        i -= 1;
+        let part = part_number(i)?;
+        out.code.put(Instr::Out { part, count })?;
+        let label = out.code.label();
+        lower_term(source, parts[i], around.going_to(label, 0), out)?;
+        out.code.put(Instr::Into { part, count })?;
+    }
+    Ok(())
+}
+
+/// The code of what is bound to a term.
+#[cycle(lower)]
+fn lower_side(
+    source: &Source,
+    around: Around,
+    side: BoundSide,
+    out: &mut Lowering,
+) -> Result<(), Memory>
+    requires inside { (term_in side).0 < length source.now.terms }
+    ensures code { OnOk result (out.new.code ≡ lowered_side (core_of source.now) (within_of around) out.old.fields (side_from (term_of source.now.terms) side) out.old.code) }
+    ensures fields { OnOk result (out.new.fields ≡ out.old.fields) }
+    ensures overs { OnOk result (out.new.overs ≡ out.old.overs) }
+{
+    match side {
+        BoundSide::One(side) => lower_bound(source, around, side, out),
+        BoundSide::Several(side) => lower_several(source, around, side, out),
+    }
+}
+
+/// The code of variables that are bound to the parts of a term: each packed one gets a region.
+#[cycle(lower)]
+fn lower_several(
+    source: &Source,
+    around: Around,
+    side: BoundParts,
+    out: &mut Lowering,
+) -> Result<(), Memory>
+    requires inside { side.term.0 < length source.now.terms }
+    ensures code { OnOk result (out.new.code ≡ lowered_side (core_of source.now) (within_of around) out.old.fields (side_from (term_of source.now.terms) (side_of.Several side)) out.old.code) }
+    ensures fields { OnOk result (out.new.fields ≡ out.old.fields) }
+    ensures overs { OnOk result (out.new.overs ≡ out.old.overs) }
+{
+    let packed = slots_at(out.alloc, false, side.first, side.types)?;
+    finish_all(&packed, &mut out.code)?;
+    let label = out.code.label();
+    let at = around.going_to_parts(label, side.first, side.types);
+    lower_term(source, side.term, at, out)?;
+    let begins = begins(out.alloc, &packed)?;
+    out.code.put_all(begins)
 }
 
 /// The code of a variable that is bound to a term.
 #[cycle(lower)]
-fn lower_side(
+fn lower_bound(
     source: &Source,
     around: Around,
     side: BoundTerm,
     out: &mut Lowering,
 ) -> Result<(), Memory>
     requires inside { side.term.0 < length source.now.terms }
-    ensures code { OnOk result (out.new.code ≡ lowered_side (core_of source.now) (within_of around) out.old.fields (side_from (term_of source.now.terms) side) out.old.code) }
+    ensures code { OnOk result (out.new.code ≡ lowered_side (core_of source.now) (within_of around) out.old.fields (side_from (term_of source.now.terms) (side_of.One side)) out.old.code) }
     ensures fields { OnOk result (out.new.fields ≡ out.old.fields) }
     ensures overs { OnOk result (out.new.overs ≡ out.old.overs) }
 {

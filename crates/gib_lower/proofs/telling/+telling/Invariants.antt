@@ -1,6 +1,6 @@
 use Rattle.std.proofs.Common.{◌≡◌, ◌≤◌, ◌+◌, ◌*◌, ◌-◌, length, drop}
-use Rattle.gib_core.specs.Arena.{term_of, binds_from, branches_from}
-use Rattle.gib_core.specs.Ending.{branches_telling}
+use Rattle.gib_core.specs.Arena.{term_of, binds_from, branches_from, parts_from}
+use Rattle.gib_core.specs.Ending.{branches_telling, parts_telling}
 use Rattle.gib_lower.proofs.TellingLine.{binds_tell}
 use Rattle.gib_lower.proofs.telling.+telling.Given as goal
 
@@ -22,6 +22,15 @@ invariant-branches_tell-branches l =
 
 abbrev pub decreases-branches_tell-branches : goal.decreases-branches_tell-branches
 decreases-branches_tell-branches l = length l.branches - l.i
+
+abbrev pub decreases-parts_tell : goal.decreases-parts_tell
+decreases-parts_tell l = 4 * l.parent.0 + 1
+
+abbrev pub invariant-parts_tell-parts : goal.invariant-parts_tell-parts
+invariant-parts_tell-parts l = (l.i ≤ length l.parts) × (parts_telling l.ended (parts_from (term_of l.terms) l.parts) ≡ parts_telling l.ended (parts_from (term_of l.terms) (drop l.i l.parts)))
+
+abbrev pub decreases-parts_tell-parts : goal.decreases-parts_tell-parts
+decreases-parts_tell-parts l = length l.parts - l.i
 
 abbrev pub invariant-has_telling-bindings : goal.invariant-has_telling-bindings
 invariant-has_telling-bindings l = record {
