@@ -2,6 +2,7 @@
 use Rattle.std.proofs.Common.{◌≡◌, ℕ, ◌+◌, ◌<◌, true, List, length, slice_set, refl, ap, ◌∙◌, arith, suc, subst}
 use Rattle.std.proofs.lemmas.List.{length-set}
 use Rattle.gib_types.specs.declared.table.Ty.{Ty}
+use Rattle.gib_syntax.specs.Results.{Results}
 use Rattle.gib_syntax.specs.Meaning.{Outcome}
 use Rattle.gib_mem.specs.Memory.{Memory, Store, absent, IsBounded}
 use Rattle.gib_core.specs.Tree.{CoreTree}
@@ -148,8 +149,8 @@ module _ (core : CoreTree) (code : CodeTree) (ty : Ty) (o : Outcome) (whole : Co
     running_sound = sound_at Running
 
     -- the answer of a task that has ended
-    pub answers : (a : Answer) (u : Ty) (p : Outcome) → (task w.tasks i).stage ≡ Finished a → (sd.family i).owed.ty ≡ u → (sd.family i).owed.all ≡ p → IsAnswer code.laid w.memory.cells u p a
-    answers a u p fin t e = subst (λ (q : Ty). IsAnswer code.laid w.memory.cells q p a) t (subst (λ (q : Outcome). IsAnswer code.laid w.memory.cells (sd.family i).owed.ty q a) e (sound_at (Finished a) fin))
+    pub answers : (a : Answer) (u : Results Ty) (p : Outcome) → (task w.tasks i).stage ≡ Finished a → (sd.family i).owed.ty ≡ u → (sd.family i).owed.all ≡ p → IsAnswer code.laid w.memory.cells u p a
+    answers a u p fin t e = subst (λ (q : Results Ty). IsAnswer code.laid w.memory.cells q p a) t (subst (λ (q : Outcome). IsAnswer code.laid w.memory.cells (sd.family i).owed.ty q a) e (sound_at (Finished a) fin))
 
     -- its right sides, and what those cost that wait, by their lists
     pub listed : (sts : List Status) (ds : List Debt) → (task w.tasks i).stage ≡ Running → (task w.tasks i).sides ≡ sts → (sd.family i).owed.sides ≡ ds

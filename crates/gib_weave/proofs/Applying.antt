@@ -84,7 +84,7 @@ module _ (code : CodeTree) (v : Weave) (i : ℕ) (on : IsOn v i) where
   applied (Draw k) m s r al e (inr p) = by_turn m s r turn.Full p.0 (full m s k al e p.1 p.2)
   applied AtFork m s r al e p = by_turn m s r turn.AtFork p.0 (not_now AtFork m s e (λ h. h) p.1 p.2)
   applied AtJoin m s r al e p = by_turn m s r turn.AtJoin p.0 (not_now AtJoin m s e (λ h. h) p.1 p.2)
-  applied (Ended a) m s r al e p = by_turn m s r (turn.Ended a) p.0 (not_now (Ended a) m s e (λ h. h) p.1 p.2)
+  applied (Ended a) m s r al e p = by_turn m s r turn.Ended p.0 (not_now (Ended a) m s e (λ h. h) p.1 p.2)
 
 -- A step of the task.
 pub step_applied : (code : CodeTree) (v : Weave) (i : ℕ) (m : Memory) (t : Task) (r : Turn) → IsOn v i → v.memory.alone ≡ true → t ≡ record (task v.tasks i) { state = t.state } → Made (asks code v i) (task v.tasks i).state t.state v.memory m r
@@ -136,19 +136,7 @@ at_join AtFork e = absurd cc
 at_join AtJoin e = refl
 at_join (Ended a) e = absurd cc
 
-pub at_end : (a : Ask) (x : Answer) → stand_of a ≡ stand.End x → a ≡ Ended x
-at_end (Silent m) x e = absurd cc
-at_end (Get a more k) x e = absurd cc
-at_end (Put a b bs m) x e = absurd cc
-at_end (Draw k) x e = absurd cc
-at_end AtFork x e = absurd cc
-at_end AtJoin x e = absurd cc
-at_end (Ended a) x e = ap Ended (same_end e)
-  where
-    same_end : {b c : Answer} → stand.End b ≡ stand.End c → b ≡ c
-    same_end f = cc
-
-pub not_end : (a : Ask) → ((x : Answer) → stand_of a ≡ stand.End x → ⊥) → IsEnd a → ⊥
+pub not_end : (a : Ask) → ((x : Answer) → a ≡ Ended x → ⊥) → IsEnd a → ⊥
 not_end (Silent m) f h = h
 not_end (Get a more k) f h = h
 not_end (Put a b bs m) f h = h

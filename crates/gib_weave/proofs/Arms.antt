@@ -23,17 +23,18 @@ use Rattle.gib_machine.specs.Machine.{next}
 use Rattle.gib_weave.proofs.Basics.{set_both}
 use Rattle.gib_core.specs.Cost.{Cost, plus, choose_cost}
 use Rattle.gib_weave.proofs.Counts.{goes_on_counted}
-use Rattle.gib_core.specs.Fits.{is_settled, put, Sort, Outside, Absent, Scalar, Held, Placed, Loose, AtHead, Field, Scope, is_there, has_slot, Dest, Nowhere, Empty, Open, Fits, cased}
+use Rattle.gib_core.specs.Fits.{is_settled, put, Sort, Outside, Absent, Scalar, Held, Placed, Loose, AtHead, Field, Scope, is_there, has_slot, Dest, Nowhere, Empty, InParts, Open, Fits, cased}
 use Rattle.gib_packed.specs.Reaching.{there}
 use Rattle.gib_weave.specs.Environment.{Ctx, IsPlaced, IsAtHead, IsField, Has, HasAll, IsDest}
 use Rattle.gib_weave.specs.EndWords.{IsTold, HasEnd}
-use Rattle.gib_weave.specs.Continuing.{given_of, Plain, KSide, KLast, Kont, KEnd, KHere, KRegion, KScalar, KCall, KCallScalar, end_of, needs_of, Goes, Under, AllUnder, Calm, AllCalm, IsCode, Agrees}
+use Rattle.gib_weave.specs.Continuing.{given_of, Plain, KSide, KLast, Kont, KEnd, KHere, KRegion, KScalar, KCall, KCallScalar, KPart, KSeveral, end_of, needs_of, Goes, Under, AllUnder, Calm, AllCalm, IsCode, Agrees}
 use Rattle.gib_weave.specs.Owing.{costs, Owed, resume, means}
 use Rattle.gib_weave.specs.Paying.{Share, Counted, later_costs}
 use Rattle.gib_weave.specs.Places.{Owned, heads}
 use Rattle.gib_weave.specs.Sound.{AtTerm, at_term, Safe, rests, Moves, silent, InMemory, OnLine}
 use Rattle.gib_weave.specs.Starting.{AreBodies}
 use Rattle.gib_weave.proofs.Basics.{by_test, put-other, set-same, set-other, set-length, end-same, end-other, ends-length, both-other}
+use Rattle.gib_weave.proofs.Groups.{same_held}
 use Rattle.gib_weave.proofs.Move.{goes_settled, closes_keeps, given_keeps, given_bind, end_kept, MovedOne, Moved, moved_same, AllMoved, Stack-moved, Keeps, Has-keeps, Fields-keeps, with_var, HasAll-set, IsDest-bind, all_under_bind, all_under_goes, goes-refl, code_put, is_field}
 use Rattle.gib_weave.proofs.Scalars.{scalar_word}
 use Rattle.gib_weave.proofs.Readings.{get_one, skip_looks, dec_small}
@@ -76,13 +77,16 @@ pub record Follow (laid : LaidOut) (s : Store) (sl : Slots) (o : Ctx) (x w e : �
 
 pub all_moved_at : (laid : LaidOut) (s : Store) (sl : Slots) (sc : Scope) (env : Environment) (m : ℕ → Bool) (k : Kont) (x w e : ℕ) → x < length sl.vars → length sl.ends ≡ length sl.vars → (sc x ≡ Held → ⊥) → ((o : Ctx) → Under o sc env → Calm m o → Follow laid s sl o x w e) → AllUnder sc env k → AllCalm m k → AllMoved laid s sl (set_both sl x w e) k
 all_moved_at laid s sl sc env m (KEnd ty) x w e lt ev nh f u c = tt
-all_moved_at laid s sl sc env m (KSide y0 ty) x w e lt ev nh f u c = tt
+all_moved_at laid s sl sc env m (KSide b) x w e lt ev nh f u c = tt
 all_moved_at laid s sl sc env m (KLast l0 y0 s0) x w e lt ev nh f u c = set-other sl x y0 w (λ i. nh (sym (ap sc i) ∙ u))
 all_moved_at laid s sl sc env m (KHere l y q t o k) x w e lt ev nh f u c = (both-other sl x y w e (λ i. nh (sym (ap sc i) ∙ u.0)), moved_at x w e lt ev (f o u.1 c.0).one (f o u.1 c.0).end_of (f o u.1 c.0).kept, all_moved_at laid s sl sc env m k x w e lt ev nh f u.2 c.1)
 all_moved_at laid s sl sc env m (KRegion l y q t o k) x w e lt ev nh f u c = (both-other sl x y w e (λ i. nh (sym (ap sc i) ∙ u.0)), moved_at x w e lt ev (f o u.1 c.0).one (f o u.1 c.0).end_of (f o u.1 c.0).kept, all_moved_at laid s sl sc env m k x w e lt ev nh f u.2 c.1)
 all_moved_at laid s sl sc env m (KScalar l y ty t o k) x w e lt ev nh f u c = (moved_at x w e lt ev (f o u.0 c.0).one (f o u.0 c.0).end_of (f o u.0 c.0).kept, all_moved_at laid s sl sc env m k x w e lt ev nh f u.1 c.1)
 all_moved_at laid s sl sc env m (KCall gs wc k) x w e lt ev nh f u c = tt
 all_moved_at laid s sl sc env m (KCallScalar y ty gs t o k) x w e lt ev nh f u c = tt
+all_moved_at laid s sl sc env m (KPart l i t tys ss vs ps o k) x w e lt ev nh f u c = (moved_at x w e lt ev (f o u.0 c.0).one (f o u.0 c.0).end_of (f o u.0 c.0).kept, all_moved_at laid s sl sc env m k x w e lt ev nh f u.1 c.1)
+all_moved_at laid s sl sc env m (KSeveral l ys tys t o k) x w e lt ev nh f u c =
+    (same_held sl (set_both sl x w e) sc tys ys (λ y h. both-other sl x y w e (λ i. nh (sym (ap sc i) ∙ h))) u.0, moved_at x w e lt ev (f o u.1 c.0).one (f o u.1 c.0).end_of (f o u.1 c.0).kept, all_moved_at laid s sl sc env m k x w e lt ev nh f u.2 c.1)
 
 -- A variable gets another sort, and its head another place.
 
@@ -136,6 +140,7 @@ HasAll-sort laid s sl c x w en so h st hx he sso kp hs = record { has = has; wid
 pub IsDest-sort : (laid : LaidOut) (s : Store) (sl : Slots) (c : Ctx) (cur x w en : ℕ) (so : Sort) (h : ℕ) (d : Dest) → StaysHead c x so h → (c.scope x ≡ Held → ⊥) → IsDest laid s sl c d cur → IsDest laid s (set_both sl x w en) (with_sort c x so h) d cur
 IsDest-sort laid s sl c cur x w en so h (Nowhere ty) st nh g = tt
 IsDest-sort laid s sl c cur x w en so h (Empty t) st nh g = g
+IsDest-sort laid s sl c cur x w en so h (InParts tys) st nh g = tt
 IsDest-sort laid s sl c cur x w en so h (Open t y k xs dues) st nh g =
     let ne : y ≡ x → ⊥ = λ e. nh (sym (ap c.scope e) ∙ g.sort) in
     record { con = g.con; slot = set-other sl x y w ne ∙ g.slot; sort = put-other c.scope x y so ne ∙ g.sort; leads = g.leads; types = g.types; all = g.all; fields = Fields-keeps (keeps_sort c x so h st) g.fields }
@@ -241,6 +246,7 @@ module _ (core : CoreTree) (code : CodeTree) (owed : Owed) (own : Owned) (sh : S
       }) in
       rests (at_term {u = Plain u} {c = with_sort c y.0 (Placed t) h} {k = k} record {
         ready = refl;
+        group = at.group;
         low = code_put y.0 (Placed t) refl lu;
         fits = fit;
         line = l.on;
@@ -303,6 +309,7 @@ module _ (core : CoreTree) (code : CodeTree) (owed : Owed) (own : Owned) (sh : S
       go : (b : Bool) → value c.env x ≡ truth b → word m.words (operand x) ≡ bit b → Moves core code owed own sh s m
       go true h g = silent (asks true g) (rests (at_term {u = Plain u} {c = c} {k = k} record {
         ready = refl;
+        group = at.group;
         low = lu;
         fits = at.fits.1;
         line = line_less (λ y q. or_left (cased u y) (cased v y) q) at.line;
@@ -314,6 +321,7 @@ module _ (core : CoreTree) (code : CodeTree) (owed : Owed) (own : Owned) (sh : S
       }))
       go false h g = silent (asks false g) (rests (at_term {u = Plain v} {c = c} {k = k} record {
         ready = refl;
+        group = at.group;
         low = lv;
         fits = at.fits.2;
         line = line_less (λ y q. or_right (cased u y) (cased v y) q) at.line;

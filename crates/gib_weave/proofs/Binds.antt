@@ -25,26 +25,32 @@ use Rattle.gib_code.specs.Instruction.{Operate, Move, Call, CallScalar}
 use Rattle.gib_code.specs.Instruction as i
 use Rattle.gib_code.specs.declared.answer.Reason.TheVariants as reason
 use Rattle.gib_code.specs.Program.{CodeTree, IsAt, AreAt}
-use Rattle.gib_core.specs.Low.{To, ending, giving, operand, operands, operation, function_number, IsNoCall, gots}
-use Rattle.gib_machine.specs.State.{Slots, slot, set, word, words, Frame, Open as OpenRegion, State, Silent, sets, cursor, frame_words, end_at, frame, Ready}
-use Rattle.gib_machine.specs.Machine.{unwound, set_answer, answer_of, operated, traps, slots_at}
+use Rattle.gib_core.specs.Low.{To, call_ending, giving, operand, operands, operation, function_number, IsNoCall, gots}
+use Rattle.gib_machine.specs.State.{Over, doing, Slots, slot, set, word, words, Frame, Open as OpenRegion, State, Silent, sets, cursor, frame_words, end_at, frame, Ready}
+use Rattle.gib_machine.specs.Machine.{unwound, set_answer, answer_of, word_answer, operated, traps, slots_at}
 use Rattle.gib_core.specs.Cost.{Cost, plus, nothing, cost_from}
 use Rattle.gib_weave.proofs.Costs.{call_costs_same}
 use Rattle.gib_weave.proofs.Counts.{goes_on_counted, same_most, most_then}
-use Rattle.gib_core.specs.Fits.{Inner, new_line, none_of, await, await_call, tell_line, side_tells, call_tells, Empty, Open, Sort, Outside, Absent, Scalar, Held, Placed, Loose, AtHead, Field, has_slot, tree_type, AtomFits, AtomsFit, CallFits, Dest, Nowhere, dest_type, dest_of, Fits, cased, param_sort, body_scope}
+use Rattle.gib_core.specs.Fits.{InParts, IsCallPlace, Inner, new_line, none_of, await, await_call, tell_line, side_tells, call_tells, Empty, Open, Sort, Outside, Absent, Scalar, Held, Placed, Loose, AtHead, Field, has_slot, tree_type, AtomFits, AtomsFit, CallFits, Dest, Nowhere, dest_type, dest_of, Fits, cased, param_sort, body_scope}
 use Rattle.gib_packed.specs.Reaching.{there}
 use Rattle.gib_weave.specs.Environment.{Given, AreGiven, Gave, givens, Ctx, IsScalar, StandsAt, Has, HasAll, IsDest, Matches}
 use Rattle.gib_weave.specs.EndWords.{EndWord, HasEnd}
-use Rattle.gib_weave.specs.Continuing.{given_of, Rest, Plain, Part, KSide, KLast, pars_of, RestCode, rest_cased, Kont, KEnd, KHere, KRegion, KScalar, KCall, KCallScalar, end_of, due, IsCode}
+use Rattle.gib_weave.specs.Continuing.{given_of, Rest, Plain, Part, KSide, KLast, pars_of, RestCode, rest_cased, Kont, KEnd, KHere, KRegion, KScalar, KCall, KCallScalar, KPart, KSeveral, made, end_of, due, IsCode}
 use Rattle.gib_weave.specs.Owing.{level_after, costs, Owed, sides_of, rest_means, Debt, resume, means}
 use Rattle.gib_weave.specs.Paying.{Share, Counted, cost_after, left_costs, later_costs}
 use Rattle.gib_weave.specs.Places.{Owned, heads, kont_covers}
-use Rattle.gib_weave.specs.Stacks.{Stack, Waits}
+use Rattle.gib_syntax.specs.Results as results
+use Rattle.gib_syntax.specs.Results.{Results}
+use Rattle.gib_syntax.specs.Typing.{one_type}
+use Rattle.gib_code.specs.declared.instruction.AnswerType.{AnswerType}
+use Rattle.gib_weave.specs.Groups.{Group}
+use Rattle.gib_weave.proofs.Groups.{result_group}
+use Rattle.gib_weave.specs.Stacks.{Stack, Waits, one_scalar}
 use Rattle.gib_machine.specs.Levels.{lefts}
 use Rattle.gib_weave.specs.Sound.{Safe, AtRest, AtTerm, IsAnswer, at_term, over, rests, Moves, silent, OnLine}
 use Rattle.gib_weave.specs.Starting.{AreBodies}
-use Rattle.gib_weave.proofs.Move.{given_bind, given_keeps, keeps_line, goes-refl, with_line, HasAll-line, IsDest-line, settled_there, other, with_var, HasAll-bind, HasAll-dest, IsDest-bind, IsDest-moved, moved_set, all_moved_set, Stack-moved, all_under_bind, not_there, code_put, bound-same, bound-other, kont_less}
-use Rattle.gib_weave.proofs.Lines.{loosened, under_scalar, all_calm_less, calm_loosened, resume-with, resume-stop, waiting, pend, Matches-pend, line_set, room_less}
+use Rattle.gib_weave.proofs.Move.{given_bind, given_keeps, keeps_line, goes-refl, with_line, HasAll-line, IsDest-line, settled_there, other, with_var, HasAll-bind, IsDest-bind, IsDest-moved, moved_set, all_moved_set, Stack-moved, all_under_bind, not_there, code_put, bound-same, bound-other, kont_less}
+use Rattle.gib_weave.proofs.Lines.{own_line, HasAll-own, loosened, under_scalar, all_calm_less, calm_loosened, resume-with, resume-stop, waiting, pend, Matches-pend, line_set, room_less}
 use Rattle.gib_weave.proofs.Scalars.{scalar_word, operated_is, traps_are}
 use Rattle.gib_weave.proofs.Tolds.{gives_back, call_settled}
 use Rattle.gib_weave.proofs.Basics.{put-other, set-other, end-other}
@@ -71,7 +77,7 @@ tree_of laid s sl c x t h e = has_tree laid s c (c.scope x) t (slot sl x) (value
 
 -- Answers.
 
-pub scalar_answer : (laid : LaidOut) (s : Store) (ty : Ty) (w : ℕ) (v : Datum) (owed : Outcome) → IsScalar ty w v → Gives v ≡ owed → IsAnswer laid s ty owed (answer_of ty w)
+pub scalar_answer : (laid : LaidOut) (s : Store) (ty : Ty) (w : ℕ) (v : Datum) (owed : Outcome) → IsScalar ty w v → Gives v ≡ owed → IsAnswer laid s (results.One ty) owed (answer_of ty w)
 scalar_answer laid s Whole w v owed h e = (refl, subst (λ (z : ℤ). FitsSigned w64 z) (sym (ap (cast_signed w64) h.3 ∙ to_z-of_z w64 h.0 h.2)) h.2, sym e ∙ ap Gives h.1 ∙ ap (λ (z : ℤ). Gives (whole z)) (sym (ap (cast_signed w64) h.3 ∙ to_z-of_z w64 h.0 h.2)))
 scalar_answer laid s Truth w v owed h e = (refl, sym e ∙ ap Gives h.1 ∙ ap (λ (b : Bool). Gives (truth b)) (sym (ap (λ (q : ℕ). not (q == 0)) h.2 ∙ back h.0)))
   where
@@ -138,6 +144,7 @@ body_line wi n ps vs ws d a = record { scope = body_scope n ps; env = bind (vari
 IsDest-vars : (laid : LaidOut) (s : Store) (sl sl' : Slots) (c : Ctx) (cur : ℕ) (d : Dest) → sl'.vars ≡ sl.vars → IsDest laid s sl c d cur → IsDest laid s sl' c d cur
 IsDest-vars laid s sl sl' c cur (Nowhere ty) e h = tt
 IsDest-vars laid s sl sl' c cur (Empty t) e h = h
+IsDest-vars laid s sl sl' c cur (InParts tys) e h = tt
 IsDest-vars laid s sl sl' c cur (Open t x k xs dues) e h = record { con = h.con; slot = ap (λ (q : List ℕ). get_or q x 0) e ∙ h.slot; sort = h.sort; leads = h.leads; types = h.types; all = h.all; fields = h.fields }
 
 -- no end is known in a new frame
@@ -205,20 +212,43 @@ body_vars wi laid s sl c n ps xs d a h e = record {
   closes = tt;
 }
 
-pub result_dest : (laid : LaidOut) (s : Store) (sl : Slots) (c : Ctx) (ty : Ty) (cur : ℕ) → c.front ≡ cur → IsDest laid s sl c (dest_of ty) cur
-result_dest laid s sl c Whole cur e = tt
-result_dest laid s sl c Truth cur e = tt
-result_dest laid s sl c (Tree t) cur e = e
+pub result_dest : (laid : LaidOut) (s : Store) (sl : Slots) (c : Ctx) (ty : Results Ty) (cur : ℕ) → c.front ≡ cur → IsDest laid s sl c (dest_of ty) cur
+result_dest laid s sl c (results.One Whole) cur e = tt
+result_dest laid s sl c (results.One Truth) cur e = tt
+result_dest laid s sl c (results.One (Tree t)) cur e = e
+result_dest laid s sl c (results.Several tys) cur e = tt
 
-pub result_type : (ty : Ty) → dest_type (dest_of ty) ≡ ty
-result_type Whole = refl
-result_type Truth = refl
-result_type (Tree t) = refl
+pub result_type : (ty : Results Ty) → dest_type (dest_of ty) ≡ ty
+result_type (results.One Whole) = refl
+result_type (results.One Truth) = refl
+result_type (results.One (Tree t)) = refl
+result_type (results.Several tys) = refl
 
-pub no_result_cover : (laid : LaidOut) (h : ℕ) (ty : Ty) (k : Kont) (q : ℕ) → heads laid h (dest_of ty) k q ≡ kont_covers laid k q
-no_result_cover laid h Whole k q = refl
-no_result_cover laid h Truth k q = refl
-no_result_cover laid h (Tree t) k q = refl
+pub no_result_cover : (laid : LaidOut) (h : ℕ) (ty : Results Ty) (k : Kont) (q : ℕ) → heads laid h (dest_of ty) k q ≡ kont_covers laid k q
+no_result_cover laid h (results.One Whole) k q = refl
+no_result_cover laid h (results.One Truth) k q = refl
+no_result_cover laid h (results.One (Tree t)) k q = refl
+no_result_cover laid h (results.Several tys) k q = refl
+
+-- a call's value is put where its line's is
+pub call_dest : (laid : LaidOut) (s : Store) (sl ws : Slots) (c line : Ctx) (d : Dest) (ty : Results Ty) (cur : ℕ) → line.front ≡ c.front → IsCallPlace d → ty ≡ dest_type d → IsDest laid s sl c d cur → IsDest laid s ws line (dest_of ty) cur
+call_dest laid s sl ws c line (Nowhere u) ty cur f p e h = absurd p
+call_dest laid s sl ws c line (Empty t) ty cur f p e h = subst (λ (q : Results Ty). IsDest laid s ws line (dest_of q) cur) (sym e) (f ∙ h)
+call_dest laid s sl ws c line (Open t x k xs dues) ty cur f p e h = absurd p
+call_dest laid s sl ws c line (InParts tys) ty cur f p e h = subst (λ (q : Results Ty). IsDest laid s ws line (dest_of q) cur) (sym e) tt
+
+pub call_packed : (d : Dest) → IsCallPlace d → one_scalar (dest_type d) ≡ false
+call_packed (Nowhere u) p = absurd p
+call_packed (Empty t) p = refl
+call_packed (Open t x k xs dues) p = absurd p
+call_packed (InParts tys) p = refl
+
+-- a call has its line's parts due
+pub call_group : (laid : LaidOut) (s : Store) (d : Dest) (ty : Results Ty) (vs : List Datum) (rs : List OpenRegion) → IsCallPlace d → ty ≡ dest_type d → Group laid s d vs rs → Group laid s (dest_of ty) vs rs
+call_group laid s (Nowhere u) ty vs rs p e g = absurd p
+call_group laid s (Empty t) ty vs rs p e g = subst (λ (q : Results Ty). Group laid s (dest_of q) vs rs) (sym e) tt
+call_group laid s (Open t h k xs dues) ty vs rs p e g = absurd p
+call_group laid s (InParts tys) ty vs rs p e g = subst (λ (q : Results Ty). Group laid s (dest_of q) vs rs) (sym e) g
 
 -- a new variable's slot is set
 pub Matches-bind : {laid : LaidOut} {s : Store} {sl : Slots} {c : Ctx} {cur : ℕ} (x : ℕ) (so : Sort) (v : Datum) (w pl : ℕ) → c.scope x ≡ Absent → Has laid s (with_var c x so v pl) so w v pl (c.hd x) → HasEnd laid s so w 0 v pl → Matches laid s sl c cur → Matches laid s (set sl x w) (with_var c x so v pl) cur
@@ -277,6 +307,7 @@ module _ (core : CoreTree) (code : CodeTree) (owed : Owed) (own : Owned) (sh : S
           (ap lefts at.ties.pars ∙ lefts_sides core m.depth m.level k ∙ ap (λ (q : List Debt). length q) at.ties.sides)
       go false d = rests (at_term {u = Plain u} {c = with_var c x.0 so v 0} {k = k} record {
         ready = refl;
+        group = at.group;
         low = code_put x.0 so refl lu;
         fits = at.fits.3;
         line = record {
@@ -319,12 +350,16 @@ tells_none wi core (term.CallTerm f xs) q n = absurd n
 tells_none wi core (term.Give x) q n = refl
 tells_none wi core (term.CaseTerm x bs) q n = refl
 tells_none wi core (term.IfTerm x u v) q n = refl
+tells_none wi core (term.Tuple tys ss ps) q n = refl
 
 or_mono : (a b c : Bool) → (b ≡ true → c ≡ true) → (a || b) ≡ true → (a || c) ≡ true
 or_mono true b c f e = refl
 or_mono false b c f e = f e
 
-given : (c : Ctx) (xt : Ty) (k : Kont) → c.dest ≡ Nowhere xt → dest_type c.dest ≡ due k → xt ≡ due k
+one_several : (xt : Ty) (tys : List Ty) → results.One xt ≡ results.Several tys → ⊥
+one_several xt tys e = absurd cc
+
+given : (c : Ctx) (xt : Ty) (k : Kont) → c.dest ≡ Nowhere xt → dest_type c.dest ≡ due k → results.One xt ≡ due k
 given c xt k e h = sym (ap dest_type e) ∙ h
 
 module _ (core : CoreTree) (code : CodeTree) (owed : Owed) (own : Owned) (sh : Share) where
@@ -333,23 +368,23 @@ module _ (core : CoreTree) (code : CodeTree) (owed : Owed) (own : Owned) (sh : S
       → AtTerm core code owed own sh s (record m { frames = fs }) (Give x) c k → Moves core code owed own sh s (record m { frames = fs })
   does_give (KEnd u) [] m {s} {c} x z e at =
       let here = record m { frames = [] } in
-      let same : at.fits.0 ≡ m.result = given c at.fits.0 (KEnd u) at.fits.1 at.line.kind ∙ sym at.ties.result in
+      let same : at.fits.0 ≡ u = ap one_type (given c at.fits.0 (KEnd u) at.fits.1 at.line.kind) in
       overs_move core code owed own sh s here c (KEnd u) c.front z at.line.under (i.Give (operand x) ∷ []) c.line.overs c.line.told at.ready e at.line.matches.vars.closes at.fits.4.0 (record { vars = at.line.matches.vars; stack = at.line.stack; knows = at.line.matches.vars.told })
       (λ l sl e' sv hl.
       let sc = scalar_word code.laid s sl c x at.fits.0 at.fits.2 hl.vars at.fits.3 in
-      silent (step_is code (at_rest here l sl) (i.Give (operand x)) refl (first_at e'))
-      (rests (over refl (sym at.ties.sides) (subst (λ (q : Ty). IsAnswer code.laid s q owed.all (answer_of m.result (word sl (operand x)))) (at.ties.result ∙ sym at.ties.type) (scalar_answer code.laid s m.result (word sl (operand x)) (value c.env x) owed.all (subst (λ (q : Ty). IsScalar q (word sl (operand x)) (value c.env x)) same sc) at.owes)))))
+      silent (step_is code (at_rest here l sl) (i.Give (operand x)) refl (first_at e') ∙ ap (λ (q : AnswerType). Silent (doing (at_rest here l sl) (Over (word_answer q (word sl (operand x)))))) at.ties.result)
+      (rests (over refl (sym at.ties.sides) (subst (λ (q : Results Ty). IsAnswer code.laid s q owed.all (answer_of u (word sl (operand x)))) (sym at.ties.type) (scalar_answer code.laid s u (word sl (operand x)) (value c.env x) owed.all (subst (λ (q : Ty). IsScalar q (word sl (operand x)) (value c.env x)) same sc) at.owes)))))
   does_give (KEnd u) (f ∷ fs) m x z e at = absurd at.line.stack
-  does_give (KSide y u) fs m x z e at = absurd at.room.free
-  does_give (KLast l y t) fs m {c = c} x z e at = absurd (packed_scalar t at.fits.0 at.fits.2 (sym (given c at.fits.0 (KLast l y t) at.fits.1 at.line.kind)))
-  does_give (KHere l y t u o k) fs m {c = c} x z e at = absurd (packed_scalar t at.fits.0 at.fits.2 (sym (given c at.fits.0 (KHere l y t u o k) at.fits.1 at.line.kind)))
-  does_give (KRegion l y t u o k) fs m {c = c} x z e at = absurd (packed_scalar t at.fits.0 at.fits.2 (sym (given c at.fits.0 (KRegion l y t u o k) at.fits.1 at.line.kind)))
+  does_give (KSide b) fs m x z e at = absurd at.room.free
+  does_give (KLast l y t) fs m {c = c} x z e at = absurd (packed_scalar t at.fits.0 at.fits.2 (ap one_type (sym (given c at.fits.0 (KLast l y t) at.fits.1 at.line.kind))))
+  does_give (KHere l y t u o k) fs m {c = c} x z e at = absurd (packed_scalar t at.fits.0 at.fits.2 (ap one_type (sym (given c at.fits.0 (KHere l y t u o k) at.fits.1 at.line.kind))))
+  does_give (KRegion l y t u o k) fs m {c = c} x z e at = absurd (packed_scalar t at.fits.0 at.fits.2 (ap one_type (sym (given c at.fits.0 (KRegion l y t u o k) at.fits.1 at.line.kind))))
   does_give (KScalar l y yt u o k) fs m {s} {c} x z e at =
       let here = record m { frames = fs } in
       let sc = scalar_word code.laid s m.words c x at.fits.0 at.fits.2 at.line.matches.vars at.fits.3 in
       let w = word m.words (operand x) in
       let wt = at.line.stack.1 in
-      let same : at.fits.0 ≡ yt = given c at.fits.0 (KScalar l y yt u o k) at.fits.1 at.line.kind in
+      let same : at.fits.0 ≡ yt = ap one_type (given c at.fits.0 (KScalar l y yt u o k) at.fits.1 at.line.kind) in
       let l0 = came core code owed own sh w (value c.env x) wt at.line.stack.2 (subst (λ (q : Ty). IsScalar q w (value c.env x)) same sc) in
       let l1 : Led core code s (set m.words y w) fs m.regions (with_var o y (Scalar yt) (value c.env x) 0) k o.front (λ q. o.line.told q || o.line.pending q) = record {
         vars = l0.vars;
@@ -360,13 +395,15 @@ module _ (core : CoreTree) (code : CodeTree) (owed : Owed) (own : Owned) (sh : S
       silent (step_is code here (Move y (operand x)) at.ready (first_at e))
       (silently {m = sets here y w} refl (first_at (rest_at e)) refl
       (rests (at_term (scalar_comes core code owed own sh {m = record m { ip = l; words = set m.words y w; frames = fs; doing = Ready }} w (value c.env x) wt refl l1
-      (record { ready = refl; stack = l1.stack; memory = heads_less (λ q. kont_less code.laid c.head c.dest (KScalar l y yt u o k) q) at.memory; ties = at.ties; owes = at.owes; counted = goes_on_counted (record { regions = omega arith; items = omega arith }) at.counted; room = at.room.all_room })))))
+      (record { ready = refl; stack = l1.stack; group = at.line.stack.3; memory = heads_less (λ q. kont_less code.laid c.head c.dest (KScalar l y yt u o k) q) at.memory; ties = at.ties; owes = at.owes; counted = goes_on_counted (record { regions = omega arith; items = omega arith }) at.counted; room = at.room.all_room })))))
+  does_give (KPart l i t tys ss vs ps o k) fs m {c = c} x z e at = absurd (packed_scalar t at.fits.0 at.fits.2 (ap one_type (sym (given c at.fits.0 (KPart l i t tys ss vs ps o k) at.fits.1 at.line.kind))))
+  does_give (KSeveral l xs tys u o k) fs m {c = c} x z e at = absurd (one_several at.fits.0 tys (given c at.fits.0 (KSeveral l xs tys u o k) at.fits.1 at.line.kind))
   does_give (KCall gs wc k) [] m x z e at = absurd at.line.stack
-  does_give (KCall gs wc k) (f ∷ fs) m {c = c} x z e at = absurd (true≢false (sym at.fits.2 ∙ ap is_scalar (given c at.fits.0 (KCall gs wc k) at.fits.1 at.line.kind) ∙ at.line.stack.5))
+  does_give (KCall gs wc k) (f ∷ fs) m {c = c} x z e at = absurd (true≢false (sym at.fits.2 ∙ ap one_scalar (given c at.fits.0 (KCall gs wc k) at.fits.1 at.line.kind) ∙ at.line.stack.5))
   does_give (KCallScalar y yt gs u o k) [] m x z e at = absurd at.line.stack
   does_give (KCallScalar y yt gs u o k) (f ∷ fs) m {s} {c} x z e at =
       let here = record m { frames = f ∷ fs } in
-      let same : at.fits.0 ≡ yt = given c at.fits.0 (KCallScalar y yt gs u o k) at.fits.1 at.line.kind in
+      let same : at.fits.0 ≡ yt = ap one_type (given c at.fits.0 (KCallScalar y yt gs u o k) at.fits.1 at.line.kind) in
       overs_move core code owed own sh s here c (KCallScalar y yt gs u o k) c.front z at.line.under (i.Give (operand x) ∷ []) c.line.overs c.line.told at.ready e at.line.matches.vars.closes at.fits.4.0 (record { vars = at.line.matches.vars; stack = at.line.stack; knows = at.line.matches.vars.told })
       (λ l sl e' sv hl.
       let st = hl.stack in
@@ -383,21 +420,22 @@ module _ (core : CoreTree) (code : CodeTree) (owed : Owed) (own : Owned) (sh : S
       (came core code owed own sh w v wt st.6 (subst (λ (q : Ty). IsScalar q w v) same sc))
       (λ sl2 sv2 h2.
       rests (at_term (scalar_comes core code owed own sh {m = at_rest back st.2 sl2} w v wt sv2 (led_less core code s sl2 fs m.regions (with_var o y (Scalar yt) v 0) k o.front (λ q. o.line.told q || call_tells st.3.within core st.3.name st.3.arguments q) (λ q. o.line.told q || o.line.pending q) (λ q g. or_mono (o.line.told q) (o.line.pending q) (call_tells st.3.within core st.3.name st.3.arguments q) (st.4 q) g) h2)
-      (record { ready = refl; stack = h2.stack; memory = heads_less (λ q. kont_less code.laid c.head c.dest (KScalar l y yt u o k) q) at.memory; ties = at.ties; owes = at.owes; counted = goes_on_counted (record { regions = omega arith; items = omega arith }) at.counted; room = at.room.all_room }))))))
+      (record { ready = refl; stack = h2.stack; group = st.7; memory = heads_less (λ q. kont_less code.laid c.head c.dest (KScalar l y yt u o k) q) at.memory; ties = at.ties; owes = at.owes; counted = goes_on_counted (record { regions = omega arith; items = omega arith }) at.counted; room = at.room.all_room }))))))
 
   -- a scalar is made in the same place of the code
   pub into_scalar : {s : Store} {m : State} {u : Rest} {c : Ctx} {k : Kont} (x : Variable) (xt : Ty) (l : ℕ) (wi : Within) (t : Term) → IsNoCall t → IsCode core code wi c.scope m.ip t (To l x.0) → RestCode core code c.line.within c.scope l u (end_of c.line.overs k)
       → AtRest core code owed own sh s m (Part wi (On kind.Scalar x xt t) u) c k
-      → AtTerm core code owed own sh s m t (record { scope = c.scope; env = c.env; pl = c.pl; hd = c.hd; dest = Nowhere xt; front = 0; head = 0; line = new_line wi }) (KScalar l x.0 xt u (loosened (cased t) (pend (side_tells wi core t) none_of c)) k)
+      → AtTerm core code owed own sh s m t (own_line wi c (Nowhere xt) 0) (KScalar l x.0 xt u (loosened (cased t) (pend (side_tells wi core t) none_of c)) k)
   into_scalar {s} {m} {u} {c} {k} x xt l wi t nc lt lu at =
       let told = side_tells wi core t in record {
         ready = at.ready;
+        group = tt;
         low = lt;
-        fits = no_call (Fits core (Inner told) t c.scope (Nowhere xt) (new_line wi)) (λ f xs. CallFits core c.scope f xs xt) t nc at.fits.2;
+        fits = no_call (Fits core (Inner told) t c.scope (Nowhere xt) (new_line wi)) (λ f xs. CallFits core c.scope f xs (results.One xt)) t nc at.fits.2;
         line = record {
           kind = refl;
-          matches = record { vars = HasAll-dest {c = c} {c' = record { scope = c.scope; env = c.env; pl = c.pl; hd = c.hd; dest = Nowhere xt; front = 0; head = 0; line = new_line wi }} refl (record { there = λ y h. h; places = λ y h. refl; values = λ y h. refl; at_head = λ y o e. e; heads = λ y o e. refl }) at.line.matches.vars (λ y. refl) (λ y. refl) (λ y. refl) (λ q e. absurd (false≢true e)) tt; dest = tt };
-          stack = (at.fits.0, waiting t none_of at.line (λ y h. or_right (cased t y) (rest_cased u y) h) at.room.free (let h = at.room.narrow in omega (arith, h)) at.fits.1 lu at.fits.3 (λ q e. absurd (false≢true (sym (tells_none wi core t q nc) ∙ e))), at.line.stack);
+          matches = record { vars = HasAll-own wi (Nowhere xt) 0 at.line.matches.vars; dest = tt };
+          stack = (at.fits.0, waiting t none_of at.line (λ y h. or_right (cased t y) (rest_cased u y) h) at.room.free.0.0 (let h = at.room.narrow in omega (arith, h)) at.fits.1 lu at.fits.3 (λ q e. absurd (false≢true (sym (tells_none wi core t q nc) ∙ e))), at.line.stack, at.group);
           under = (under_scalar (cased t) (pend told none_of c), at.line.under);
           given = at.line.given;
           calm = (calm_loosened (cased t) (pend told none_of c), all_calm_less (rest_cased (Part wi (On kind.Scalar x xt t) u)) (cased t) k (λ y h. or_left (cased t y) (rest_cased u y) h) at.line.calm);
@@ -415,13 +453,13 @@ call_means core n f g vs e = ap (λ (o : Option FunctionTerm). of_function o (λ
 
 module _ (core : CoreTree) (code : CodeTree) (ok : AreBodies core code) (owed : Owed) (own : Owned) (sh : Share) where
   -- by the calls that are left
-  pub does_call : (n : ℕ) (m : State) {s : Store} {c : Ctx} {k : Kont} (f : Name) (xs : List Atom) (l z : ℕ) → IsAt code m.ip (Call (function_number core.functions f.0) (operands xs)) → AreAt code (m.ip + 1) (gots c.line.within core f.0 xs) l → AreAt code l (ending (end_of c.line.overs k)) z
+  pub does_call : (n : ℕ) (m : State) {s : Store} {c : Ctx} {k : Kont} (f : Name) (xs : List Atom) (l z : ℕ) → IsAt code m.ip (Call (function_number core.functions f.0) (operands xs)) → AreAt code (m.ip + 1) (gots c.line.within core f.0 xs) l → AreAt code l (call_ending (end_of c.line.overs k)) z
       → AtTerm core code owed own sh s (record m { depth = n }) (CallTerm f xs) c k → Moves core code owed own sh s (record m { depth = n })
   does_call zero m {s} {c} {k} f xs l z e eg en at =
       let here = record m { depth = 0 } in
       silent (step_is code here (Call (function_number core.functions f.0) (operands xs)) at.ready e) (unwound_safe core code owed own sh reason.Deep s here m.pars (sym at.owes ∙ resume-stop core zero k Deep) (ap lefts at.ties.pars ∙ lefts_sides core zero m.level k ∙ ap (λ (q : List Debt). length q) at.ties.sides))
   does_call (suc n) m {s} {c} {k} f xs l z e eg en at =
-      let fit = at.fits.2 in
+      let fit = at.fits.1 in
       let g = fit.function in
       let j = function_number core.functions f.0 in
       let body = ok.bodies f.0 g fit.named in
@@ -430,16 +468,16 @@ module _ (core : CoreTree) (code : CodeTree) (ok : AreBodies core code) (owed : 
       let vs = map (value c.env) xs in
       let cur = cursor m.regions in
       let asked : ℕ → Bool = λ q. has_ended (ended core) f.0 q in
-      let front : c.front ≡ cur = subst (λ (d : Dest). IsDest code.laid s m.words c d cur) at.fits.1 at.line.matches.dest in
-      let packed : is_scalar (due k) ≡ false = sym (ap is_scalar at.line.kind) ∙ ap (λ (z : Dest). is_scalar (dest_type z)) at.fits.1 in
-      let line = body_line (within_function core g) size g.parameters vs ws (dest_of g.result) cur in
+      let packed : one_scalar (due k) ≡ false = sym (ap one_scalar at.line.kind) ∙ call_packed c.dest at.fits.0 in
+      let line = body_line (within_function core g) size g.parameters vs ws (dest_of g.result) c.front in
       silent (step_is code (record m { depth = suc n }) (Call j (operands xs)) at.ready e) (rests (at_term {u = Plain g.body} {c = line} {k = KCall (givens g.parameters (words m.words (operands xs)) vs) (pend c.line.pending asked c) k} record {
         ready = refl;
+        group = call_group code.laid s c.dest g.result [] m.regions at.fits.0 fit.result at.group;
         low = body.low;
         fits = body.fits;
         line = record {
-          kind = result_type g.result ∙ fit.result ∙ sym (ap dest_type at.fits.1) ∙ at.line.kind;
-          matches = record { vars = body_vars (within_function core g) code.laid s m.words c size g.parameters xs (dest_of g.result) cur at.line.matches.vars fit.arguments; dest = result_dest code.laid s ws line g.result cur refl };
+          kind = result_type g.result ∙ fit.result ∙ at.line.kind;
+          matches = record { vars = body_vars (within_function core g) code.laid s m.words c size g.parameters xs (dest_of g.result) c.front at.line.matches.vars fit.arguments; dest = call_dest code.laid s m.words ws c line c.dest g.result cur refl at.fits.0 fit.result at.line.matches.dest };
           stack = (
             refl,
             l,
@@ -447,11 +485,11 @@ module _ (core : CoreTree) (code : CodeTree) (ok : AreBodies core code) (owed : 
             record { within = c.line.within; name = f.0; parameters = g.parameters; arguments = xs; gots = eg; given = refl; fits = fit.arguments; asked = λ q h. h },
             en,
             packed,
-            record { vars = (Matches-pend c.line.pending asked at.line.matches).vars; under = at.line.under; given = given_keeps c (pend c.line.pending asked c) 0 (given_of k) (keeps_line c (await_call asked (await c.line.pending c.line))) (λ y. goes-refl (c.scope y)) at.line.given; meets = at.fits.3 },
-            subst (λ (a : ℕ). Stack core code s k m.words m.frames a m.regions) front at.line.stack,
+            record { vars = (Matches-pend c.line.pending asked at.line.matches).vars; under = at.line.under; given = given_keeps c (pend c.line.pending asked c) 0 (given_of k) (keeps_line c (await_call asked (await c.line.pending c.line))) (λ y. goes-refl (c.scope y)) at.line.given; meets = at.fits.2 },
+            at.line.stack,
           );
           under = tt;
-          given = body_given (within_function core g) size g.parameters (words m.words (operands xs)) vs (dest_of g.result) cur body.enough;
+          given = body_given (within_function core g) size g.parameters (words m.words (operands xs)) vs (dest_of g.result) c.front body.enough;
           calm = tt;
         };
         memory = heads_less (λ q. let i = no_result_cover code.laid line.head g.result k q in let j = kont_less code.laid c.head c.dest k q in omega (arith, i, j)) at.memory;
@@ -481,6 +519,7 @@ module _ (core : CoreTree) (code : CodeTree) (ok : AreBodies core code) (owed : 
       let line = body_line (within_function core g) size g.parameters vs ws (dest_of g.result) cur in
       silent (step_is code (record m { depth = suc n }) (CallScalar x.0 j (operands xs)) at.ready e) (rests (at_term {u = Plain g.body} {c = line} {k = KCallScalar x.0 xt (givens g.parameters (words m.words (operands xs)) vs) u (loosened (cased t) (pend (side_tells wi core t) asked c)) k} record {
         ready = refl;
+        group = subst (λ (q : Results Ty). Group code.laid s (dest_of q) [] m.regions) (sym fit.result) (result_group code.laid s xt [] m.regions);
         low = body.low;
         fits = body.fits;
         line = record {
@@ -492,8 +531,9 @@ module _ (core : CoreTree) (code : CodeTree) (ok : AreBodies core code) (owed : 
             z,
             record { within = wi; name = f.0; parameters = g.parameters; arguments = xs; gots = gts; given = refl; fits = fit.arguments; asked = λ q h. h },
             (λ q h. h),
-            waiting t asked at.line (λ y h. or_right (cased t y) (rest_cased u y) h) at.room.free (let h = at.room.narrow in omega (arith, h)) at.fits.1 lu at.fits.3 (λ q h. call_settled wi core f.0 c.scope q xs g.parameters fit.arguments h),
+            waiting t asked at.line (λ y h. or_right (cased t y) (rest_cased u y) h) at.room.free.0.0 (let h = at.room.narrow in omega (arith, h)) at.fits.1 lu at.fits.3 (λ q h. call_settled wi core f.0 c.scope q xs g.parameters fit.arguments h),
             at.line.stack,
+            at.group,
           );
           under = tt;
           given = body_given (within_function core g) size g.parameters (words m.words (operands xs)) vs (dest_of g.result) cur body.enough;

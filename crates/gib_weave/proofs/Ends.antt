@@ -1,39 +1,47 @@
 -- Where a tree stands, the machine goes on to the next term.
-use Rattle.std.proofs.Common.{◌≡◌, ℕ, suc, ◌+◌, ◌≤◌, Bool, true, false, List, [], ◌∷◌, length, Option, Some, get_or, map, ◌<◌, ◌++◌, ◌||◌, ◌&&◌, cond, refl, sym, ap, subst, ◌∙◌, arith}
+use Rattle.std.proofs.Common.{◌≡◌, ℕ, suc, ◌+◌, ◌≤◌, Bool, true, false, List, [], ◌∷◌, length, drop, ◌-◌, Option, Some, get_or, map, ◌<◌, ◌++◌, ◌||◌, ◌&&◌, cond, refl, sym, ap, subst, ◌∙◌, arith}
 use Rattle.gib_types.specs.declared.table.Ty.{Ty}
 use Rattle.gib_types.specs.declared.table.Ty.TheVariants.{Whole, Truth, Tree}
 use Rattle.gib_types.specs.Tree.{Datum}
 use Rattle.gib_types.specs.Layout.{LaidOut}
+use Rattle.gib_code.specs.declared.instruction.AnswerType.{AnswerType}
+use Rattle.gib_syntax.specs.Results as results
+use Rattle.gib_syntax.specs.Results.{Results}
+use Rattle.gib_syntax.specs.Typing.{one_type}
 use Rattle.gib_code.specs.declared.answer.Reason.{Reason}
 use Rattle.gib_code.specs.declared.answer.Reason.TheVariants as reason
-use Rattle.gib_syntax.specs.Meaning.{is_scalar, Environment, Outcome, Gives, Stops, value_in}
+use Rattle.gib_syntax.specs.Meaning.{Environment, Outcome, Gives, Stops, value_in}
 use Rattle.gib_mem.specs.Memory.{Store}
 use Rattle.gib_packed.specs.Decoding.{Dec}
 use Rattle.gib_core.specs.Tree.{CoreTree}
 use Rattle.gib_code.specs.Instruction.{Instruction, Got, OverEnd, Return}
 use Rattle.gib_code.specs.Program.{CodeTree, IsAt, AreAt, none, one_more}
-use Rattle.gib_core.specs.Low.{ending, Over, over_all, got_from, gots, operands}
-use Rattle.gib_machine.specs.State.{times, nesting, Slots, slot, Frame, Open as OpenRegion, State, Ready, Silent, cursor, Unwinding, Par, told, words, end_at}
-use Rattle.gib_machine.specs.Machine.{next, begin, goes_on, unwound, stopped, backs_at, ends_side, answer_of}
+use Rattle.gib_core.specs.Low.{call_ending, ending, Over, over_all, got_from, gots, operands}
+use Rattle.gib_machine.specs.State.{times, nesting, Slots, slot, Frame, Open as OpenRegion, State, Ready, Silent, cursor, Unwinding, Par, told, words, end_at, sink}
+use Rattle.gib_machine.specs.Machine.{next, begin, goes_on, unwound, stopped, backs_at, ends_side, ends_with, answer_of}
 use Rattle.gib_weave.specs.EndWords.{WithEnd, both, IsTold, EndWord}
 use Rattle.std.specs.Prelude.{◌==◌}
 use Rattle.std.proofs.lemmas.Bool.{true≢false}
 use Rattle.std.proofs.lemmas.Option.{none-some, same_Some}
-use Rattle.std.proofs.lemmas.List.{nil_from_length}
+use Rattle.std.proofs.lemmas.List.{length-drop, length_push, nil_from_length}
 use Rattle.gib_core.specs.declared.atom.Atom.{Atom}
 use Rattle.gib_core.specs.declared.atom.Atom.TheVariants as atom
 use Rattle.gib_core.specs.Meaning.{value}
 use Rattle.gib_core.specs.declared.atom.Ended.{Ended}
 use Rattle.gib_core.specs.Ending.{Within, ended, has_ended, call_ends}
 use Rattle.gib_weave.proofs.Counts.{Paid, finish_counted}
-use Rattle.gib_core.specs.Fits.{Sort, Absent, AtomsFit, Meets, Runs, and_also, finally, call_tells, tell_line, is_settled, tree_type, put, Placed, more, Dest, dest_type}
+use Rattle.gib_core.specs.Fits.{Sort, Absent, AtomsFit, Meets, Runs, and_also, finally, call_tells, tell_line, is_settled, tree_type, put, Placed, more, Dest, dest_type, packed_due}
 use Rattle.gib_packed.specs.Reaching.{Turns, there}
-use Rattle.gib_weave.specs.Environment.{Given, givens, Gave, AreGiven, AllClose, HasAll, Ctx, StandsAt, IsPlaced, Matches}
-use Rattle.gib_weave.specs.Continuing.{given_of, Rest, Plain, Part, Meet, Leave, Last, KSide, KLast, rest_pars, pars_of, side_of, Kont, KEnd, KHere, KRegion, KScalar, KCall, KCallScalar, AllUnder, end_of, needs_of, due, root}
+use Rattle.gib_weave.specs.Environment.{Given, givens, Gave, AreGiven, AllClose, HasAll, Ctx, IsDest, StandsAt, IsPlaced, Matches}
+use Rattle.gib_weave.specs.Continuing.{given_of, Rest, Plain, Part, Meet, Leave, Last, Fills, KSide, KLast, rest_pars, pars_of, side_of, Kont, KEnd, KHere, KRegion, KScalar, KCall, KCallScalar, KPart, KSeveral, made, AllUnder, end_of, needs_of, due, root}
 use Rattle.gib_weave.specs.Owing.{debt_of, no_debt, level_after, Owed, rest_sides, sides_of, Debt, resume, rest_means}
 use Rattle.gib_weave.specs.Paying.{Share, Counted, left_costs, later_costs}
 use Rattle.gib_weave.specs.Places.{Owned, kont_covers, AllRoom, HasRoom, heads, freed}
-use Rattle.gib_weave.specs.Stacks.{IsRoot, Stack, Waits}
+use Rattle.gib_weave.specs.Groups.{Group, unused}
+use Rattle.gib_weave.specs.Stacks.{IsRoot, Stack, Waits, no_tree}
+use Rattle.gib_weave.proofs.Groups.{group_more}
+use Rattle.gib_weave.proofs.Filling.{holds_more, sink_length, Stack-filled}
+use Rattle.gib_weave.proofs.Reordered.{sink_counted, sink_covers, sink_room}
 use Rattle.gib_machine.specs.Levels.{lefts}
 use Rattle.gib_weave.specs.Sound.{counts, AtRest, means_why, unwinds, IsAnswer, at_term, over, Safe, rests, moves, silent, Moves, InMemory, IsTied, Ties, ties_of}
 use Rattle.gib_weave.proofs.Move.{with_var, with_dest, HasAll-set, HasAll-dest, keeps_dest, IsDest-bind, IsDest-more, all_under_bind, covers_more, rest_code_put, HasAll-moved, Stack-moved, goes-refl, tree_settled, settled_there, other, with_line, HasAll-line, Matches-line, IsDest-line, given_bind, is_field}
@@ -78,17 +86,20 @@ lefts_rest core d n (Leave p u) env ps ds h = go p.left
     go : (b : Bool) → cond b (suc (lefts ps)) (lefts ps) ≡ length (cond b (no_debt ∷ ds) ds)
     go true = ap suc h
     go false = h
-lefts_rest core d n (Last y ty) env ps ds h = h
+lefts_rest core d n (Last b) env ps ds h = h
+lefts_rest core d n (Fills i tys ss vs qs) env ps ds h = h
 
 pub lefts_sides : (core : CoreTree) (d n : ℕ) (k : Kont) → lefts (pars_of k) ≡ length (sides_of core d n k)
 lefts_sides core d n (KEnd ty) = refl
-lefts_sides core d n (KSide y ty) = refl
+lefts_sides core d n (KSide b) = refl
 lefts_sides core d n (KLast l y s) = refl
 lefts_sides core d n (KHere l x s u c k) = lefts_rest core d n u c.env (pars_of k) (sides_of core d (level_after n u) k) (lefts_sides core d (level_after n u) k)
 lefts_sides core d n (KRegion l x s u c k) = lefts_rest core d n u c.env (pars_of k) (sides_of core d (level_after n u) k) (lefts_sides core d (level_after n u) k)
 lefts_sides core d n (KScalar l x ty u c k) = lefts_rest core d n u c.env (pars_of k) (sides_of core d (level_after n u) k) (lefts_sides core d (level_after n u) k)
 lefts_sides core d n (KCall gs wc k) = lefts_sides core (suc d) n k
 lefts_sides core d n (KCallScalar x ty gs u c k) = lefts_rest core (suc d) n u c.env (pars_of k) (sides_of core (suc d) (level_after n u) k) (lefts_sides core (suc d) (level_after n u) k)
+lefts_sides core d n (KPart l i t tys ss vs ps c k) = lefts_sides core d n k
+lefts_sides core d n (KSeveral l xs tys u c k) = lefts_rest core d n u c.env (pars_of k) (sides_of core d (level_after n u) k) (lefts_sides core d (level_after n u) k)
 
 -- a tree stands where its variable was set
 pub held_end : {laid : LaidOut} {s : Store} {t a : ℕ} {v : Datum} (sl : Slots) (x : ℕ) → both sl x ≡ record { word = a; last = 0 } → EndWord laid s t a (slot sl x) (end_at sl x) v
@@ -98,7 +109,7 @@ held_end {laid} {s} {t} {a} {v} sl x h =
     record { near = λ e. subst (λ (z : ℕ). Turns s a z) (sym p) there; ends = λ e. absurd (omega (arith, e, q)) }
 
 -- the answer of a task that has no value
-stop_answer : (why : Reason) (laid : LaidOut) (s : Store) (ty : Ty) (o : Outcome) → o ≡ Stops (means_why why) → IsAnswer laid s ty o (stopped why)
+stop_answer : (why : Reason) (laid : LaidOut) (s : Store) (ty : Results Ty) (o : Outcome) → o ≡ Stops (means_why why) → IsAnswer laid s ty o (stopped why)
 stop_answer reason.Deep laid s ty o e = e
 stop_answer reason.Trap laid s ty o e = e
 
@@ -263,13 +274,14 @@ module _ (core : CoreTree) (code : CodeTree) (owed : Owed) (own : Owned) (sh : S
 
 -- The ties of the lines that wait.
 abbrev pub ties_behind : CoreTree → (d n : ℕ) → Kont → Ties
-ties_behind core d n k = record { debts = sides_of core d n k; marks = pars_of k; variable = side_of k; root = root k }
+ties_behind core d n k = record { debts = sides_of core d n k; marks = pars_of k; slots = side_of k; root = root k }
 
 module _ (core : CoreTree) (code : CodeTree) (owed : Owed) (own : Owned) (sh : Share) where
   -- what a task has for a line that goes on, once x is bound to v
   pub record Resumes (s : Store) (m : State) (x : ℕ) (v : Datum) (u : Rest) (c : Ctx) (after : Dest) (k : Kont) : Type 0 where
     pub ready : m.doing ≡ Ready
     pub stack : Stack core code s k m.words m.frames c.front m.regions
+    pub group : Group code.laid s after (made u) m.regions
     pub memory : InMemory own s (heads code.laid c.head after k) m.regions m.tails
     pub ties : IsTied owed m.pars m.side m.result (ties_of core m.depth m.level u c.env k)
     pub owes : resume core m.depth k (rest_means core m.depth u ((x, v) ∷ c.env)) ≡ owed.all
@@ -282,6 +294,7 @@ module _ (core : CoreTree) (code : CodeTree) (owed : Owed) (own : Owned) (sh : S
       → AtRest core code owed own sh s m u (with_dest (with_line (with_var c x so v pl) (tell_line c.line.pending c.line)) after) k
   comes {m = m} {x = x} {so = so} {u = u} {c = c} {k = k} v pl nf kd w g ma = record {
     ready = g.ready;
+    group = g.group;
     low = rest_code_put core code c.line.within c.scope m.ip u (end_of c.line.overs k) x so nf w.low;
     fits = w.fits;
     line = record { kind = kd ∙ w.kind; matches = ma; stack = g.stack; under = all_under_bind c.scope c.env k x so v w.new w.under; given = given_bind c x so v pl (given_of k) w.new w.given; calm = w.calm };
@@ -301,7 +314,7 @@ module _ (core : CoreTree) (code : CodeTree) (owed : Owed) (own : Owned) (sh : S
     pub given : AreGiven c 0 (given_of k)
     pub meets : Meets (needs_of k) told c.line.overs
     pub led : Led core code s m.words m.frames m.regions c k a told
-    pub tree : due k ≡ Tree (record { 0 = t })
+    pub tree : due k ≡ results.One (Tree (record { 0 = t }))
     pub dec : Dec code.laid s a t v (cursor m.regions)
     pub memory : InMemory own s (kont_covers code.laid k) m.regions m.tails
     pub ties : IsTied owed m.pars m.side m.result (ties_behind core m.depth m.level k)
@@ -310,36 +323,49 @@ module _ (core : CoreTree) (code : CodeTree) (owed : Owed) (own : Owned) (sh : S
     pub all_room : AllRoom (nesting code) m.depth m.room k
 
   -- the whole task's tree
-  at_root : (s : Store) (a : ℕ) (rs : List OpenRegion) (t : ℕ) (v : Datum) (u : Ty) → u ≡ Tree (record { 0 = t }) → IsRoot u a rs → Dec code.laid s a t v (cursor rs) → Gives v ≡ owed.all → IsAnswer code.laid s u owed.all (Rattle.gib_code.specs.declared.answer.Answer.TheVariants.At (Rattle.gib_machine.specs.State.start_of rs))
+  at_root : (s : Store) (a : ℕ) (rs : List OpenRegion) (t : ℕ) (v : Datum) (u : Ty) → u ≡ Tree (record { 0 = t }) → IsRoot u a rs → Dec code.laid s a t v (cursor rs) → Gives v ≡ owed.all → IsAnswer code.laid s (results.One u) owed.all (Rattle.gib_code.specs.declared.answer.Answer.TheVariants.At (Rattle.gib_machine.specs.State.start_of rs))
   at_root s a rs t v Whole e h d o = absurd cc
   at_root s a rs t v Truth e h d o = absurd cc
   at_root s a [] t v (Tree u) e h d o = absurd h
-  at_root s a (r ∷ []) t v (Tree u) e h d o = (t, v, e, sym o, subst (λ (z : ℕ). StandsAt code.laid s t z v) h (record { end = r.cur; dec = d }))
+  at_root s a (r ∷ []) t v (Tree u) e h d o = (t, v, ap results.One e, sym o, subst (λ (z : ℕ). StandsAt code.laid s t z v) h (record { end = r.cur; dec = d }))
   at_root s a (r ∷ q ∷ rs) t v (Tree u) e h d o = absurd h
 
   -- a stolen side's tree
-  tree_answer : (s : Store) (u : Ty) (t w : ℕ) (v : Datum) → u ≡ Tree (record { 0 = t }) → StandsAt code.laid s t w v → Gives v ≡ owed.all → IsAnswer code.laid s u owed.all (answer_of u w)
+  tree_answer : (s : Store) (u : Ty) (t w : ℕ) (v : Datum) → u ≡ Tree (record { 0 = t }) → StandsAt code.laid s t w v → Gives v ≡ owed.all → IsAnswer code.laid s (results.One u) owed.all (answer_of u w)
   tree_answer s Whole t w v e h o = absurd cc
   tree_answer s Truth t w v e h o = absurd cc
-  tree_answer s (Tree u) t w v e h o = (t, v, e, sym o, h)
+  tree_answer s (Tree u) t w v e h o = (t, v, ap results.One e, sym o, h)
+
+-- Behind a call that gives a tree stands what stands behind any packed term.
+tree_ending : (os : List Over) (k : Kont) → no_tree (due k) ≡ false → call_ending (end_of os k) ≡ ending (end_of os k)
+tree_ending os (KEnd ty) e = refl
+tree_ending os (KSide b) e = refl
+tree_ending os (KLast l y s) e = refl
+tree_ending os (KHere l x s u c k) e = refl
+tree_ending os (KRegion l x s u c k) e = refl
+tree_ending os (KScalar l x ty u c k) e = refl
+tree_ending os (KCall gs c k) e = refl
+tree_ending os (KCallScalar x ty gs u c k) e = refl
+tree_ending os (KPart l i t tys ss vs ps c k) e = refl
+tree_ending os (KSeveral l xs tys u c k) e = absurd (true≢false e)
 
 module _ (core : CoreTree) (code : CodeTree) (owed : Owed) (own : Owned) (sh : Share) where
   -- by the machine's frames and regions
   ends_by : (k : Kont) (s : Store) (m : State) (fs : List Frame) (rs : List OpenRegion) (c : Ctx) (T : ℕ → Bool) (t : ℕ) (v : Datum) (a : ℕ) → Stood core code owed own sh s (record m { frames = fs; regions = rs }) c T k t v a → Safe core code owed own sh s (record m { frames = fs; regions = rs })
   ends_by (KEnd u) s m [] rs ic T t v a h =
-      moves (overs_move core code owed own sh s (record m { frames = []; regions = rs }) ic (KEnd u) a h.until h.under (Return ∷ []) ic.line.overs T h.ready h.ends h.led.vars.closes h.meets.0 h.led (λ l sl e sv hl. silent (step_is code (at_rest (record m { frames = []; regions = rs }) l sl) Return refl (first_at e)) (rests (over refl (sym h.ties.sides) (subst (λ (z : Ty). IsAnswer code.laid s z owed.all (Rattle.gib_code.specs.declared.answer.Answer.TheVariants.At (Rattle.gib_machine.specs.State.start_of rs))) (sym h.ties.type) (at_root core code owed own sh s a rs t v u h.tree h.led.stack h.dec h.owes))))))
+      moves (overs_move core code owed own sh s (record m { frames = []; regions = rs }) ic (KEnd u) a h.until h.under (Return ∷ []) ic.line.overs T h.ready h.ends h.led.vars.closes h.meets.0 h.led (λ l sl e sv hl. silent (step_is code (at_rest (record m { frames = []; regions = rs }) l sl) Return refl (first_at e)) (rests (over refl (sym h.ties.sides) (subst (λ (z : Results Ty). IsAnswer code.laid s z owed.all (Rattle.gib_code.specs.declared.answer.Answer.TheVariants.At (Rattle.gib_machine.specs.State.start_of rs))) (sym h.ties.type) (at_root core code owed own sh s a rs t v u (ap one_type h.tree) h.led.stack h.dec h.owes))))))
   ends_by (KEnd u) s m (f ∷ fs) rs ic T t v a h = absurd h.led.stack
-  ends_by (KSide y u) s m fs rs ic T t v a h = absurd (true≢false (ap is_scalar h.tree))
+  ends_by (KSide b) s m fs rs ic T t v a h = absurd (true≢false (ap no_tree h.tree))
   ends_by (KLast l y q) s m [] [] ic T t v a h = absurd h.led.stack
   ends_by (KLast l y q) s m [] (r ∷ []) ic T t v a h =
       let at = record m { ip = l; frames = []; regions = r ∷ []; doing = Ready } in
-      silently h.ready (first_at h.ends) refl (silently {m = at} refl h.led.stack.0 (ap (backs_at at) h.ties.pars ∙ ap (ends_side at) h.ties.side)
-      (rests (over refl (sym h.ties.sides) (subst (λ (z : Ty). IsAnswer code.laid s owed.ty owed.all (answer_of z (slot m.words y))) (h.ties.type ∙ sym h.ties.result) (tree_answer core code owed own sh s owed.ty t (slot m.words y) v (h.ties.type ∙ h.tree) (subst (λ (z : ℕ). StandsAt code.laid s t z v) (sym h.led.stack.1) (record { end = r.cur; dec = h.dec })) h.owes)))))
+      silently h.ready (first_at h.ends) refl (silently {m = at} refl h.led.stack.0 (ap (backs_at at) h.ties.pars ∙ ap (ends_side at) h.ties.side ∙ ap (λ (r : AnswerType). Silent (ends_with at r (slot m.words y ∷ []))) h.ties.result)
+      (rests (over refl (sym h.ties.sides) (subst (λ (z : Results Ty). IsAnswer code.laid s z owed.all (answer_of (Tree (record { 0 = q })) (slot m.words y))) (sym h.ties.type) (tree_answer core code owed own sh s (Tree (record { 0 = q })) t (slot m.words y) v (ap one_type h.tree) (subst (λ (z : ℕ). StandsAt code.laid s t z v) (sym h.led.stack.1) (record { end = r.cur; dec = h.dec })) h.owes)))))
   ends_by (KLast l y q) s m [] (r ∷ r' ∷ rs) ic T t v a h = absurd h.led.stack
   ends_by (KLast l y q) s m (f ∷ fs) rs ic T t v a h = absurd h.led.stack
   ends_by (KHere l x s' u c k) s m fs rs ic T t v a h =
       let w = h.led.stack.2 in
-      let dec : Dec code.laid s a s' v (cursor rs) = subst (λ (z : ℕ). Dec code.laid s a z v (cursor rs)) (sym (same_tree s' t h.tree)) h.dec in
+      let dec : Dec code.laid s a s' v (cursor rs) = subst (λ (z : ℕ). Dec code.laid s a z v (cursor rs)) (sym (same_tree s' t (ap one_type h.tree))) h.dec in
       let place : IsPlaced code.laid s s' (slot m.words x) a v = record { same = ap (λ (b : WithEnd). b.word) h.led.stack.0; stands = record { end = cursor rs; dec = dec } } in
       let ln = tell_line c.line.pending c.line in
       let c1 = with_var c x (Placed s') v a in
@@ -348,7 +374,7 @@ module _ (core : CoreTree) (code : CodeTree) (owed : Owed) (own : Owned) (sh : S
       let hs = HasAll-set code.laid s m.words c x (Placed s') v a w.new place (held_end m.words x h.led.stack.0) w.matches.vars in
       let hl = HasAll-line {c = c1} ln (told_side m.words c ic x (Placed s') v a w.new w.asked (λ q e. h.led.knows q (h.meets q e)) hs.told) hs.closes hs in
       silently h.ready (first_at h.ends) refl (rests (at_term (comes core code owed own sh v a refl (dest_more c.dest x) w
-      (record { ready = refl; stack = h.led.stack.3; memory = heads_less (λ q. let e = covers_more code.laid c.head c.dest x k q in omega (arith, e)) h.memory; ties = h.ties; owes = h.owes; counted = h.counted; room = h.all_room })
+      (record { ready = refl; stack = h.led.stack.3; group = group_more code.laid s c.dest x s' (made u) rs h.led.stack.1; memory = heads_less (λ q. let e = covers_more code.laid c.head c.dest x k q in omega (arith, e)) h.memory; ties = h.ties; owes = h.owes; counted = h.counted; room = h.all_room })
       (record {
         vars = HasAll-dest {c = c1'} {c' = c2} refl (keeps_dest c1' (more c.dest x)) hl (λ y. refl) (λ y. refl) (λ y. refl) hl.told hl.closes;
         dest = IsDest-line code.laid s m.words (with_dest c1 (more c.dest x)) (cursor rs) (more c.dest x) ln (IsDest-more code.laid s m.words c a (cursor rs) x s' v c.dest w.new h.led.stack.1 dec w.matches.dest);
@@ -356,7 +382,7 @@ module _ (core : CoreTree) (code : CodeTree) (owed : Owed) (own : Owned) (sh : S
   ends_by (KRegion l x s' u c k) s m fs [] ic T t v a h = absurd h.led.stack
   ends_by (KRegion l x s' u c k) s m fs (r ∷ rs) ic T t v a h =
       let w = h.led.stack.3 in
-      let dec : Dec code.laid s a s' v r.cur = subst (λ (z : ℕ). Dec code.laid s a z v r.cur) (sym (same_tree s' t h.tree)) h.dec in
+      let dec : Dec code.laid s a s' v r.cur = subst (λ (z : ℕ). Dec code.laid s a z v r.cur) (sym (same_tree s' t (ap one_type h.tree))) h.dec in
       let place : IsPlaced code.laid s s' (slot m.words x) a v = record { same = ap (λ (b : WithEnd). b.word) h.led.stack.0; stands = record { end = r.cur; dec = dec } } in
       let paid : Paid rs (left_costs core m.depth m.level u ((x, v) ∷ c.env) k) sh 0 = finish_counted r rs (later_costs core m.depth m.level (KRegion l x s' u c k) (Gives v)) (left_costs core m.depth m.level u ((x, v) ∷ c.env) k) sh (record { regions = omega arith; items = omega arith }) h.counted in
       let hs = HasAll-set code.laid s m.words c x (Placed s') v a w.new place (held_end m.words x h.led.stack.0) w.matches.vars in
@@ -364,6 +390,7 @@ module _ (core : CoreTree) (code : CodeTree) (owed : Owed) (own : Owned) (sh : S
       (record {
         ready = refl;
         stack = h.led.stack.4;
+        group = h.led.stack.5;
         memory = record { places = Apart-less h.memory.places (λ q. let f = finished_covers r rs m.tails q in omega (arith, f)); rooms = h.memory.rooms.1; tail_rooms = finished_rooms r.cur m.tails h.memory.rooms.0 h.memory.tail_rooms; small = h.memory.small };
         ties = h.ties;
         owes = h.owes;
@@ -371,7 +398,7 @@ module _ (core : CoreTree) (code : CodeTree) (owed : Owed) (own : Owned) (sh : S
         room = h.all_room;
       })
       (Matches-line (tell_line c.line.pending c.line) (told_side m.words c ic x (Placed s') v a w.new w.asked (λ q e. h.led.knows q (h.meets q e)) hs.told) hs.closes (record { vars = hs; dest = IsDest-bind code.laid s m.words c (cursor rs) x (Placed s') v a c.dest w.new w.matches.dest })))))))
-  ends_by (KScalar l x u' u c k) s m fs rs ic T t v a h = absurd (true≢false (sym h.led.stack.0 ∙ ap is_scalar h.tree))
+  ends_by (KScalar l x u' u c k) s m fs rs ic T t v a h = absurd (true≢false (sym h.led.stack.0 ∙ ap no_tree h.tree))
   ends_by (KCall gs wc k) s m [] rs ic T t v a h = absurd h.led.stack
   ends_by (KCall gs wc k) s m (f ∷ fs) rs ic T t v a h =
       let old = record m { frames = f ∷ fs; regions = rs } in
@@ -385,9 +412,49 @@ module _ (core : CoreTree) (code : CodeTree) (owed : Owed) (own : Owned) (sh : S
       (subst (λ (r : List (Option Given)). Gave code.laid s sl.ends 0 r) st.3.given (gives_back code.laid s sl ic 0 gs hl.vars h.given))
       (λ q g. (hl.knows q (h.meets.1 q (st.3.asked q g))).some) (record { vars = b.vars; stack = st.7; knows = b.vars.told })
       (λ sl2 sv2 h2. ends_by k s (at_rest back st.1 sl2) fs rs wc (λ q. wc.line.told q || call_tells st.3.within core st.3.name st.3.arguments q) t v a
-      record { until = st.2; ready = refl; ends = st.4; under = b.under; given = b.given; meets = b.meets; led = h2; tree = h.tree; dec = h.dec; memory = h.memory; ties = h.ties; owes = h.owes; counted = h.counted; all_room = h.all_room }))))
+      record { until = st.2; ready = refl; ends = subst (λ (is : List Instruction). AreAt code st.1 is st.2) (tree_ending wc.line.overs k (ap no_tree h.tree)) st.4; under = b.under; given = b.given; meets = b.meets; led = h2; tree = h.tree; dec = h.dec; memory = h.memory; ties = h.ties; owes = h.owes; counted = h.counted; all_room = h.all_room }))))
   ends_by (KCallScalar x u' gs u c k) s m [] rs ic T t v a h = absurd h.led.stack
-  ends_by (KCallScalar x u' gs u c k) s m (f ∷ fs) rs ic T t v a h = absurd (true≢false (sym h.led.stack.0 ∙ ap is_scalar h.tree))
+  ends_by (KCallScalar x u' gs u c k) s m (f ∷ fs) rs ic T t v a h = absurd (true≢false (sym h.led.stack.0 ∙ ap no_tree h.tree))
+  -- the part's region goes back into its group, and the other parts follow
+  ends_by (KPart l i t' tys ss vs ps c k) s m fs [] ic T t v a h = absurd h.led.stack
+  ends_by (KPart l i t' tys ss vs ps c k) s m fs (r ∷ rs) ic T t v a h =
+      let w = h.led.stack.2 in
+      let many = length (packed_due tys) in
+      let j = many - 1 - i in
+      let others = drop (suc i) (packed_due tys) in
+      let types : drop (length vs) (packed_due tys) ≡ t' ∷ others = ap (λ (z : ℕ). drop z (packed_due tys)) w.many ∙ h.led.stack.3 in
+      let from = ap (λ (z : List ℕ). length z) h.led.stack.3 in
+      let dropped = length-drop i (packed_due tys) in
+      let newer : length others ≡ j = omega (arith, from, dropped) in
+      let waiting = sink_length j (unused r) rs in
+      let back = sink_length j r rs in
+      let all = h.led.stack.4.0 in
+      let long : j ≤ length rs = omega (arith, from, dropped, waiting, all) in
+      let inside : j < many = omega (arith, from, dropped) in
+      let dec : Dec code.laid s r.start t' v r.cur = subst (λ (z : ℕ). Dec code.laid s z t' v r.cur) h.led.stack.0 (subst (λ (z : ℕ). Dec code.laid s a z v r.cur) (sym (same_tree t' t (ap one_type h.tree))) h.dec) in
+      let us = Fills (suc i) tys ss (vs ++ v ∷ []) ps in
+      let left = left_costs core m.depth m.level us c.env k in
+      let paid : Paid (sink j (r ∷ rs)) left sh 0 = sink_counted j (r ∷ rs) left sh h.counted in
+      silently h.ready (first_at h.ends) refl (silently refl h.led.stack.1 refl (counts paid.spends (rests (at_term {u = us} {c = c} {k = k} record {
+        ready = refl;
+        group = subst (λ (d : Dest). Group code.laid s d (vs ++ v ∷ []) (sink j (r ∷ rs))) (sym w.dest) (omega (arith, waiting, back, all), holds_more code.laid s j r (unused r) rs (packed_due tys) vs t' others v types newer long dec h.led.stack.4.1);
+        low = w.low;
+        fits = (w.dest, (let p = length_push vs v in let q = w.many in omega (arith, p, q)), w.fits, w.meets);
+        line = record {
+          kind = w.kind;
+          matches = record { vars = w.vars; dest = subst (λ (d : Dest). IsDest code.laid s m.words c d (cursor (sink j (r ∷ rs)))) (sym w.dest) tt };
+          stack = Stack-filled core code s k m.words fs c.front j (unused r) r rs tys refl (sym w.kind ∙ ap dest_type w.dest) inside h.led.stack.5;
+          under = w.under;
+          given = w.given;
+          calm = w.calm;
+        };
+        memory = record { places = Apart-less h.memory.places (λ q. let e = sink_covers j (r ∷ rs) q in omega (arith, e)); rooms = sink_room j (r ∷ rs) h.memory.rooms; tail_rooms = h.memory.tail_rooms; small = h.memory.small };
+        ties = h.ties;
+        owes = h.owes;
+        counted = paid.counted;
+        room = record { free = w.free; narrow = w.narrow; nests = h.all_room.0; all_room = h.all_room.1 };
+      }))))
+  ends_by (KSeveral l xs tys u c k) s m fs rs ic T t v a h = absurd (true≢false (ap no_tree h.tree))
 
   pub ends : {s : Store} {m : State} {c : Ctx} {T : ℕ → Bool} {k : Kont} {t : ℕ} {v : Datum} {a : ℕ} → Stood core code owed own sh s m c T k t v a → Safe core code owed own sh s m
   ends {s} {m} {c} {T} {k} {t} {v} {a} h = ends_by k s m m.frames m.regions c T t v a h

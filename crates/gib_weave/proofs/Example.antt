@@ -3,11 +3,12 @@ use Rattle.std.proofs.Common.{◌≡◌, ℕ, zero, suc, true, [], ◌∷◌, So
 use Rattle.gib_types.specs.Table.{con_at}
 use Rattle.gib_packed.specs.Example.{table}
 use Rattle.gib_packed.proofs.Examples.{rules}
-use Rattle.gib_core.specs.Tree.{CaseTerm, var}
+use Rattle.gib_core.specs.Tree.{var}
 use Rattle.gib_code.specs.Program.{none, one_more}
 use Rattle.gib_core.specs.Low as low
-use Rattle.gib_core.specs.Low.{IsLowered, Low, LowArms, Returns}
+use Rattle.gib_core.specs.Low.{IsLowered, Low, Returns}
 use Rattle.gib_core.specs.Ending.{within_main}
+use Rattle.gib_syntax.specs.Results as results
 use Rattle.gib_core.specs.Fits.{AtEnd, Line, new_line, arm_line, none_of, put, AtHead, Empty, Fits, AllFit, AreNew, arm_scope, has_branch, body_scope, dest_of, IsTree}
 use Rattle.gib_types.specs.declared.table.Ty.TheVariants.{Whole, Truth}
 use Rattle.std.specs.Int.{w64}
@@ -30,7 +31,7 @@ is_tree = record { variable = v 0; atom = refl; sort = refl }
 abbrev main_new : Line
 main_new = new_line (within_main core)
 
-body_fits : Fits core (AtEnd none_of) body (body_scope 14 (tree ∷ [])) (dest_of tree) main_new
+body_fits : Fits core (AtEnd none_of) body (body_scope 14 (tree ∷ [])) (dest_of (results.One tree)) main_new
 body_fits = (0, is_tree, covers, (tt, nil_fits, (cons_new, cons_fits, (node_new, node_fits, tt))))
   where
     nil_fits : Fits core (AtEnd none_of) nil_arm (arm_scope 0 0 1 None [] [] (put (body_scope 14 (tree ∷ [])) 0 (AtHead 0))) (Empty 0) (arm_line core 0 (k 0) [] nil_arm main_new)

@@ -1,5 +1,5 @@
 -- What is said of a store is kept when the store grows.
-use Rattle.std.proofs.Common.{ℕ, List, [], ◌∷◌}
+use Rattle.std.proofs.Common.{ℕ, ◌-◌, List, [], ◌∷◌, length, drop}
 use Rattle.gib_types.specs.Layout.{LaidOut}
 use Rattle.gib_types.specs.Tree.{Datum}
 use Rattle.gib_syntax.specs.Meaning.{value_in}
@@ -8,14 +8,16 @@ use Rattle.gib_mem.specs.Memory.{Store, Grows}
 use Rattle.gib_packed.specs.Decoding.{Dec}
 use Rattle.gib_packed.proofs.Grow as g
 use Rattle.gib_code.specs.Program.{CodeTree}
-use Rattle.gib_machine.specs.State.{end_at, Slots, slot, Frame, Open as OpenRegion}
+use Rattle.gib_machine.specs.State.{end_at, Slots, slot, Frame, Open as OpenRegion, sink}
 use Rattle.gib_machine.specs.Sides.{Waiting}
-use Rattle.gib_core.specs.Fits.{Sort, Outside, Absent, Scalar, Held, Placed, Loose, AtHead, Field, Dest, Nowhere, Empty, Open}
-use Rattle.gib_core.specs.Low.{Over}
+use Rattle.gib_core.specs.Fits.{Sort, Outside, Absent, Scalar, Held, Placed, Loose, AtHead, Field, Dest, Nowhere, Empty, Open, InParts, packed_due}
+use Rattle.gib_core.specs.Low.{Over, packed_slots}
 use Rattle.gib_weave.specs.Environment.{AllClose, Ctx, StandsAt, Has, HasAll, Fields, none, field, IsDest, Matches}
 use Rattle.gib_weave.specs.EndWords.{EndWord, HasEnd}
 use Rattle.gib_packed.specs.Reaching.{Turns, there, turn}
-use Rattle.gib_weave.specs.Continuing.{Rest, KSide, KLast, Kont, KEnd, KHere, KRegion, KScalar, KCall, KCallScalar}
+use Rattle.gib_weave.specs.Continuing.{Rest, KSide, KLast, Kont, KEnd, KHere, KRegion, KScalar, KCall, KCallScalar, KPart, KSeveral, made}
+use Rattle.gib_weave.specs.Groups.{unused}
+use Rattle.gib_weave.proofs.Groups.{Group-grows}
 use Rattle.gib_weave.specs.Owing.{Debt}
 use Rattle.gib_weave.specs.Sound.{SideSafe}
 use Rattle.gib_weave.specs.Stacks.{Waits, Stack}
@@ -73,6 +75,7 @@ pub IsDest-grows : (laid : LaidOut) (s r : Store) (sl : Slots) (c : Ctx) (cur : 
 IsDest-grows laid s r sl c cur (Nowhere ty) g h = tt
 IsDest-grows laid s r sl c cur (Empty t) g h = h
 IsDest-grows laid s r sl c cur (Open t x k xs dues) g h = record { con = h.con; slot = h.slot; sort = h.sort; leads = Turns-grows g h.leads; types = h.types; all = h.all; fields = Fields-grows g h.fields }
+IsDest-grows laid s r sl c cur (InParts tys) g h = tt
 
 closes_grows : (laid : LaidOut) (s r : Store) (c : Ctx) (os : List Over) → Grows s r → AllClose laid s c os → AllClose laid r c os
 closes_grows laid s r c [] g h = tt
@@ -90,17 +93,36 @@ Waits-grows g w = record { free = w.free; narrow = w.narrow; low = w.low; fits =
 pub Stack-grows : (core : CoreTree) (code : CodeTree) {s r : Store} (k : Kont) (sl : Slots) (fs : List Frame) (a : ℕ) (rs : List OpenRegion) → Grows s r → Stack core code s k sl fs a rs → Stack core code r k sl fs a rs
 Stack-grows core code (KEnd ty) sl [] a rs g h = h
 Stack-grows core code (KEnd ty) sl (f ∷ fs) a rs g h = absurd h
-Stack-grows core code (KSide y ty) sl [] a rs g h = tt
-Stack-grows core code (KSide y ty) sl (f ∷ fs) a rs g h = absurd h
+Stack-grows core code (KSide b) sl [] a rs g h = tt
+Stack-grows core code (KSide b) sl (f ∷ fs) a rs g h = absurd h
 Stack-grows core code (KLast l y t) sl [] a [] g h = absurd h
 Stack-grows core code (KLast l y t) sl [] a (r ∷ []) g h = h
 Stack-grows core code (KLast l y t) sl [] a (r ∷ q ∷ rs) g h = absurd h
 Stack-grows core code (KLast l y t) sl (f ∷ fs) a rs g h = absurd h
 Stack-grows core code (KHere l x t u c k) sl fs a rs g h = (h.0, h.1, Waits-grows g h.2, Stack-grows core code k sl fs c.front rs g h.3)
 Stack-grows core code (KRegion l x t u c k) sl fs a [] g h = absurd h
-Stack-grows core code (KRegion l x t u c k) sl fs a (q ∷ rs) g h = (h.0, h.1, h.2, Waits-grows g h.3, Stack-grows core code k sl fs c.front rs g h.4)
-Stack-grows core code (KScalar l x ty u c k) sl fs a rs g h = (h.0, Waits-grows g h.1, Stack-grows core code k sl fs c.front rs g h.2)
+Stack-grows core code (KRegion l x t u c k) sl fs a (q ∷ rs) g h = (h.0, h.1, h.2, Waits-grows g h.3, Stack-grows core code k sl fs c.front rs g h.4, Group-grows code.laid c.dest (made u) rs g h.5)
+Stack-grows core code (KScalar l x ty u c k) sl fs a rs g h = (h.0, Waits-grows g h.1, Stack-grows core code k sl fs c.front rs g h.2, Group-grows code.laid c.dest (made u) rs g h.3)
 Stack-grows core code (KCall gs wc k) sl [] a rs g h = absurd h
 Stack-grows core code (KCall gs wc k) sl (f ∷ fs) a rs g h = (h.0, h.1, h.2, h.3, h.4, h.5, record { vars = HasAll-grows g h.6.vars; under = h.6.under; given = h.6.given; meets = h.6.meets }, Stack-grows core code k f.words fs a rs g h.7)
 Stack-grows core code (KCallScalar x ty gs u c k) sl [] a rs g h = absurd h
-Stack-grows core code (KCallScalar x ty gs u c k) sl (f ∷ fs) a rs g h = (h.0, h.1, h.2, h.3, h.4, Waits-grows g h.5, Stack-grows core code k f.words fs c.front rs g h.6)
+Stack-grows core code (KCallScalar x ty gs u c k) sl (f ∷ fs) a rs g h = (h.0, h.1, h.2, h.3, h.4, Waits-grows g h.5, Stack-grows core code k f.words fs c.front rs g h.6, Group-grows code.laid c.dest (made u) rs g h.7)
+Stack-grows core code (KPart l i t tys ss vs ps c k) sl fs a [] g h = absurd h
+Stack-grows core code (KPart l i t tys ss vs ps c k) sl fs a (r ∷ rs) g h =
+    let w = h.2 in (
+      h.0,
+      h.1,
+      record { low = w.low; fits = w.fits; meets = w.meets; dest = w.dest; many = w.many; vars = HasAll-grows g w.vars; under = w.under; given = w.given; calm = w.calm; kind = w.kind; free = w.free; narrow = w.narrow },
+      h.3,
+      Group-grows code.laid (InParts tys) vs (sink (length (packed_due tys) - 1 - i) (unused r ∷ rs)) g h.4,
+      Stack-grows core code k sl fs c.front (sink (length (packed_due tys) - 1 - i) (unused r ∷ rs)) g h.5,
+    )
+Stack-grows core code (KSeveral l xs tys u c k) sl fs a rs g h =
+    let w = h.3 in (
+      h.0,
+      h.1,
+      h.2,
+      record { low = w.low; fits = w.fits; few = w.few; new = w.new; matches = Matches-grows g w.matches; under = w.under; given = w.given; calm = w.calm; kind = w.kind; free = w.free; next = w.next; narrow = w.narrow },
+      Stack-grows core code k sl fs c.front (drop (length (packed_slots tys xs)) rs) g h.4,
+      Group-grows code.laid c.dest (made u) (drop (length (packed_slots tys xs)) rs) g h.5,
+    )

@@ -4,13 +4,13 @@ use Rattle.std.proofs.Common.{◌≡◌, ℕ, zero, suc, Bool, true, false, ◌&
 use Rattle.std.proofs.lemmas.Bool.Decides.{nat_tests}
 use Rattle.std.proofs.lemmas.Bool.{and_parts}
 use Rattle.gib_mem.specs.Memory as mem
-use Rattle.gib_mem.specs.Memory.{Store, Memory, Cell, absent, fresh, byte, after_puts, after_draw, Holds, Reads}
+use Rattle.gib_mem.specs.Memory.{Store, Memory, Cell, absent, fresh, byte, Holds}
 use Rattle.gib_code.specs.declared.answer.Answer.TheVariants as answer
 use Rattle.gib_code.specs.Program.{CodeTree}
 use Rattle.gib_machine.specs.State.{Ask, Silent, Get, Put, Draw, AtFork, AtJoin, Ended}
 use Rattle.gib_machine.specs.Sides.{left_starts, right_of, side_start, joins, takes}
 use Rattle.gib_weave.specs.Weave as ev
-use Rattle.gib_weave.specs.Weave.{Waits, Runs, Stage, Running, Finished, Joined, Weave, Event, Step, Fork, Steal, Take, Finish, Join, task, moved, with_sides, ended_task, no_task, asks, IsOn, Next, Legal, none, more, oldest, is_running}
+use Rattle.gib_weave.specs.Weave.{Waits, Runs, Stage, Running, Finished, Joined, Weave, Event, Step, Fork, Steal, Take, Finish, Join, task, with_sides, ended_task, no_task, asks, IsOn, Next, Legal, none, more, oldest, is_running}
 use Rattle.gib_weave.specs.Worked.{code, start, steps_then, stolen, taken, in_place}
 use Rattle.gib_weave.proofs.Row.{byte_of, bytes_of, act, steps}
 

@@ -6,16 +6,20 @@ pub mod Basics
 pub mod Grow
 pub mod Places
 pub mod Memories
+pub mod Groups
 -- For `each_step_keeps`, what a term means and costs, and what is counted.
 pub mod Uses
 pub mod Counts
 pub mod Costs
+pub mod SideParts
 -- .. how a frame's slots, lines and open regions go on.
 pub mod Move
 pub mod Turns
 pub mod EndWords
 pub mod Tolds
 pub mod Lines
+pub mod Reordered
+pub mod Filling
 -- .. what is read of numbers, tags and values, and what is put for them.
 pub mod Parts
 pub mod Numbers
@@ -31,6 +35,10 @@ pub mod Indirects
 pub mod Arms
 pub mod Cases
 pub mod Switches
+pub mod Tuples
+pub mod Comes
+pub mod Gives
+pub mod Severals
 pub mod Forks
 pub mod Joins
 pub mod Telling

@@ -1,5 +1,5 @@
 -- A line waits while a part of it runs.
-use Rattle.std.proofs.Common.{◌≡◌, ℕ, suc, ◌<◌, ◌≤◌, Bool, true, false, cond, List, ◌∷◌, length, refl, sym, ap, subst, ◌∙◌, arith}
+use Rattle.std.proofs.Common.{◌≡◌, ℕ, suc, ◌<◌, ◌≤◌, Bool, true, false, cond, List, [], ◌∷◌, length, refl, sym, ap, subst, ◌∙◌, arith}
 use Rattle.std.proofs.lemmas.Bool.{false≢true}
 use Rattle.gib_types.specs.declared.table.Ty.{Ty}
 use Rattle.gib_types.specs.Layout.{LaidOut}
@@ -7,22 +7,21 @@ use Rattle.gib_types.specs.Tree.{Datum}
 use Rattle.gib_syntax.specs.Meaning.{Environment, value_in, Outcome, Gives, Stops, Reason, with_value}
 use Rattle.gib_mem.specs.Memory.{Store, Grows}
 use Rattle.gib_core.specs.declared.atom.Variable.{Variable}
-use Rattle.gib_core.specs.declared.atom.Kind.{Kind}
-use Rattle.gib_core.specs.Tree.{Term, Then, One, On, CoreTree}
-use Rattle.gib_core.specs.Meaning.{from_there, having, Went}
+use Rattle.gib_core.specs.Tree.{Term, Then, One, Side, CoreTree}
+use Rattle.gib_core.specs.Meaning.{bind_side, from_there, having, Went}
 use Rattle.gib_code.specs.Program.{CodeTree}
 use Rattle.gib_core.specs.Ending.{Within}
 use Rattle.gib_machine.specs.State.{end_at, nesting, Slots, slot, set, Frame, Open as OpenRegion, cursor}
-use Rattle.gib_core.specs.Fits.{put, Sort, Outside, Absent, Scalar, Held, Placed, Loose, AtHead, Field, Scope, new_line, await, await_call, tell_line, is_settled, is_there, has_slot, loosen_one, loosen, Dest, Nowhere, Empty, Open, cased}
+use Rattle.gib_core.specs.Fits.{put, Sort, Outside, Absent, Scalar, Held, Placed, Loose, AtHead, Field, Scope, new_line, await, await_call, bound_scope, none_of, AreNew, tell_line, is_settled, is_there, has_slot, loosen_one, loosen, Dest, Nowhere, Empty, InParts, Open, cased}
 use Rattle.gib_weave.specs.Environment.{Ctx, StandsAt, Has, HasAll, IsDest, Matches}
 use Rattle.gib_weave.specs.EndWords.{HasEnd}
-use Rattle.gib_weave.specs.Continuing.{given_of, Rest, Plain, Part, Meet, Leave, Last, KSide, KLast, Follows, Next, RestCode, RestFits, rest_cased, rest_nest, nest, Kont, KEnd, KHere, KRegion, KScalar, KCall, KCallScalar, Goes, Under, AllUnder, Calm, AllCalm, end_of, needs_of}
-use Rattle.gib_weave.specs.Owing.{means, resume}
-use Rattle.gib_weave.specs.Stacks.{Waits}
+use Rattle.gib_weave.specs.Continuing.{given_of, Rest, Plain, Part, Meet, Leave, Last, Fills, KSide, KLast, AllFollow, Follows, IsInBody, Next, RestCode, RestFits, rest_cased, rest_nest, nest, Kont, KEnd, KHere, KRegion, KScalar, KCall, KCallScalar, KPart, KSeveral, Goes, Under, AllUnder, Calm, AllCalm, end_of, needs_of}
+use Rattle.gib_weave.specs.Owing.{means, resume, side_gives}
+use Rattle.gib_weave.specs.Stacks.{SeveralWaits, Waits}
 use Rattle.gib_weave.specs.Sound.{OnLine, MayFollow}
 use Rattle.gib_weave.proofs.Grow.{Matches-grows, Stack-grows}
-use Rattle.gib_weave.proofs.Basics.{by_test, put-other, set-other, set-length, end-other, ends-length}
-use Rattle.gib_weave.proofs.Move.{Moved, AllMoved, Matches-moved, Stack-moved, moved_set, all_moved_set, not_there, with_line, HasAll-line, settled_there, Matches-line, closes_keeps, given_keeps, end_kept, other, goes-refl, under_goes, all_under_goes, goes_new, Keeps, Has-keeps, Fields-keeps, absent_slot, rest_code_loosen}
+use Rattle.gib_weave.proofs.Basics.{by_test, put-other, end-other}
+use Rattle.gib_weave.proofs.Move.{Moved, AllMoved, HasAll-moved, Matches-moved, Stack-moved, moved_set, all_moved_set, not_there, with_line, HasAll-dest, HasAll-line, settled_there, Matches-line, closes_keeps, given_keeps, other, goes-refl, under_goes, all_under_goes, goes_new, Keeps, Has-keeps, Fields-keeps, absent_slot, rest_code_loosen}
 
 -- Trees may be elsewhere.
 
@@ -98,6 +97,7 @@ Has-loosen laid s c true (Field t z x k p) w v at hd h = h
 pub IsDest-loosen : (laid : LaidOut) (s : Store) (sl : Slots) (c : Ctx) (cur : ℕ) (m : ℕ → Bool) (d : Dest) → IsDest laid s sl c d cur → IsDest laid s sl (loosened m c) d cur
 IsDest-loosen laid s sl c cur m (Nowhere ty) h = tt
 IsDest-loosen laid s sl c cur m (Empty t) h = h
+IsDest-loosen laid s sl c cur m (InParts tys) h = tt
 IsDest-loosen laid s sl c cur m (Open t x k xs dues) h = record { con = h.con; slot = h.slot; sort = loosen-held (m x) (c.scope x) h.sort; leads = h.leads; types = h.types; all = h.all; fields = Fields-keeps (keeps_loosened m c) h.fields }
 
 HasEnd-loosen : (laid : LaidOut) (s : Store) (b : Bool) (so : Sort) (w e : ℕ) (v : Datum) (pl : ℕ) → HasEnd laid s so w e v pl → HasEnd laid s (loosen_one b so) w e v pl
@@ -143,9 +143,24 @@ all_under_loosen sc env k m u = all_under_goes sc (loosen m sc) env env k (λ y.
 pub all_under_hold : (sc : Scope) (env : Environment) (k : Kont) (x : ℕ) → sc x ≡ Absent → AllUnder sc env k → AllUnder (put sc x Held) env k
 all_under_hold sc env k x n u = all_under_goes sc (put sc x Held) env env k (goes_new sc x Held n) (λ y t. refl) u
 
+-- variables that are new where fewer are bound
+pub new_less : (sc sc' : Scope) (tys : List Ty) (xs : List Variable) → ((y : ℕ) → sc y ≡ Absent → sc' y ≡ Absent) → AreNew sc tys xs → AreNew sc' tys xs
+new_less sc sc' [] [] f n = tt
+new_less sc sc' [] (x ∷ xs) f n = absurd n
+new_less sc sc' (ty ∷ tys) [] f n = absurd n
+new_less sc sc' (ty ∷ tys) (x ∷ xs) f n =
+    (f x.0 n.0, new_less (put sc x.0 Held) (put sc' x.0 Held) tys xs (λ y. by_test y x.0 (λ b. cond b Held (sc y) ≡ Absent → cond b Held (sc' y) ≡ Absent) (λ e h. h) (λ e h. f y h)) n.1)
+
 -- the line of a part, which goes to a
 abbrev pub holding : Within → Ctx → ℕ → Dest → ℕ → ℕ → Ctx
 holding wi c x d a b = record { scope = put c.scope x Held; env = c.env; pl = c.pl; hd = c.hd; dest = d; front = a; head = b; line = new_line wi }
+
+-- a new line in the same scope, which goes to a
+abbrev pub own_line : Within → Ctx → Dest → ℕ → Ctx
+own_line wi c d a = record { scope = c.scope; env = c.env; pl = c.pl; hd = c.hd; dest = d; front = a; head = 0; line = new_line wi }
+
+pub HasAll-own : {laid : LaidOut} {s : Store} {sl : Slots} {c : Ctx} (wi : Within) (d : Dest) (a : ℕ) → HasAll laid s sl c → HasAll laid s sl (own_line wi c d a)
+HasAll-own {c = c} wi d a h = HasAll-dest {c = c} {c' = own_line wi c d a} refl (record { there = λ y h. h; places = λ y h. refl; values = λ y h. refl; at_head = λ y o e. e; heads = λ y o e. refl }) h (λ y. refl) (λ y. refl) (λ y. refl) (λ q e. absurd (false≢true e)) tt
 
 -- the line waits until these are told
 abbrev pub pend : (f g : ℕ → Bool) → Ctx → Ctx
@@ -163,25 +178,25 @@ keeps_holding wi c x d a b n = record {
   heads = λ y o e. refl;
 }
 
-pub HasAll-hold : (wi : Within) (laid : LaidOut) (s : Store) (sl : Slots) (c : Ctx) (x w : ℕ) (d : Dest) (a b : ℕ) → c.scope x ≡ Absent → HasAll laid s sl c → HasAll laid s (set sl x w) (holding wi c x d a b)
-HasAll-hold wi laid s sl c x w d a b n h = record { has = has; wide = wide; ends = ends; even = ends-length sl x w 0 ∙ h.even ∙ sym (set-length sl x w); told = λ q e. absurd (false≢true e); closes = tt }
+pub HasAll-held : (wi : Within) (laid : LaidOut) (s : Store) (sl : Slots) (c : Ctx) (x : ℕ) (d : Dest) (a b : ℕ) → c.scope x ≡ Absent → HasAll laid s sl c → HasAll laid s sl (holding wi c x d a b)
+HasAll-held wi laid s sl c x d a b n h = record { has = has; wide = wide; ends = ends; even = h.even; told = λ q e. absurd (false≢true e); closes = tt }
   where
-    ends : (y : ℕ) → HasEnd laid s (put c.scope x Held y) (slot (set sl x w) y) (end_at (set sl x w) y) (value_in c.env y) (c.pl y)
-    ends y = by_test y x (λ t. HasEnd laid s (cond t Held (c.scope y)) (slot (set sl x w) y) (end_at (set sl x w) y) (value_in c.env y) (c.pl y)) (λ e. tt)
-        (λ e. end_kept laid s (c.scope y) (slot sl y) (slot (set sl x w) y) (end_at sl y) (end_at (set sl x w) y) (value_in c.env y) (c.pl y) (λ i. set-other sl x y w e) (λ i. end-other sl x y w 0 e) (h.ends y))
+    ends : (y : ℕ) → HasEnd laid s (put c.scope x Held y) (slot sl y) (end_at sl y) (value_in c.env y) (c.pl y)
+    ends y = by_test y x (λ t. HasEnd laid s (cond t Held (c.scope y)) (slot sl y) (end_at sl y) (value_in c.env y) (c.pl y)) (λ e. tt) (λ e. h.ends y)
 
     c' : Ctx
     c' = holding wi c x d a b
 
-    has : (y : ℕ) → Has laid s c' (put c.scope x Held y) (slot (set sl x w) y) (value_in c.env y) (c.pl y) (c.hd y)
-    has y = by_test y x (λ t. Has laid s c' (cond t Held (c.scope y)) (slot (set sl x w) y) (value_in c.env y) (c.pl y) (c.hd y)) (λ e. tt)
-        (λ e. subst (λ (q : ℕ). Has laid s c' (c.scope y) q (value_in c.env y) (c.pl y) (c.hd y)) (sym (set-other sl x y w e)) (Has-keeps laid s c c' (c.scope y) (slot sl y) (value_in c.env y) (c.pl y) (c.hd y) (keeps_holding wi c x d a b n) (h.has y)))
+    has : (y : ℕ) → Has laid s c' (put c.scope x Held y) (slot sl y) (value_in c.env y) (c.pl y) (c.hd y)
+    has y = by_test y x (λ t. Has laid s c' (cond t Held (c.scope y)) (slot sl y) (value_in c.env y) (c.pl y) (c.hd y)) (λ e. tt)
+        (λ e. Has-keeps laid s c c' (c.scope y) (slot sl y) (value_in c.env y) (c.pl y) (c.hd y) (keeps_holding wi c x d a b n) (h.has y))
 
-    wide : (y : ℕ) → has_slot (put c.scope x Held y) ≡ true → y < length (set sl x w).vars
-    wide y = subst (λ (m : ℕ). has_slot (put c.scope x Held y) ≡ true → y < m) (sym (set-length sl x w))
-        (by_test y x (λ t. has_slot (cond t Held (c.scope y)) ≡ true → y < length sl.vars)
-        (λ e h'. subst (λ (z : ℕ). z < length sl.vars) (sym e) (h.wide x (absent_slot c.scope x n)))
-        (λ e h'. h.wide y h'))
+    wide : (y : ℕ) → has_slot (put c.scope x Held y) ≡ true → y < length sl.vars
+    wide y = by_test y x (λ t. has_slot (cond t Held (c.scope y)) ≡ true → y < length sl.vars) (λ e h'. subst (λ (z : ℕ). z < length sl.vars) (sym e) (h.wide x (absent_slot c.scope x n))) (λ e h'. h.wide y h')
+
+-- its slot is set too
+pub HasAll-hold : (wi : Within) (laid : LaidOut) (s : Store) (sl : Slots) (c : Ctx) (x w : ℕ) (d : Dest) (a b : ℕ) → c.scope x ≡ Absent → HasAll laid s sl c → HasAll laid s (set sl x w) (holding wi c x d a b)
+HasAll-hold wi laid s sl c x w d a b n h = HasAll-held wi laid s (set sl x w) c x d a b n (HasAll-moved (moved_set x w (not_there c.scope x n)) h)
 
 -- a head is open in the line
 abbrev pub opening : Ctx → ℕ → Dest → ℕ → ℕ → Ctx
@@ -200,13 +215,15 @@ HasAll-open laid s sl c x w d a b n h =
 
 pub all_calm_less : (m m' : ℕ → Bool) (k : Kont) → ((y : ℕ) → m' y ≡ true → m y ≡ true) → AllCalm m k → AllCalm m' k
 all_calm_less m m' (KEnd ty) h c = tt
-all_calm_less m m' (KSide y0 ty) h c = tt
+all_calm_less m m' (KSide b) h c = tt
 all_calm_less m m' (KLast l0 y0 s0) h c = tt
 all_calm_less m m' (KHere l x s t o k) h c = (record { calm = λ y t e. c.0.calm y t (h y e) }, all_calm_less m m' k h c.1)
 all_calm_less m m' (KRegion l x s t o k) h c = (record { calm = λ y t e. c.0.calm y t (h y e) }, all_calm_less m m' k h c.1)
 all_calm_less m m' (KScalar l x ty t o k) h c = (record { calm = λ y t e. c.0.calm y t (h y e) }, all_calm_less m m' k h c.1)
 all_calm_less m m' (KCall gs wc k) h c = tt
 all_calm_less m m' (KCallScalar x ty gs t o k) h c = tt
+all_calm_less m m' (KPart l i t tys ss vs ps o k) h c = (record { calm = λ y t e. c.0.calm y t (h y e) }, all_calm_less m m' k h c.1)
+all_calm_less m m' (KSeveral l xs tys t o k) h c = (record { calm = λ y t e. c.0.calm y t (h y e) }, all_calm_less m m' k h c.1)
 
 not_placed : (b : Bool) (so : Sort) (t : ℕ) → b ≡ true → loosen_one b so ≡ Placed t → ⊥
 not_placed false so t e h = absurd cc
@@ -243,25 +260,27 @@ under_holding m c x n = under_goes (goes_new c.scope x Held n) (λ y t. refl) (u
 
 pub resume-stop : (core : CoreTree) (n : ℕ) (k : Kont) (why : Reason) → resume core n k (Stops why) ≡ Stops why
 resume-stop core n (KEnd ty) why = refl
-resume-stop core n (KSide y0 ty) why = refl
+resume-stop core n (KSide b) why = refl
 resume-stop core n (KLast l0 y0 s0) why = refl
 resume-stop core n (KHere l x s u c k) why = refl
 resume-stop core n (KRegion l x s u c k) why = refl
 resume-stop core n (KScalar l x ty u c k) why = refl
 resume-stop core n (KCall gs wc k) why = resume-stop core (suc n) k why
 resume-stop core n (KCallScalar x ty gs u c k) why = refl
+resume-stop core n (KPart l i t tys ss vs ps c k) why = refl
+resume-stop core n (KSeveral l xs tys u c k) why = refl
 
 pub resume-with : (core : CoreTree) (n : ℕ) (k : Kont) (o : Outcome) (f : Datum → Outcome) → resume core n k (with_value o f) ≡ with_value o (λ v. resume core n k (f v))
 resume-with core n k (Stops why) f = resume-stop core n k why
 resume-with core n k (Gives v) f = refl
 
-pub from_having : (x : ℕ) (env : Environment) (o : Outcome) (go : Environment → Outcome) → from_there (having o (λ v. Went ((x, v) ∷ env))) go ≡ with_value o (λ v. go ((x, v) ∷ env))
-from_having x env (Stops why) go = refl
-from_having x env (Gives v) go = refl
+pub from_having : (s : Side) (env : Environment) (o : Outcome) (go : Environment → Outcome) → from_there (having o (λ v. Went (bind_side s v env))) go ≡ with_value o (λ v. go (bind_side s v env))
+from_having s env (Stops why) go = refl
+from_having s env (Gives v) go = refl
 
 -- a line with a part
-pub side_means : (core : CoreTree) (n : ℕ) (kind : Kind) (x : Variable) (ty : Ty) (t u : Term) (env : Environment) → means core n (Then (One (On kind x ty t)) u) env ≡ with_value (means core n t env) (λ v. means core n u ((x.0, v) ∷ env))
-side_means core n kind x ty t u env = from_having x.0 env (means core n t env) (λ e. means core n u e)
+pub side_means : (core : CoreTree) (n : ℕ) (s : Side) (u : Term) (env : Environment) → means core n (Then (One s) u) env ≡ with_value (side_gives core n s env) (λ v. means core n u (bind_side s v env))
+side_means core n s u env = from_having s env (side_gives core n s env) (λ e. means core n u e)
 
 -- A line goes on.
 
@@ -298,6 +317,25 @@ module _ {core : CoreTree} {code : CodeTree} {s : Store} {sl : Slots} {fs : List
     kind = l.kind;
   }
 
+  -- it waits for the parts of several variables, which a term with such cases makes
+  pub several_waits : {at : ℕ} {xs : List Variable} {tys : List Ty} (t : Term) {u : Rest} → OnLine core code s sl fs rs c k m → ((y : ℕ) → rest_cased u y ≡ true → m y ≡ true) → AllFollow xs u k → Next u k → rest_nest u ≤ nesting code
+      → length tys ≤ 8 → AreNew c.scope tys xs → RestCode core code c.line.within c.scope at u (end_of c.line.overs k) → RestFits core (needs_of k) u (bound_scope tys xs (loosen (cased t) c.scope)) c.dest (tell_line none_of c.line)
+      → SeveralWaits core code s sl at xs tys u (loosened (cased t) c) (cursor rs) k
+  several_waits {at} {xs} {tys} t {u} l less free next nar few new low fits = record {
+    low = rest_code_loosen core code c.line.within c.scope at u (end_of c.line.overs k) (cased t) low;
+    fits = fits;
+    few = few;
+    new = new_less c.scope (loosen (cased t) c.scope) tys xs (λ y e. loosen-absent (cased t y) (c.scope y) e) new;
+    matches = Matches-loosen (cased t) l.matches;
+    under = all_under_loosen c.scope c.env k (cased t) l.under;
+    given = given_keeps c (loosened (cased t) c) 0 (given_of k) (keeps_loosened (cased t) c) (λ y. goes_loosen (cased t y) (c.scope y)) l.given;
+    calm = all_calm_less m (rest_cased u) k less l.calm;
+    kind = l.kind;
+    free = free;
+    next = next;
+    narrow = nar;
+  }
+
 -- a term that opens no more
 pub room_less : {w d r : ℕ} {t t' : Term} {k : Kont} → nest t' ≤ nest t → MayFollow w d (Plain t) r k → MayFollow w d (Plain t') r k
 room_less le h = record { free = h.free; narrow = let n = h.narrow in omega (arith, n, le); nests = let n = h.nests in omega (arith, n, le); all_room = h.all_room }
@@ -306,7 +344,13 @@ room_less le h = record { free = h.free; narrow = let n = h.narrow in omega (ari
 
 pub follows : (x : ℕ) (u : Rest) (k : Kont) → Follows x u k → Next u k
 follows x (Plain u) k h = h
-follows x (Part wi s r) k h = h.0
+follows x (Part wi s r) k h = (h.0, follows x r k h.1)
 follows x (Meet p s u) k h = h.1
 follows x (Leave p u) k h = h
-follows x (Last y ty) k h = h
+follows x (Last b) k h = h
+follows x (Fills i tys ss vs ps) k h = h
+
+-- What is next behind several ones follows where the term's end is that of a body.
+pub all_follow : (u : Term) (k : Kont) (xs : List Variable) → IsInBody k → AllFollow xs (Plain u) k
+all_follow u k [] h = tt
+all_follow u k (x ∷ xs) h = (h, all_follow u k xs h)

@@ -1,5 +1,5 @@
 -- What is said of a frame's slots is kept when slots change that are not relied on, and when a line knows more.
-use Rattle.std.proofs.Common.{◌≡◌, ℕ, ◌+◌, ◌<◌, Bool, true, false, cond, eqb, List, [], ◌∷◌, ◌++◌, length, suc, Option, None, Some, append_assoc, refl, sym, ap, subst, ◌∙◌, arith, ◌≤◌}
+use Rattle.std.proofs.Common.{◌≡◌, ℕ, ◌+◌, ◌<◌, Bool, true, false, cond, eqb, List, [], ◌∷◌, ◌++◌, ◌-◌, length, drop, suc, Option, None, Some, append_assoc, refl, sym, ap, subst, ◌∙◌, arith, ◌≤◌}
 use Rattle.std.proofs.lemmas.Bool.{true≢false}
 use Rattle.gib_types.specs.Layout.{LaidOut, head_size}
 use Rattle.gib_types.specs.Tree.{Datum}
@@ -10,14 +10,16 @@ use Rattle.gib_packed.specs.Decoding.{Dec}
 use Rattle.gib_core.specs.Tree.{Term, CoreTree}
 use Rattle.gib_code.specs.Program.{CodeTree}
 use Rattle.gib_core.specs.Ending.{Within}
-use Rattle.gib_core.specs.Low.{Over, End, Field as StoredField, field_of}
-use Rattle.gib_machine.specs.State.{Slots, slot, end_at, set, Frame, Open as OpenRegion}
+use Rattle.gib_core.specs.Low.{Over, End, Field as StoredField, field_of, packed_slots}
+use Rattle.gib_machine.specs.State.{Slots, slot, end_at, set, Frame, Open as OpenRegion, sink}
 use Rattle.gib_weave.specs.EndWords.{both, EndWord, HasEnd, IsTold}
-use Rattle.gib_core.specs.Fits.{put, Sort, Outside, Absent, Scalar, Held, Placed, Loose, AtHead, Field, Scope, is_settled, Line, is_there, has_slot, tree_type, loosen_one, loosen, Dest, Nowhere, Empty, Open, IsDue, more}
+use Rattle.gib_core.specs.Fits.{put, Sort, Outside, Absent, Scalar, Held, Placed, Loose, AtHead, Field, Scope, is_settled, Line, is_there, has_slot, tree_type, loosen_one, loosen, Dest, Nowhere, Empty, Open, InParts, IsDue, more, packed_due}
 use Rattle.gib_weave.specs.Environment.{Given, AreGiven, AllClose, Ctx, IsScalar, StandsAt, Has, HasAll, Fields, none, field, IsDest, Matches}
-use Rattle.gib_weave.specs.Continuing.{Rest, Plain, Part, Meet, Leave, Last, KSide, KLast, RestCode, Kont, KEnd, KHere, KRegion, KScalar, KCall, KCallScalar, Goes, Under, AllUnder, Agrees, IsCode}
+use Rattle.gib_weave.specs.Continuing.{Rest, Plain, Part, Meet, Leave, Last, Fills, KSide, KLast, RestCode, Kont, KEnd, KHere, KRegion, KScalar, KCall, KCallScalar, KPart, KSeveral, Goes, Under, AllUnder, Agrees, IsCode}
 use Rattle.gib_weave.specs.Places.{kont_covers, heads}
 use Rattle.gib_weave.specs.Stacks.{Waits, Stack}
+use Rattle.gib_weave.specs.Groups.{unused}
+use Rattle.gib_weave.proofs.Groups.{AreSame, same_held, held_held, starts_same}
 use Rattle.gib_weave.proofs.Basics.{by_test, put-same, put-other, set-same, set-other, set-length, end-same, end-other, ends-length, both-other}
 
 pub settled_there : (so : Sort) → is_settled so ≡ true → is_there so ≡ true
@@ -95,6 +97,7 @@ Has-moved laid s c (Field t z x k p) w w' v at hd m h = h
 pub IsDest-moved : (laid : LaidOut) (s : Store) (sl sl' : Slots) (c : Ctx) (cur : ℕ) (d : Dest) → Moved laid s sl sl' c → IsDest laid s sl c d cur → IsDest laid s sl' c d cur
 IsDest-moved laid s sl sl' c cur (Nowhere ty) m h = tt
 IsDest-moved laid s sl sl' c cur (Empty t) m h = h
+IsDest-moved laid s sl sl' c cur (InParts tys) m h = tt
 IsDest-moved laid s sl sl' c cur (Open t x k xs dues) m h =
     let e : slot sl' x ≡ slot sl x = subst (λ (so : Sort). MovedOne laid s so (slot sl x) (slot sl' x) (value_in c.env x)) h.sort (m.one x) in
     record { con = h.con; slot = e ∙ h.slot; sort = h.sort; leads = h.leads; types = h.types; all = h.all; fields = h.fields }
@@ -118,31 +121,52 @@ Waits-moved m w = record { free = w.free; narrow = w.narrow; low = w.low; fits =
 -- the lines of this frame that wait rely on none of the changes
 abbrev pub AllMoved : LaidOut → Store → Slots → Slots → Kont → Type 0
 AllMoved laid s sl sl' (KEnd ty) = Unit {0}
-AllMoved laid s sl sl' (KSide y0 ty) = Unit {0}
+AllMoved laid s sl sl' (KSide b) = Unit {0}
 AllMoved laid s sl sl' (KLast l0 y0 s0) = slot sl' y0 ≡ slot sl y0
 AllMoved laid s sl sl' (KHere l x t u c k) = (both sl' x ≡ both sl x) × Moved laid s sl sl' c × AllMoved laid s sl sl' k
 AllMoved laid s sl sl' (KRegion l x t u c k) = (both sl' x ≡ both sl x) × Moved laid s sl sl' c × AllMoved laid s sl sl' k
 AllMoved laid s sl sl' (KScalar l x ty u c k) = Moved laid s sl sl' c × AllMoved laid s sl sl' k
 AllMoved laid s sl sl' (KCall gs wc k) = Unit {0}
 AllMoved laid s sl sl' (KCallScalar x ty gs u c k) = Unit {0}
+AllMoved laid s sl sl' (KPart l i t tys ss vs ps c k) = Moved laid s sl sl' c × AllMoved laid s sl sl' k
+AllMoved laid s sl sl' (KSeveral l xs tys u c k) = AreSame sl sl' (packed_slots tys xs) × Moved laid s sl sl' c × AllMoved laid s sl sl' k
 
 pub Stack-moved : (core : CoreTree) (code : CodeTree) (s : Store) (k : Kont) (sl sl' : Slots) (fs : List Frame) (a : ℕ) (rs : List OpenRegion) → AllMoved code.laid s sl sl' k → Stack core code s k sl fs a rs → Stack core code s k sl' fs a rs
 Stack-moved core code s (KEnd ty) sl sl' [] a rs m h = h
 Stack-moved core code s (KEnd ty) sl sl' (f ∷ fs) a rs m h = absurd h
-Stack-moved core code s (KSide y ty) sl sl' [] a rs m h = tt
-Stack-moved core code s (KSide y ty) sl sl' (f ∷ fs) a rs m h = absurd h
+Stack-moved core code s (KSide b) sl sl' [] a rs m h = tt
+Stack-moved core code s (KSide b) sl sl' (f ∷ fs) a rs m h = absurd h
 Stack-moved core code s (KLast l y t) sl sl' [] a [] m h = absurd h
 Stack-moved core code s (KLast l y t) sl sl' [] a (r ∷ []) m h = (h.0, m ∙ h.1, h.2)
 Stack-moved core code s (KLast l y t) sl sl' [] a (r ∷ q ∷ rs) m h = absurd h
 Stack-moved core code s (KLast l y t) sl sl' (f ∷ fs) a rs m h = absurd h
 Stack-moved core code s (KHere l x t u c k) sl sl' fs a rs m h = (m.0 ∙ h.0, h.1, Waits-moved m.1 h.2, Stack-moved core code s k sl sl' fs c.front rs m.2 h.3)
 Stack-moved core code s (KRegion l x t u c k) sl sl' fs a [] m h = absurd h
-Stack-moved core code s (KRegion l x t u c k) sl sl' fs a (q ∷ rs) m h = (m.0 ∙ h.0, h.1, h.2, Waits-moved m.1 h.3, Stack-moved core code s k sl sl' fs c.front rs m.2 h.4)
-Stack-moved core code s (KScalar l x ty u c k) sl sl' fs a rs m h = (h.0, Waits-moved m.0 h.1, Stack-moved core code s k sl sl' fs c.front rs m.1 h.2)
+Stack-moved core code s (KRegion l x t u c k) sl sl' fs a (q ∷ rs) m h = (m.0 ∙ h.0, h.1, h.2, Waits-moved m.1 h.3, Stack-moved core code s k sl sl' fs c.front rs m.2 h.4, h.5)
+Stack-moved core code s (KScalar l x ty u c k) sl sl' fs a rs m h = (h.0, Waits-moved m.0 h.1, Stack-moved core code s k sl sl' fs c.front rs m.1 h.2, h.3)
 Stack-moved core code s (KCall gs wc k) sl sl' [] a rs m h = absurd h
 Stack-moved core code s (KCall gs wc k) sl sl' (f ∷ fs) a rs m h = h
 Stack-moved core code s (KCallScalar x ty gs u c k) sl sl' [] a rs m h = absurd h
 Stack-moved core code s (KCallScalar x ty gs u c k) sl sl' (f ∷ fs) a rs m h = h
+Stack-moved core code s (KPart l i t tys ss vs ps c k) sl sl' fs a [] m h = absurd h
+Stack-moved core code s (KPart l i t tys ss vs ps c k) sl sl' fs a (r ∷ rs) m h =
+    let w = h.2 in (
+      h.0,
+      h.1,
+      record { low = w.low; fits = w.fits; meets = w.meets; dest = w.dest; many = w.many; vars = HasAll-moved m.0 w.vars; under = w.under; given = w.given; calm = w.calm; kind = w.kind; free = w.free; narrow = w.narrow },
+      h.3,
+      h.4,
+      Stack-moved core code s k sl sl' fs c.front (sink (length (packed_due tys) - 1 - i) (unused r ∷ rs)) m.1 h.5,
+    )
+Stack-moved core code s (KSeveral l xs tys u c k) sl sl' fs a rs m h =
+    let w = h.3 in (
+      starts_same sl sl' (packed_slots tys xs) rs m.0 h.0,
+      h.1,
+      h.2,
+      record { low = w.low; fits = w.fits; few = w.few; new = w.new; matches = Matches-moved m.1 w.matches; under = w.under; given = w.given; calm = w.calm; kind = w.kind; free = w.free; next = w.next; narrow = w.narrow },
+      Stack-moved core code s k sl sl' fs c.front (drop (length (packed_slots tys xs)) rs) m.2 h.4,
+      h.5,
+    )
 
 -- A line knows more.
 
@@ -211,15 +235,22 @@ moved_set {laid} {s} {sl} {c} x w n = record { one = λ y. one y; long = set-len
 pub held : (sc : Scope) (x y : ℕ) → sc y ≡ Held → is_there (sc x) ≡ false → y ≡ x → ⊥
 held sc x y h n e = true≢false (sym (ap is_there h) ∙ ap (λ z. is_there (sc z)) e ∙ n)
 
+-- a held variable stays held while another one is
+pub put_held : (sc : Scope) (x y : ℕ) → sc y ≡ Held → put sc x Held y ≡ Held
+put_held sc x y h = by_test y x (λ b. cond b Held (sc y) ≡ Held) (λ e. refl) (λ e. h)
+
 pub all_moved_set : (laid : LaidOut) (s : Store) (sl : Slots) (sc : Scope) (env : Environment) (k : Kont) (x w : ℕ) → AllUnder sc env k → is_there (sc x) ≡ false → AllMoved laid s sl (set sl x w) k
 all_moved_set laid s sl sc env (KEnd ty) x w u n = tt
-all_moved_set laid s sl sc env (KSide y0 ty) x w u n = tt
+all_moved_set laid s sl sc env (KSide b) x w u n = tt
 all_moved_set laid s sl sc env (KLast l0 y0 s0) x w u n = set-other sl x y0 w (held sc x y0 u n)
 all_moved_set laid s sl sc env (KHere l y s' t c k) x w u n = (both-other sl x y w 0 (held sc x y u.0 n), moved_set x w (new_under x u.1 n), all_moved_set laid s sl sc env k x w u.2 n)
 all_moved_set laid s sl sc env (KRegion l y s' t c k) x w u n = (both-other sl x y w 0 (held sc x y u.0 n), moved_set x w (new_under x u.1 n), all_moved_set laid s sl sc env k x w u.2 n)
 all_moved_set laid s sl sc env (KScalar l y ty t c k) x w u n = (moved_set x w (new_under x u.0 n), all_moved_set laid s sl sc env k x w u.1 n)
 all_moved_set laid s sl sc env (KCall gs wc k) x w u n = tt
 all_moved_set laid s sl sc env (KCallScalar y ty gs t c k) x w u n = tt
+all_moved_set laid s sl sc env (KPart l i t tys ss vs ps c k) x w u n = (moved_set x w (new_under x u.0 n), all_moved_set laid s sl sc env k x w u.1 n)
+all_moved_set laid s sl sc env (KSeveral l ys tys t c k) x w u n =
+    (same_held sl (set sl x w) sc tys ys (λ y h. both-other sl x y w 0 (held sc x y h n)) u.0, moved_set x w (new_under x u.1 n), all_moved_set laid s sl sc env k x w u.2 n)
 
 -- what is there in one line is so in the other
 pub record Keeps (c c' : Ctx) : Type 0 where
@@ -388,6 +419,7 @@ HasAll-line {c = c} ln te ac h = HasAll-dest {c = c} {c' = with_line c ln} refl 
 pub IsDest-line : (laid : LaidOut) (s : Store) (sl : Slots) (c : Ctx) (cur : ℕ) (d : Dest) (ln : Line) → IsDest laid s sl c d cur → IsDest laid s sl (with_line c ln) d cur
 IsDest-line laid s sl c cur (Nowhere ty) ln h = tt
 IsDest-line laid s sl c cur (Empty t) ln h = h
+IsDest-line laid s sl c cur (InParts tys) ln h = tt
 IsDest-line laid s sl c cur (Open t x k xs dues) ln h = record { con = h.con; slot = h.slot; sort = h.sort; leads = h.leads; types = h.types; all = h.all; fields = Fields-keeps (keeps_line c ln) h.fields }
 
 pub Matches-line : {laid : LaidOut} {s : Store} {sl : Slots} {c : Ctx} {cur : ℕ} (ln : Line) → ((q : ℕ) → ln.told q ≡ true → IsTold sl c.scope q) → AllClose laid s c ln.overs → Matches laid s sl c cur → Matches laid s sl (with_line c ln) cur
@@ -396,6 +428,7 @@ Matches-line {laid} {s} {sl} {c} {cur} ln te ac m = record { vars = HasAll-line 
 pub IsDest-bind : (laid : LaidOut) (s : Store) (sl : Slots) (c : Ctx) (cur x : ℕ) (so : Sort) (v : Datum) (at : ℕ) (d : Dest) → c.scope x ≡ Absent → IsDest laid s sl c d cur → IsDest laid s sl (with_var c x so v at) d cur
 IsDest-bind laid s sl c cur x so v at (Nowhere ty) n h = tt
 IsDest-bind laid s sl c cur x so v at (Empty t) n h = h
+IsDest-bind laid s sl c cur x so v at (InParts tys) n h = tt
 IsDest-bind laid s sl c cur x so v at (Open t y k xs dues) n h = record {
   con = h.con;
   slot = h.slot;
@@ -409,6 +442,7 @@ IsDest-bind laid s sl c cur x so v at (Open t y k xs dues) n h = record {
 pub IsDest-more : (laid : LaidOut) (s : Store) (sl : Slots) (c : Ctx) (a z x t : ℕ) (v : Datum) (d : Dest) → c.scope x ≡ Absent → IsDue d t → Dec laid s a t v z → IsDest laid s sl c d a → IsDest laid s sl (with_dest (with_var c x (Placed t) v a) (more d x)) (more d x) z
 IsDest-more laid s sl c a z x t v (Nowhere ty) n o e h = absurd o
 IsDest-more laid s sl c a z x t v (Empty u) n o e h = absurd o
+IsDest-more laid s sl c a z x t v (InParts tys) n o e h = absurd o
 IsDest-more laid s sl c a z x t v (Open u y k xs []) n o e h = absurd o
 IsDest-more laid s sl c a z x t v (Open u y k xs (q ∷ dues)) n o e h =
     let c1 = with_var c x (Placed t) v a in
@@ -428,6 +462,7 @@ IsDest-more laid s sl c a z x t v (Open u y k xs (q ∷ dues)) n o e h =
 pub covers_more : (laid : LaidOut) (h : ℕ) (d : Dest) (x : ℕ) (k : Kont) (q : ℕ) → heads laid h (more d x) k q ≡ heads laid h d k q
 covers_more laid h (Nowhere ty) x k q = refl
 covers_more laid h (Empty t) x k q = refl
+covers_more laid h (InParts tys) x k q = refl
 covers_more laid h (Open t y c xs []) x k q = refl
 covers_more laid h (Open t y c xs (u ∷ dues)) x k q = refl
 
@@ -435,6 +470,7 @@ covers_more laid h (Open t y c xs (u ∷ dues)) x k q = refl
 pub kont_less : (laid : LaidOut) (h : ℕ) (d : Dest) (k : Kont) (q : ℕ) → kont_covers laid k q ≤ heads laid h d k q
 kont_less laid h (Nowhere ty) k q = omega arith
 kont_less laid h (Empty t) k q = omega arith
+kont_less laid h (InParts tys) k q = omega arith
 kont_less laid h (Open t x c xs dues) k q = omega arith
 
 -- Sorts within a line.
@@ -487,13 +523,15 @@ under_goes {o} {sc} {sc'} g e u = record {
 
 pub all_under_goes : (sc sc' : Scope) (env env' : Environment) (k : Kont) → ((y : ℕ) → Goes (sc y) (sc' y)) → ((y : ℕ) → is_there (sc y) ≡ true → value_in env' y ≡ value_in env y) → AllUnder sc env k → AllUnder sc' env' k
 all_under_goes sc sc' env env' (KEnd ty) g e u = tt
-all_under_goes sc sc' env env' (KSide y0 ty) g e u = tt
+all_under_goes sc sc' env env' (KSide b) g e u = tt
 all_under_goes sc sc' env env' (KLast l0 y0 s0) g e u = subst (λ (z : Sort). Goes z (sc' y0)) u (g y0)
 all_under_goes sc sc' env env' (KHere l x s t c k) g e u = (subst (λ (z : Sort). Goes z (sc' x)) u.0 (g x), under_goes g e u.1, all_under_goes sc sc' env env' k g e u.2)
 all_under_goes sc sc' env env' (KRegion l x s t c k) g e u = (subst (λ (z : Sort). Goes z (sc' x)) u.0 (g x), under_goes g e u.1, all_under_goes sc sc' env env' k g e u.2)
 all_under_goes sc sc' env env' (KScalar l x ty t c k) g e u = (under_goes g e u.0, all_under_goes sc sc' env env' k g e u.1)
 all_under_goes sc sc' env env' (KCall gs wc k) g e u = tt
 all_under_goes sc sc' env env' (KCallScalar x ty gs t c k) g e u = tt
+all_under_goes sc sc' env env' (KPart l i t tys ss vs ps c k) g e u = (under_goes g e u.0, all_under_goes sc sc' env env' k g e u.1)
+all_under_goes sc sc' env env' (KSeveral l xs tys t c k) g e u = (held_held sc sc' xs (λ y h. subst (λ (z : Sort). Goes z (sc' y)) h (g y)) u.0, under_goes g e u.1, all_under_goes sc sc' env env' k g e u.2)
 
 pub goes_new : (sc : Scope) (x : ℕ) (so : Sort) → sc x ≡ Absent → (y : ℕ) → Goes (sc y) (put sc x so y)
 goes_new sc x so n y = by_test y x (λ b. Goes (sc y) (cond b so (sc y))) (λ e. goes-absent (sc y) so (ap (λ z. is_there (sc z)) e ∙ ap is_there n)) (λ e. goes-refl (sc y))
@@ -541,16 +579,18 @@ code_loosen {sc = sc} m l = record { fields = l.fields; until = l.until; low = l
 pub rest_code_put : (core : CoreTree) (code : CodeTree) (w : Within) (sc : Scope) (at : ℕ) (u : Rest) (e : End) (x : ℕ) (so : Sort) → is_field so ≡ false → RestCode core code w sc at u e → RestCode core code w (put sc x so) at u e
 rest_code_put core code w sc at (Plain u) e x so n l = code_put x so n l
 rest_code_put core code w sc at (Part wi s r) e x so n l = (l.0, l.1, l.2, agrees_put l.0 sc x so n l.3, rest_code_put core code w sc l.1 r e x so n l.4)
-rest_code_put core code w sc at (Meet p s u) e x so n l = record { fields = l.fields; until = l.until; join = l.join; side = l.side; back = l.back; next = code_put x so n l.next; agree = agrees_put l.fields sc x so n l.agree; label = l.label; kind = l.kind; variable = l.variable }
+rest_code_put core code w sc at (Meet p s u) e x so n l = record { fields = l.fields; until = l.until; join = l.join; side = l.side; back = l.back; next = code_put x so n l.next; agree = agrees_put l.fields sc x so n l.agree; label = l.label; kind = l.kind; variables = l.variables }
 rest_code_put core code w sc at (Leave p u) e x so n l = (l.0, code_put x so n l.1)
-rest_code_put core code w sc at (Last y ty) e x so n l = l
+rest_code_put core code w sc at (Last b) e x so n l = l
+rest_code_put core code w sc at (Fills i tys ss vs ps) e x so n l = record { fields = l.fields; behind = l.behind; parts = l.parts; until = l.until; gives = l.gives; agree = agrees_put l.fields sc x so n l.agree }
 
 pub rest_code_loosen : (core : CoreTree) (code : CodeTree) (w : Within) (sc : Scope) (at : ℕ) (u : Rest) (e : End) (m : ℕ → Bool) → RestCode core code w sc at u e → RestCode core code w (loosen m sc) at u e
 rest_code_loosen core code w sc at (Plain u) e m l = code_loosen m l
 rest_code_loosen core code w sc at (Part wi s r) e m l = (l.0, l.1, l.2, agrees_loosen l.0 sc m l.3, rest_code_loosen core code w sc l.1 r e m l.4)
-rest_code_loosen core code w sc at (Meet p s u) e m l = record { fields = l.fields; until = l.until; join = l.join; side = l.side; back = l.back; next = code_loosen m l.next; agree = agrees_loosen l.fields sc m l.agree; label = l.label; kind = l.kind; variable = l.variable }
+rest_code_loosen core code w sc at (Meet p s u) e m l = record { fields = l.fields; until = l.until; join = l.join; side = l.side; back = l.back; next = code_loosen m l.next; agree = agrees_loosen l.fields sc m l.agree; label = l.label; kind = l.kind; variables = l.variables }
 rest_code_loosen core code w sc at (Leave p u) e m l = (l.0, code_loosen m l.1)
-rest_code_loosen core code w sc at (Last y ty) e m l = l
+rest_code_loosen core code w sc at (Last b) e m l = l
+rest_code_loosen core code w sc at (Fills i tys ss vs ps) e m l = record { fields = l.fields; behind = l.behind; parts = l.parts; until = l.until; gives = l.gives; agree = agrees_loosen l.fields sc m l.agree }
 
 -- What a frame was given.
 

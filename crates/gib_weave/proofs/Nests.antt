@@ -1,5 +1,5 @@
 -- A body has no more regions and `par`s open at a time than its code says.
-use Rattle.std.proofs.Common.{Bool, true, false, cond, ◌≡◌, ℕ, zero, suc, ◌+◌, ◌-◌, ◌≤◌, List, [], ◌∷◌, ◌++◌, Some, refl, ap, ◌∙◌, arith}
+use Rattle.std.proofs.Common.{length, Bool, true, false, cond, ◌≡◌, ℕ, zero, suc, ◌+◌, ◌-◌, ◌≤◌, List, [], ◌∷◌, ◌++◌, Some, refl, ap, ◌∙◌, arith}
 use Rattle.std.specs.Prelude.{slice_get}
 use Rattle.std.proofs.lemmas.Option.{same_Some, none-some}
 use Rattle.gib_types.specs.declared.table.Ty.{Ty}
@@ -9,7 +9,7 @@ use Rattle.gib_types.specs.Layout.{LaidOut}
 use Rattle.gib_core.specs.declared.atom.Access.{Access}
 use Rattle.gib_core.specs.declared.atom.Access.TheVariants as by
 use Rattle.gib_core.specs.declared.atom.Variable.{Variable}
-use Rattle.gib_core.specs.Tree.{Term, Bind, Side, Branches, CoreTree, On}
+use Rattle.gib_core.specs.Tree.{Term, Bind, Side, Branches, PartTerms, CoreTree}
 use Rattle.gib_code.specs.declared.instruction.Arm.{Arm}
 use Rattle.gib_code.specs.declared.instruction.Operand.{Operand}
 use Rattle.gib_code.specs.Instruction.{Instruction}
@@ -21,9 +21,9 @@ use Rattle.gib_core.specs.Ending.{Within, within_par, ended, has_ended}
 use Rattle.gib_core.specs.declared.atom.Atom.{Atom}
 use Rattle.gib_core.specs.declared.atom.Atom.TheVariants as atom
 use Rattle.gib_code.specs.Instruction as i
-use Rattle.gib_core.specs.Low.{Low, LowArms, LowBind, LowSide, End, Returns, To, Field, ending, giving, reaching, scalar_reads, first_reach, arm_opening, laid_of, with_fields}
+use Rattle.gib_core.specs.Low.{Low, LowArms, LowBind, LowParts, LowSide, End, Returns, To, ToParts, Field, begin_all, call_ending, done_all, ending, giving, giving_parts, moves, packed_slots, scalar_slots, takes_parts, reaching, scalar_reads, first_reach, arm_opening, laid_of, with_fields}
 use Rattle.gib_machine.specs.State.{open_behind, nesting_from, nesting}
-use Rattle.gib_weave.specs.Continuing.{nest, bind_nest, side_nest, branches_nest}
+use Rattle.gib_weave.specs.Continuing.{nest, bind_nest, side_nest, parts_nest, branches_nest}
 
 -- How many are open at a place of these instructions, before which n are.
 abbrev open_at : ℕ → ℕ → List Instruction → ℕ
@@ -62,6 +62,7 @@ plain_overs (o ∷ os) is p = ((λ n. refl), plain_overs os is p)
 plain_ending : (e : End) → ArePlain (ending e)
 plain_ending (Returns os) = plain_overs os (i.Return ∷ []) ((λ n. refl), tt)
 plain_ending (To l d) = ((λ n. refl), tt)
+plain_ending (ToParts l ds) = ((λ n. refl), tt)
 
 plain_gots : (es : List Ended) (f k : ℕ) (xs : List Atom) → ArePlain (low.got_from es f k xs)
 plain_gots es f k [] = tt
@@ -83,6 +84,26 @@ plain_all_gots w core f xs = by w.par
 plain_giving : (s : Operand) (e : End) → ArePlain (giving s e)
 plain_giving s (Returns os) = plain_overs os (i.Give s ∷ []) ((λ n. refl), tt)
 plain_giving s (To l d) = ((λ n. refl), ((λ n. refl), tt))
+plain_giving s (ToParts l ds) = ((λ n. refl), tt)
+
+plain_moves : (ds : List ℕ) (ss : List Operand) → ArePlain (moves ds ss)
+plain_moves [] ss = tt
+plain_moves (d ∷ ds) [] = tt
+plain_moves (d ∷ ds) (s ∷ ss) = ((λ n. refl), plain_moves ds ss)
+
+plain_gives : (ss : List Operand) (e : End) → ArePlain (giving_parts ss e)
+plain_gives ss (Returns os) = plain_overs os (i.GiveParts ss ∷ []) ((λ n. refl), tt)
+plain_gives ss (To l d) = ((λ n. refl), tt)
+plain_gives ss (ToParts l ds) = plain_append (moves ds ss) _ (plain_moves ds ss) ((λ n. refl), tt)
+
+plain_takes : (i : ℕ) (ds : List ℕ) → ArePlain (takes_parts i ds)
+plain_takes i [] = tt
+plain_takes i (d ∷ ds) = ((λ n. refl), plain_takes (suc i) ds)
+
+plain_calls : (e : End) → ArePlain (call_ending e)
+plain_calls (Returns os) = plain_overs os (i.Return ∷ []) ((λ n. refl), tt)
+plain_calls (To l d) = ((λ n. refl), tt)
+plain_calls (ToParts l ds) = plain_append (takes_parts 0 ds) _ (plain_takes 0 ds) ((λ n. refl), tt)
 
 plain_reaching : (fs : List Field) (y : Variable) (access : Access) → IsPlain (reaching fs y access)
 plain_reaching fs y by.Offset = λ n. refl
@@ -130,6 +151,14 @@ module _ (core : CoreTree) (code : CodeTree) where
   leaf_plain (low.no_leaf never) = refl
   leaf_plain {l = l} (low.leaf mst h e) = one_plain l _ e (λ n. refl)
 
+  begun_many : (a : ℕ) (xs : List ℕ) (z : ℕ) → AreAt code a (begin_all xs) z → opened z ≡ length xs + opened a
+  begun_many a [] _ none = omega arith
+  begun_many a (x ∷ xs) z (one_more e r) = let i = begun_many (a + 1) xs z r in let f = one_step a _ e in omega (arith, i, f)
+
+  ended_many : (a : ℕ) (xs : List ℕ) (z : ℕ) → AreAt code a (done_all xs) z → opened z ≡ opened a - length xs
+  ended_many a [] _ none = omega arith
+  ended_many a (x ∷ xs) z (one_more e r) = let i = ended_many (a + 1) xs z r in let f = one_step a _ e in omega (arith, i, f)
+
   simple : (a z : ℕ) → opened z ≡ opened a → Level a z 0
   simple a z e = record { back = e; below = let h = most_open a 0 code.instructions in omega (arith, h) }
 
@@ -137,7 +166,7 @@ module _ (core : CoreTree) (code : CodeTree) where
     level : (w : Within) (fs : List Field) (a : ℕ) (t : Term) (e : End) (z : ℕ) → Low core code w fs a t e z → Level a z (nest t)
     level w fs a _ e z (low.write h) = simple a z (plain a _ z h ((λ n. refl), plain_ending e))
     level w fs a _ e z (low.point h) = simple a z (plain a _ z h ((λ n. refl), plain_ending e))
-    level w fs a _ e z (low.call {f = f} {xs = xs} h) = simple a z (plain a _ z h ((λ n. refl), plain_append _ _ (plain_all_gots w core f.0 xs) (plain_ending e)))
+    level w fs a _ e z (low.call {f = f} {xs = xs} h) = simple a z (plain a _ z h ((λ n. refl), plain_append _ _ (plain_all_gots w core f.0 xs) (plain_calls e)))
     level w fs a _ e z (low.give {x = x} h) = simple a z (plain a _ z h (plain_giving (low.operand x) e))
     level w fs a _ e z (low.branch {l = l} {u = u} {v = v} h lu lv) =
         let s = one_plain a _ h (λ n. refl) in
@@ -159,6 +188,21 @@ module _ (core : CoreTree) (code : CodeTree) where
         let q = j.below in
         let r = i.back in
         record { back = j.back ∙ r; below = omega (arith, p, q, r) }
+    level w fs a _ e z (low.tuple {m = m} {ss = ss} {ps = ps} lp g) =
+        let i = parts_level w fs a _ _ ps m lp in
+        record { back = plain m _ z g (plain_gives _ e) ∙ i.back; below = i.below }
+
+    parts_level : (w : Within) (fs : List Field) (a i k : ℕ) (ps : PartTerms) (z : ℕ) → LowParts core code w fs a i k ps z → Level a z (parts_nest ps)
+    parts_level w fs a i k _ _ low.no_part = simple a a refl
+    parts_level w fs a i k _ z (low.part {m = m} {u = u} {ps = ps} hi lu ho lp) =
+        let s = one_plain a _ hi (λ n. refl) in
+        let j = level w fs (a + 1) u (To m 0) m lu in
+        let t = one_plain m _ ho (λ n. refl) in
+        let r = parts_level w fs (m + 1) (suc i) k ps z lp in
+        let p = j.below in
+        let q = r.below in
+        let b = j.back in
+        record { back = r.back ∙ t ∙ b ∙ s; below = omega (arith, p, q, b, s, t) }
 
     arms_level : (w : Within) (fs : List Field) (x a : ℕ) (arms : List Arm) (bs : Branches) (e : End) (z : ℕ) → LowArms core code w fs x a arms bs e z → Level a z (branches_nest bs)
     arms_level w fs x a _ _ e _ low.no_arm = simple a a refl
@@ -181,17 +225,17 @@ module _ (core : CoreTree) (code : CodeTree) where
         let q = j.below in
         let k = i.back in
         record { back = j.back ∙ k; below = omega (arith, p, q, k) }
-    bind_level w fs a _ _ (low.forked {m = m} {z = z} {l = l} {c = c} {x = x} {ty = ty} {u = u} hf ll hj lr hb) =
+    bind_level w fs a _ _ (low.forked {m = m} {z = z} {l = l} {r = r} hf ll hj lr hb) =
         let f : opened (a + 1) ≡ suc (opened a) = one_step a _ hf in
         let i = side_level (within_par w) fs (a + 1) l m ll in
         let g = one_plain m _ hj (λ n. refl) in
-        let j = side_level (within_par w) fs (m + 1) (On c x ty u) z lr in
+        let j = side_level (within_par w) fs (m + 1) r z lr in
         let b : opened (z + 1) ≡ opened z - 1 = one_step z _ hb in
         let p = i.below in
         let q = j.below in
-        let r = i.back in
+        let o = i.back in
         let s = j.back in
-        record { back = omega (arith, f, r, g, s, b); below = omega (arith, p, q, r, f, g) }
+        record { back = omega (arith, f, o, g, s, b); below = omega (arith, p, q, o, f, g) }
     bind_level w fs a _ _ (low.prim h) = simple a (a + 1) (one_plain a _ h (λ n. refl))
     bind_level w fs a _ _ (low.reach {y = y} {access = access} h) = simple a (a + 1) (one_plain a _ h (plain_reaching fs y access))
 
@@ -210,6 +254,13 @@ module _ (core : CoreTree) (code : CodeTree) where
         record { back = omega (arith, f, r, g); below = omega (arith, p, f) }
     side_level w fs a _ z (low.scalar_call {f = f} {xs = xs} h) = simple a z (plain a _ z h ((λ n. refl), plain_all_gots w core f.0 xs))
     side_level w fs a _ z (low.scalar {x = x} {u = u} o lu) = level w fs a u (To z x.0) z lu
+    side_level w fs a _ z (low.several {b = b} {l = l} {xs = xs} {tys = tys} {u = u} hb lu hd) =
+        let f = begun_many a (packed_slots tys xs) b hb in
+        let i = level w fs b u (ToParts l (scalar_slots tys xs)) l lu in
+        let g = ended_many l (packed_slots tys xs) z hd in
+        let p = i.below in
+        let r = i.back in
+        record { back = omega (arith, f, g, r); below = omega (arith, f, p) }
 
   -- So a term has, wherever its code stands.
   pub nests_within : (w : Within) (fs : List Field) (a : ℕ) (t : Term) (e : End) (z : ℕ) → Low core code w fs a t e z → nest t ≤ nesting code

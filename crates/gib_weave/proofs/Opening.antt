@@ -18,7 +18,7 @@ use Rattle.gib_weave.specs.declared.event.Event.TheVariants as event
 use Rattle.gib_weave.specs.declared.task.WeaveFault.{WeaveFault}
 use Rattle.gib_weave.specs.declared.task.WeaveFault.TheVariants as fault
 use Rattle.gib_weave.specs.Applied.{Applied, AreOpen, can_steal_from, event_of, number_of, opens, over}
-use Rattle.gib_weave.specs.Weave.{Weave, Task, Status, Event, Next, IsOn, Running, Finished, Joined, has_waiting, is_running, task}
+use Rattle.gib_weave.specs.Weave.{Weave, Task, Event, Next, IsOn, Running, Finished, has_waiting, is_running, task}
 use Rattle.gib_weave.specs.Weave as w
 use Rattle.gib_weave.proofs.Applying.{on_below}
 use Rattle.gib_weave.proofs.Picking.{newest_open, none_open, past_is_shut}

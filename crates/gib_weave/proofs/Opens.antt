@@ -7,10 +7,9 @@ use Rattle.gib_types.specs.declared.table.Ty.TheVariants.{Whole, Truth, Tree}
 use Rattle.gib_types.specs.declared.table.ConId.{ConId}
 use Rattle.gib_types.specs.Table.{fields_at, con_at, IsTable}
 use Rattle.gib_types.specs.Layout.{LaidOut, is_among, layout_of, packed_count, scalar_size, offset_size, head_size}
-use Rattle.gib_syntax.specs.Meaning.{is_scalar}
 use Rattle.gib_mem.specs.Memory.{Store, open_chunk, Grows}
 use Rattle.gib_types.proofs.LayoutLemmas.{head_long}
-use Rattle.gib_core.specs.Cost.{Cost}
+use Rattle.gib_core.specs.Cost.{Cost, one_region, plus}
 use Rattle.gib_region.specs.Region.{rest, pointer, HasRoom}
 use Rattle.gib_packed.specs.Decoding.{Points}
 use Rattle.gib_core.specs.declared.atom.Variable.{Variable}
@@ -26,9 +25,11 @@ use Rattle.gib_weave.proofs.Counts.{goes_on_counted, Paid, item_counted, turn_co
 use Rattle.gib_core.specs.Fits.{Held, Dest, Empty, Open, dest_type, packed_due, cased, put, Inner, new_line, none_of, side_tells}
 use Rattle.gib_weave.specs.Environment.{Ctx, Fields, none, IsDest}
 use Rattle.gib_packed.specs.Reaching.{Turns, there, turn as redirected}
-use Rattle.gib_weave.specs.Continuing.{given_of, Rest, Plain, Part, RestCode, rest_cased, Kont, KHere, KRegion, end_of, due, IsCode}
+use Rattle.gib_weave.specs.Stacks.{no_tree}
+use Rattle.gib_weave.proofs.Groups.{Group-grows}
+use Rattle.gib_weave.specs.Continuing.{made, given_of, Rest, Plain, Part, RestCode, rest_cased, Kont, KHere, KRegion, end_of, due, IsCode}
 use Rattle.gib_weave.specs.Owing.{Owed, rest_means, means}
-use Rattle.gib_weave.specs.Paying.{Share, Counted, left_costs}
+use Rattle.gib_weave.specs.Paying.{AtMost, Share, Counted, left_costs}
 use Rattle.gib_weave.specs.Places.{within, Owned, with_chunk, rest_covers, tail_covers, Apart, put_all, AllFresh, heads, kont_covers}
 use Rattle.gib_weave.specs.Sound.{counts, AtRest, AtTerm, at_term, Safe, rests, Moves, silent, draws, InMemory}
 use Rattle.gib_weave.specs.Starting.{AreBodies}
@@ -55,6 +56,7 @@ module _ (core : CoreTree) (code : CodeTree) (owed : Owed) (own : Owned) (sh : S
       let set_line = line_set x.0 w new at.line in
       silent (step_is code m (Here x.0) at.ready e) (rests (at_term {u = Plain t} {c = holding wi c x.0 (Empty st) w 0} {k = KHere l x.0 st u (loosened (cased t) (pend told none_of c)) k} record {
         ready = refl;
+        group = tt;
         low = code_put x.0 Held refl lt;
         fits = at.fits.4;
         line = record {
@@ -63,7 +65,7 @@ module _ (core : CoreTree) (code : CodeTree) (owed : Owed) (own : Owned) (sh : S
           stack = (
             both-same m.words x.0 w (at.line.matches.vars.wide x.0 (absent_slot c.scope x.0 new)) at.line.matches.vars.even,
             at.fits.2,
-            waiting t none_of set_line (λ y h. or_right (cased t y) (rest_cased u y) h) at.room.free (let h = at.room.narrow in omega (arith, h)) new lu at.fits.5 (λ q e. unheld c.scope x.0 q (side_settled wi core (Inner told) t (put c.scope x.0 Held) (Empty st) (new_line wi) at.fits.4 q e)),
+            waiting t none_of set_line (λ y h. or_right (cased t y) (rest_cased u y) h) at.room.free.0.0 (let h = at.room.narrow in omega (arith, h)) new lu at.fits.5 (λ q e. unheld c.scope x.0 q (side_settled wi core (Inner told) t (put c.scope x.0 Held) (Empty st) (new_line wi) at.fits.4 q e)),
             set_line.stack,
           );
           under = (put-same c.scope x.0 Held, under_holding (cased t) (pend told none_of c) x.0 new, all_under_hold c.scope c.env k x.0 new at.line.under);
@@ -76,6 +78,46 @@ module _ (core : CoreTree) (code : CodeTree) (owed : Owed) (own : Owned) (sh : S
         counted = goes_on_counted (record { regions = omega arith; items = omega arith }) at.counted;
         room = record { free = tt; narrow = let h = at.room.narrow in omega (arith, h); nests = let h = at.room.nests.0 in omega (arith, h); all_room = (at.room.nests.1, at.room.all_room) };
       }))
+
+module _ (core : CoreTree) (code : CodeTree) (owed : Owed) (own : Owned) (sh : Share) where
+  -- A region is begun: at the latest tail, or in a new chunk.
+  pub begins_region : (rm : ℕ) (m : State) {s : Store} (x : ℕ) (hs : ℕ → ℕ) (before left : Cost) → m.doing ≡ Ready → IsAt code m.ip (Begin x) → AtMost (plus one_region left) before → InMemory own s hs m.regions m.tails → Counted m.regions before sh
+      → ((own' : Owned) (sh' : Share) (s' : Store) (a : ℕ) (ts : List ℕ) → Grows s s' → InMemory own' s' hs (record { start = a; cur = a } ∷ m.regions) ts → Counted (record { start = a; cur = a } ∷ m.regions) left sh'
+      → Safe core code owed own' sh' s' (record m { ip = m.ip + 1; words = set m.words x a; regions = record { start = a; cur = a } ∷ m.regions; tails = ts; room = rm; doing = Ready }))
+      → Moves core code owed own sh s (record m { room = suc rm })
+  begins_region rm m {s} x hs before left ready e most memory counted go = by_tail (latest m.tails) refl (splits m.tails)
+    where
+      here : State
+      here = record m { room = suc rm }
+
+      in_chunk : (d : ℕ) → Paid (record { start = 4096 * d; cur = 4096 * d } ∷ m.regions) left sh 1
+      in_chunk d = chunk_counted (record { start = 4096 * d; cur = 4096 * d }) m.regions before left sh d refl most counted
+
+      in_tail : (a : ℕ) → Paid (record { start = a; cur = a } ∷ m.regions) left sh 0
+      in_tail a = tail_counted (record { start = a; cur = a }) m.regions before left sh most counted
+
+      asks : (o : Option (List ℕ × ℕ)) → latest m.tails ≡ o → next code here ≡ begins (record m { room = rm }) (λ t a. sets t x a) o
+      asks o q = step_is code here (Begin x) ready e ∙ ap (begins (record m { room = rm }) (λ t a. sets t x a)) q
+
+      by_tail : (o : Option (List ℕ × ℕ)) → latest m.tails ≡ o → SplitsAt m.tails (latest m.tails) → Moves core code owed own sh s here
+      by_tail None q h =
+          let none_left : m.tails ≡ [] = subst (λ (z : Option (List ℕ × ℕ)). SplitsAt m.tails z) q h in
+          draws (λ d. (in_chunk d).share) (asks None q) (λ d new. (in_chunk d).spends) (λ d new.
+          go (with_chunk own d) (in_chunk d).share (open_chunk s d) (4096 * d) [] (open-grows s d new)
+          (record {
+            places = Apart-open d new memory.places (λ q. let i : rest (4096 * d) ≡ 4096 = omega arith in let j = ap (λ (z : ℕ). within (4096 * d) z q) i in let f = ap (λ (z : List ℕ). tail_covers z q) none_left in omega (arith, j, f));
+            rooms = (omega arith, memory.rooms);
+            tail_rooms = tt;
+            small = open-small s d new memory.small;
+          })
+          (in_chunk d).counted)
+      by_tail (Some p) q h =
+          let sp : Splits m.tails p = subst (λ (z : Option (List ℕ × ℕ)). SplitsAt m.tails z) q h in
+          let ro = sp.rooms memory.tail_rooms in
+          silent (asks (Some p) q)
+          (counts (in_tail p.1).spends (go own (in_tail p.1).share s p.1 p.0 (record { kept = λ q b h. h })
+          (record { places = Apart-less memory.places (λ q. let i = sp.covers q in omega (arith, i)); rooms = (ro.1, memory.rooms); tail_rooms = ro.0; small = memory.small })
+          (in_tail p.1).counted))
 
 module _ (core : CoreTree) (code : CodeTree) (owed : Owed) (own : Owned) (sh : Share) {u : Rest} {c : Ctx} {k : Kont} (x : Variable) (xt : Ty) (l : ℕ) (wi : Within) (t : Term) where
   -- a region begins at a
@@ -91,6 +133,7 @@ module _ (core : CoreTree) (code : CodeTree) (owed : Owed) (own : Owned) (sh : S
       let set_line = line_set x.0 a new line in
       rests (at_term {u = Plain t} {c = holding wi c x.0 (Empty st) a 0} {k = KRegion l x.0 st u (loosened (cased t) (pend told none_of c)) k} record {
         ready = refl;
+        group = tt;
         low = code_put x.0 Held refl lt;
         fits = at.fits.3;
         line = record {
@@ -100,8 +143,9 @@ module _ (core : CoreTree) (code : CodeTree) (owed : Owed) (own : Owned) (sh : S
             both-same m.words x.0 a (at.line.matches.vars.wide x.0 (absent_slot c.scope x.0 new)) at.line.matches.vars.even,
             refl,
             ed,
-            waiting t none_of set_line (λ y h. or_right (cased t y) (rest_cased u y) h) at.room.free (let h = at.room.narrow in omega (arith, h)) new lu at.fits.4 (λ q e. unheld c.scope x.0 q (side_settled wi core (Inner told) t (put c.scope x.0 Held) (Empty st) (new_line wi) at.fits.3 q e)),
+            waiting t none_of set_line (λ y h. or_right (cased t y) (rest_cased u y) h) at.room.free.0.0 (let h = at.room.narrow in omega (arith, h)) new lu at.fits.4 (λ q e. unheld c.scope x.0 q (side_settled wi core (Inner told) t (put c.scope x.0 Held) (Empty st) (new_line wi) at.fits.3 q e)),
             set_line.stack,
+            Group-grows code.laid c.dest (made u) m.regions g at.group,
           );
           under = (put-same c.scope x.0 Held, under_holding (cased t) (pend told none_of c) x.0 new, all_under_hold c.scope c.env k x.0 new at.line.under);
           given = given_keeps c (holding wi c x.0 (Empty st) a 0) 0 (given_of k) (keeps_holding wi c x.0 (Empty st) a 0 new) (goes_new c.scope x.0 Held new) at.line.given;
@@ -118,42 +162,9 @@ module _ (core : CoreTree) (code : CodeTree) (owed : Owed) (own : Owned) (sh : S
   pub does_region : (rm : ℕ) (m : State) {s : Store} → IsAt code m.ip (Begin x.0) → IsCode core code wi c.scope (m.ip + 1) t (To l 0) → IsAt code l Done → RestCode core code c.line.within c.scope (l + 1) u (end_of c.line.overs k)
       → AtRest core code owed own sh s (record m { room = rm }) (Part wi (On kind.Region x xt t) u) c k → Moves core code owed own sh s (record m { room = rm })
   does_region zero m e lt ed lu at = absurd (let h = at.room.nests.0 in omega (arith, h))
-  does_region (suc rm) m {s} e lt ed lu at = go (latest m.tails) refl (splits m.tails)
-    where
-      here : State
-      here = record m { room = suc rm }
-
-      left : Cost
-      left = left_costs core m.depth m.level (Plain t) c.env (KRegion l x.0 at.fits.0 u (loosened (cased t) (pend (side_tells wi core t) none_of c)) k)
-
-      in_chunk : (d : ℕ) → Paid (record { start = 4096 * d; cur = 4096 * d } ∷ m.regions) left sh 1
-      in_chunk d = chunk_counted (record { start = 4096 * d; cur = 4096 * d }) m.regions (left_costs core m.depth m.level (Part wi (On kind.Region x xt t) u) c.env k) left sh d refl (record { regions = omega arith; items = omega arith }) at.counted
-
-      in_tail : (a : ℕ) → Paid (record { start = a; cur = a } ∷ m.regions) left sh 0
-      in_tail a = tail_counted (record { start = a; cur = a }) m.regions (left_costs core m.depth m.level (Part wi (On kind.Region x xt t) u) c.env k) left sh (record { regions = omega arith; items = omega arith }) at.counted
-
-      asks : (o : Option (List ℕ × ℕ)) → latest m.tails ≡ o → next code here ≡ begins (record m { room = rm }) (λ t a. sets t x.0 a) o
-      asks o q = step_is code here (Begin x.0) at.ready e ∙ ap (begins (record m { room = rm }) (λ t a. sets t x.0 a)) q
-
-      go : (o : Option (List ℕ × ℕ)) → latest m.tails ≡ o → SplitsAt m.tails (latest m.tails) → Moves core code owed own sh s here
-      go None q h =
-          let none_left : m.tails ≡ [] = subst (λ (z : Option (List ℕ × ℕ)). SplitsAt m.tails z) q h in
-          draws (λ d. (in_chunk d).share) (asks None q) (λ d new. (in_chunk d).spends) (λ d new.
-          region_at m rm [] (4096 * d) lt ed lu at (open-grows s d new)
-          (record {
-            places = Apart-open d new at.memory.places (λ q. let i : rest (4096 * d) ≡ 4096 = omega arith in let j = ap (λ (z : ℕ). within (4096 * d) z q) i in let f = ap (λ (z : List ℕ). tail_covers z q) none_left in omega (arith, j, f));
-            rooms = (omega arith, at.memory.rooms);
-            tail_rooms = tt;
-            small = open-small s d new at.memory.small;
-          })
-          (in_chunk d).counted)
-      go (Some p) q h =
-          let sp : Splits m.tails p = subst (λ (z : Option (List ℕ × ℕ)). SplitsAt m.tails z) q h in
-          let ro = sp.rooms at.memory.tail_rooms in
-          silent (asks (Some p) q)
-          (counts (in_tail p.1).spends (region_at m rm p.0 p.1 lt ed lu at (record { kept = λ q b h. h })
-          (record { places = Apart-less at.memory.places (λ q. let i = sp.covers q in omega (arith, i)); rooms = (ro.1, at.memory.rooms); tail_rooms = ro.0; small = at.memory.small })
-          (in_tail p.1).counted))
+  does_region (suc rm) m e lt ed lu at =
+      begins_region core code owed own sh rm m x.0 (heads code.laid c.head c.dest k) (left_costs core m.depth m.level (Part wi (On kind.Region x xt t) u) c.env k) (left_costs core m.depth m.level (Plain t) c.env (KRegion l x.0 at.fits.0 u (loosened (cased t) (pend (side_tells wi core t) none_of c)) k))
+      at.ready e (record { regions = omega arith; items = omega arith }) at.memory at.counted (λ own' sh' s' a ts g memory counted. region_at m rm ts a lt ed lu at g memory counted)
 
 -- Heads are small.
 
@@ -203,10 +214,11 @@ module _ (core : CoreTree) (code : CodeTree) (ok : AreBodies core code) (owed : 
       let new = at.fits.3 in
       let dues = packed_due (fields_at core.table kk.0) in
       let line = line_set h.0 a new (line_grows p.grows at.line) in
-      let packed : is_scalar (due k) ≡ false = sym (ap is_scalar at.line.kind) ∙ ap (λ (z : Dest). is_scalar (dest_type z)) at.fits.1 in
+      let packed : no_tree (due k) ≡ false = sym (ap no_tree at.line.kind) ∙ ap (λ (z : Dest). no_tree (dest_type z)) at.fits.1 in
       let front : c.front ≡ r.cur = subst (λ (z : Dest). IsDest code.laid s m.words c z r.cur) at.fits.1 at.line.matches.dest in
       rests (at_term {u = Plain t} {c = opening c h.0 (Open st h.0 kk.0 [] dues) c.front a} {k = k} record {
         ready = refl;
+        group = tt;
         low = code_put h.0 Held refl lt;
         fits = at.fits.4;
         line = record {
@@ -238,7 +250,7 @@ module _ (core : CoreTree) (code : CodeTree) (ok : AreBodies core code) (owed : 
   -- by the open regions
   pub does_past : (rs : List OpenRegion) (m : State) {s : Store} {c : Ctx} {k : Kont} (h : Variable) (kk : ConId) (t : Term) → IsAt code m.ip (i.Past h.0 kk.0) → IsCode core code c.line.within c.scope (m.ip + 1) t (end_of c.line.overs k)
       → AtTerm core code owed own sh s (record m { regions = rs }) (Then (Past h kk) t) c k → Moves core code owed own sh s (record m { regions = rs })
-  does_past [] m {s} {c} {k} h kk t e lt at = absurd (some_region core code s k m.words m.frames c.front (sym (ap is_scalar at.line.kind) ∙ ap (λ (z : Dest). is_scalar (dest_type z)) at.fits.1) at.line.stack)
+  does_past [] m {s} {c} {k} h kk t e lt at = absurd (some_region core code s k m.words m.frames c.front (sym (ap no_tree at.line.kind) ∙ ap (λ (z : Dest). no_tree (dest_type z)) at.fits.1) at.line.stack)
   does_past (r ∷ rs) m {s} {c} {k} h kk t e lt at = go (nat_le (sz + 9) (rest r.cur)) refl
     where
       here : State

@@ -50,6 +50,7 @@ module _ (core : CoreTree) (code : CodeTree) (owed : Owed) where
   rests_owned own more sh s m o (unwinds h) = unwinds h
   rests_owned own more sh s m o (at_term {u = t} {c = c} {k = k} at) = at_term {u = t} {c = c} {k = k} record {
     ready = at.ready;
+    group = at.group;
     low = at.low;
     fits = at.fits;
     line = at.line;

@@ -9,9 +9,11 @@ use Rattle.gib_region.specs.Region.{IsFull}
 use Rattle.gib_packed.specs.declared.root.Root.{Root}
 use Rattle.gib_packed.specs.Stands.{Stands, a_whole, a_truth, a_tree}
 use Rattle.gib_core.specs.Fits.{AllFit}
+use Rattle.gib_syntax.specs.Results as results
 use Rattle.gib_code.specs.declared.instruction.Entry.{Entry}
 use Rattle.gib_core.specs.Low as low
 use Rattle.gib_core.specs.Low.{IsLowered, LowFunctions}
+use Rattle.gib_core.specs.Meaning.{core_run}
 use Rattle.gib_core.specs.LoweredParts.{LoweredParts}
 use Rattle.gib_core.specs.Parts.{core_of}
 use Rattle.gib_core.specs.Tree.{CoreTree, FunctionTerm}
@@ -21,13 +23,15 @@ use Rattle.gib_weave.specs.declared.root_run.RunFault.{RunFault}
 use Rattle.gib_machine.specs.declared.turn.Turn.{Turn}
 use Rattle.gib_machine.specs.declared.turn.Turn.TheVariants as turn
 use Rattle.gib_machine.specs.State.{State, widest}
-use Rattle.gib_machine.specs.Machine.{start_at}
+use Rattle.gib_machine.specs.Machine.{next, start_at}
 use Rattle.gib_machine.specs.Starting.{started}
 use Rattle.gib_machine.specs.Stepping.{with_tails}
+use Rattle.gib_machine.proofs.Stands.{ended_one}
 use Rattle.gib_weave.specs.Calling.{GoesOn, IsTask, Ran, RootRan, Walked}
 use Rattle.gib_weave.specs.Owing.{Owed}
 use Rattle.gib_weave.specs.Paying.{Share}
 use Rattle.gib_weave.specs.Running.{CanEnd, IsOutcome, IsStart, Kept, RunEnds, WantsMemory, word_of}
+use Rattle.gib_weave.specs.Sound.{IsAnswer}
 use Rattle.gib_weave.specs.Starting.{IsArgument, root_start}
 use Rattle.gib_weave.proofs.Mades.{made_root}
 use Rattle.gib_weave.proofs.RootRuns.{root_ran, root_task}
@@ -52,7 +56,7 @@ ran_kept code s v t s' v' None x = went_kept t.core code t.owed t.share v v' s' 
 ran_kept code s v t s' v' (Some turn.Went) x = absurd x
 ran_kept code s v t s' v' (Some turn.AtFork) x = went_kept t.core code t.owed t.share v v' s' x.0
 ran_kept code s v t s' v' (Some turn.AtJoin) x = went_kept t.core code t.owed t.share v v' s' x.0
-ran_kept code s v t s' v' (Some (turn.Ended a)) x = went_kept t.core code t.owed t.share v v' s' x.0
+ran_kept code s v t s' v' (Some turn.Ended) x = went_kept t.core code t.owed t.share v v' s' x.0
 ran_kept code s v t s' v' (Some turn.Full) x =
     let f : IsFull x.0 v' = x.2 in
     subst (λ (m : Memory). Kept v m) (sym f.same) (seen_kept v x.0 x.0.limit (went_kept t.core code t.owed t.share v x.0 s' x.1))
@@ -70,33 +74,33 @@ module _ (l : LoweredParts) (v : Memory) (place : Root) (tails : List ℕ) (dept
 
   module _ (al : v.alone ≡ true) (s' : State) (v' : Memory) (r : Option Turn) (steps : ℕ) (walk : Walked l.code (root_start (core_of l.core) l.code (word_of place) depth 0 tails) v steps s' v' r)
       (h : (t : IsTask l.code (root_start (core_of l.core) l.code (word_of place) depth 0 tails) v) → Ran l.code (root_start (core_of l.core) l.code (word_of place) depth 0 tails) v t s' v' r) where
-    ran : RootRan (core_of l.core) l.code depth 0 d v.limit v' r
+    ran : RootRan (core_of l.core) l.code depth 0 d v.limit s' v' r
     ran = root_ran (core_of l.core) l.code v (word_of place) depth 0 d tails low fit runs (argument l.code.laid v.cells place (core_of l.core).main.parameter d st.stands) st.owned bd al st.loaded s' v' r steps walk h
 
     -- the root has no level to fork with
-    pub root_can_end : CanEnd r
+    pub root_can_end : CanEnd l.code s' r
     root_can_end = go r ran
       where
-        go : (q : Option Turn) → RootRan (core_of l.core) l.code depth 0 d v.limit v' q → CanEnd q
+        go : (q : Option Turn) → RootRan (core_of l.core) l.code depth 0 d v.limit s' v' q → CanEnd l.code s' q
         go None x = tt
         go (Some turn.Went) x = absurd x
         go (Some turn.AtFork) x = absurd (omega (arith, x))
         go (Some turn.AtJoin) x = absurd x
-        go (Some (turn.Ended a)) x = tt
+        go (Some turn.Ended) x = (x.0, x.1)
         go (Some turn.Full) x = tt
 
-    pub root_ends : (o : Result Answer RunFault) → IsOutcome r o → RunEnds l depth d v v' o
+    pub root_ends : (o : Result Answer RunFault) → IsOutcome l.code s' r o → RunEnds l depth d v v' o
     root_ends o e = go r e ran (h start_task)
       where
         is : {p : Result Answer RunFault} → o ≡ p → RunEnds l depth d v v' p → RunEnds l depth d v v' o
         is q x = subst (λ (p : Result Answer RunFault). RunEnds l depth d v v' p) (sym q) x
 
-        go : (q : Option Turn) → IsOutcome q o → RootRan (core_of l.core) l.code depth 0 d v.limit v' q → Ran l.code (root_start (core_of l.core) l.code (word_of place) depth 0 tails) v start_task s' v' q → RunEnds l depth d v v' o
+        go : (q : Option Turn) → IsOutcome l.code s' q o → RootRan (core_of l.core) l.code depth 0 d v.limit s' v' q → Ran l.code (root_start (core_of l.core) l.code (word_of place) depth 0 tails) v start_task s' v' q → RunEnds l depth d v v' o
         go None q x y = is q tt
         go (Some turn.Went) q x y = absurd q
         go (Some turn.AtFork) q x y = absurd q
         go (Some turn.AtJoin) q x y = absurd q
-        go (Some (turn.Ended a)) q x y = is q x
+        go (Some turn.Ended) q x y = is q.2 (subst (λ (a : Answer). IsAnswer l.code.laid v'.cells (results.One (core_of l.core).main.result) (core_run (core_of l.core) depth d) a) (ended_one (next l.code s') x.0 q.0 x.1 q.1) x.2)
         go (Some turn.Full) q x y = is q (x, all_drawn y.0 v' y.2)
 
 -- Where main starts.
@@ -138,12 +142,12 @@ pub if_ok : {A B : Type 0} {P Q : A → Type 0} (r : Result A B) → ((x : A) �
 if_ok (Ok x) f h = f x h
 if_ok (Err e) f h = tt {0}
 
-outcome_wants : (code : CodeTree) (s : State) (v : Memory) (steps : ℕ) (s' : State) (v' : Memory) (r : Option Turn) (o : Result Answer RunFault) → IsOutcome r o → Walked code s v steps s' v' r → WantsMemory code s v steps v' o
+outcome_wants : (code : CodeTree) (s : State) (v : Memory) (steps : ℕ) (s' : State) (v' : Memory) (r : Option Turn) (o : Result Answer RunFault) → IsOutcome code s' r o → Walked code s v steps s' v' r → WantsMemory code s v steps v' o
 outcome_wants code s v steps s' v' None o e w = subst (WantsMemory code s v steps v') (sym e) (inr (s', w))
 outcome_wants code s v steps s' v' (Some turn.Went) o e w = absurd e
 outcome_wants code s v steps s' v' (Some turn.AtFork) o e w = absurd e
 outcome_wants code s v steps s' v' (Some turn.AtJoin) o e w = absurd e
-outcome_wants code s v steps s' v' (Some (turn.Ended a)) o e w = subst (WantsMemory code s v steps v') (sym e) tt
+outcome_wants code s v steps s' v' (Some turn.Ended) o e w = subst (WantsMemory code s v steps v') (sym e.2) tt
 outcome_wants code s v steps s' v' (Some turn.Full) o e w = subst (WantsMemory code s v steps v') (sym e) tt
 
 -- The run.
@@ -162,14 +166,17 @@ module _ (l : LoweredParts) (v : Memory) (place : Root) (tails : List ℕ) (dept
     root_task_ran : (t : IsTask l.code (root_start (core_of l.core) l.code (word_of place) depth 0 tails) v) → Ran l.code (root_start (core_of l.core) l.code (word_of place) depth 0 tails) v t s' v' r
     root_task_ran = subst (λ (q : State). (t : IsTask l.code q v) → Ran l.code q v t s' v' r) (me tails) (subst (λ (q : CodeTree). (t : IsTask q (with_tails m tails) v) → Ran q (with_tails m tails) v t s' v' r) ce h)
 
-    pub run_can_end : CanEnd r
-    run_can_end = root_can_end l v place tails depth d lo fit runs bd st al s' v' r steps root_walk root_task_ran
+    outcome : (o : Result Answer RunFault) → IsOutcome code s' r o → IsOutcome l.code s' r o
+    outcome o e = subst (λ (q : CodeTree). IsOutcome q s' r o) ce e
 
-    pub run_ends : (o : Result Answer RunFault) → IsOutcome r o → RunEnds l depth d v v' o
-    run_ends o e = root_ends l v place tails depth d lo fit runs bd st al s' v' r steps root_walk root_task_ran o e
+    pub run_can_end : CanEnd code s' r
+    run_can_end = subst (λ (q : CodeTree). CanEnd q s' r) (sym ce) (root_can_end l v place tails depth d lo fit runs bd st al s' v' r steps root_walk root_task_ran)
 
-    pub run_wants : (o : Result Answer RunFault) → IsOutcome r o → WantsMemory l.code (root_start (core_of l.core) l.code (word_of place) depth 0 tails) v steps v' o
-    run_wants o e = outcome_wants l.code (root_start (core_of l.core) l.code (word_of place) depth 0 tails) v steps s' v' r o e root_walk
+    pub run_ends : (o : Result Answer RunFault) → IsOutcome code s' r o → RunEnds l depth d v v' o
+    run_ends o e = root_ends l v place tails depth d lo fit runs bd st al s' v' r steps root_walk root_task_ran o (outcome o e)
+
+    pub run_wants : (o : Result Answer RunFault) → IsOutcome code s' r o → WantsMemory l.code (root_start (core_of l.core) l.code (word_of place) depth 0 tails) v steps v' o
+    run_wants o e = outcome_wants l.code (root_start (core_of l.core) l.code (word_of place) depth 0 tails) v steps s' v' r o (outcome o e) root_walk
 
   pub run_keeps : (d : Datum) → IsStart l place tails v d → (s' : State) (v' : Memory) (r : Option Turn) → ((t : IsTask code (with_tails m tails) v) → Ran code (with_tails m tails) v t s' v' r) → Kept v v'
   run_keeps d st s' v' r h = ran_kept code (with_tails m tails) v (run_task d st) s' v' r (h (run_task d st))

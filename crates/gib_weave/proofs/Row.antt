@@ -5,6 +5,7 @@ use Rattle.std.specs.Int.{w64, from_le_bytes}
 use Rattle.std.proofs.Common.{Some, None, ◌≡◌, ℕ, zero, suc, true, [], ◌∷◌, slice_get, refl}
 use Rattle.gib_types.specs.declared.table.Ty.TheVariants.{Whole}
 use Rattle.gib_mem.specs.Memory.{sole, Store, Memory, Cell, absent, fresh, byte, after_puts, after_draw}
+use Rattle.gib_code.specs.declared.instruction.AnswerType.TheVariants as of
 use Rattle.gib_code.specs.declared.instruction.Kind.TheVariants as at
 use Rattle.gib_code.specs.declared.instruction.Operand.TheVariants.{Slot, Number}
 use Rattle.gib_code.specs.declared.instruction.Operation.TheVariants.{Add, Lt, Quot, Rem, Sub}
@@ -181,8 +182,8 @@ counts_down = record {
   laid = record { table = table; with_offsets = [] };
   instructions =
       i.Operate 1 Lt (Slot 0) (Number 1) ∷ i.Unless (Slot 1) 3 ∷ i.Give (Number 0) ∷ i.Operate 2 Sub (Slot 0) (Number 1) ∷ i.CallScalar 3 0 (Slot 2 ∷ []) ∷ i.Give (Slot 3)
-      ∷ i.Fork 9 11 at.Scalar 2 Whole ∷ i.CallScalar 1 0 (Number 5 ∷ []) ∷ i.Join ∷ i.CallScalar 2 0 (Number 1 ∷ []) ∷ i.Back ∷ i.Operate 3 Add (Slot 1) (Slot 2) ∷ i.Give (Slot 3) ∷ [];
-  functions = record { name = Some (record { 0 = 0 }); start = 0; slots = 4; result = Whole } ∷ record { name = None; start = 6; slots = 4; result = Whole } ∷ [];
+      ∷ i.Fork 9 11 at.Scalar (2 ∷ []) (of.One Whole) ∷ i.CallScalar 1 0 (Number 5 ∷ []) ∷ i.Join ∷ i.CallScalar 2 0 (Number 1 ∷ []) ∷ i.Back ∷ i.Operate 3 Add (Slot 1) (Slot 2) ∷ i.Give (Slot 3) ∷ [];
+  functions = record { name = Some (record { 0 = 0 }); start = 0; slots = 4; result = of.One Whole } ∷ record { name = None; start = 6; slots = 4; result = of.One Whole } ∷ [];
 }
 
 abbrev counting : CoreTree
@@ -226,8 +227,8 @@ divides left right = record {
   instructions =
       i.Operate 1 Lt (Slot 0) (Number 1) ∷ i.Unless (Slot 1) 3 ∷ i.Give (Number 0) ∷ i.Operate 2 Sub (Slot 0) (Number 1) ∷ i.CallScalar 3 0 (Slot 2 ∷ []) ∷ i.Give (Slot 3)
       ∷ i.Operate 1 Quot (Number 1) (Slot 0) ∷ i.Give (Slot 1)
-      ∷ i.Fork 11 13 at.Scalar 2 Whole ∷ left ∷ i.Join ∷ right ∷ i.Back ∷ i.Operate 3 Add (Slot 1) (Slot 2) ∷ i.Give (Slot 3) ∷ [];
-  functions = record { name = Some (record { 0 = 0 }); start = 0; slots = 4; result = Whole } ∷ record { name = Some (record { 0 = 1 }); start = 6; slots = 2; result = Whole } ∷ record { name = None; start = 8; slots = 4; result = Whole } ∷ [];
+      ∷ i.Fork 11 13 at.Scalar (2 ∷ []) (of.One Whole) ∷ left ∷ i.Join ∷ right ∷ i.Back ∷ i.Operate 3 Add (Slot 1) (Slot 2) ∷ i.Give (Slot 3) ∷ [];
+  functions = record { name = Some (record { 0 = 0 }); start = 0; slots = 4; result = of.One Whole } ∷ record { name = Some (record { 0 = 1 }); start = 6; slots = 2; result = of.One Whole } ∷ record { name = None; start = 8; slots = 4; result = of.One Whole } ∷ [];
 }
 
 abbrev traps_left : CodeTree

@@ -17,7 +17,7 @@ use Rattle.gib_code.specs.declared.instruction.Entry.{Entry}
 use Rattle.gib_code.specs.Program.{CodeTree}
 use Rattle.gib_core.specs.Low as low
 use Rattle.gib_core.specs.Low.{Low, LowFunctions, IsLowered, Returns, function_number, Field as StoredField}
-use Rattle.gib_machine.specs.State.{times, nesting, widest, Slots, slot, Open as OpenRegion, State, Opening, latest, cursor, frame, Doing, Ready}
+use Rattle.gib_machine.specs.State.{times, nesting, widest, Slots, slot, Open as OpenRegion, State, eight, Opening, latest, cursor, frame, Doing, Ready}
 use Rattle.gib_machine.specs.Machine.{begins, start_at, slots_at}
 use Rattle.gib_core.specs.Cost.{Cost, plus, one_region}
 use Rattle.gib_weave.proofs.Counts.{goes_on_counted, same_most, Paid, tail_counted, chunk_counted}
@@ -31,6 +31,9 @@ use Rattle.gib_weave.specs.Stacks.{IsRoot}
 use Rattle.gib_weave.specs.Sound.{counts, at_term, Safe, rests, moves, silent, draws, InMemory}
 use Rattle.gib_weave.specs.Starting.{AreBodies, IsMain, IsArgument, first_doing, root_start}
 use Rattle.gib_weave.proofs.Basics.{by_test}
+use Rattle.gib_syntax.specs.Results as results
+use Rattle.gib_code.specs.declared.instruction.AnswerType.TheVariants as of
+use Rattle.gib_weave.proofs.Groups.{result_group}
 use Rattle.gib_weave.proofs.Move.{is_field}
 use Rattle.gib_weave.proofs.Places.{Apart-less, Apart-open, open-grows, open-small, SplitsAt, splits}
 use Rattle.gib_weave.proofs.Grow.{StandsAt-grows}
@@ -101,7 +104,7 @@ lowered_main core code lo fit =
     let n = slots_at code.functions (length core.functions) in
     record {
       low = record { fields = []; until = i.until; low = i.low; agree = no_fields [] n (core.main.parameter ∷ []) };
-      fits = subst (λ (m : ℕ). Rattle.gib_core.specs.Fits.Fits core (AtEnd none_of) core.main.body (body_scope m (core.main.parameter ∷ [])) (dest_of core.main.result) (new_line (within_main core))) (sym i.slots) fit.main.fits;
+      fits = subst (λ (m : ℕ). Rattle.gib_core.specs.Fits.Fits core (AtEnd none_of) core.main.body (body_scope m (core.main.parameter ∷ [])) (dest_of (results.One core.main.result)) (new_line (within_main core))) (sym i.slots) fit.main.fits;
       nests = nests_within core code (within_main core) [] _ core.main.body (Returns []) i.until i.low;
     }
 
@@ -135,22 +138,23 @@ root_of (Tree t) a = refl
 
 -- The root between two instructions, or where it opens its region.
 abbrev root_at : CoreTree → CodeTree → (w depth level rm : ℕ) → List OpenRegion → List ℕ → Doing → State
-root_at core code w depth level rm rs tails d = record { ip = start_at code.functions (length core.functions); words = frame (slots_at code.functions (length core.functions)) (w ∷ []); frames = []; depth = depth; level = level; pars = []; side = None; regions = rs; tails = tails; room = rm; width = widest code.functions; gave = []; result = core.main.result; doing = d }
+root_at core code w depth level rm rs tails d = record { ip = start_at code.functions (length core.functions); words = frame (slots_at code.functions (length core.functions)) (w ∷ []); frames = []; depth = depth; level = level; pars = []; side = []; regions = rs; tails = tails; room = rm; width = widest code.functions; gave = []; result = of.One core.main.result; parts = eight []; doing = d }
 
 module _ (core : CoreTree) (code : CodeTree) (main : IsMain core code) (w depth level : ℕ) (v : Datum) where
   -- main's body is next
-  begun : {own : Owned} {s : Store} {sh : Share} (rm : ℕ) (rs : List OpenRegion) (tails : List ℕ) (a : ℕ) → IsArgument code.laid s core.main.parameter w v → IsRoot core.main.result a rs → IsDest code.laid s (frame (slots_at code.functions (length core.functions)) (w ∷ [])) (main_line (within_main core) (slots_at code.functions (length core.functions)) core.main.parameter w v (dest_of core.main.result) a) (dest_of core.main.result) (cursor rs)
+  begun : {own : Owned} {s : Store} {sh : Share} (rm : ℕ) (rs : List OpenRegion) (tails : List ℕ) (a : ℕ) → IsArgument code.laid s core.main.parameter w v → IsRoot core.main.result a rs → IsDest code.laid s (frame (slots_at code.functions (length core.functions)) (w ∷ [])) (main_line (within_main core) (slots_at code.functions (length core.functions)) core.main.parameter w v (dest_of (results.One core.main.result)) a) (dest_of (results.One core.main.result)) (cursor rs)
       → InMemory own s (λ q. 0) rs tails → times (suc depth) (nesting code) ≤ rm → Counted rs (left_costs core depth level (Plain core.main.body) ((0, v) ∷ []) (KEnd core.main.result)) sh
-      → Safe core code (record { ty = core.main.result; all = core_run core depth v; sides = [] }) own sh s (root_at core code w depth level rm rs tails Ready)
+      → Safe core code (record { ty = results.One core.main.result; all = core_run core depth v; sides = [] }) own sh s (root_at core code w depth level rm rs tails Ready)
   begun {s = s} rm rs tails a arg ro de memory le counted =
       let n = slots_at code.functions (length core.functions) in
-      let c = main_line (within_main core) n core.main.parameter w v (dest_of core.main.result) a in
+      let c = main_line (within_main core) n core.main.parameter w v (dest_of (results.One core.main.result)) a in
       rests (at_term {u = Plain core.main.body} {c = c} {k = KEnd core.main.result} record {
         ready = refl;
+        group = result_group code.laid s core.main.result [] rs;
         low = main.low;
         fits = main.fits;
-        line = record { kind = result_type core.main.result; matches = record { vars = main_vars (within_main core) code.laid s n core.main.parameter w v (dest_of core.main.result) a arg; dest = de }; stack = ro; under = tt; given = tt; calm = tt };
-        memory = heads_less (λ q. let i = no_result_cover code.laid c.head core.main.result (KEnd core.main.result) q in omega (arith, i)) memory;
+        line = record { kind = result_type (results.One core.main.result); matches = record { vars = main_vars (within_main core) code.laid s n core.main.parameter w v (dest_of (results.One core.main.result)) a arg; dest = de }; stack = ro; under = tt; given = tt; calm = tt };
+        memory = heads_less (λ q. let i = no_result_cover code.laid c.head (results.One core.main.result) (KEnd core.main.result) q in omega (arith, i)) memory;
         ties = record { sides = refl; pars = refl; side = refl; result = refl; type = refl };
         owes = refl;
         counted = counted;
@@ -171,7 +175,7 @@ dearer : (core : CoreTree) (depth level : ℕ) (v : Datum) (t : Ty) → core.mai
 dearer core depth level v t e f = same_most _ _ (ap (λ (c : Cost). plus c (left_costs core depth level (Plain core.main.body) ((0, v) ∷ []) (KEnd core.main.result))) (sym (ap region_of e ∙ due_region t f)))
 
 pub root_starts : (core : CoreTree) (code : CodeTree) → IsMain core code → (own : Owned) (s : Store) (w depth level : ℕ) (v : Datum) (tails : List ℕ) → IsArgument code.laid s core.main.parameter w v → TailsHaveRoom tails → Apart own s (tail_covers tails) → IsSmall s → (sh : Share) → Counted [] (root_costs core depth level v core.main.result) sh
-    → Safe core code (record { ty = core.main.result; all = core_run core depth v; sides = [] }) own sh s (root_start core code w depth level tails)
+    → Safe core code (record { ty = results.One core.main.result; all = core_run core depth v; sides = [] }) own sh s (root_start core code w depth level tails)
 root_starts core code main own s w depth level v tails arg tr ap9 sm sh counted = go core.main.result refl
   where
     from_ty : Ty → State
@@ -182,12 +186,12 @@ root_starts core code main own s w depth level v tails arg tr ap9 sm sh counted 
     scalar_root Truth a h = tt
     scalar_root (Tree t) a h = absurd cc
 
-    scalar_dest : (laid : LaidOut) (sl : Slots) (c : Ctx) (u : Ty) → is_scalar u ≡ true → IsDest laid s sl c (dest_of u) 0
+    scalar_dest : (laid : LaidOut) (sl : Slots) (c : Ctx) (u : Ty) → is_scalar u ≡ true → IsDest laid s sl c (dest_of (results.One u)) 0
     scalar_dest laid sl c Whole h = tt
     scalar_dest laid sl c Truth h = tt
     scalar_dest laid sl c (Tree t) h = absurd cc
 
-    scalar : (u : Ty) → core.main.result ≡ u → is_scalar u ≡ true → Safe core code (record { ty = core.main.result; all = core_run core depth v; sides = [] }) own sh s (root_at core code w depth level (suc (times (suc depth) (nesting code))) [] tails Ready)
+    scalar : (u : Ty) → core.main.result ≡ u → is_scalar u ≡ true → Safe core code (record { ty = results.One core.main.result; all = core_run core depth v; sides = [] }) own sh s (root_at core code w depth level (suc (times (suc depth) (nesting code))) [] tails Ready)
     scalar u e h = begun core code main w depth level v (suc (times (suc depth) (nesting code))) [] tails 0 arg (scalar_root core.main.result 0 (ap is_scalar e ∙ h)) (scalar_dest code.laid _ _ core.main.result (ap is_scalar e ∙ h)) (record { places = Apart-less ap9 (λ q. omega arith); rooms = tt; tail_rooms = tr; small = sm }) (omega arith) (goes_on_counted (record { regions = omega arith; items = omega arith }) counted)
 
     left : Cost
@@ -199,12 +203,12 @@ root_starts core code main own s w depth level v tails arg tr ap9 sm sh counted 
     in_tail : (t : Ty) → core.main.result ≡ t → first_doing t ≡ Opening → (a : ℕ) → Paid (record { start = a; cur = a } ∷ []) (left_costs core depth level (Plain core.main.body) ((0, v) ∷ []) (KEnd core.main.result)) sh 0
     in_tail t e f a = tail_counted (record { start = a; cur = a }) [] (root_costs core depth level v core.main.result) left sh (dearer core depth level v t e f) counted
 
-    packed : (o : Option (List ℕ × ℕ)) → latest tails ≡ o → SplitsAt tails o → (t : Ty) → core.main.result ≡ t → first_doing t ≡ Opening → Safe core code (record { ty = core.main.result; all = core_run core depth v; sides = [] }) own sh s (root_at core code w depth level (suc (times (suc depth) (nesting code))) [] tails Opening)
+    packed : (o : Option (List ℕ × ℕ)) → latest tails ≡ o → SplitsAt tails o → (t : Ty) → core.main.result ≡ t → first_doing t ≡ Opening → Safe core code (record { ty = results.One core.main.result; all = core_run core depth v; sides = [] }) own sh s (root_at core code w depth level (suc (times (suc depth) (nesting code))) [] tails Opening)
     packed None q h t e f =
         moves (draws (λ d. (in_chunk t e f d).share) (ap (begins (root_at core code w depth level (times (suc depth) (nesting code)) [] tails Opening) (λ t a. t)) q)
         (λ d new. (in_chunk t e f d).spends)
         (λ d new. begun core code main w depth level v (times (suc depth) (nesting code)) (record { start = 4096 * d; cur = 4096 * d } ∷ []) [] (4096 * d) (argument_grows code.laid s (open_chunk s d) core.main.parameter w v (open-grows s d new) arg)
-        (root_of core.main.result (4096 * d)) (result_dest code.laid (open_chunk s d) _ _ core.main.result (4096 * d) refl)
+        (root_of core.main.result (4096 * d)) (result_dest code.laid (open_chunk s d) _ _ (results.One core.main.result) (4096 * d) refl)
         (record {
           places = Apart-open d new ap9 (λ q. let i : rest (4096 * d) ≡ 4096 = omega arith in let j = ap (λ (z : ℕ). within (4096 * d) z q) i in omega (arith, j));
           rooms = (omega arith, tt);
@@ -216,11 +220,11 @@ root_starts core code main own s w depth level v tails arg tr ap9 sm sh counted 
         let ro = h.rooms tr in
         moves (silent (ap (begins (root_at core code w depth level (times (suc depth) (nesting code)) [] tails Opening) (λ t a. t)) q)
         (counts (in_tail t e f p.1).spends (begun core code main w depth level v (times (suc depth) (nesting code)) (record { start = p.1; cur = p.1 } ∷ []) p.0 p.1 arg
-        (root_of core.main.result p.1) (result_dest code.laid s _ _ core.main.result p.1 refl)
+        (root_of core.main.result p.1) (result_dest code.laid s _ _ (results.One core.main.result) p.1 refl)
         (record { places = Apart-less ap9 (λ q. let i = h.covers q in omega (arith, i)); rooms = (ro.1, tt); tail_rooms = ro.0; small = sm })
         (omega arith) (in_tail t e f p.1).counted)))
 
-    go : (u : Ty) → core.main.result ≡ u → Safe core code (record { ty = core.main.result; all = core_run core depth v; sides = [] }) own sh s (root_start core code w depth level tails)
-    go Whole e = subst (λ (z : Ty). Safe core code (record { ty = core.main.result; all = core_run core depth v; sides = [] }) own sh s (from_ty z)) (sym e) (scalar Whole e refl)
-    go Truth e = subst (λ (z : Ty). Safe core code (record { ty = core.main.result; all = core_run core depth v; sides = [] }) own sh s (from_ty z)) (sym e) (scalar Truth e refl)
-    go (Tree t) e = subst (λ (z : Ty). Safe core code (record { ty = core.main.result; all = core_run core depth v; sides = [] }) own sh s (from_ty z)) (sym e) (packed (latest tails) refl (splits tails) (Tree t) e refl)
+    go : (u : Ty) → core.main.result ≡ u → Safe core code (record { ty = results.One core.main.result; all = core_run core depth v; sides = [] }) own sh s (root_start core code w depth level tails)
+    go Whole e = subst (λ (z : Ty). Safe core code (record { ty = results.One core.main.result; all = core_run core depth v; sides = [] }) own sh s (from_ty z)) (sym e) (scalar Whole e refl)
+    go Truth e = subst (λ (z : Ty). Safe core code (record { ty = results.One core.main.result; all = core_run core depth v; sides = [] }) own sh s (from_ty z)) (sym e) (scalar Truth e refl)
+    go (Tree t) e = subst (λ (z : Ty). Safe core code (record { ty = results.One core.main.result; all = core_run core depth v; sides = [] }) own sh s (from_ty z)) (sym e) (packed (latest tails) refl (splits tails) (Tree t) e refl)

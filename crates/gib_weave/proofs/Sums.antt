@@ -11,7 +11,8 @@ use Rattle.gib_core.specs.Meaning.{function_at}
 use Rattle.gib_core.specs.Numbering.{binders}
 use Rattle.gib_core.specs.Ending.{ended, has_ended, within_function, within_main}
 use Rattle.gib_core.specs.Low as low
-use Rattle.gib_core.specs.Low.{Low, IsLowered, Returns}
+use Rattle.gib_core.specs.Low.{IsLowered}
+use Rattle.gib_syntax.specs.Results as results
 use Rattle.gib_core.specs.Fits.{AtEnd, AtHead, Fits, FunctionFits, AllFit, arm_line, arm_scope, body_scope, body_needs, dest_of, finally, has_branch, new_line, none_of, put}
 use Rattle.gib_code.specs.declared.answer.Answer.TheVariants as answer
 use Rattle.gib_code.specs.Program.{none, one_more}
@@ -80,14 +81,14 @@ covers zero e = refl
 covers (suc zero) e = refl
 covers (suc (suc c)) e = absurd cc
 
-sum_fits : Fits core (body_needs core 0) sum_term.body (body_scope 7 (tree ∷ [])) (dest_of Whole) (new_line (within_function core sum_term))
+sum_fits : Fits core (body_needs core 0) sum_term.body (body_scope 7 (tree ∷ [])) (dest_of (results.One Whole)) (new_line (within_function core sum_term))
 sum_fits = (0, record { variable = v 0; atom = refl; sort = refl }, covers, ((refl, tt), (Whole, refl, refl, refl, (tt, leaf)), ((refl, (refl, tt)), node, tt)))
   where
     leaf : (q : ℕ) → has_ended (ended core) 0 q ≡ true → finally (arm_line core 0 (k 0) (v 1 ∷ []) leaf_arm (new_line (within_function core sum_term))).told [] q ≡ true
     leaf zero e = refl
     leaf (suc q) e = absurd (not_other q e)
 
-    node : Fits core (body_needs core 0) node_arm (arm_scope 0 1 1 None (tree ∷ tree ∷ []) (v 2 ∷ v 3 ∷ []) (put (body_scope 7 (tree ∷ [])) 0 (AtHead 0))) (dest_of Whole) (arm_line core 0 (k 1) (v 2 ∷ v 3 ∷ []) node_arm (new_line (within_function core sum_term)))
+    node : Fits core (body_needs core 0) node_arm (arm_scope 0 1 1 None (tree ∷ tree ∷ []) (v 2 ∷ v 3 ∷ []) (put (body_scope 7 (tree ∷ [])) 0 (AtHead 0))) (dest_of (results.One Whole)) (arm_line core 0 (k 1) (v 2 ∷ v 3 ∷ []) node_arm (new_line (within_function core sum_term)))
     node = (
       refl,
       refl,
@@ -124,7 +125,7 @@ sum_all_fits = record { table = rules; functions = each; main = record { fits = 
     each : (g : FunctionTerm) (f : ℕ) → function_at core.functions f ≡ Some g → FunctionFits core f g (length g.parameters + length (binders g.body))
     each g f e = by_name g f (eqb 0 f) refl e
 
-    main : Fits core (AtEnd none_of) core.main.body (body_scope 2 (tree ∷ [])) (dest_of Whole) (new_line (within_main core))
+    main : Fits core (AtEnd none_of) core.main.body (body_scope 2 (tree ∷ [])) (dest_of (results.One Whole)) (new_line (within_main core))
     main = (refl, refl, record { function = sum_term; named = refl; result = refl; arguments = (refl, tt) }, (Whole, refl, refl, refl, (tt, λ q e. absurd (false≢true e))))
 
 -- Its code.

@@ -29,13 +29,15 @@ use Rattle.gib_core.specs.Cost.{Cost, plus, cost_branches, call_costs}
 use Rattle.gib_core.specs.Fits.{Line as FitsLine, arm_line, is_leaf, is_settled, put, Sort, Outside, Absent, Scalar, Held, Placed, Loose, AtHead, Field, Scope, is_there, has_slot, tree_type, Dest, Fits, BranchesFit, cased, branches_cased, is_of, AreNew, arm_scope}
 use Rattle.gib_weave.specs.Environment.{Closes, AllClose, Ctx, StandsAt, IsAtHead, Has}
 use Rattle.gib_weave.specs.EndWords.{IsTold}
-use Rattle.gib_weave.specs.Continuing.{Plain, KSide, KLast, Kont, KEnd, KHere, KRegion, KScalar, KCall, KCallScalar, given_of, end_of, needs_of, Goes, Under, AllUnder, branches_nest, IsCode, Agrees}
+use Rattle.gib_weave.specs.Continuing.{Plain, KSide, KLast, Kont, KEnd, KHere, KRegion, KScalar, KCall, KCallScalar, KPart, KSeveral, given_of, end_of, needs_of, Goes, Under, AllUnder, branches_nest, IsCode, Agrees}
 use Rattle.gib_weave.specs.Owing.{costs, Owed, resume, means}
 use Rattle.gib_weave.specs.Paying.{Share, Counted, left_costs, later_costs}
 use Rattle.gib_weave.specs.Places.{Owned}
 use Rattle.gib_weave.specs.Sound.{AtTerm, at_term, Safe, rests, Moves, OnLine}
 use Rattle.gib_weave.specs.Starting.{AreBodies}
 use Rattle.gib_weave.proofs.Basics.{by_test, put-same, set-same, both_is}
+use Rattle.gib_weave.specs.Groups.{Group}
+use Rattle.gib_weave.proofs.Groups.{same_held}
 use Rattle.gib_weave.proofs.Move.{settled_there, tree_settled, goes-refl, with_line, Matches-line, keeps_line, given_keeps, end_kept, MovedOne, Moved, moved_same, AllMoved, goes-there, agrees_put}
 use Rattle.gib_weave.proofs.Readings.{get_one, looks, known_below}
 use Rattle.gib_types.specs.declared.table.ConId.{ConId}
@@ -97,13 +99,16 @@ held_bound so h e = there_bound so (ap is_there h) e
 
 all_moved_new : (laid : LaidOut) (s : Store) (sl F : Slots) (sc : Scope) (env : Environment) (k : Kont) → OnlyNew sl F sc → AllUnder sc env k → AllMoved laid s sl F k
 all_moved_new laid s sl F sc env (KEnd ty) n u = tt
-all_moved_new laid s sl F sc env (KSide y0 ty) n u = tt
+all_moved_new laid s sl F sc env (KSide b) n u = tt
 all_moved_new laid s sl F sc env (KLast l0 y0 s0) n u = n.same y0 (held_bound (sc y0) u)
 all_moved_new laid s sl F sc env (KHere l x t v c k) n u = (both_is (slot F x) (end_at F x) (slot sl x) (end_at sl x) (n.same x (held_bound (sc x) u.0)) (n.ends x (held_bound (sc x) u.0)), moved_under laid s sl F sc env c n u.1, all_moved_new laid s sl F sc env k n u.2)
 all_moved_new laid s sl F sc env (KRegion l x t v c k) n u = (both_is (slot F x) (end_at F x) (slot sl x) (end_at sl x) (n.same x (held_bound (sc x) u.0)) (n.ends x (held_bound (sc x) u.0)), moved_under laid s sl F sc env c n u.1, all_moved_new laid s sl F sc env k n u.2)
 all_moved_new laid s sl F sc env (KScalar l x ty v c k) n u = (moved_under laid s sl F sc env c n u.0, all_moved_new laid s sl F sc env k n u.1)
 all_moved_new laid s sl F sc env (KCall gs wc k) n u = tt
 all_moved_new laid s sl F sc env (KCallScalar x ty gs v c k) n u = tt
+all_moved_new laid s sl F sc env (KPart l i t tys ss vs ps c k) n u = (moved_under laid s sl F sc env c n u.0, all_moved_new laid s sl F sc env k n u.1)
+all_moved_new laid s sl F sc env (KSeveral l xs tys v c k) n u =
+    (same_held sl F sc tys xs (λ x h. both_is (slot F x) (end_at F x) (slot sl x) (end_at sl x) (n.same x (held_bound (sc x) h)) (n.ends x (held_bound (sc x) h))) u.0, moved_under laid s sl F sc env c n u.1, all_moved_new laid s sl F sc env k n u.2)
 
 -- The subject.
 
@@ -133,13 +138,15 @@ size_some laid k = omega arith
 
 end_arm : (w : Within) (core : CoreTree) (x : ℕ) (c : ConId) (ys : List Variable) (u : Term) (os : List Over) (k : Kont) → arm_end w core x c ys u (end_of os k) ≡ end_of (arm_overs w core x c ys u os) k
 end_arm w core x c ys u os (KEnd ty) = refl
-end_arm w core x c ys u os (KSide y ty) = refl
+end_arm w core x c ys u os (KSide b) = refl
 end_arm w core x c ys u os (KLast l y s) = refl
 end_arm w core x c ys u os (KHere l y s r o k) = refl
 end_arm w core x c ys u os (KRegion l y s r o k) = refl
 end_arm w core x c ys u os (KScalar l y ty r o k) = refl
 end_arm w core x c ys u os (KCall gs o k) = refl
 end_arm w core x c ys u os (KCallScalar y ty gs r o k) = refl
+end_arm w core x c ys u os (KPart l i t tys ss vs ps o k) = refl
+end_arm w core x c ys u os (KSeveral l xs tys r o k) = refl
 
 closes_over : (laid : LaidOut) (s : Store) (c : Ctx) (x : ℕ) (os : List Over) (o : Option Variable) (b : Bool) → ((y : Variable) → o ≡ Some y → Closes laid s c (record { tree = x; field = y.0 })) → AllClose laid s c os → AllClose laid s c (with_over x o b os)
 closes_over laid s c x os None b f h = h
@@ -308,6 +315,7 @@ module _ (core : CoreTree) (code : CodeTree) (ok : AreBodies core code) (owed : 
           al.line.on
           (λ F' l lf. rests (at_term {u = Plain found.term} {c = fc} {k = k} record {
             ready = refl;
+            group = subst (λ (d : Dest). Group code.laid s d [] m.regions) (sym al.goal) at.group;
             low = is_code;
             fits = fit;
             line = line_less found.calm (line_line L

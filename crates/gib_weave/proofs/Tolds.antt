@@ -21,8 +21,9 @@ use Rattle.gib_core.specs.Low.{Over}
 use Rattle.gib_core.specs.Fits.{put, Fits, Needs, Dest, Line, AtomFits, AtomsFit, call_tells, side_tells, Sort, Outside, Absent, Scalar, Held, Placed, Loose, AtHead, Field, Scope, has_slot, is_settled, is_there, tree_type}
 use Rattle.gib_machine.specs.State.{Slots, slot, end_at, told, tell}
 use Rattle.gib_weave.specs.EndWords.{both, HasEnd, EndWord, IsTold}
-use Rattle.gib_weave.specs.Environment.{Ctx, Has, HasAll, IsScalar, Closes, AllClose, Given, AreGiven, Gave}
-use Rattle.gib_weave.specs.Continuing.{Kont, KEnd, KSide, KLast, KHere, KRegion, KScalar, KCall, KCallScalar, Goes, AllUnder}
+use Rattle.gib_weave.specs.Environment.{Ctx, Has, HasAll, IsScalar, Closes, Given, AreGiven, Gave}
+use Rattle.gib_weave.specs.Continuing.{Kont, KEnd, KSide, KLast, KHere, KRegion, KScalar, KCall, KCallScalar, KPart, KSeveral, Goes, AllUnder}
+use Rattle.gib_weave.proofs.Groups.{same_held}
 use Rattle.gib_weave.proofs.Basics.{by_test, both_is}
 use Rattle.gib_weave.proofs.Move.{Moved, moved_same, AllMoved, end_kept, tree_settled}
 use Rattle.gib_weave.proofs.EndWords.{told_end, told_kept}
@@ -130,13 +131,16 @@ both_told sl x z y ne = both_is (slot sl y) (end_at (told sl x z) y) (slot sl y)
 pub all_moved_told : (laid : LaidOut) (s : Store) (sl : Slots) (sc : Scope) (env : Environment) (k : Kont) (x z : ℕ) → x < length sl.ends → (sc x ≡ Held → ⊥)
     → Tells laid s (sc x) (slot sl x) (value_in env x) z → AllUnder sc env k → AllMoved laid s sl (told sl x z) k
 all_moved_told laid s sl sc env (KEnd ty) x z lt nh f u = tt
-all_moved_told laid s sl sc env (KSide y ty) x z lt nh f u = tt
+all_moved_told laid s sl sc env (KSide b) x z lt nh f u = tt
 all_moved_told laid s sl sc env (KLast l y q) x z lt nh f u = refl
 all_moved_told laid s sl sc env (KHere l y q t o k) x z lt nh f u = (both_told sl x z y (λ i. nh (sym (ap sc i) ∙ u.0)), moved_told laid s sl o x z lt (told_known laid s (o.scope x) (sc x) (slot sl x) (end_at sl x) z (value_in env x) (value_in o.env x) (o.pl x) (u.1.sorts x) (u.1.same x) f), all_moved_told laid s sl sc env k x z lt nh f u.2)
 all_moved_told laid s sl sc env (KRegion l y q t o k) x z lt nh f u = (both_told sl x z y (λ i. nh (sym (ap sc i) ∙ u.0)), moved_told laid s sl o x z lt (told_known laid s (o.scope x) (sc x) (slot sl x) (end_at sl x) z (value_in env x) (value_in o.env x) (o.pl x) (u.1.sorts x) (u.1.same x) f), all_moved_told laid s sl sc env k x z lt nh f u.2)
 all_moved_told laid s sl sc env (KScalar l y ty t o k) x z lt nh f u = (moved_told laid s sl o x z lt (told_known laid s (o.scope x) (sc x) (slot sl x) (end_at sl x) z (value_in env x) (value_in o.env x) (o.pl x) (u.0.sorts x) (u.0.same x) f), all_moved_told laid s sl sc env k x z lt nh f u.1)
 all_moved_told laid s sl sc env (KCall gs o k) x z lt nh f u = tt
 all_moved_told laid s sl sc env (KCallScalar y ty gs t o k) x z lt nh f u = tt
+all_moved_told laid s sl sc env (KPart l i t tys ss vs ps o k) x z lt nh f u = (moved_told laid s sl o x z lt (told_known laid s (o.scope x) (sc x) (slot sl x) (end_at sl x) z (value_in env x) (value_in o.env x) (o.pl x) (u.0.sorts x) (u.0.same x) f), all_moved_told laid s sl sc env k x z lt nh f u.1)
+all_moved_told laid s sl sc env (KSeveral l ys tys t o k) x z lt nh f u =
+    (same_held sl (told sl x z) sc tys ys (λ y h. both_told sl x z y (λ i. nh (sym (ap sc i) ∙ h))) u.0, moved_told laid s sl o x z lt (told_known laid s (o.scope x) (sc x) (slot sl x) (end_at sl x) z (value_in env x) (value_in o.env x) (o.pl x) (u.1.sorts x) (u.1.same x) f), all_moved_told laid s sl sc env k x z lt nh f u.2)
 
 -- what a frame that is left gives
 pub gives_back : (laid : LaidOut) (s : Store) (sl : Slots) (c : Ctx) (j : ℕ) (gs : List (Option Given)) → HasAll laid s sl c → AreGiven c j gs → Gave laid s sl.ends j gs
@@ -207,10 +211,11 @@ pub side_settled : (w : Within) (core : CoreTree) (ns : Needs) (t : Term) (sc : 
 side_settled w core ns (term.Then b u) sc d ln h q e = absurd (true≢false (sym e))
 side_settled w core ns (term.Write v k ss ps) sc d ln h q e = absurd (true≢false (sym e))
 side_settled w core ns (term.Point x) sc d ln h q e = absurd (true≢false (sym e))
-side_settled w core ns (term.CallTerm f xs) sc d ln h q e = call_settled w core f.0 sc q xs h.2.function.parameters h.2.arguments e
+side_settled w core ns (term.CallTerm f xs) sc d ln h q e = call_settled w core f.0 sc q xs h.1.function.parameters h.1.arguments e
 side_settled w core ns (term.Give x) sc d ln h q e = absurd (true≢false (sym e))
 side_settled w core ns (term.CaseTerm x bs) sc d ln h q e = absurd (true≢false (sym e))
 side_settled w core ns (term.IfTerm x u v) sc d ln h q e = absurd (true≢false (sym e))
+side_settled w core ns (term.Tuple tys ss ps) sc d ln h q e = absurd (true≢false (sym e))
 
 -- before the side's variable was held
 pub unheld : (sc : Scope) (x q : ℕ) → is_settled (put sc x Held q) ≡ true → is_settled (sc q) ≡ true

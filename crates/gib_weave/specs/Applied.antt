@@ -132,7 +132,7 @@ stepped turn.Went = Ok tt
 stepped turn.Full = Err fault.Full
 stepped turn.AtFork = Err fault.NotNow
 stepped turn.AtJoin = Err fault.NotNow
-stepped (turn.Ended a) = Err fault.NotNow
+stepped turn.Ended = Err fault.NotNow
 
 -- The event is a step that draws.
 abbrev pub IsDraw : Ask → Type 0

@@ -13,6 +13,7 @@ pub record WithEnd : Type 0 where
   pub word : ℕ
   pub last : ℕ
 
+-- The slot of a variable together with its end.
 abbrev pub both : Slots → ℕ → WithEnd
 both ws x = record { word = slot ws x; last = end_at ws x }
 

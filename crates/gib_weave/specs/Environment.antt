@@ -12,7 +12,7 @@ use Rattle.gib_packed.specs.Scalars.{bit}
 use Rattle.gib_packed.specs.Head.{address}
 use Rattle.gib_packed.specs.Decoding.{Dec}
 use Rattle.gib_packed.specs.Reaching.{Turns}
-use Rattle.gib_core.specs.Fits.{Absent, AtHead, Dest, Empty, Field, Held, Loose, Nowhere, Open, Outside, Placed, Scalar, Scope, Sort, Line, has_slot, is_there, tree_type, packed_due}
+use Rattle.gib_core.specs.Fits.{Absent, AtHead, Dest, Empty, Field, Held, InParts, Loose, Nowhere, Open, Outside, Placed, Scalar, Scope, Sort, Line, has_slot, is_there, tree_type, packed_due}
 use Rattle.gib_core.specs.Low.{Over}
 use Rattle.gib_machine.specs.State.{Slots, slot, end_at}
 use Rattle.gib_weave.specs.EndWords.{HasEnd, IsTold}
@@ -39,6 +39,12 @@ IsScalar (Tree t) w v = ⊥
 pub record StandsAt (laid : LaidOut) (s : Store) (t a : ℕ) (v : Datum) : Type 0 where
   pub end : ℕ
   pub dec : Dec laid s a t v end
+
+-- A word is the argument, or the word of a part: the scalar, or the place where the tree stands.
+abbrev pub IsArgument : LaidOut → Store → Ty → ℕ → Datum → Type 0
+IsArgument laid s Whole w v = IsScalar Whole w v
+IsArgument laid s Truth w v = IsScalar Truth w v
+IsArgument laid s (Tree t) w v = StandsAt laid s t.0 w v
 
 -- The slot has the place of the value, which stands there.
 pub record IsPlaced (laid : LaidOut) (s : Store) (t sl pl : ℕ) (v : Datum) : Type 0 where
@@ -84,6 +90,7 @@ pub record Closes (laid : LaidOut) (s : Store) (c : Ctx) (o : Over) : Type 0 whe
   pub tree : Dec laid s (c.hd o.tree) tx (value_in c.env o.tree) end
   pub field : Dec laid s (c.pl o.field) ty (value_in c.env o.field) end
 
+-- It is so for each of the trees.
 abbrev pub AllClose : LaidOut → Store → Ctx → List Over → Type 0
 AllClose laid s c [] = Unit {0}
 AllClose laid s c (o ∷ os) = Closes laid s c o × AllClose laid s c os
@@ -119,6 +126,7 @@ abbrev pub IsDest : LaidOut → Store → Slots → Ctx → Dest → ℕ → Typ
 IsDest laid s sl c (Nowhere ty) cur = Unit {0}
 IsDest laid s sl c (Empty t) cur = c.front ≡ cur
 IsDest laid s sl c (Open t h k xs dues) cur = IsHead laid s sl c t h k xs dues cur
+IsDest laid s sl c (InParts tys) cur = Unit {0}
 
 -- The frame is as the line says.
 pub record Matches (laid : LaidOut) (s : Store) (sl : Slots) (c : Ctx) (cur : ℕ) : Type 0 where

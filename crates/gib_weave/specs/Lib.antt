@@ -1,5 +1,7 @@
 pub mod Environment
 pub mod EndWords
+pub mod Bound
+pub mod Groups
 pub mod Continuing
 pub mod Owing
 pub mod Paying

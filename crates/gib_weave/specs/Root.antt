@@ -8,7 +8,7 @@ use Rattle.gib_code.specs.declared.answer.Answer.TheVariants as answer
 use Rattle.gib_types.specs.declared.table.Ty.{Ty}
 use Rattle.gib_types.specs.Layout.{LaidOut}
 use Rattle.gib_types.specs.Tree.{Datum}
-use Rattle.gib_mem.specs.Memory.{Memory, absent, after_puts, after_draw}
+use Rattle.gib_mem.specs.Memory.{Memory, after_puts, after_draw}
 use Rattle.gib_region.specs.Region.{Draws}
 use Rattle.gib_core.specs.Tree.{CoreTree}
 use Rattle.gib_code.specs.Program.{CodeTree}
@@ -35,6 +35,7 @@ abbrev pub answer_root : Answer → Option Root
 answer_root (answer.Whole z) = Some (root.Whole z)
 answer_root (answer.Truth b) = Some (root.Truth b)
 answer_root (answer.At a) = Some (root.At a)
+answer_root (answer.Parts ws) = None
 answer_root answer.Deep = None
 answer_root answer.Trap = None
 

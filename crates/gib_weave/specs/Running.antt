@@ -9,6 +9,7 @@ use Rattle.gib_packed.specs.declared.root.Root.{Root}
 use Rattle.gib_packed.specs.declared.root.Root.TheVariants as root
 use Rattle.gib_packed.specs.Scalars.{bit}
 use Rattle.gib_packed.specs.Stands.{Stands}
+use Rattle.gib_syntax.specs.Results as results
 use Rattle.gib_core.specs.Cost.{run_cost}
 use Rattle.gib_core.specs.LoweredParts.{LoweredParts}
 use Rattle.gib_core.specs.Meaning.{core_run}
@@ -16,7 +17,8 @@ use Rattle.gib_core.specs.Parts.{core_of}
 use Rattle.gib_core.specs.Tight.{Tight}
 use Rattle.gib_code.specs.declared.answer.Answer.{Answer}
 use Rattle.gib_code.specs.Program.{CodeTree}
-use Rattle.gib_machine.specs.State.{State}
+use Rattle.gib_machine.specs.State.{State, Ended}
+use Rattle.gib_machine.specs.Machine.{next}
 use Rattle.gib_machine.specs.declared.turn.Turn.{Turn}
 use Rattle.gib_machine.specs.declared.turn.Turn.TheVariants as turn
 use Rattle.gib_weave.specs.declared.root_run.RunFault.{RunFault}
@@ -41,7 +43,7 @@ pub record Kept (v v' : Memory) : Type 0 where
 -- How a run ends that started with this value, and may nest so many calls: with what the core means; or all chunks are drawn, and so
 -- many may not be enough for the run; or memory was wanted, or more than 2^64 - 1 steps.
 abbrev pub RunEnds : LoweredParts → (depth : ℕ) → Datum → (v v' : Memory) → Result Answer RunFault → Type 0
-RunEnds l depth d v v' (Ok a) = IsAnswer l.code.laid v'.cells (core_of l.core).main.result (core_run (core_of l.core) depth d) a
+RunEnds l depth d v v' (Ok a) = IsAnswer l.code.laid v'.cells (results.One (core_of l.core).main.result) (core_run (core_of l.core) depth d) a
 RunEnds l depth d v v' (Err fault.Full) = Tight v.limit (run_cost (core_of l.core) depth 0 d) × (v'.drawn ≡ v'.limit)
 RunEnds l depth d v v' (Err fault.Memory) = Unit {0}
 
@@ -58,19 +60,19 @@ word_of (root.Truth b) = bit b
 word_of (root.At a) = a
 
 -- What the last turn of the root makes of a run in place, which stands at no fork and no join.
-abbrev pub IsOutcome : Option Turn → Result Answer RunFault → Type 0
-IsOutcome None o = o ≡ Err fault.Memory
-IsOutcome (Some turn.Went) o = ⊥
-IsOutcome (Some turn.AtFork) o = ⊥
-IsOutcome (Some turn.AtJoin) o = ⊥
-IsOutcome (Some (turn.Ended a)) o = o ≡ Ok a
-IsOutcome (Some turn.Full) o = o ≡ Err fault.Full
+abbrev pub IsOutcome : CodeTree → State → Option Turn → Result Answer RunFault → Type 0
+IsOutcome code s None o = o ≡ Err fault.Memory
+IsOutcome code s (Some turn.Went) o = ⊥
+IsOutcome code s (Some turn.AtFork) o = ⊥
+IsOutcome code s (Some turn.AtJoin) o = ⊥
+IsOutcome code s (Some turn.Ended) o = (a : Answer) × (next code s ≡ Ended a) × (o ≡ Ok a)
+IsOutcome code s (Some turn.Full) o = o ≡ Err fault.Full
 
 -- A turn that such a run can end with.
-abbrev pub CanEnd : Option Turn → Type 0
-CanEnd None = Unit {0}
-CanEnd (Some turn.Went) = ⊥
-CanEnd (Some turn.AtFork) = ⊥
-CanEnd (Some turn.AtJoin) = ⊥
-CanEnd (Some (turn.Ended a)) = Unit {0}
-CanEnd (Some turn.Full) = Unit {0}
+abbrev pub CanEnd : CodeTree → State → Option Turn → Type 0
+CanEnd code s None = Unit {0}
+CanEnd code s (Some turn.Went) = ⊥
+CanEnd code s (Some turn.AtFork) = ⊥
+CanEnd code s (Some turn.AtJoin) = ⊥
+CanEnd code s (Some turn.Ended) = (a : Answer) × (next code s ≡ Ended a)
+CanEnd code s (Some turn.Full) = Unit {0}

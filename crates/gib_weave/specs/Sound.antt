@@ -1,27 +1,32 @@
 -- A task that keeps what it owes.
-use Rattle.std.specs.Prelude.{◌≡◌, ℕ, suc, ◌+◌, ◌<◌, ◌≤◌, Bool, true, Option, List, [], ◌∷◌, length, slice_get, FitsSigned}
+use Rattle.std.specs.Prelude.{◌≡◌, ℕ, suc, ◌+◌, ◌<◌, ◌≤◌, Bool, true, List, [], ◌∷◌, length, slice_get, FitsSigned}
 use Rattle.std.specs.Int.{w64}
 use Rattle.gib_types.specs.declared.table.Ty.{Ty}
 use Rattle.gib_types.specs.declared.table.Ty.TheVariants.{Whole, Truth, Tree}
 use Rattle.gib_types.specs.Layout.{LaidOut}
 use Rattle.gib_types.specs.Tree.{Datum, whole, truth}
-use Rattle.gib_syntax.specs.Meaning.{Environment, Outcome, Gives, Stops, Deep, Trap, Reason as Why}
+use Rattle.gib_syntax.specs.Results as results
+use Rattle.gib_syntax.specs.Results.{Results}
+use Rattle.gib_syntax.specs.Meaning.{Environment, Outcome, Gives, Stops, Deep, Trap, tuple, Reason as Why}
 use Rattle.gib_mem.specs.Memory.{Store, absent, open_chunk, Grows, Reads}
 use Rattle.gib_core.specs.Tree.{Term, CoreTree}
 use Rattle.gib_code.specs.declared.answer.Reason.{Reason}
 use Rattle.gib_code.specs.declared.answer.Reason.TheVariants as reason
 use Rattle.gib_code.specs.declared.answer.Answer.{Answer}
 use Rattle.gib_code.specs.declared.answer.Answer.TheVariants as answer
+use Rattle.gib_code.specs.declared.instruction.AnswerType.{AnswerType}
 use Rattle.gib_code.specs.Program.{CodeTree}
 use Rattle.gib_core.specs.Fits.{dest_type}
+use Rattle.gib_core.specs.Low.{answer_type}
 use Rattle.gib_region.specs.Count.{Count, Balanced}
-use Rattle.gib_core.specs.Cost.{Cost, plus, own}
+use Rattle.gib_core.specs.Cost.{Cost, plus}
 use Rattle.gib_machine.specs.State.{Slots, Frame, Open as OpenRegion, cursor, State, Ready, Over, Unwinding, Par, times, nesting, Ask, Silent, Get, Put, Draw, AtFork, AtJoin, Ended, cursor}
 use Rattle.gib_machine.specs.Machine.{next}
 use Rattle.gib_machine.specs.Sides.{Waiting, left_starts, right_of, side_start, takes, joins}
 use Rattle.gib_machine.specs.Levels.{lefts}
-use Rattle.gib_weave.specs.Environment.{Ctx, Matches, StandsAt, AreGiven}
-use Rattle.gib_weave.specs.Continuing.{AllCalm, AllUnder, Kont, Next, Plain, Rest, RestCode, RestFits, due, end_of, pars_of, rest_cased, rest_nest, rest_pars, root, side_of, given_of, needs_of}
+use Rattle.gib_weave.specs.Environment.{Ctx, IsArgument, Matches, StandsAt, AreGiven}
+use Rattle.gib_weave.specs.Continuing.{AllCalm, AllUnder, Kont, Next, Plain, Rest, RestCode, RestFits, due, end_of, pars_of, rest_cased, rest_nest, rest_pars, root, side_of, given_of, made, needs_of}
+use Rattle.gib_weave.specs.Groups.{Group}
 use Rattle.gib_weave.specs.Owing.{Debt, Owed, level_after, rest_means, rest_sides, resume, sides_of}
 use Rattle.gib_weave.specs.Paying.{AtMost, Counted, Share, Spends, left_costs, new_share, with_count, with_rest, with_side}
 use Rattle.gib_weave.specs.Places.{AllFresh, AllRoom, Apart, HasRoom, HaveRoom, IsNew, IsSmall, Owned, TailsHaveRoom, freed, heads, put_all, rest_covers, tail_covers, with_chunk}
@@ -44,28 +49,28 @@ pub record InMemory (own : Owned) (s : Store) (heads : ℕ → ℕ) (rs : List O
   pub tail_rooms : TailsHaveRoom ts
   pub small : IsSmall s
 
--- What ties a task to others: what its right sides owe that are not joined, its `par`s, the variable that a stolen side binds, its type.
+-- What ties a task to others: what its right sides owe that are not joined, its `par`s, the slots with which a stolen side ends, its type.
 pub record Ties : Type 0 where
   pub debts : List Debt
   pub marks : List Par
-  pub variable : Option ℕ
-  pub root : Ty
+  pub slots : List ℕ
+  pub root : Results Ty
 
 -- By what is next in a line, and the lines that wait.
 abbrev pub ties_of : CoreTree → (d n : ℕ) → Rest → Environment → Kont → Ties
 ties_of core d n u env k = record {
   debts = rest_sides core d n u env (sides_of core d (level_after n u) k);
   marks = rest_pars u (pars_of k);
-  variable = side_of k;
+  slots = side_of k;
   root = root k;
 }
 
 -- The task has these ties, and so has its machine.
-pub record IsTied (owed : Owed) (ps : List Par) (y : Option ℕ) (ty : Ty) (ties : Ties) : Type 0 where
+pub record IsTied (owed : Owed) (ps : List Par) (xs : List ℕ) (ty : AnswerType) (ties : Ties) : Type 0 where
   pub sides : ties.debts ≡ owed.sides
   pub pars : ps ≡ ties.marks
-  pub side : y ≡ ties.variable
-  pub result : ty ≡ ties.root
+  pub side : xs ≡ ties.slots
+  pub result : ty ≡ answer_type ties.root
   pub type : owed.ty ≡ ties.root
 
 -- What is next may follow here, with so many calls and so much room left: it is free of what it may not use, and it and the lines that
@@ -76,12 +81,14 @@ pub record MayFollow (w d : ℕ) (u : Rest) (r : ℕ) (k : Kont) : Type 0 where
   pub nests : HasRoom (times d w) u r
   pub all_room : AllRoom w d (freed u r) k
 
--- A task at what is next in a line: its code, its line, its places, its ties to others, what it owes, what it may cost, its room.
+-- A task at what is next in a line: its code, its line, the parts that are made, its places, its ties to others, what it owes, what it
+-- may cost, its room.
 pub record AtRest (core : CoreTree) (code : CodeTree) (owed : Owed) (own : Owned) (sh : Share) (s : Store) (m : State) (u : Rest) (c : Ctx) (k : Kont) : Type 0 where
   pub ready : m.doing ≡ Ready
   pub low : RestCode core code c.line.within c.scope m.ip u (end_of c.line.overs k)
   pub fits : RestFits core (needs_of k) u c.scope c.dest c.line
   pub line : OnLine core code s m.words m.frames m.regions c k (rest_cased u)
+  pub group : Group code.laid s c.dest (made u) m.regions
   pub memory : InMemory own s (heads code.laid c.head c.dest k) m.regions m.tails
   pub ties : IsTied owed m.pars m.side m.result (ties_of core m.depth m.level u c.env k)
   pub owes : resume core m.depth k (rest_means core m.depth u c.env) ≡ owed.all
@@ -108,11 +115,20 @@ pub record IsUnwinding (owed : Owed) (m : State) : Type 0 where
   pub count : suc (lefts outer) ≡ length owed.sides
   pub owes : owed.all ≡ Stops (means_why why)
 
+-- The words are those of values of these types; further ones may follow.
+abbrev pub PartsAnswer : LaidOut → Store → List Ty → List ℕ → List Datum → Type 0
+PartsAnswer laid s [] ws [] = Unit {0}
+PartsAnswer laid s [] ws (v ∷ vs) = ⊥
+PartsAnswer laid s (ty ∷ tys) [] vs = ⊥
+PartsAnswer laid s (ty ∷ tys) (w ∷ ws) [] = ⊥
+PartsAnswer laid s (ty ∷ tys) (w ∷ ws) (v ∷ vs) = IsArgument laid s ty w v × PartsAnswer laid s tys ws vs
+
 -- The answer is what was owed.
-abbrev pub IsAnswer : LaidOut → Store → Ty → Outcome → Answer → Type 0
-IsAnswer laid s ty owed (answer.At a) = (t : ℕ) × (v : Datum) × (ty ≡ Tree (record { 0 = t })) × (owed ≡ Gives v) × StandsAt laid s t a v
-IsAnswer laid s ty owed (answer.Whole z) = (ty ≡ Whole) × FitsSigned w64 z × (owed ≡ Gives (whole z))
-IsAnswer laid s ty owed (answer.Truth b) = (ty ≡ Truth) × (owed ≡ Gives (truth b))
+abbrev pub IsAnswer : LaidOut → Store → Results Ty → Outcome → Answer → Type 0
+IsAnswer laid s ty owed (answer.At a) = (t : ℕ) × (v : Datum) × (ty ≡ results.One (Tree (record { 0 = t }))) × (owed ≡ Gives v) × StandsAt laid s t a v
+IsAnswer laid s ty owed (answer.Whole z) = (ty ≡ results.One Whole) × FitsSigned w64 z × (owed ≡ Gives (whole z))
+IsAnswer laid s ty owed (answer.Truth b) = (ty ≡ results.One Truth) × (owed ≡ Gives (truth b))
+IsAnswer laid s ty owed (answer.Parts ws) = (tys : List Ty) × (vs : List Datum) × (ty ≡ results.Several tys) × (owed ≡ Gives (tuple vs)) × PartsAnswer laid s tys ws vs
 IsAnswer laid s ty owed answer.Deep = owed ≡ Stops Deep
 IsAnswer laid s ty owed answer.Trap = owed ≡ Stops Trap
 

@@ -1,20 +1,19 @@
 -- Bodies with their code, and where the root starts.
-use Rattle.std.specs.Prelude.{◌≡◌, ℕ, ◌≤◌, List, [], ◌∷◌, length, Some, None}
+use Rattle.std.specs.Prelude.{◌≡◌, ℕ, ◌≤◌, List, [], ◌∷◌, length, Some}
 use Rattle.gib_types.specs.declared.table.Ty.{Ty}
 use Rattle.gib_types.specs.declared.table.Ty.TheVariants.{Whole, Truth, Tree}
 use Rattle.gib_types.specs.Table.{IsTable}
-use Rattle.gib_types.specs.Layout.{LaidOut}
-use Rattle.gib_types.specs.Tree.{Datum}
-use Rattle.gib_mem.specs.Memory.{Store}
 use Rattle.gib_core.specs.Tree.{FunctionTerm, CoreTree}
 use Rattle.gib_core.specs.Meaning.{function_at}
+use Rattle.gib_syntax.specs.Results as results
+use Rattle.gib_code.specs.declared.instruction.AnswerType.TheVariants as of
 use Rattle.gib_code.specs.Program.{CodeTree}
 use Rattle.gib_core.specs.Fits.{Fits, AtEnd, body_needs, new_line, none_of, body_scope, dest_of}
 use Rattle.gib_core.specs.Ending.{within_function, within_main}
 use Rattle.gib_core.specs.Low.{laid_of, Returns, function_number}
-use Rattle.gib_machine.specs.State.{State, Doing, Ready, nesting, widest, whole_room, frame, Opening}
+use Rattle.gib_machine.specs.State.{State, Doing, Ready, eight, nesting, widest, whole_room, frame, Opening}
 use Rattle.gib_machine.specs.Machine.{start_at, slots_at}
-use Rattle.gib_weave.specs.Environment.{IsScalar, StandsAt}
+pub use Rattle.gib_weave.specs.Environment.{IsArgument}
 use Rattle.gib_weave.specs.Continuing.{IsCode, nest}
 
 -- The code of a function's body stands, and the body fits.
@@ -33,14 +32,8 @@ pub record AreBodies (core : CoreTree) (code : CodeTree) : Type 0 where
 -- Main's code stands, and main fits.
 pub record IsMain (core : CoreTree) (code : CodeTree) : Type 0 where
   pub low : IsCode core code (within_main core) (body_scope (slots_at code.functions (length core.functions)) (core.main.parameter ∷ [])) (start_at code.functions (length core.functions)) core.main.body (Returns [])
-  pub fits : Fits core (AtEnd none_of) core.main.body (body_scope (slots_at code.functions (length core.functions)) (core.main.parameter ∷ [])) (dest_of core.main.result) (new_line (within_main core))
+  pub fits : Fits core (AtEnd none_of) core.main.body (body_scope (slots_at code.functions (length core.functions)) (core.main.parameter ∷ [])) (dest_of (results.One core.main.result)) (new_line (within_main core))
   pub nests : nest core.main.body ≤ nesting code
-
--- A word is the argument.
-abbrev pub IsArgument : LaidOut → Store → Ty → ℕ → Datum → Type 0
-IsArgument laid s Whole w v = IsScalar Whole w v
-IsArgument laid s Truth w v = IsScalar Truth w v
-IsArgument laid s (Tree t) w v = StandsAt laid s t.0 w v
 
 -- Where a packed result is due, the machine begins with its region.
 abbrev pub first_doing : Ty → Doing
@@ -57,12 +50,13 @@ root_start core code w depth level tails = record {
   depth = depth;
   level = level;
   pars = [];
-  side = None;
+  side = [];
   regions = [];
   tails = tails;
   room = whole_room code depth;
   width = widest code.functions;
   gave = [];
-  result = core.main.result;
+  result = of.One core.main.result;
+  parts = eight [];
   doing = first_doing core.main.result;
 }

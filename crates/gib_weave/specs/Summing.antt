@@ -7,7 +7,9 @@ use Rattle.gib_syntax.specs.declared.tree.Operator.TheVariants as o
 use Rattle.gib_mem.specs.Memory.{sole, Memory, absent, after_puts, open_chunk}
 use Rattle.gib_core.specs.declared.atom.Kind.TheVariants as kind
 use Rattle.gib_core.specs.declared.atom.Access.TheVariants as by
+use Rattle.gib_syntax.specs.Results as results
 use Rattle.gib_core.specs.Tree.{Term, Then, Give, CallTerm, CaseTerm, One, Prim, Reach, On, NoBranch, BranchThen, FunctionTerm, CoreTree, var}
+use Rattle.gib_code.specs.declared.instruction.AnswerType.TheVariants as of
 use Rattle.gib_code.specs.declared.instruction.Operand.TheVariants.{Slot}
 use Rattle.gib_code.specs.declared.instruction.Operation.TheVariants.{Add}
 use Rattle.gib_code.specs.Instruction as i
@@ -31,7 +33,7 @@ node_arm = Then (One (On kind.Scalar (v 4) Whole (CallTerm sum (var 2 ∷ []))))
 
 -- The function.
 abbrev pub sum_term : FunctionTerm
-sum_term = record { name = sum; parameters = tree ∷ []; result = Whole; body = CaseTerm (var 0) (BranchThen (k 0) (v 1 ∷ []) leaf_arm (BranchThen (k 1) (v 2 ∷ v 3 ∷ []) node_arm NoBranch)) }
+sum_term = record { name = sum; parameters = tree ∷ []; result = results.One Whole; body = CaseTerm (var 0) (BranchThen (k 0) (v 1 ∷ []) leaf_arm (BranchThen (k 1) (v 2 ∷ v 3 ∷ []) node_arm NoBranch)) }
 
 -- The core: main sums up its tree.
 abbrev pub core : CoreTree
@@ -52,7 +54,7 @@ code = record {
       ∷ i.Whole 1 0 1 ∷ i.LeafEnd 0 9 ∷ i.Give (Slot 1)
       ∷ i.First 2 0 1 ∷ i.CallScalar 4 0 (Slot 2 ∷ []) ∷ i.Got 2 0 ∷ i.EndOf 3 2 ∷ i.CallScalar 5 0 (Slot 3 ∷ []) ∷ i.Got 3 0 ∷ i.Operate 6 Add (Slot 4) (Slot 5) ∷ i.OverEnd 0 3 ∷ i.Give (Slot 6)
       ∷ i.CallScalar 1 0 (Slot 0 ∷ []) ∷ i.Got 0 0 ∷ i.Give (Slot 1) ∷ [];
-  functions = record { name = Some sum; start = 0; slots = 7; result = Whole } ∷ record { name = None; start = 13; slots = 2; result = Whole } ∷ [];
+  functions = record { name = Some sum; start = 0; slots = 7; result = of.One Whole } ∷ record { name = None; start = 13; slots = 2; result = of.One Whole } ∷ [];
 }
 
 -- (Node (Leaf 1) (Leaf 2)) in 19 bytes, and behind it a node of two indirections to it, in 19 more.

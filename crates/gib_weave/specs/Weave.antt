@@ -1,14 +1,15 @@
 -- A weave: tasks over one memory, and its events.
 use Rattle.std.specs.Prelude.{◌≡◌, ℕ, zero, suc, ◌+◌, ◌<◌, ◌≤◌, ◌^◌, List, [], ◌∷◌, ◌++◌, length, get_or, slice_get, slice_set, Option, Some, None, Bool, true, false, ◌&&◌, nat_lt, if◌then◌else◌}
 use Rattle.gib_types.specs.declared.table.Ty.{Ty}
+use Rattle.gib_syntax.specs.Results as results
 use Rattle.gib_syntax.specs.Meaning.{Outcome}
 use Rattle.gib_mem.specs.Memory.{Memory, Store, absent, after_puts, after_draw, Reads, AreKnown, Owned as Cells, IsBounded}
 use Rattle.gib_region.specs.Region.{Draws}
 use Rattle.gib_core.specs.Tree.{CoreTree}
 use Rattle.gib_code.specs.declared.answer.Answer.{Answer}
 use Rattle.gib_code.specs.Program.{CodeTree}
-use Rattle.gib_machine.specs.State.{State, Ask, gone, Silent, Get, Put, Draw, AtFork, AtJoin, Ended}
-use Rattle.gib_machine.specs.Machine.{next}
+use Rattle.gib_machine.specs.State.{State, Ask, Silent, Get, Put, Draw, AtFork, AtJoin, Ended}
+use Rattle.gib_machine.specs.Machine.{gone, next}
 use Rattle.gib_machine.specs.Sides.{Waiting, left_starts, right_of, side_start, takes, joins}
 use Rattle.gib_region.specs.Count.{Balanced}
 use Rattle.gib_core.specs.Cost.{Cost, nothing, plus}
@@ -195,7 +196,7 @@ pub record Sound (core : CoreTree) (code : CodeTree) (ty : Ty) (o : Outcome) (wh
   pub drawn : (i q : ℕ) → 0 < (family i).own q → w.memory.cells q ≡ absent → ⊥
   pub bounded : IsBounded w.memory
   pub root : IsThere (task w.tasks 0).stage
-  pub type : (family 0).owed.ty ≡ ty
+  pub type : (family 0).owed.ty ≡ results.One ty
   pub owes : (family 0).owed.all ≡ o
   pub shared : Shared whole w family
 

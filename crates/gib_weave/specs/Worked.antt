@@ -5,7 +5,9 @@ use Rattle.gib_types.specs.declared.table.Ty.{Ty}
 use Rattle.gib_types.specs.declared.table.Ty.TheVariants.{Whole, Tree}
 use Rattle.gib_types.specs.Table.{Table}
 use Rattle.gib_mem.specs.Memory.{sole, Memory, absent, after_puts, open_chunk}
+use Rattle.gib_syntax.specs.Results as results
 use Rattle.gib_core.specs.Tree.{CoreTree}
+use Rattle.gib_code.specs.declared.instruction.AnswerType.TheVariants as of
 use Rattle.gib_code.specs.declared.instruction.Kind.TheVariants as at
 use Rattle.gib_code.specs.declared.instruction.Operand.TheVariants.{Slot, Number}
 use Rattle.gib_code.specs.declared.instruction.Operation.TheVariants.{Add}
@@ -29,10 +31,10 @@ code = record {
   instructions =
       i.Switch 0 (record { constructor = 0; label = 1 } ∷ record { constructor = 1; label = 6 } ∷ [])
       ∷ i.Whole 1 0 1 ∷ i.Operate 2 Add (Slot 1) (Number 1) ∷ i.Past 3 0 ∷ i.Fill 3 0 (Slot 2 ∷ []) [] ∷ i.Return
-      ∷ i.First 4 0 9 ∷ i.Offset 5 0 1 ∷ i.Past 6 1 ∷ i.Fork 14 18 at.Here 8 tree ∷ i.Here 7 ∷ i.Call 0 (Slot 4 ∷ []) ∷ i.Jump 13 ∷ i.Join
+      ∷ i.First 4 0 9 ∷ i.Offset 5 0 1 ∷ i.Past 6 1 ∷ i.Fork 14 18 at.Here (8 ∷ []) (of.One tree) ∷ i.Here 7 ∷ i.Call 0 (Slot 4 ∷ []) ∷ i.Jump 13 ∷ i.Join
       ∷ i.Here 8 ∷ i.Call 0 (Slot 5 ∷ []) ∷ i.Jump 17 ∷ i.Back ∷ i.Fill 6 1 [] (7 ∷ 8 ∷ []) ∷ i.Return
       ∷ i.Call 0 (Slot 0 ∷ []) ∷ i.Return ∷ [];
-  functions = record { name = Some (record { 0 = 0 }); start = 0; slots = 9; result = tree } ∷ record { name = None; start = 20; slots = 1; result = tree } ∷ [];
+  functions = record { name = Some (record { 0 = 0 }); start = 0; slots = 9; result = of.One tree } ∷ record { name = None; start = 20; slots = 1; result = of.One tree } ∷ [];
 }
 
 -- The input, and what is behind it in its chunk.
@@ -42,7 +44,7 @@ loaded = after_puts (record { cells = open_chunk (λ q. absent) 0; drawn = 1; sh
 
 -- A core of these types.
 abbrev pub core : CoreTree
-core = record example.core { functions = record { name = record { 0 = 0 }; parameters = tree ∷ []; result = tree; body = example.body } ∷ [] }
+core = record example.core { functions = record { name = record { 0 = 0 }; parameters = tree ∷ []; result = results.One tree; body = example.body } ∷ [] }
 
 -- The start, with so many levels of forks.
 abbrev pub start : ℕ → Weave

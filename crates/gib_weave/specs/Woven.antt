@@ -2,6 +2,7 @@
 use Rattle.std.specs.Prelude.{ℕ, List, Option}
 use Rattle.gib_types.specs.declared.table.Ty.{Ty}
 use Rattle.gib_types.specs.Tree.{Datum}
+use Rattle.gib_syntax.specs.Results as results
 use Rattle.gib_syntax.specs.Meaning.{Outcome}
 use Rattle.gib_mem.specs.Plain.{plain_memory}
 use Rattle.gib_core.specs.Cost.{Cost}
@@ -40,4 +41,4 @@ IsSoundOn l depth level d w = Sound (core_of l.core) l.code (core_of l.core).mai
 
 -- The answer is what the core means on a value, with so many calls nested.
 abbrev pub IsMeant : LoweredParts → (depth : ℕ) → Datum → Weave → Answer → Type 0
-IsMeant l depth d w a = IsAnswer l.code.laid w.memory.cells (core_of l.core).main.result (core_run (core_of l.core) depth d) a
+IsMeant l depth d w a = IsAnswer l.code.laid w.memory.cells (results.One (core_of l.core).main.result) (core_run (core_of l.core) depth d) a

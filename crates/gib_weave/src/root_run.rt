@@ -12,7 +12,7 @@ ghost use Rattle.gib_weave.specs.Starting.{root_start};
 
 use crate::steps::run_for;
 use gib_base::Memory;
-use gib_code::Answer;
+use gib_code::{Answer, Code};
 use gib_core::Lowered;
 use gib_machine::{Machine, Turn};
 use gib_mem::Mem;
@@ -53,12 +53,12 @@ fn main_start(lowered: &Lowered) -> u32
 }
 
 /// What the last turn makes of the run.
-fn outcome_of(turn: Option<Turn>) -> Result<Answer, RunFault>
-    requires { CanEnd turn }
-    ensures { IsOutcome turn result }
+fn outcome_of(machine: &Machine, code: &Code, turn: Option<Turn>) -> Result<Answer, RunFault>
+    requires { (tails : List ℕ) × CanEnd code.now (with_tails machine.now tails) turn }
+    ensures { (tails : List ℕ) → IsOutcome code.now (with_tails machine.now tails) turn result }
 {
     match turn {
-        Some(Turn::Ended(answer)) => Ok(answer),
+        Some(Turn::Ended) => Ok(machine.ended_with(code)),
         Some(Turn::Full) => Err(RunFault::Full),
         Some(_) => unreachable!(),
         None => Err(RunFault::Memory),
@@ -118,7 +118,7 @@ pub fn run<M: Mem>(
             let mut machine = machine;
             let mut tails = tails;
             let turn = run_for(&mut machine, code, mem, &mut tails, u64::MAX);
-            outcome_of(turn)
+            outcome_of(&machine, code, turn)
         }
         Err(_) => Err(RunFault::Memory),
     }

@@ -115,7 +115,7 @@ impl Task {
             Stand::Fork => true,
             Stand::Goes => false,
             Stand::Join => false,
-            Stand::End(_) => false,
+            Stand::End => false,
         }
     }
 
@@ -128,22 +128,17 @@ impl Task {
             Stand::Join => true,
             Stand::Goes => false,
             Stand::Fork => false,
-            Stand::End(_) => false,
+            Stand::End => false,
         }
     }
 
     /// What it has ended with; None where it has not.
-    #[tactic(auto, using(crate::proofs::Applying::at_end, crate::proofs::Applying::not_end))]
+    #[tactic(auto, using(crate::proofs::Applying::not_end))]
     pub fn end(&self, code: &Code) -> Option<Answer>
         ensures some { IfSome result (λ a. next code.now self.now.state ≡ Ended a) }
         ensures none { IfNone result (IsEnd (next code.now self.now.state) → ⊥) }
     {
-        match self.stand(code) {
-            Stand::End(answer) => Some(answer),
-            Stand::Goes => None,
-            Stand::Fork => None,
-            Stand::Join => None,
-        }
+        self.machine.answer(code)
     }
 
     /// Whether its newest right side waits.

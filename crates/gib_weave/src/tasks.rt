@@ -52,7 +52,7 @@ fn stepped(turn: Turn) -> Result<(), WeaveFault>
         Turn::Full => Err(WeaveFault::Full),
         Turn::AtFork => Err(WeaveFault::NotNow),
         Turn::AtJoin => Err(WeaveFault::NotNow),
-        Turn::Ended(_) => Err(WeaveFault::NotNow),
+        Turn::Ended => Err(WeaveFault::NotNow),
     }
 }
 
@@ -334,7 +334,7 @@ impl Tasks {
             Stand::Goes => Some(Event::Step(number)),
             Stand::Fork => Some(Event::Fork(number)),
             Stand::Join => self.pick_at_join(number),
-            Stand::End(_) => Some(Event::Finish(number)),
+            Stand::End => Some(Event::Finish(number)),
         }
     }
 

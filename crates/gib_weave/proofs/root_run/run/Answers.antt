@@ -9,14 +9,16 @@ run_for-turn-requires g c =
 
 pub outcome_of-requires : goal.outcome_of-requires
 outcome_of-requires g c =
-    let st = c.requires.starts in
-    run_can_end c.args.lowered.now (g.M.Mem.view c.args.mem.now) c.args.root c.args.tails c.args.depth c.code-code.result.now c.in-Ok.machine c.code-code.ensures.value c.code-code.ensures.lowered c.core.ensures.fits c.code-code.ensures.runs
-    (g.met.M.Mem.bounded c.args.mem.now) c.in-Ok.ensures st.0 st.1 c.requires.alone _ (g.M.Mem.view c.run_for-turn.new.mem) c.run_for-turn.result _ c.run_for-turn.ensures.walks c.run_for-turn.ensures.task
+    let st = c.requires.starts in (
+      c.run_for-turn.new.tails,
+      run_can_end c.args.lowered.now (g.M.Mem.view c.args.mem.now) c.args.root c.args.tails c.args.depth c.code-code.result.now c.in-Ok.machine c.code-code.ensures.value c.code-code.ensures.lowered c.core.ensures.fits c.code-code.ensures.runs
+          (g.met.M.Mem.bounded c.args.mem.now) c.in-Ok.ensures st.0 st.1 c.requires.alone _ (g.M.Mem.view c.run_for-turn.new.mem) c.run_for-turn.result _ c.run_for-turn.ensures.walks c.run_for-turn.ensures.task,
+    )
 
 pub returns-in-Ok-clause-ends : goal.returns-in-Ok-clause-ends
 returns-in-Ok-clause-ends g c = λ d st.
     run_ends c.args.lowered.now (g.M.Mem.view c.args.mem.now) c.args.root c.args.tails c.args.depth c.code-code.result.now c.in-Ok.machine c.code-code.ensures.value c.code-code.ensures.lowered c.core.ensures.fits c.code-code.ensures.runs
-    (g.met.M.Mem.bounded c.args.mem.now) c.in-Ok.ensures d st c.requires.alone _ (g.M.Mem.view c.run_for-turn.new.mem) c.run_for-turn.result _ c.run_for-turn.ensures.walks c.run_for-turn.ensures.task c.outcome_of.result c.outcome_of.ensures
+    (g.met.M.Mem.bounded c.args.mem.now) c.in-Ok.ensures d st c.requires.alone _ (g.M.Mem.view c.run_for-turn.new.mem) c.run_for-turn.result _ c.run_for-turn.ensures.walks c.run_for-turn.ensures.task c.outcome_of.result (c.outcome_of.ensures c.run_for-turn.new.tails)
 
 pub returns-in-Ok-clause-keeps : goal.returns-in-Ok-clause-keeps
 returns-in-Ok-clause-keeps g c =
@@ -28,4 +30,4 @@ pub returns-in-Ok-clause-wants : goal.returns-in-Ok-clause-wants
 returns-in-Ok-clause-wants g c =
     let st = c.requires.starts in
     run_wants c.args.lowered.now (g.M.Mem.view c.args.mem.now) c.args.root c.args.tails c.args.depth c.code-code.result.now c.in-Ok.machine c.code-code.ensures.value c.code-code.ensures.lowered c.core.ensures.fits c.code-code.ensures.runs
-    (g.met.M.Mem.bounded c.args.mem.now) c.in-Ok.ensures st.0 st.1 c.requires.alone _ (g.M.Mem.view c.run_for-turn.new.mem) c.run_for-turn.result _ c.run_for-turn.ensures.walks c.run_for-turn.ensures.task c.outcome_of.result c.outcome_of.ensures
+    (g.met.M.Mem.bounded c.args.mem.now) c.in-Ok.ensures st.0 st.1 c.requires.alone _ (g.M.Mem.view c.run_for-turn.new.mem) c.run_for-turn.result _ c.run_for-turn.ensures.walks c.run_for-turn.ensures.task c.outcome_of.result (c.outcome_of.ensures c.run_for-turn.new.tails)

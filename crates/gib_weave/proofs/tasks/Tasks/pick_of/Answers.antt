@@ -32,5 +32,5 @@ returns-in-Join c = λ v.
 pub returns-in-End : goal.returns-in-End
 returns-in-End c = λ v.
     let w = over v c.args.self.now in
-    at_end w.tasks c.args.number (task w.tasks c.args.number).sides (asks c.args.code.now w c.args.number) c.in-End.field-0 (c.in-End.ensures ∙ ap (λ (t : Task). stand_of (next c.args.code.now t.state)) c.at.ensures)
+    at_end w.tasks c.args.number (task w.tasks c.args.number).sides (asks c.args.code.now w c.args.number) (c.in-End.ensures ∙ ap (λ (t : Task). stand_of (next c.args.code.now t.state)) c.at.ensures)
     ∙ by_what_it_asks c.args.code.now w c.args.number ((c.if-not-is_on.ensures.on v).0 refl)
