@@ -4,6 +4,7 @@ use lib.ListN.{get_or}
 use Rattle.std.proofs.lemmas.List.{length-take-le, replicate-append-replicate, append-nil}
 use Rattle.std.proofs.Math.Seq.{take-length, take-suc}
 use Rattle.gib_types.specs.Tree.{Datum}
+use Rattle.gib_syntax.specs.Results as results
 use Rattle.gib_code.specs.Program.{CodeTree}
 use Rattle.gib_core.specs.LoweredParts.{LoweredParts}
 use Rattle.gib_core.specs.Meaning.{core_run}
@@ -128,8 +129,8 @@ answered start w code v ls memory a same is h ends left = record { weave = weave
 
 pub meant : (start w : WeaveParts) (lowered : LoweredParts) (ls : List Line) (depth level : ℕ) (d : Datum) (memory : Memory) (a : Answer) → start.lowered ≡ lowered → Leads start ls w → IsSoundOn lowered depth level d (weave_of start)
     → ((depth level : ℕ) (d : Datum) → IsSoundOn w.lowered depth level d (weave_of w) → IsMeant w.lowered depth d (weave_of w) a) → memory ≡ (weave_of w).memory
-    → IsAnswer lowered.code.laid memory.cells (core_of lowered.core).main.result (core_run (core_of lowered.core) depth d) a
+    → IsAnswer lowered.code.laid memory.cells (results.One (core_of lowered.core).main.result) (core_run (core_of lowered.core) depth d) a
 meant start w lowered ls depth level d memory a same h s means left =
     let kept = h.sound depth level d (subst (λ l. IsSoundOn l depth level d (weave_of start)) (sym same) s) in
     let m : IsMeant lowered depth d (weave_of w) a = subst (λ l. IsMeant l depth d (weave_of w) a) (h.lowered ∙ same) (means depth level d (subst (λ l. IsSoundOn l depth level d (weave_of w)) (sym h.lowered) kept)) in
-    subst (λ (v : Memory). IsAnswer lowered.code.laid v.cells (core_of lowered.core).main.result (core_run (core_of lowered.core) depth d) a) (sym left) m
+    subst (λ (v : Memory). IsAnswer lowered.code.laid v.cells (results.One (core_of lowered.core).main.result) (core_run (core_of lowered.core) depth d) a) (sym left) m

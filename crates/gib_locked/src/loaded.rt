@@ -2,6 +2,7 @@
 
 ghost use Rattle.std.specs.Prelude.{◌≡◌, ◌<◌, IfOk, IfErr, IsErrOf};
 ghost use Rattle.gib_types.specs.Tree.{Datum};
+ghost use Rattle.gib_syntax.specs.Results as results;
 ghost use Rattle.gib_core.specs.Cost.{run_cost};
 ghost use Rattle.gib_core.specs.Meaning.{core_run};
 ghost use Rattle.gib_core.specs.Parts.{core_of};
@@ -68,7 +69,7 @@ pub fn replay_loaded(
         journal.now.lines.all.items (⟦<PlainMem as Mem>⟧.view made.memory) made.answer) }
     ensures limit { IfOk result (λ made. (⟦<PlainMem as Mem>⟧.view made.memory).limit ≡ (⟦<PlainMem as Mem>⟧.view loaded.memory).limit) }
     ensures means { IfOk result (λ made. (d : Datum) → IsStart lowered.now loaded.root loaded.tails (⟦<PlainMem as Mem>⟧.view loaded.memory) d
-        → IsAnswer lowered.now.code.laid (⟦<PlainMem as Mem>⟧.view made.memory).cells (core_of lowered.now.core).main.result (core_run (core_of lowered.now.core) journal.now.settings.depth d) made.answer) }
+        → IsAnswer lowered.now.code.laid (⟦<PlainMem as Mem>⟧.view made.memory).cells (results.One (core_of lowered.now.core).main.result) (core_run (core_of lowered.now.core) journal.now.settings.depth d) made.answer) }
     ensures no_end { IfErr result (IsNoEnd lowered.now.code (weave_start (core_of lowered.now.core) lowered.now.code (⟦<PlainMem as Mem>⟧.view loaded.memory) (word_of loaded.root) journal.now.settings.depth journal.now.settings.fork loaded.tails) journal.now.lines.all.items) }
 {
     let nesting = Nesting {
@@ -118,7 +119,7 @@ pub fn run_loaded<R: Threads + Wait + Sync, G: Gate + Sync>(
     ensures settings { IfOk result (λ made. made.journal.settings ≡ settings) }
     ensures limit { IfOk result (λ made. (⟦<PlainMem as Mem>⟧.view made.memory).limit ≡ (⟦<PlainMem as Mem>⟧.view loaded.memory).limit) }
     ensures means { IfOk result (λ made. (d : Datum) → IsStart lowered.now loaded.root loaded.tails (⟦<PlainMem as Mem>⟧.view loaded.memory) d
-        → IsAnswer lowered.now.code.laid (⟦<PlainMem as Mem>⟧.view made.memory).cells (core_of lowered.now.core).main.result (core_run (core_of lowered.now.core) settings.depth d) made.answer) }
+        → IsAnswer lowered.now.code.laid (⟦<PlainMem as Mem>⟧.view made.memory).cells (results.One (core_of lowered.now.core).main.result) (core_run (core_of lowered.now.core) settings.depth d) made.answer) }
     ensures full { IsErrOf result RunFault.Full → (d : Datum) → IsStart lowered.now loaded.root loaded.tails (⟦<PlainMem as Mem>⟧.view loaded.memory) d
         → Tight (⟦<PlainMem as Mem>⟧.view loaded.memory).limit (run_cost (core_of lowered.now.core) settings.depth settings.fork d) }
 {

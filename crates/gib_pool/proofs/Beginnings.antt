@@ -3,6 +3,7 @@ use Rattle.std.proofs.Common.{◌≡◌, ℕ, ◌≤◌, List, [], refl, sym, ap
 use Rattle.std.specs.Prelude.{Option, Err}
 use Rattle.std.specs.Vec.{vec_capacity}
 use Rattle.gib_types.specs.Tree.{Datum}
+use Rattle.gib_syntax.specs.Results as results
 use Rattle.gib_mem.specs.Memory.{Memory, fresh, IsBounded}
 use Rattle.gib_code.specs.declared.answer.Side.{Side}
 use Rattle.gib_code.specs.Program.{CodeTree}
@@ -104,7 +105,7 @@ made_here j mine e z = subst (λ (xs : List (Option Frame)). AreHere (lent_of xs
 
 -- What the root owes.
 abbrev pub root_debt : LoweredParts → (depth level : ℕ) → Datum → Debt
-root_debt l depth level d = record { ty = (core_of l.core).main.result; owed = core_run (core_of l.core) depth d; most = whole_of (core_of l.core) depth level d }
+root_debt l depth level d = record { ty = results.One (core_of l.core).main.result; owed = core_run (core_of l.core) depth d; most = whole_of (core_of l.core) depth level d }
 
 pub root_owes : (l : LoweredParts) (v : Memory) (place : Root) (tails : List ℕ) (depth level : ℕ) (d : Datum) → IsWhole l.core l.code → IsBounded v → IsStart l place tails v d
     → Works l (root_debt l depth level d) v.cells v.drawn (root_start (core_of l.core) l.code (word_of place) depth level tails) []
@@ -133,7 +134,7 @@ full_drawn l Has ending.NotRun p p' is s same all = absurd s
 pub root_ends : (l : LoweredParts) (depth level : ℕ) (d : Datum) (j : ActiveTask) (e : Ending) (v : Memory) (p p' : Pass) → OwesStill l (root_debt l depth level d) j → Settles l (λ (z : Debt). OwesStill l z j) e p
     → v.limit ≡ (view p').branch.limit → view p' ≡ view p → drawn_by p' ≡ (view p').holding.seen → IsRun l depth level d v (pass_memory p') (outcome e)
 root_ends l depth level d j (ending.Answer a) v p p' owes s limit same all =
-    subst (λ (w : View). IsAnswer l.code.laid (cells_of w.holding) (core_of l.core).main.result (core_run (core_of l.core) depth d) a) (sym same) (s (root_debt l depth level d) owes).0
+    subst (λ (w : View). IsAnswer l.code.laid (cells_of w.holding) (results.One (core_of l.core).main.result) (core_run (core_of l.core) depth d) a) (sym same) (s (root_debt l depth level d) owes).0
 root_ends l depth level d j ending.Full v p p' owes s limit same all =
     let seen : (view p').holding.seen ≡ (view p').branch.limit = ap (λ (w : View). w.holding.seen) same ∙ (s.0 ∙ sym (ap (λ (w : View). w.branch.limit) same)) in
     let drawn : drawn_by p ≡ v.limit = sym (ap (λ (w : View). share w.holding) same) ∙ (all ∙ (seen ∙ sym limit)) in

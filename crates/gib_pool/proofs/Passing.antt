@@ -2,9 +2,15 @@
 use Rattle.std.proofs.Common.{◌≡◌, ℕ, zero, suc, ◌+◌, ◌≤◌, List, [], ◌∷◌, ◌++◌, length, length-append, refl, sym, ap, subst, ◌∙◌, arith}
 use Rattle.std.specs.Prelude.{Option, Some, None, Result, Ok, Err}
 use Rattle.gib_mem.specs.Memory.{Holder, Grows, fresh, IsBounded}
+use Rattle.gib_code.specs.declared.answer.Answer.{Answer}
 use Rattle.gib_core.specs.LoweredParts.{LoweredParts}
+use Rattle.gib_machine.specs.State.{Ended}
+use Rattle.gib_machine.specs.Machine.{next}
+use Rattle.gib_machine.specs.declared.turn.Turn.TheVariants as turn
+use Rattle.gib_machine.proofs.Stands.{ended_one}
 use Rattle.gib_weave.specs.Owing.{Debt}
 use Rattle.gib_weave.specs.Places.{IsSmall}
+use Rattle.gib_weave.specs.Sound.{IsAnswer}
 use Rattle.gib_weave.proofs.Memories.{bounded_small}
 use Rattle.gib_arena.specs.declared.memory.Arena.{Arena}
 use Rattle.gib_arena.specs.declared.memory.Pass.{Pass}
@@ -18,13 +24,13 @@ use Rattle.gib_frame.specs.declared.due.Due.{Due}
 use Rattle.gib_frame.specs.declared.due.Ending.{Ending}
 use Rattle.gib_frame.specs.declared.due.Ending.TheVariants as ending
 use Rattle.gib_frame.specs.declared.ends.Frame.{Frame}
-use Rattle.gib_frame.specs.Answers.{drawn_by}
+use Rattle.gib_frame.specs.Answers.{IsPaid, drawn_by}
 use Rattle.gib_pool.specs.declared.active.ActiveTask.{ActiveTask}
 use Rattle.gib_pool.specs.declared.workspace.Workspace.{Workspace}
 use Rattle.gib_pool.specs.Turn.{Wider}
 use Rattle.gib_pool.specs.Lent.{AreSplits, Lends}
 use Rattle.gib_pool.specs.Frames.{before, lent_of, due_maybe, AreHere}
-use Rattle.gib_pool.specs.Active.{Goes, IsSamePass, IsBackWhole, Settles}
+use Rattle.gib_pool.specs.Active.{Goes, IsSamePass, IsBackWhole, Settles, StandsAt, active_state}
 
 -- What a pass shows keeps what every memory keeps.
 pub pass_bounded : (a : Arena) (p : Pass) → IsOf a p → IsBounded (shown p.seat.table_id (view p))
@@ -101,6 +107,11 @@ pub settles_for : (l : LoweredParts) (Has Had : Debt → Type 0) (e : Ending) (p
 settles_for l Has Had (ending.Answer a) p f s = λ d h. s d (f d h)
 settles_for l Has Had ending.Full p f s = (s.0, λ d h. s.1 d (f d h))
 settles_for l Has Had ending.NotRun p f s = s
+
+-- A task whose machine has ended did so with what it owed.
+pub ended_with : (l : LoweredParts) (d : Debt) (j : ActiveTask) (a : Answer) → StandsAt l d j turn.Ended → next l.code (active_state j) ≡ Ended a
+    → IsAnswer l.code.laid (cells j.pass) d.ty d.owed a × IsPaid d.most (drawn_by j.pass)
+ended_with l d j a s e = (subst (λ (x : Answer). IsAnswer l.code.laid (cells j.pass) d.ty d.owed x) (ended_one (next l.code (active_state j)) s.1 a s.2 e) s.3, s.4)
 
 -- A task that stood again behind this goes on, or ends, from where it stood first.
 pub goes_for : (a : Arena) (l : LoweredParts) (Has Had : Debt → Type 0) (j k : ActiveTask) (mine : List Due) (r : Result ActiveTask (Ending × Pass × Workspace)) → IsSamePass j.pass k.pass → ((d : Debt) → Had d → Has d) → Goes a l Has k mine r → Goes a l Had j mine r

@@ -102,7 +102,7 @@ module _ (l : LoweredParts) (d : Debt) (lent : List (Option Due)) where
   comes v v' m m' r (Draw f) is p k (inr e) other = full_so v v' m m' r f is e.0 e.1 e.2.same p
   comes v v' m m' r AtFork is p k e other = comes_so v v' m m' r turn.AtFork e.0 e.1 e.2 (is, k)
   comes v v' m m' r AtJoin is p k e other = comes_so v v' m m' r turn.AtJoin e.0 e.1 e.2 (is, k)
-  comes v v' m m' r (Ended a) is p k e other = comes_so v v' m m' r (turn.Ended a) e.0 e.1 e.2 k
+  comes v v' m m' r (Ended a) is p k e other = comes_so v v' m m' r turn.Ended e.0 e.1 e.2 (k.0, a, is, k.1, k.2)
 
 -- Forks nest no deeper behind a turn.
 module _ (n o : ℕ) (m m' : State) where

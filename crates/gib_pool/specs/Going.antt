@@ -2,7 +2,8 @@
 use Rattle.std.specs.Prelude.{◌≡◌, ℕ, List, [], Option, slice_get}
 use Rattle.gib_mem.specs.Memory.{Memory, Store, Grows}
 use Rattle.gib_core.specs.LoweredParts.{LoweredParts}
-use Rattle.gib_machine.specs.State.{State, Draw, AtFork, AtJoin}
+use Rattle.gib_code.specs.declared.answer.Answer.{Answer}
+use Rattle.gib_machine.specs.State.{State, Draw, AtFork, AtJoin, Ended}
 use Rattle.gib_machine.specs.Machine.{next}
 use Rattle.gib_machine.specs.Sides.{left_starts, right_of}
 use Rattle.gib_machine.specs.declared.turn.Turn.{Turn}
@@ -19,7 +20,7 @@ abbrev pub Comes : LoweredParts → Debt → List (Option Due) → Memory → St
 Comes l d lent v m turn.Went = ⊥
 Comes l d lent v m turn.AtFork = (next l.code m ≡ AtFork) × WorksOn l d v.cells v.share lent m (left_starts m (slice_get l.code.instructions m.ip)) (right_of m (slice_get l.code.instructions m.ip))
 Comes l d lent v m turn.AtJoin = (next l.code m ≡ AtJoin) × ((r : Store) → Wider v.cells r → WorksBack l d r v.share lent m)
-Comes l d lent v m (turn.Ended a) = (lent ≡ []) × IsAnswer l.code.laid v.cells d.ty d.owed a × IsPaid d.most v.share
+Comes l d lent v m turn.Ended = (lent ≡ []) × (a : Answer) × (next l.code m ≡ Ended a) × IsAnswer l.code.laid v.cells d.ty d.owed a × IsPaid d.most v.share
 Comes l d lent v m turn.Full = (k : ℕ → State) × (next l.code m ≡ Draw k) × (v.drawn ≡ v.limit) × Pays l d.most v.share lent
 
 -- The memory is the same one: the same pass of the same arena, with as many chunks, and knows what it knew.

@@ -1,6 +1,7 @@
 -- How a run by several workers ends.
 use Rattle.std.specs.Prelude.{◌≡◌, ℕ, Result, Ok, Err}
 use Rattle.gib_types.specs.Tree.{Datum}
+use Rattle.gib_syntax.specs.Results as results
 use Rattle.gib_mem.specs.Memory.{Memory}
 use Rattle.gib_core.specs.Cost.{run_cost}
 use Rattle.gib_core.specs.LoweredParts.{LoweredParts}
@@ -30,6 +31,6 @@ outcome ending.NotRun = Err fault.Memory
 -- How a run by several workers ends that started with this value, and may nest so many calls and forks: with what the core means; or
 -- all chunks are drawn, and so many may not be enough for the run; or memory was wanted.
 abbrev pub IsRun : LoweredParts → (depth level : ℕ) → Datum → (v v' : Memory) → Result Answer RunFault → Type 0
-IsRun l depth level d v v' (Ok a) = IsAnswer l.code.laid v'.cells (core_of l.core).main.result (core_run (core_of l.core) depth d) a
+IsRun l depth level d v v' (Ok a) = IsAnswer l.code.laid v'.cells (results.One (core_of l.core).main.result) (core_run (core_of l.core) depth d) a
 IsRun l depth level d v v' (Err fault.Full) = Tight v.limit (run_cost (core_of l.core) depth level d) × (v'.drawn ≡ v'.limit)
 IsRun l depth level d v v' (Err fault.Memory) = Unit {0}

@@ -5,6 +5,7 @@ ghost use Rattle.atomic_table.specs.Table.{State as TableState};
 ghost use Rattle.gib_types.specs.declared.table.Ty.{Ty};
 ghost use Rattle.gib_types.specs.Layout.{LaidOut};
 ghost use Rattle.gib_syntax.specs.Meaning.{Outcome};
+ghost use Rattle.gib_syntax.specs.Results.{Results};
 ghost use Rattle.gib_mem.specs.Memory.{IsBounded, Memory, Store};
 ghost use Rattle.gib_core.specs.LoweredParts.{IsWhole, LoweredParts};
 ghost use Rattle.gib_core.specs.Parts.{core_of};
@@ -68,7 +69,7 @@ pub fn tasks_are_sound_together()
     ensures side { (words : List ℕ) (views : List View) (r : Store) → Together words views r → (j : ℕ) (v : View) → IsPass views j v
         → (l : LoweredParts) (d : Debt) (w : Waiting) → SideSafe (core_of l.core) l.code d (cells_of v.holding) w → SideSafe (core_of l.core) l.code d r w }
     ensures answer { (words : List ℕ) (views : List View) (r : Store) → Together words views r → (j : ℕ) (v : View) → IsPass views j v
-        → (laid : LaidOut) (ty : Ty) (owed : Outcome) (a : Answer) → IsAnswer laid (cells_of v.holding) ty owed a → IsAnswer laid r ty owed a }
+        → (laid : LaidOut) (ty : Results Ty) (owed : Outcome) (a : Answer) → IsAnswer laid (cells_of v.holding) ty owed a → IsAnswer laid r ty owed a }
 {}
 
 /// At a fork a task whose open forks and levels left are no more than `top` has fewer right sides that were not joined: so room for `top`

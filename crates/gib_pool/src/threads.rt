@@ -103,7 +103,7 @@ fn is_fork(instr: &Instr) -> bool
     ensures { result ≡ is_some (fork_of (Some (instruction_of instr.now))) }
 {
     match instr {
-        Instr::Fork { .. } => true,
+        Instr::Fork(_) => true,
         _ => false,
     }
 }

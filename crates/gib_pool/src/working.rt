@@ -42,7 +42,8 @@ fn stand_once<'a, R: Wait, G: Gate>(
     let (active, turn) = run_on(rt, arena, lowered, active);
     match turn {
         Turn::Went => unreachable!(),
-        Turn::Ended(answer) => {
+        Turn::Ended => {
+            let answer = active.machine.ended_with(lowered.code());
             let ActiveTask {
                 machine,
                 tails: _,

@@ -1,11 +1,14 @@
-use Rattle.std.proofs.Common.{ap, subst, ◌∙◌}
+use Rattle.std.proofs.Common.{◌≡◌, ap, subst, sym, ◌∙◌}
 use Rattle.std.specs.Prelude.{Ok}
 use Rattle.crossbeam_deque.specs.Handles.{worker_view}
+use Rattle.gib_code.specs.Program.{CodeTree}
+use Rattle.gib_machine.specs.State.{Ended}
+use Rattle.gib_machine.specs.Machine.{next}
 use Rattle.gib_machine.specs.declared.turn.Turn.TheVariants.{AtFork, AtJoin}
 use Rattle.gib_weave.specs.Owing.{Debt}
-use Rattle.gib_pool.specs.Active.{OwesStill, PaysStill, StandsAt}
+use Rattle.gib_pool.specs.Active.{OwesStill, PaysStill, StandsAt, active_state}
 use Rattle.gib_pool.specs.Lent.{lent_paths}
-use Rattle.gib_pool.proofs.Passing.{back_on, goes_for, settles_for}
+use Rattle.gib_pool.proofs.Passing.{back_on, ended_with, goes_for, settles_for}
 use Rattle.gib_pool.proofs.working.stand_once.Goals as goal
 
 pub unreachable-requires : goal.unreachable-requires
@@ -17,6 +20,12 @@ fork_here-active-requires-clause-stands g c = let w = c.requires.owes in (w.0, s
 pub join_here-requires-clause-stands : goal.join_here-requires-clause-stands
 join_here-requires-clause-stands g c = let w = c.requires.owes in (w.0, subst (StandsAt c.args.lowered.now w.0 c.run_on-active.result.0) c.in-AtJoin.is (c.run_on-active.ensures.stands w.0 w.1))
 
+pub ended_with-answer-requires : goal.ended_with-answer-requires
+ended_with-answer-requires g c =
+    let w = c.requires.owes in
+    let e = subst (StandsAt c.args.lowered.now w.0 c.run_on-active.result.0) c.in-Ended.is (c.run_on-active.ensures.stands w.0 w.1) in
+    (c.run_on-active.result.0.tails, e.1, subst (λ (x : CodeTree). next x (active_state c.run_on-active.result.0) ≡ Ended e.1) (sym c.code.ensures.value) e.2)
+
 pub returns-in-Ended-clause-goes : goal.returns-in-Ended-clause-goes
 returns-in-Ended-clause-goes g c =
     let at = λ (d : Debt) (h : OwesStill c.args.lowered.now d c.args.active). subst (StandsAt c.args.lowered.now d c.run_on-active.result.0) c.in-Ended.is (c.run_on-active.ensures.stands d h) in
@@ -24,7 +33,7 @@ returns-in-Ended-clause-goes g c =
     let h = c.run_on-active.ensures.holds in
     record {
       back = record { own = h.own; same = c.run_on-active.ensures.same; none_out = h.lends.out ∙ ap lent_paths (at w.0 w.1).0 };
-      settles = λ d h. let e = at d h in (e.1, e.2);
+      settles = λ d h. ended_with c.args.lowered.now d c.run_on-active.result.0 c.ended_with-answer.result (at d h) (subst (λ (x : CodeTree). next x (active_state c.run_on-active.result.0) ≡ Ended c.ended_with-answer.result) c.code.ensures.value (c.ended_with-answer.ensures c.run_on-active.result.0.tails));
     }
 
 pub returns-in-Full-clause-goes : goal.returns-in-Full-clause-goes
