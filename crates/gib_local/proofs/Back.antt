@@ -10,8 +10,8 @@ use Rattle.gib_syntax.specs.Declarations.{type_of_name}
 use Rattle.gib_core.specs.declared.atom.Variable.{Variable}
 use Rattle.gib_core.specs.declared.atom.Kind.{Kind}
 use Rattle.gib_core.specs.declared.atom.Kind.TheVariants.{Here, Region, Scalar}
-use Rattle.gib_core.specs.Tree.{Term, Then, Write, Point, CallTerm, Give, CaseTerm, IfTerm, Past, One, Both, Prim, Reach, On, Branches, NoBranch, BranchThen}
-use Rattle.gib_core.specs.Met.{Destination, Nowhere, Empty, Open, stands_too, with_field}
+use Rattle.gib_core.specs.Tree.{Term, Then, Write, Point, CallTerm, Give, CaseTerm, IfTerm, Tuple, Past, One, Both, Prim, Reach, On, Several, Branches, NoBranch, BranchThen}
+use Rattle.gib_core.specs.Met.{Destination, Nowhere, Empty, Open, InParts, stands_too, with_field}
 use Rattle.gib_core.specs.Rules.{has_room, is_nowhere}
 use Rattle.gib_local.specs.Tree.{Mark, Line, In, LetIn, Bound, Be}
 use Rattle.gib_local.specs.Building.{Placed, Place, AtStart, AtFirst, AtNext, Meant, IsPlace, PlaceName, Around, Passed, Termed, Sided, Program, and_then, meant, is_in, next_place, kind_for, kind_at, used_too, is_flat, sided, put_at, bind, build, build_binding, build_bound}
@@ -41,6 +41,9 @@ module _ (p : Program) where
         let two = text_up w xs (side_place j) (a + 1) b t.1.2.1.3 in
         let three = text_up rest (y.0 ∷ x.0 ∷ xs) (stands_too j y (stands_too i x d)) b m t.1.2.2 in
         omega (arith, one, two, three)
+    text_up (Then (One (Several ys ts u)) rest) xs d n m t = absurd t.1
+    text_up (Then (Both fork (On i x ty u) (Several ys ts w)) rest) xs d n m t = absurd t.1.2.1
+    text_up (Then (Both fork (Several ys ts u) r) rest) xs d n m t = absurd t.1.1
     text_up (Then (Prim x f y z) rest) xs d n m t = (let le = text_up rest (x.0 ∷ xs) d (n + 1) m t.3 in omega (arith, le))
     text_up (Then (Reach y by) rest) xs d n m t = text_up rest xs d n m t.2
     text_up (Write h k ss ps) xs d n m t = (let e : n ≡ m = t.0 in omega (arith, e))
@@ -49,6 +52,7 @@ module _ (p : Program) where
     text_up (Give x) xs d n m t = (let e : n ≡ m = t.0 in omega (arith, e))
     text_up (CaseTerm x bs) xs d n m t = branches_up bs xs d n m t.2
     text_up (IfTerm x u v) xs d n m t = (let one = text_up u xs d n t.1.0 t.1.1 in let two = text_up v xs d t.1.0 m t.1.2 in omega (arith, one, two))
+    text_up (Tuple ts ss ps) xs d n m t = absurd t
 
     pub branches_up : (bs : Branches) (xs : List ℕ) (d : Destination) (n m : ℕ) → HasBranches p bs xs d n m → n ≤ m
     branches_up NoBranch xs d n m t = (let e : n ≡ m = t in omega (arith, e))
@@ -77,6 +81,7 @@ clear_more nm ok Scalar u n y c = c
 nowhere_kept : (kind : Kind) (x : Variable) (d : Destination) → is_nowhere (stands_too kind x d) ≡ is_nowhere d
 nowhere_kept Here x Nowhere = refl
 nowhere_kept Here x Empty = refl
+nowhere_kept Here x (InParts ts) = refl
 nowhere_kept Here x (Open h k st) = refl
 nowhere_kept Region x d = refl
 nowhere_kept Scalar x d = refl
@@ -84,11 +89,13 @@ nowhere_kept Scalar x d = refl
 pub head_as : (nm : Naming) (n : ℕ) (ps new : List PlaceName) (d : Destination) → Extends nm n ps new → HeadBelow n d → HeadNamed nm ps d → HeadNamed nm new d
 head_as nm n ps new Nowhere e b h = tt
 head_as nm n ps new Empty e b h = tt
+head_as nm n ps new (InParts ts) e b h = tt
 head_as nm n ps new (Open g c st) e b h = e.same g.0 b ∙ h
 
 head_kept : (nm : Naming) (kind : Kind) (x : Variable) (ps : List PlaceName) (d : Destination) → HeadNamed nm ps d → HeadNamed nm ps (stands_too kind x d)
 head_kept nm Here x ps Nowhere h = tt
 head_kept nm Here x ps Empty h = tt
+head_kept nm Here x ps (InParts ts) h = tt
 head_kept nm Here x ps (Open g c st) h = h
 head_kept nm Region x ps d h = h
 head_kept nm Scalar x ps d h = h
@@ -96,11 +103,13 @@ head_kept nm Scalar x ps d h = h
 pub below_more : (n k : ℕ) (d : Destination) → n ≤ k → HeadBelow n d → HeadBelow k d
 below_more n k Nowhere le h = tt
 below_more n k Empty le h = tt
+below_more n k (InParts ts) le h = tt
 below_more n k (Open g c st) le h = omega (arith, le, h)
 
 below_kept : (n : ℕ) (kind : Kind) (x : Variable) (d : Destination) → HeadBelow n d → HeadBelow n (stands_too kind x d)
 below_kept n Here x Nowhere h = tt
 below_kept n Here x Empty h = tt
+below_kept n Here x (InParts ts) h = tt
 below_kept n Here x (Open g c st) h = h
 below_kept n Region x d h = h
 below_kept n Scalar x d h = h
@@ -116,11 +125,13 @@ all_in_end xs (y ∷ ys) x h e = (h.0, all_in_end xs ys x h.1 e)
 pub standing_past : (x : ℕ) (xs : List ℕ) (d : Destination) → StandInScope xs d → StandInScope (x ∷ xs) d
 standing_past x xs Nowhere h = tt
 standing_past x xs Empty h = tt
+standing_past x xs (InParts ts) h = tt
 standing_past x xs (Open g c st) h = all_in_past x xs st h
 
 standing_kept : (kind : Kind) (x : Variable) (xs : List ℕ) (d : Destination) → StandInScope xs d → StandInScope (x.0 ∷ xs) (stands_too kind x d)
 standing_kept Here x xs Nowhere h = tt
 standing_kept Here x xs Empty h = tt
+standing_kept Here x xs (InParts ts) h = tt
 standing_kept Here x xs (Open g c st) h = all_in_end (x.0 ∷ xs) st x (all_in_past x.0 xs st h) (ap (λ b. if b then true else is_in xs x.0) (itself x.0))
 standing_kept Region x xs d h = standing_past x.0 xs d h
 standing_kept Scalar x xs d h = standing_past x.0 xs d h
@@ -138,6 +149,7 @@ stands_on nm kind x xs ps new d q at n k e le h = record {
 pub number_below : (d : Destination) (kind : Kind) (n x : ℕ) → HeadBelow n d → n ≤ x → side_number d kind x ≤ x
 number_below Nowhere Here n x h le = omega arith
 number_below Empty Here n x h le = omega arith
+number_below (InParts ts) Here n x h le = omega arith
 number_below (Open g c []) Here n x h le = omega (arith, h, le)
 number_below (Open g c (y ∷ ys)) Here n x h le = omega arith
 number_below d Region n x h le = omega arith
@@ -179,6 +191,7 @@ ready_with nm ok tb ps d kind Scalar n y u w lt h = h
 pub room_open : (tb : Table) (x : Variable) (d : Destination) → has_room tb (with_field x d) ≡ true → field_place (with_field x d) ≡ AtNext x.0
 room_open tb x Nowhere e = absurd cc
 room_open tb x Empty e = absurd cc
+room_open tb x (InParts ts) e = absurd cc
 room_open tb x (Open g c st) e = behind_end (AtFirst g.0) st x
 
 module _ (p : Program) (nm : Naming) (ok : Apart nm) where

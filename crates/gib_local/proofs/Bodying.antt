@@ -19,9 +19,11 @@ use Rattle.gib_core.specs.declared.atom.Variable.{Variable}
 use Rattle.gib_core.specs.declared.node.Node.{Node}
 use Rattle.gib_core.specs.declared.node.TermId.{TermId}
 use Rattle.gib_core.specs.declared.program.CoreFunction.{CoreFunction}
+use Rattle.gib_core.specs.declared.program.CoreResult.{CoreResult}
+use Rattle.gib_syntax.specs.Results as results
 use Rattle.gib_core.specs.declared.program.CoreMain.{CoreMain}
 use Rattle.gib_core.specs.Arena.{Grows, term_of}
-use Rattle.gib_core.specs.Parts.{Parts, AreInside, IsDeclared, AreDeclared, IsFunctionInside, core_of, function_term, main_term}
+use Rattle.gib_core.specs.Parts.{IsResultDeclared, results_of, Parts, AreInside, IsDeclared, AreDeclared, IsFunctionInside, core_of, function_term, main_term}
 use Rattle.gib_core.specs.Tree.{CoreTree, FunctionTerm}
 use Rattle.gib_local.specs.declared.builder.Builder.{Builder}
 use Rattle.gib_local.specs.declared.destination.Goal.{Goal}
@@ -118,7 +120,7 @@ with_more fs g (Err p) = refl
 
 -- What goes on behind a body.
 abbrev more_of : Program → FunctionText → Placed (List FunctionTerm) → Termed → Placed (List FunctionTerm)
-more_of p t rest s = and_then rest (λ l. given (record { name = t.name.name; parameters = types_of p.table.types t.parameters; result = type_of_name p.table.types t.result; body = s.term } ∷ l))
+more_of p t rest s = and_then rest (λ l. given (record { name = t.name.name; parameters = types_of p.table.types t.parameters; result = results.One (type_of_name p.table.types t.result); body = s.term } ∷ l))
 
 -- Some functions were built; with those that are left they are all.
 pub record FunctionsSoFar (p : Program) (g : ℕ → Line) (n : ℕ) (old now : Builder) (functions rest : List FunctionLines) (made : List CoreFunction) : Type 0 where
@@ -139,7 +141,7 @@ functions_begin p g n old functions made h e = subst (λ l. FunctionsSoFar p g n
 
 functions_grow : (xs ys : List Node) (made : List CoreFunction) → Grows xs ys → AllByRecursion (IsFunctionInside (length xs)) made → map (function_term (term_of ys)) made ≡ map (function_term (term_of xs)) made
 functions_grow xs ys [] g h = refl
-functions_grow xs ys (m ∷ made) g h = (λ i. record { name = m.name; parameters = m.parameters.items; result = m.result; body = g.same m.body.0 h.0 i } ∷ functions_grow xs ys made g h.1 i)
+functions_grow xs ys (m ∷ made) g h = (λ i. record { name = m.name; parameters = m.parameters.items; result = results_of m.result; body = g.same m.body.0 h.0 i } ∷ functions_grow xs ys made g h.1 i)
 
 inside_all : (m n : ℕ) (made : List CoreFunction) → m ≤ n → AllByRecursion (IsFunctionInside m) made → AllByRecursion (IsFunctionInside n) made
 inside_all m n [] le h = tt
@@ -179,7 +181,7 @@ types_below types (q ∷ qs) = (written_below types q.ty, types_below types qs)
 function_declared : (p : Program) (b0 b1 : Builder) (made : CoreFunction) (t : FunctionText) → PutsFunction b0 b1 p made t → IsDeclared (length p.table.types) made
 function_declared p b0 b1 made t h = (
   subst (AllByRecursion (IsTyBelow (length p.table.types))) (sym h.parameters) (types_below p.table.types t.parameters),
-  subst (IsTyBelow (length p.table.types)) (sym h.result) (written_below p.table.types t.result),
+  subst (λ (r : CoreResult). IsResultDeclared (length p.table.types) (results_of r)) (sym h.result) (written_below p.table.types t.result),
 )
 
 front_is : {A : Type 0} (x : A) (rest : List A) → 1 ≤ length rest → x ≡ get_or rest 0 x → rest ≡ x ∷ take (length rest - 1) (drop 1 rest)
@@ -191,8 +193,8 @@ pub functions_next : (p : Program) (g : ℕ → Line) (n : ℕ) (old now new : B
 functions_next p g n old now new functions rest one made more x le at h k m =
     let after = take (length rest - 1) (drop 1 rest) in
     let split : rest ≡ one ∷ after = front_is one rest le at in
-    let made_is : function_term (term_of new.terms) x ≡ record { name = one.name.name; parameters = types_of p.table.types one.parameters.items; result = type_of_name p.table.types one.result; body = term_of new.terms x.body.0 } =
-    (λ i. record { name = k.name i; parameters = k.parameters i; result = k.result i; body = term_of new.terms x.body.0 }) in
+    let made_is : function_term (term_of new.terms) x ≡ record { name = one.name.name; parameters = types_of p.table.types one.parameters.items; result = results.One (type_of_name p.table.types one.result); body = term_of new.terms x.body.0 } =
+    (λ i. record { name = k.name i; parameters = k.parameters i; result = results_of (k.result i); body = term_of new.terms x.body.0 }) in
     let go = λ (fs : List FunctionTerm). with_functions fs (build_functions p (map (function_text g) after)) in
     subst (λ l. FunctionsSoFar p g n old new functions after l) (sym m) (record {
       grows = grows_on old.terms now.terms new.terms h.grows k.grows;
@@ -244,7 +246,7 @@ all_inside parts b0 b1 b2 table functions main offsets r e h k =
       functions = inside_all (length b1.terms) (length b2.terms) functions k.grows.longer h.inside;
       main = k.inside;
       types = subst (λ n. AllByRecursion (IsDeclared n) functions) long h.declared;
-      main_types = subst (λ n. AreDeclared n (main.parameter ∷ []) main.result) long (
+      main_types = subst (λ n. AreDeclared n (main.parameter ∷ []) (results.One main.result)) long (
         (subst (IsTyBelow (length types)) (sym k.parameter) (written_below types parts.main.parameter.ty), tt),
         subst (IsTyBelow (length types)) (sym k.result) (written_below types parts.main.result),
       );

@@ -9,6 +9,8 @@ use Rattle.gib_types.specs.declared.table.Ty.{Ty}
 use Rattle.gib_types.specs.declared.table.Ty.TheVariants.{Whole, Truth, Tree}
 use Rattle.gib_types.specs.declared.table.ConId.{ConId}
 use Rattle.gib_types.specs.Table.{Table, fields_at, tree_types, scalar_types, is_scalar, numbers_from, first_at, count_at, IsTable, first_type, further_types}
+use Rattle.gib_syntax.specs.Results as results
+use Rattle.gib_syntax.specs.Results.{Results}
 use Rattle.gib_syntax.specs.Declarations.{type_of_name}
 use Rattle.gib_core.specs.declared.atom.Variable.{Variable}
 use Rattle.gib_core.specs.declared.atom.Atom.{Atom}
@@ -19,17 +21,17 @@ use Rattle.gib_core.specs.declared.atom.Access.{Access}
 use Rattle.gib_core.specs.declared.atom.Access.TheVariants.{Offset, Skip, End}
 use Rattle.gib_core.specs.declared.scope.Behind.{Behind}
 use Rattle.gib_core.specs.declared.scope.Known.{Known}
-use Rattle.gib_core.specs.Tree.{Term, Then, Write, Point, CallTerm, Give, CaseTerm, IfTerm, Past, One, Both, Prim, Reach, On, Branches, NoBranch, BranchThen, variables_from, FunctionTerm, CoreTree}
+use Rattle.gib_core.specs.Tree.{Term, Then, Write, Point, CallTerm, Give, CaseTerm, IfTerm, Tuple, Past, One, Both, Prim, Reach, On, Several, Branches, NoBranch, BranchThen, variables_from, FunctionTerm, CoreTree}
 use Rattle.gib_core.specs.Meaning.{function_at}
 use Rattle.gib_core.specs.Ending.{ended}
 use Rattle.gib_core.specs.Numbering.{binders, branch_binders}
 use Rattle.gib_core.specs.TypesNamed.{TypesDeclared, BranchesDeclared}
-use Rattle.gib_core.specs.Met.{Destination, Nowhere, Empty, Open, Setting, SideLine, ParLine, CaseLine, known, reached, reached_too, field, packed_before, with_arm, field_due, packed_types, stands_too, in_side, behind, left_of, right_of, in_arm, in_branch, arms_of, met, met_bind, met_side, met_branches}
-use Rattle.gib_core.specs.Rules.{Before, is_reached, is_usable, all_usable, any_other, is_other, is_among, is_outside, one_tells, is_empty, is_of_type, is_bound, is_nowhere, has_room, may_write, are_variables, any_cased, further, are_scalars, type_of, same_type, cover, are_arms, any_bound, arm_variables, has_type, have_types, call_fits, gives_packed, may_reach, by_access, rules, least, next, next_all, LinesAreBuilt}
+use Rattle.gib_core.specs.Met.{Destination, Nowhere, Empty, Open, InParts, Setting, SideLine, ParLine, CaseLine, known, reached, reached_too, field, packed_before, with_arm, field_due, packed_types, stands_too, in_side, behind, left_of, right_of, in_arm, in_branch, arms_of, met, met_bind, met_side, met_branches}
+use Rattle.gib_core.specs.Rules.{Before, result_fits, is_reached, is_usable, all_usable, any_other, is_other, is_among, is_outside, one_tells, is_empty, is_of_type, is_bound, is_nowhere, has_room, may_write, are_variables, any_cased, further, are_scalars, type_of, same_type, cover, are_arms, any_bound, arm_variables, has_type, have_types, call_fits, gives_packed, may_reach, by_access, rules, least, next, next_all, LinesAreBuilt}
 use Rattle.gib_core.specs.Ordered.{IsFound, IsNatural, AreNaturalAtoms, IsNaturalTerm, AreNaturalBranches}
 use Rattle.gib_local.specs.Building.{Program, is_flat, is_in, gives_scalar}
-use Rattle.gib_local.specs.Printing.{Naming, function_text, side_place}
-use Rattle.gib_local.specs.HasText.{HasAtom, HasVariable, HasAccess, HasFields, IsOpenAt, FillsAtOnce, MayStand, IsWritten, scope_from, HasText, OpensText, HasBranches, program_of}
+use Rattle.gib_local.specs.Printing.{Naming, result_text, function_text, side_place}
+use Rattle.gib_local.specs.HasText.{HasAtom, HasVariable, HasAccess, HasFields, IsOpenAt, FillsAtOnce, MayStand, IsWritten, IsResultWritten, scope_from, HasText, OpensText, HasBranches, program_of}
 use Rattle.gib_local.specs.HasShape.{IsWrite, IsFilled, HasShape, HasShapes}
 use Rattle.gib_local.proofs.Facts.{and_true, or_false, not_false, least2, least3, least4, same_type_is, Test, holds, fails, test}
 use Rattle.gib_local.proofs.Finding.{past_found, found_in, rows_inside, covered, written}
@@ -144,16 +146,19 @@ reach_text core b xs s y (Some k) by e r h = (h.inside y k e, access_by core b x
 abbrev pub IsDue : Table → Destination → Ty → Type 0
 IsDue tb Nowhere due = is_scalar due ≡ true
 IsDue tb Empty due = is_scalar due ≡ false
+IsDue tb (InParts ts) due = ⊥
 IsDue tb (Open h k st) due = (is_scalar due ≡ false) × (is_flat tb k ≡ false) × IsFound tb k
 
 due_scalar : (tb : Table) (d : Destination) (due : Ty) → IsDue tb d due → is_scalar due ≡ is_nowhere d
 due_scalar tb Nowhere due h = h
 due_scalar tb Empty due h = h
+due_scalar tb (InParts ts) due h = absurd h
 due_scalar tb (Open q k st) due h = h.0
 
 due_kept : (tb : Table) (kind : Kind) (x : Variable) (d : Destination) (due : Ty) → IsDue tb d due → IsDue tb (stands_too kind x d) due
 due_kept tb Here x Nowhere due h = h
 due_kept tb Here x Empty due h = h
+due_kept tb Here x (InParts ts) due h = h
 due_kept tb Here x (Open q k st) due h = h
 due_kept tb Region x d due h = h
 due_kept tb Scalar x d due h = h
@@ -161,11 +166,13 @@ due_kept tb Scalar x d due h = h
 empty_is : (d : Destination) → is_empty d ≡ true → d ≡ Empty
 empty_is Nowhere e = absurd cc
 empty_is Empty e = refl
+empty_is (InParts ts) e = absurd cc
 empty_is (Open h k st) e = absurd cc
 
 empty_there : (d : Destination) → is_empty d ≡ true → is_nowhere d ≡ false
 empty_there Nowhere e = absurd cc
 empty_there Empty e = refl
+empty_there (InParts ts) e = refl
 empty_there (Open h k st) e = refl
 
 all_trees : (ts : List Ty) (i : ℕ) → i < length (tree_types ts) → is_scalar (get_or (tree_types ts) i Whole) ≡ false
@@ -178,6 +185,7 @@ all_trees (Tree t ∷ ts) (suc i) lt = all_trees ts i (omega (arith, lt))
 due_tree : (tb : Table) (d : Destination) → has_room tb d ≡ true → is_scalar (field_due tb d) ≡ false
 due_tree tb Nowhere e = absurd cc
 due_tree tb Empty e = absurd cc
+due_tree tb (InParts ts) e = absurd cc
 due_tree tb (Open h k st) e = all_trees (fields_at tb k.0) (length st) (ltb-true (length st) (length (packed_types tb k)) e)
 
 -- ---- filling a head
@@ -205,6 +213,7 @@ filling : (core : CoreTree) (b : Before) (s : Setting) (d : Destination) (xs : L
     → AreNaturalAtoms ss → AreNaturalAtoms ps → Covers xs s.scope → Filling core.table xs d h k ss ps
 filling core b s Nowhere xs h k ss ps w t u ns np c = absurd cc
 filling core b s Empty xs h k ss ps w t u ns np c = absurd cc
+filling core b s (InParts ts) xs h k ss ps w t u ns np c = absurd cc
 filling core b s (Open g j st) xs h k ss ps w t u ns np c =
     let tb = core.table in
     let p = and_true (g.0 == h.0 && j.0 == k.0) ((length st == length (packed_types tb j) && are_variables st ps) && not (any_cased b.cased (further st))) w in
@@ -220,27 +229,45 @@ filling core b s (Open g j st) xs h k ss ps w t u ns np c =
 
 -- ---- calls
 
-gives_by : (nm : Naming) (tb : Table) (f : ℕ) (fs : List FunctionTerm) (g h : FunctionTerm) → (function_at fs f ≡ Some h → gives_scalar (map (function_text nm tb) fs) tb.types f ≡ is_scalar h.result) → IsWritten tb g.result
-    → Test (g.name.0 == f) → function_at (g ∷ fs) f ≡ Some h → gives_scalar (map (function_text nm tb) (g ∷ fs)) tb.types f ≡ is_scalar h.result
+-- One scalar is given.
+abbrev gives_one : Results Ty → Bool
+gives_one (results.One t) = is_scalar t
+gives_one (results.Several ts) = false
+
+written_result : (tb : Table) (r : Results Ty) → IsResultWritten tb r → is_scalar (type_of_name tb.types (result_text tb r)) ≡ gives_one r
+written_result tb (results.One t) w = ap is_scalar w
+written_result tb (results.Several ts) w = absurd w
+
+gives_by : (nm : Naming) (tb : Table) (f : ℕ) (fs : List FunctionTerm) (g h : FunctionTerm) → (function_at fs f ≡ Some h → gives_scalar (map (function_text nm tb) fs) tb.types f ≡ gives_one h.result) → IsResultWritten tb g.result
+    → Test (g.name.0 == f) → function_at (g ∷ fs) f ≡ Some h → gives_scalar (map (function_text nm tb) (g ∷ fs)) tb.types f ≡ gives_one h.result
 gives_by nm tb f fs g h more w (holds e) l =
     let same : g ≡ h = same_Some g h (ap (λ t. if t then Some g else function_at fs f) (sym e) ∙ l) in
     ap (λ t. if t then is_scalar (type_of_name tb.types (function_text nm tb g).result) else gives_scalar (map (function_text nm tb) fs) tb.types f) e
-    ∙ (ap is_scalar w ∙ ap (λ (i : FunctionTerm). is_scalar i.result) same)
+    ∙ (written_result tb g.result w ∙ ap (λ (i : FunctionTerm). gives_one i.result) same)
 gives_by nm tb f fs g h more w (fails e) l =
     ap (λ t. if t then is_scalar (type_of_name tb.types (function_text nm tb g).result) else gives_scalar (map (function_text nm tb) fs) tb.types f) e
     ∙ more (ap (λ t. if t then Some g else function_at fs f) (sym e) ∙ l)
 
-gives_result : (nm : Naming) (tb : Table) (f : ℕ) (fs : List FunctionTerm) (h : FunctionTerm) → AllByRecursion (λ (g : FunctionTerm). IsWritten tb g.result) fs → function_at fs f ≡ Some h → gives_scalar (map (function_text nm tb) fs) tb.types f ≡ is_scalar h.result
+gives_result : (nm : Naming) (tb : Table) (f : ℕ) (fs : List FunctionTerm) (h : FunctionTerm) → AllByRecursion (λ (g : FunctionTerm). IsResultWritten tb g.result) fs → function_at fs f ≡ Some h → gives_scalar (map (function_text nm tb) fs) tb.types f ≡ gives_one h.result
 gives_result nm tb f [] h w l = absurd cc
 gives_result nm tb f (g ∷ fs) h w l = gives_by nm tb f fs g h (gives_result nm tb f fs h w.1) w.0 (test (g.name.0 == f)) l
 
-call_text : (nm : Naming) (core : CoreTree) (b : Before) (s : Setting) (f : Name) (ys : List Atom) (o : Option FunctionTerm) → AllByRecursion (λ (g : FunctionTerm). IsWritten core.table g.result) core.functions → function_at core.functions f.0 ≡ o
+-- What fits is due: one thing of the type, since no parts are.
+one_due : (tb : Table) (d : Destination) (due : Ty) (whole : Bool) (r : Results Ty) → result_fits d due whole r ≡ true → IsDue tb d due → gives_one r ≡ is_nowhere d
+one_due tb d due whole (results.One t) fit h =
+    let q = and_true (same_type t due) (not (is_scalar t) || whole) fit in
+    ap is_scalar (same_type_is t due q.0) ∙ due_scalar tb d due h
+one_due tb Nowhere due whole (results.Several ts) fit h = absurd cc
+one_due tb Empty due whole (results.Several ts) fit h = absurd cc
+one_due tb (Open g k st) due whole (results.Several ts) fit h = absurd cc
+one_due tb (InParts us) due whole (results.Several ts) fit h = absurd h
+
+call_text : (nm : Naming) (core : CoreTree) (b : Before) (s : Setting) (f : Name) (ys : List Atom) (o : Option FunctionTerm) → AllByRecursion (λ (g : FunctionTerm). IsResultWritten core.table g.result) core.functions → function_at core.functions f.0 ≡ o
     → call_fits b s ys o ≡ true → IsDue core.table s.destination s.due → gives_scalar (program_of nm core).functions core.table.types f.0 ≡ is_nowhere s.destination
 call_text nm core b s f ys None w e fit d = absurd cc
 call_text nm core b s f ys (Some g) w e fit d =
-    let p = and_true (have_types b ys g.parameters) (same_type g.result s.due && (not (is_scalar g.result) || s.whole)) fit in
-    let q = and_true (same_type g.result s.due) (not (is_scalar g.result) || s.whole) p.1 in
-    gives_result nm core.table f.0 core.functions g w e ∙ (ap is_scalar (same_type_is g.result s.due q.0) ∙ due_scalar core.table s.destination s.due d)
+    let p = and_true (have_types b ys g.parameters) (result_fits s.destination s.due s.whole g.result) fit in
+    gives_result nm core.table f.0 core.functions g w e ∙ one_due core.table s.destination s.due s.whole g.result p.1 d
 
 -- ---- sides
 
@@ -279,7 +306,7 @@ fields_end n m (y ∷ ys) h = (let e = fields_end (n + 1) m ys h.1 in omega (ari
 -- What is said of a whole core.
 pub record Premises (core : CoreTree) : Type 0 where
   pub is_table : IsTable core.table
-  pub results : AllByRecursion (λ (g : FunctionTerm). IsWritten core.table g.result) core.functions
+  pub results : AllByRecursion (λ (g : FunctionTerm). IsResultWritten core.table g.result) core.functions
 
 -- A term that fills a head at once.
 at_once : (core : CoreTree) → IsTable core.table → (h : Variable) (k : ConId) (rest : Term) (b : Before) (s : Setting) (xs : List ℕ) (n m : ℕ) → IsWrite rest → IsFound core.table k → s.destination ≡ Open h k [] → Runs n (binders rest) m → IsNaturalTerm rest → Covers xs s.scope
@@ -290,6 +317,7 @@ at_once core is h k (CallTerm g ys) b s xs n m w f d r l c built = absurd w
 at_once core is h k (Give x) b s xs n m w f d r l c built = absurd w
 at_once core is h k (CaseTerm x bs) b s xs n m w f d r l c built = absurd w
 at_once core is h k (IfTerm x t u) b s xs n m w f d r l c built = absurd w
+at_once core is h k (Tuple ts ss ps) b s xs n m w f d r l c built = absurd w
 at_once core is h k (Write g j ss ps) b s xs n m w f d r l c built =
     let q = least4 4 5 8 9 (any_other s (ss ++ ps)) (not (may_write core.table b s.destination g j ps)) (not (all_usable s (ss ++ ps))) (not (are_scalars core.table b s.destination ss)) built.0 in
     let may : may_write core.table b (Open h k []) g j ps ≡ true = ap (λ e. may_write core.table b e g j ps) (sym d) ∙ not_false (may_write core.table b s.destination g j ps) q.1 in
@@ -318,6 +346,7 @@ module _ (nm : Naming) (core : CoreTree) (ok : Premises core) where
       → may_write core.table b d h k ps ≡ true → are_scalars core.table b d ss ≡ true → all_usable s (ss ++ ps) ≡ true → HasText p (Write h k ss ps) xs d n m
   write_by h k ss ps b s Nowhere xs n m e l due c w t u = absurd cc
   write_by h k ss ps b s Empty xs n m e l due c w t u = absurd cc
+  write_by h k ss ps b s (InParts ts) xs n m e l due c w t u = absurd cc
   write_by h k ss ps b s (Open g j st) xs n m e l due c w t u =
       let fill = filling core b s (Open g j st) xs h k ss ps w t u l.0 l.1 c in
       let same : j ≡ k = fill.open_at.1 in
@@ -379,6 +408,9 @@ module _ (nm : Naming) (core : CoreTree) (ok : Premises core) where
             ),
           ),
         )
+    term_text (Then (One (Several ys ts u)) rest) b s xs n m r l sh ty due c built = absurd sh.0
+    term_text (Then (Both fork (On i x t u) (Several ys ts w)) rest) b s xs n m r l sh ty due c built = absurd sh.0.2
+    term_text (Then (Both fork (Several ys ts u) side) rest) b s xs n m r l sh ty due c built = absurd sh.0.1
     term_text (Then (Prim x f y z) rest) b s xs n m r l sh ty due c built =
         let u = all_usable s (y ∷ z ∷ []) in
         let q = least3 4 8 9 (any_other s (y ∷ z ∷ [])) (is_bound b.bound x || not u) (not (have_types b (y ∷ z ∷ []) (Whole ∷ Whole ∷ []))) built.0 in
@@ -427,6 +459,7 @@ module _ (nm : Naming) (core : CoreTree) (ok : Premises core) where
           atom_text xs s x (not_false (is_usable s x) q.1) l.0 c,
           (k.0, term_text t b (in_branch s) xs n k.0 k.1 l.1.0 sh.0 ty.1.0 due c parts.0, term_text u (next_all core.table b lines) (in_branch s) xs k.0 m k.2 l.1.1 sh.1 ty.1.1 due c parts.1),
         )
+    term_text (Tuple ts ss ps) b s xs n m r l sh ty due c built = absurd sh
 
     pub branches_text : (bs : Branches) (b : Before) (s : Setting) (xs : List ℕ) (n m first many : ℕ) → Runs n (branch_binders bs) m → AreNaturalBranches bs → HasShapes core.table bs → BranchesDeclared count bs → IsDue core.table s.destination s.due → Covers xs s.scope
         → LinesAreBuilt core b (met_branches core.table s bs) → are_arms core.table (numbers_from first many) (arms_of bs) ≡ true → first + many ≤ length core.table.rows → HasBranches p bs xs s.destination n m

@@ -14,6 +14,8 @@ use Rattle.gib_syntax.specs.Declarations.{number_of, place_of, next_place}
 use Rattle.gib_syntax.specs.Forms.{WrittenType}
 use Rattle.gib_syntax.specs.GenericTree.{GenericDataTree, GenericParameterTree, GenericFunctionTree, data_named}
 use Rattle.gib_syntax.specs.GenericTyping.{variable_numbers}
+use Rattle.gib_syntax.specs.Results as results
+use Rattle.gib_syntax.specs.Results.{Results}
 use Rattle.gib_syntax.specs.Plain.{written_of, generic_of, generic_data, generic_parameter, generic_function}
 use Rattle.gib_check.specs.declared.fault.TypeFault.{TypeFault}
 use Rattle.gib_check.specs.declared.fault.Kind.TheVariants as kind
@@ -80,14 +82,14 @@ few_parameters datas names (q ∷ qs) l =
           let all = (few_parameters datas (names ++ number_of q.name ∷ []) qs (omega (arith, n, lt))).by u e in omega (arith, all, n));
     })))
 
-few_head : (datas : List GenericDataTree) (qs : List Parameter) (w : WrittenType) → Holds (check_head datas [] (map generic_parameter qs) w) (λ _. length qs ≤ 200)
+few_head : (datas : List GenericDataTree) (qs : List Parameter) (w : Results WrittenType) → Holds (check_head datas [] (map generic_parameter qs) w) (λ _. length qs ≤ 200)
 few_head datas qs w = then_holds (few_parameters datas [] qs (omega arith)) (λ _ l. record { by = λ u e. omega (arith, l) })
 
 few_heads : (parts : TextParts) (names : List ℕ) (fs : List FunctionLines) → Holds (heads_in parts names fs) (λ _. AllByRecursion HasFew fs)
 few_heads parts names [] = holds_ok (tt {0}) tt
 few_heads parts names (f ∷ fs) =
     then_holds (any_holds (fewer 1000 names f.name)) (λ _ _. then_holds (any_holds (new_name names f.name)) (λ _ _.
-    then_holds (few_head (datas_of parts) f.parameters.items (written_of f.result)) (λ _ l. record { by = λ u e. (l, (few_heads parts (names ++ number_of f.name ∷ []) fs).by u e) })))
+    then_holds (few_head (datas_of parts) f.parameters.items (results.One (written_of f.result))) (λ _ l. record { by = λ u e. (l, (few_heads parts (names ++ number_of f.name ∷ []) fs).by u e) })))
 
 pub heads_few : (parts : TextParts) (functions : List FunctionLines) → functions ≡ parts.functions → heads_in parts [] functions ≡ Ok (tt {0}) → AllByRecursion HasFew parts.functions
 heads_few parts functions e h = subst (AllByRecursion HasFew) e ((few_heads parts [] functions).by (tt {0}) h)
@@ -95,7 +97,7 @@ heads_few parts functions e h = subst (AllByRecursion HasFew) e ((few_heads part
 -- ---- all declarations
 
 main_in : TextParts → MainLines → Checked (Unit {0})
-main_in parts main = check_head (datas_of parts) [] (map generic_parameter (main.parameter ∷ [])) (written_of main.result)
+main_in parts main = check_head (datas_of parts) [] (map generic_parameter (main.parameter ∷ [])) (results.One (written_of main.result))
 
 whole : (parts : TextParts) → check_declarations (generic_of (declared (text_of parts))) ≡ and_then (check_datas [] [] (datas_of parts)) (λ _. and_then (check_fields (datas_of parts) (datas_of parts)) (λ _. and_then (heads_in parts [] parts.functions) (λ _. main_in parts parts.main)))
 unfolding check_declarations main_in
@@ -122,6 +124,6 @@ module _ (parts : TextParts) (datas : List DataDecl) (functions : List FunctionL
   pub heads_fail : (e : TypeFault) → check_datas [] [] (map generic_data (map data_tree datas)) ≡ Ok (tt {0}) → check_fields (datas_of parts) (map generic_data (map data_tree datas)) ≡ Ok (tt {0}) → IsFaultOf e (heads_in parts [] functions) → IsFaultOf e (check_declarations (generic_of (declared (text_of parts))))
   heads_fail e h k f = along e _ _ (fields_there h k) (passed_on e _ _ f)
 
-  pub after_heads : check_datas [] [] (map generic_data (map data_tree datas)) ≡ Ok (tt {0}) → check_fields (datas_of parts) (map generic_data (map data_tree datas)) ≡ Ok (tt {0}) → heads_in parts [] functions ≡ Ok (tt {0}) → check_declarations (generic_of (declared (text_of parts))) ≡ check_head (datas_of parts) [] (map generic_parameter (main.parameter ∷ [])) (written_of main.result)
+  pub after_heads : check_datas [] [] (map generic_data (map data_tree datas)) ≡ Ok (tt {0}) → check_fields (datas_of parts) (map generic_data (map data_tree datas)) ≡ Ok (tt {0}) → heads_in parts [] functions ≡ Ok (tt {0}) → check_declarations (generic_of (declared (text_of parts))) ≡ check_head (datas_of parts) [] (map generic_parameter (main.parameter ∷ [])) (results.One (written_of main.result))
   unfolding main_in
   after_heads h k n = fields_there h k ∙ ap (λ z. and_then z (λ _. main_in parts main)) n

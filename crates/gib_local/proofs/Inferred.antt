@@ -6,7 +6,9 @@ use Rattle.gib_types.specs.declared.table.Ty.{Ty}
 use Rattle.gib_types.specs.declared.table.Ty.TheVariants.{Whole, Truth, Tree}
 use Rattle.gib_types.specs.declared.table.ConId.{ConId}
 use Rattle.gib_types.specs.Table.{Table, fields_at, owner_at, at_fields, is_scalar, tree_types, constructors_of}
-use Rattle.gib_syntax.specs.Tree.{Expression, Arguments, Arms, Var, Num, Bit, Paren, Op, Call, Make, Let, Par, If, Case, NoArgument, Argument, LastArm, NextArm}
+use Rattle.gib_syntax.specs.Tree.{Expression, Arguments, Arms, Var, Num, Bit, Paren, Op, Call, Make, Let, Par, If, Case, Tuple, LetSeveral, ParSeveral, NoArgument, Argument, LastArm, NextArm}
+use Rattle.gib_syntax.specs.Results as results
+use Rattle.gib_syntax.specs.Results.{Results}
 use Rattle.gib_syntax.specs.Declarations.{number_of, function_named}
 use Rattle.gib_syntax.specs.Typing.{Globals}
 use Rattle.gib_core.specs.declared.atom.Variable.{Variable}
@@ -155,10 +157,11 @@ scalar_shaped tb ty f cs h =
       bound = at;
     }
 
-call_shaped : (tb : Table) (ty : Ty) (f : Name) (cs : List Code) → AllByRecursion (Shaped tb) cs → Shaped tb (call_code ty f cs)
-call_shaped tb (Tree t) f cs h = line_shaped tb (λ sc n. call_line (Tree t) f (several cs sc n)) (λ sc n. plain_then tb (several cs sc n).binds (CallTerm f (several cs sc n).atoms) (several_plain tb cs sc n h) tt)
-call_shaped tb Whole f cs h = scalar_shaped tb Whole f cs h
-call_shaped tb Truth f cs h = scalar_shaped tb Truth f cs h
+call_shaped : (tb : Table) (ty : Results Ty) (f : Name) (cs : List Code) → AllByRecursion (Shaped tb) cs → Shaped tb (call_code ty f cs)
+call_shaped tb (results.One (Tree t)) f cs h = line_shaped tb (λ sc n. call_line (Tree t) f (several cs sc n)) (λ sc n. plain_then tb (several cs sc n).binds (CallTerm f (several cs sc n).atoms) (several_plain tb cs sc n h) tt)
+call_shaped tb (results.One Whole) f cs h = scalar_shaped tb Whole f cs h
+call_shaped tb (results.One Truth) f cs h = scalar_shaped tb Truth f cs h
+call_shaped tb (results.Several tys) f cs h = line_shaped tb (λ sc n. call_line Whole f (several cs sc n)) (λ sc n. plain_then tb (several cs sc n).binds (CallTerm f (several cs sc n).atoms) (several_plain tb cs sc n h) tt)
 
 found_shaped : (tb : Table) (arms : List ArmCode) (k : ℕ) (arm : ArmCode) → AllByRecursion (λ (c : ArmCode). Shaped tb c.code) arms → arm_for arms k ≡ Some arm → Shaped tb arm.code
 found_shaped tb [] k arm h e = absurd cc
@@ -231,6 +234,9 @@ mutual
   shaped g (Case p x arms) h =
       let ks = constructors_of g.table (owner_at g.table (first_constructor (infer_arms g arms))) in
       line_shaped g.table (case_line g.table x (infer_arms g arms)) (λ sc n. (first_branch g.table ks (infer_arms g arms) sc n h.0, branches_shape g.table ks (infer_arms g arms) (arms_shaped g arms h.1) sc n))
+  shaped g (Tuple p ts xs) h = absurd h
+  shaped g (LetSeveral p qs e f) h = absurd h
+  shaped g (ParSeveral p qs d rs e f) h = absurd h
 
   all_shaped : (g : Globals) (xs : Arguments) → AllCovered g xs → AllByRecursion (Shaped g.table) (infer_all g xs)
   all_shaped g NoArgument h = tt

@@ -19,12 +19,15 @@ use Rattle.gib_core.specs.declared.atom.Variable.{Variable}
 use Rattle.gib_core.specs.declared.node.Binding.{Binding as CoreBinding}
 use Rattle.gib_core.specs.declared.node.Binding.TheVariants as b
 use Rattle.gib_core.specs.declared.node.BoundTerm.{BoundTerm}
+use Rattle.gib_core.specs.declared.node.BoundSide.{BoundSide}
+use Rattle.gib_core.specs.declared.node.BoundSide.TheVariants as side_of
+use Rattle.gib_core.specs.PartTypes.{types_in}
 use Rattle.gib_core.specs.declared.node.Branch.{Branch}
 use Rattle.gib_core.specs.declared.node.Node.{Node}
 use Rattle.gib_core.specs.declared.node.Node.TheVariants as n
 use Rattle.gib_core.specs.declared.node.TermId.{TermId}
-use Rattle.gib_core.specs.Arena.{Grows, IsBindingBelow, IsBranchBelow, term_of, bind_from, side_from, branches_from}
-use Rattle.gib_core.specs.Tree.{Term, Then, CaseTerm, IfTerm, Bind, Past, One, Both, Prim, Reach, Side, On, Branches, NoBranch, BranchThen, prepend, variables_from}
+use Rattle.gib_core.specs.Arena.{Grows, IsBindingBelow, IsBranchBelow, term_in, term_of, bind_from, side_from, branches_from}
+use Rattle.gib_core.specs.Tree.{Term, Then, CaseTerm, IfTerm, Bind, Past, One, Both, Prim, Reach, Side, On, Several, Branches, NoBranch, BranchThen, prepend, variables_from}
 use Rattle.gib_core.specs.Met.{Destination, Empty, Nowhere, Open, stands_too}
 use Rattle.gib_local.specs.declared.builder.Builder.{Builder}
 use Rattle.gib_local.specs.declared.destination.Goal.{Goal}
@@ -67,8 +70,9 @@ left_same old mid now new n e h s l =
 
 -- bindings over more terms
 
-pub side_grows : (xs ys : List Node) (s : BoundTerm) → Grows xs ys → s.term.0 < length xs → side_from (term_of ys) s ≡ side_from (term_of xs) s
-side_grows xs ys s g lt = ap (λ t. On s.kind s.variable s.ty t) (g.same s.term.0 lt)
+pub side_grows : (xs ys : List Node) (s : BoundSide) → Grows xs ys → (term_in s).0 < length xs → side_from (term_of ys) s ≡ side_from (term_of xs) s
+side_grows xs ys (side_of.One s) g lt = ap (λ t. On s.kind s.variable s.ty t) (g.same s.term.0 lt)
+side_grows xs ys (side_of.Several s) g lt = ap (λ t. Several (variables_from s.first.0 (types_in s.types)) (types_in s.types) t) (g.same s.term.0 lt)
 
 bind_grows : (xs ys : List Node) (c : CoreBinding) → Grows xs ys → IsBindingBelow (length xs) c → bind_from (term_of ys) c ≡ bind_from (term_of xs) c
 bind_grows xs ys (b.Past h k) g lt = refl

@@ -8,6 +8,8 @@ use Rattle.gib_syntax.specs.declared.tree.Ident.{Ident}
 use Rattle.gib_syntax.specs.declared.tree.TypeName.{TypeName}
 use Rattle.gib_syntax.specs.declared.tree.Parameter.{Parameter}
 use Rattle.gib_syntax.specs.Declarations.{number_of, type_of_name}
+use Rattle.gib_syntax.specs.Results as results
+use Rattle.gib_syntax.specs.Results.{Results}
 use Rattle.gib_core.specs.declared.atom.Variable.{Variable}
 use Rattle.gib_core.specs.declared.atom.Atom.{Atom}
 use Rattle.gib_core.specs.declared.atom.Kind.{Kind}
@@ -161,7 +163,7 @@ core_natural t =
     then_holds AllNatural AreNatural (build_functions (program t) t.functions) _ (functions_natural (program t) t.functions)
     (λ fs ok. then_holds Natural AreNatural (build_body (program t) (t.main.parameter ∷ []) t.main.result t.main.place t.main.body) _
     (body_natural (is_scalar (type_of_name (program t).table.types t.main.result)) (program t) (t.main.parameter ∷ []) t.main.result (type_of_name (program t).table.types t.main.result) t.main.place t.main.body)
-    (λ r more. all_join (map body_of fs) (record { parameters = type_of_name (program t).table.types t.main.parameter.ty ∷ []; result = type_of_name (program t).table.types t.main.result; term = r.term }) ok more))
+    (λ r more. all_join (map body_of fs) (record { parameters = type_of_name (program t).table.types t.main.parameter.ty ∷ []; result = results.One (type_of_name (program t).table.types t.main.result); term = r.term }) ok more))
 
 -- A core that is made of a text has no negative literal.
 pub made_natural : (t : LocalTree) (core : CoreTree) → build_core t ≡ Ok core → AreNatural core

@@ -8,6 +8,8 @@ use Rattle.gib_syntax.specs.declared.tree.Ident.{Ident}
 use Rattle.gib_syntax.specs.declared.tree.TypeName.{TypeName}
 use Rattle.gib_syntax.specs.declared.tree.Parameter.{Parameter}
 use Rattle.gib_syntax.specs.Declarations.{number_of, type_of_name}
+use Rattle.gib_syntax.specs.Results as results
+use Rattle.gib_syntax.specs.Results.{Results}
 use Rattle.gib_core.specs.declared.atom.Variable.{Variable}
 use Rattle.gib_core.specs.declared.atom.Atom.{Atom}
 use Rattle.gib_core.specs.declared.atom.Kind.{Kind}
@@ -170,7 +172,7 @@ length_map : {A B : Type 0} (f : A → B) (xs : List A) → length (map f xs) �
 length_map f [] = refl
 length_map f (x ∷ xs) = ap suc (length_map f xs)
 
-numbered : (types : List ℕ) (qs : List Parameter) (result : Ty) (t : Term) (m : ℕ) → Runs (length qs) (binders t) m
+numbered : (types : List ℕ) (qs : List Parameter) (result : Results Ty) (t : Term) (m : ℕ) → Runs (length qs) (binders t) m
     → IsNumbered (record { parameters = Building.types_of types qs; result = result; term = t })
 numbered types qs result t m h = runs_are (length qs) m (binders t) h ∙ ap (λ k. numbers_from k (length (binders t))) (sym (length_map (λ (q : Parameter). type_of_name types q.ty) qs))
 
@@ -184,7 +186,7 @@ functions_numbered p (f ∷ fs) =
     then_holds (λ r. Runs (length f.parameters) (binders r.term) r.passed.fresh) (λ gs. AllByRecursion IsNumbered (map body_of gs)) (build_body p f.parameters f.result f.place f.body) _
     (body_runs (is_scalar (type_of_name p.table.types f.result)) p f.parameters f.result (type_of_name p.table.types f.result) f.place f.body)
     (λ r ok. then_holds (λ gs. AllByRecursion IsNumbered (map body_of gs)) (λ gs. AllByRecursion IsNumbered (map body_of gs)) (build_functions p fs) _ (functions_numbered p fs)
-    (λ rest more. (numbered p.table.types f.parameters (type_of_name p.table.types f.result) r.term r.passed.fresh ok, more)))
+    (λ rest more. (numbered p.table.types f.parameters (results.One (type_of_name p.table.types f.result)) r.term r.passed.fresh ok, more)))
 
 all_join : (xs : List Body) (b : Body) → AllByRecursion IsNumbered xs → IsNumbered b → AllByRecursion IsNumbered (xs ++ b ∷ [])
 all_join [] b h g = (g, tt)
@@ -196,7 +198,7 @@ core_numbered t =
     then_holds (λ gs. AllByRecursion IsNumbered (map body_of gs)) (AreNumbered) (build_functions (program t) t.functions) _ (functions_numbered (program t) t.functions)
     (λ fs ok. then_holds (λ r. Runs 1 (binders r.term) r.passed.fresh) (AreNumbered) (build_body (program t) (t.main.parameter ∷ []) t.main.result t.main.place t.main.body) _
     (body_runs (is_scalar (type_of_name (program t).table.types t.main.result)) (program t) (t.main.parameter ∷ []) t.main.result (type_of_name (program t).table.types t.main.result) t.main.place t.main.body)
-    (λ r more. all_join (map body_of fs) (record { parameters = type_of_name (program t).table.types t.main.parameter.ty ∷ []; result = type_of_name (program t).table.types t.main.result; term = r.term }) ok
+    (λ r more. all_join (map body_of fs) (record { parameters = type_of_name (program t).table.types t.main.parameter.ty ∷ []; result = results.One (type_of_name (program t).table.types t.main.result); term = r.term }) ok
     (runs_are 1 r.passed.fresh (binders r.term) more)))
 
 -- A core that is made of a text is numbered in the order of the text.

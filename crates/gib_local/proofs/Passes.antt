@@ -8,6 +8,9 @@ use Rattle.gib_syntax.specs.declared.tree.Parameter.{Parameter}
 use Rattle.gib_syntax.specs.Tree.{FunctionTree, ProgramTree}
 use Rattle.gib_syntax.specs.Typing.{Globals, globals_of, parameter_types}
 use Rattle.gib_syntax.specs.Meaning.{names_of}
+use Rattle.gib_syntax.specs.declared.tree.TypeName.{TypeName}
+use Rattle.gib_syntax.specs.Results as results
+use Rattle.gib_syntax.specs.Results.{Results, map_results}
 use Rattle.gib_syntax.specs.Declarations.{type_of_name}
 use Rattle.gib_core.specs.declared.atom.AccessMode.{AccessMode}
 use Rattle.gib_core.specs.Tree.{Term, FunctionTerm}
@@ -19,7 +22,7 @@ use Rattle.gib_core.specs.Walk.{with_body}
 use Rattle.gib_place.specs.Placing.{place_body}
 use Rattle.gib_place.specs.Numbering.{place_core, place_anew, number_anew, place_in, variables_in}
 use Rattle.gib_local.specs.Covered.{Covered, IsCovered}
-use Rattle.gib_local.specs.HasShape.{HasShape, AreShaped}
+use Rattle.gib_local.specs.HasShape.{IsOne, HasShape, AreShaped}
 use Rattle.gib_local.proofs.Inferred.{infer_shape}
 use Rattle.gib_local.proofs.Placing.{place_shape, rename_shape}
 use Rattle.gib_local.proofs.Shapes.{reach_shape}
@@ -51,6 +54,15 @@ some_parameters : (mode : AccessMode) (es : List Ended) (g : Globals) (fs : List
 some_parameters mode es g [] h = tt
 some_parameters mode es g (f ∷ fs) h = (subst (λ (n : ℕ). 0 < n) (sym (length_map (λ (q : Parameter). type_of_name g.table.types q.ty) f.parameters)) h.0, some_parameters mode es g fs h.1)
 
+one_kept : (f : TypeName → Ty) (r : Results TypeName) → IsOne r → IsOne (map_results f r)
+one_kept f (results.One t) h = tt
+one_kept f (results.Several ts) h = absurd h
+
+one_results : (mode : AccessMode) (es : List Ended) (g : Globals) (fs : List FunctionTree) → AllByRecursion (λ (f : FunctionTree). IsOne f.result) fs
+    → AllByRecursion (λ (f : FunctionTerm). IsOne f.result) (map (reach_function mode g.table es) (map (with_body place_anew) (map (infer_function g) fs)))
+one_results mode es g [] h = tt
+one_results mode es g (f ∷ fs) h = (one_kept (type_of_name g.table.types) f.result h.0, one_results mode es g fs h.1)
+
 -- The core of a source after all passes has such a form.
 pub passes_shape : (mode : AccessMode) (p : ProgramTree) → tells_ends mode ≡ false → IsCovered p → AreShaped (reach_core mode (place_core (infer_program p)))
 passes_shape mode p q c =
@@ -59,8 +71,9 @@ passes_shape mode p q c =
     let ty : Ty = type_of_name g.table.types p.main.parameter.ty in
     let names : List Ident = p.main.parameter.name ∷ [] in
     let t : Term = infer_body g names (ty ∷ []) p.main.body in
-    let m : Body = record { parameters = ty ∷ []; result = type_of_name g.table.types p.main.result; term = reach mode g.table es [] (number_anew 1 (place_body t)) } in
+    let m : Body = record { parameters = ty ∷ []; result = results.One (type_of_name g.table.types p.main.result); term = reach mode g.table es [] (number_anew 1 (place_body t)) } in
     record {
       bodies = functions_shape mode es q g p.functions m c.functions (term_shape mode es g.table 1 t q (infer_shape g p.main.body c.main (with_fields names (ty ∷ []) 0 []) 1));
       parameters = some_parameters mode es g p.functions c.parameters;
+      single = one_results mode es g p.functions c.single;
     }

@@ -10,9 +10,9 @@ use Rattle.gib_core.specs.declared.atom.Kind.TheVariants.{Here, Region, Scalar}
 use Rattle.gib_core.specs.declared.node.Node.{Node}
 use Rattle.gib_core.specs.declared.node.Binding.{Binding}
 use Rattle.gib_core.specs.declared.node.Branch.{Branch}
-use Rattle.gib_core.specs.Tree.{Term, Bind, Past, One, Both, Prim, Reach, On, prepend}
+use Rattle.gib_core.specs.Tree.{Term, Bind, Past, One, Both, Prim, Reach, On, Several, prepend}
 use Rattle.gib_core.specs.Arena.{IsLine, term_of, binds_from, branches_from}
-use Rattle.gib_core.specs.Met.{Destination, Nowhere, Empty, Open}
+use Rattle.gib_core.specs.Met.{Destination, Nowhere, Empty, Open, InParts}
 use Rattle.gib_local.specs.declared.destination.Destination.{Destination as Stored}
 use Rattle.gib_local.specs.Tree.{Line}
 use Rattle.gib_local.specs.Building.{is_flat}
@@ -24,6 +24,7 @@ use Rattle.gib_local.specs.LineTokens.{put_before, put_room, put_bind, put_binds
 before_put : (nm : Naming) (d : Destination) (k : Kind) (x : ℕ) (u : Line) (rest : List Token) → put_before nm d k x (spell_line u rest) ≡ spell_line (before nm d k x u) rest
 before_put nm Nowhere Here x u rest = refl
 before_put nm Empty Here x u rest = refl
+before_put nm (InParts ts) Here x u rest = refl
 before_put nm (Open h c []) Here x u rest = refl
 before_put nm (Open h c (y ∷ ys)) Here x u rest = refl
 before_put nm d Region x u rest = refl
@@ -36,11 +37,14 @@ room_put false nm at h k u rest = refl
 bind_put : (nm : Naming) (tb : Table) (b : Bind) (d : Destination) (at : ℕ) (u : Line) (rest : List Token) → put_bind nm tb b d at (spell_line u rest) ≡ spell_line (bind_text nm tb b d at u) rest
 bind_put nm tb (Past h k) d at u rest = room_put (is_flat tb k) nm at h (con_text tb k) u rest
 bind_put nm tb (One (On k x t w)) d at u rest = before_put nm d k x.0 _ rest
+bind_put nm tb (One (Several xs ts w)) d at u rest = refl
 bind_put nm tb (Both fork (On Here x t v) (On Here y q w)) d at u rest = before_put nm d Here x.0 _ rest
 bind_put nm tb (Both fork (On Here x t v) (On Region y q w)) d at u rest = before_put nm d Here x.0 _ rest
 bind_put nm tb (Both fork (On Here x t v) (On Scalar y q w)) d at u rest = before_put nm d Here x.0 _ rest
 bind_put nm tb (Both fork (On Region x t v) (On j y q w)) d at u rest = ap (put_before nm d Region x.0) (before_put nm d j y.0 _ rest)
 bind_put nm tb (Both fork (On Scalar x t v) (On j y q w)) d at u rest = before_put nm d j y.0 _ rest
+bind_put nm tb (Both fork (On k x t v) (Several ys ts w)) d at u rest = refl
+bind_put nm tb (Both fork (Several xs ts v) r) d at u rest = refl
 bind_put nm tb (Prim x f y z) d at u rest = refl
 bind_put nm tb (Reach y by) d at u rest = refl
 

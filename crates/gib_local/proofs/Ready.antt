@@ -6,7 +6,7 @@ use Rattle.gib_types.specs.Table.{Table}
 use Rattle.gib_core.specs.declared.atom.Variable.{Variable}
 use Rattle.gib_core.specs.declared.atom.Kind.{Kind}
 use Rattle.gib_core.specs.declared.atom.Kind.TheVariants.{Here, Region, Scalar}
-use Rattle.gib_core.specs.Met.{Destination, Nowhere, Empty, Open}
+use Rattle.gib_core.specs.Met.{Destination, Nowhere, Empty, Open, InParts}
 use Rattle.gib_core.specs.Rules.{has_room, is_nowhere}
 use Rattle.gib_core.specs.Tree.{Term, prepend}
 use Rattle.gib_syntax.specs.declared.tree.Ident.{Ident}
@@ -62,16 +62,19 @@ used_same (AtNext x) u h = refl
 abbrev pub field_place : Destination → Place
 field_place Nowhere = AtResult
 field_place Empty = AtResult
+field_place (InParts ts) = AtResult
 field_place (Open h k st) = behind_last (AtFirst h.0) st
 
 pub next_is : (tb : Table) (d : Destination) → has_room tb d ≡ true → next_place tb d ≡ Some (field_place d)
 next_is tb Nowhere e = absurd cc
 next_is tb Empty e = absurd cc
+next_is tb (InParts ts) e = absurd cc
 next_is tb (Open h k st) e = ap (λ b. if b then Some (behind_last (AtFirst h.0) st) else None) e
 
 field_no_start : (d : Destination) → NoStart (field_place d)
 field_no_start Nowhere = tt
 field_no_start Empty = tt
+field_no_start (InParts ts) = tt
 field_no_start (Open h k st) = no_start (AtFirst h.0) st tt
 
 pub field_kind : (tb : Table) (d : Destination) (u : List ℕ) → has_room tb d ≡ true → kind_for (next_place tb d) u (field_place d) ≡ Some Here
@@ -94,18 +97,21 @@ behind_end q (y ∷ ys) x = behind_end (AtNext y.0) ys x
 abbrev pub HeadNamed : Naming → List PlaceName → Destination → Type 0
 HeadNamed nm ps Nowhere = Unit {0}
 HeadNamed nm ps Empty = Unit {0}
+HeadNamed nm ps (InParts ts) = Unit {0}
 HeadNamed nm ps (Open g c st) = meant ps (nm.location g.0) ≡ Some (IsPlace (AtFirst g.0))
 
 -- The head is one of the first variables.
 abbrev pub HeadBelow : ℕ → Destination → Type 0
 HeadBelow n Nowhere = Unit {0}
 HeadBelow n Empty = Unit {0}
+HeadBelow n (InParts ts) = Unit {0}
 HeadBelow n (Open g c st) = g.0 < n
 
 -- The fields that stand are in scope.
 abbrev pub StandInScope : List ℕ → Destination → Type 0
 StandInScope xs Nowhere = Unit {0}
 StandInScope xs Empty = Unit {0}
+StandInScope xs (InParts ts) = Unit {0}
 StandInScope xs (Open g c st) = AllByRecursion (λ (y : Variable). is_in xs y.0 ≡ true) st
 
 -- The destination has a name, and its fields stand.
@@ -142,6 +148,7 @@ IsReady nm tb ps d Scalar n u w = u ≡ w
 abbrev field_named : Naming → Destination → ℕ → List PlaceName → List PlaceName
 field_named nm Nowhere x ps = ps
 field_named nm Empty x ps = ps
+field_named nm (InParts ts) x ps = ps
 field_named nm (Open g c []) x ps = ps
 field_named nm (Open g c (y ∷ ys)) x ps = record { name = nm.location x; meant = IsPlace (AtNext (last_of y ys).0) } ∷ ps
 
@@ -165,6 +172,7 @@ module _ (p : Program) (nm : Naming) (ok : Apart nm) where
       → build p (before_field nm d x rest) (world nm xs ps d q) v ≡ build p rest (world nm xs (field_named nm d x ps) d q) v
   field_before Nowhere x rest xs ps q v r s = refl
   field_before Empty x rest xs ps q v r s = refl
+  field_before (InParts ts) x rest xs ps q v r s = refl
   field_before (Open g c []) x rest xs ps q v r s = refl
   field_before (Open g c (y ∷ ys)) x rest xs ps q v r s =
       let d : Destination = Open g c (y ∷ ys) in
@@ -197,6 +205,7 @@ field_ready : (nm : Naming) (tb : Table) (d : Destination) (x : ℕ) (ps : List 
     → meant (field_named nm d x ps) (nm.location (place_number d x)) ≡ Some (IsPlace (field_place d))
 field_ready nm tb Nowhere x ps r h = absurd cc
 field_ready nm tb Empty x ps r h = absurd cc
+field_ready nm tb (InParts ts) x ps r h = absurd cc
 field_ready nm tb (Open g c []) x ps r h = h
 field_ready nm tb (Open g c (y ∷ ys)) x ps r h = meant_here (nm.location x) (IsPlace (AtNext (last_of y ys).0)) ps ∙ ap (λ (k : Place). Some (IsPlace k)) (sym (behind_more (AtFirst g.0) y ys))
 
@@ -211,6 +220,7 @@ ready nm tb d Scalar t x ps u may h f = refl
 field_extends : (nm : Naming) → Apart nm → (d : Destination) (n x : ℕ) (ps : List PlaceName) → n ≤ x → Extends nm n ps (field_named nm d x ps)
 field_extends nm ok Nowhere n x ps le = extends_same nm n ps
 field_extends nm ok Empty n x ps le = extends_same nm n ps
+field_extends nm ok (InParts ts) n x ps le = extends_same nm n ps
 field_extends nm ok (Open g c []) n x ps le = extends_same nm n ps
 field_extends nm ok (Open g c (y ∷ ys)) n x ps le = extends_location nm ok n x (IsPlace (AtNext (last_of y ys).0)) ps le
 

@@ -5,18 +5,20 @@ use Rattle.gib_types.specs.declared.table.Ty.{Ty}
 use Rattle.gib_types.specs.declared.table.ConId.{ConId}
 use Rattle.gib_types.specs.Table.{Table, is_scalar}
 use Rattle.gib_syntax.specs.declared.tree.Ident.{Ident}
+use Rattle.gib_syntax.specs.Results as results
+use Rattle.gib_syntax.specs.Results.{Results}
 use Rattle.gib_core.specs.declared.atom.Variable.{Variable}
 use Rattle.gib_core.specs.declared.atom.Atom.{Atom}
 use Rattle.gib_core.specs.declared.atom.Atom.TheVariants as a
 use Rattle.gib_core.specs.declared.atom.Kind.{Kind}
 use Rattle.gib_core.specs.declared.atom.Kind.TheVariants.{Here, Region, Scalar}
-use Rattle.gib_core.specs.Tree.{Term, Then, Write, Point, CallTerm, Give, CaseTerm, IfTerm, Past, One, Both, Prim, Reach, On, Branches, NoBranch, BranchThen, variables_from}
+use Rattle.gib_core.specs.Tree.{Term, Then, Write, Point, CallTerm, Give, CaseTerm, IfTerm, Tuple, Past, One, Both, Prim, Reach, On, Several, Branches, NoBranch, BranchThen, variables_from}
 use Rattle.gib_core.specs.Met.{Destination, Empty, stands_too, with_field}
 use Rattle.gib_core.specs.Rules.{is_nowhere}
 use Rattle.gib_core.specs.Ordered.{IsFound}
 use Rattle.gib_local.specs.Tree.{Line, In, ParIn, Bound, Arms}
 use Rattle.gib_local.specs.Building.{Placed, Place, AtResult, AtNext, IsPlace, PlaceName, Around, Termed, Branched, Stepped, Sided, Program, and_then, if_due, meant, variable_at, variable, atom, con, next_place, is_there, is_last, between, with_variables, numbered_on, build, build_binding, build_bound, build_arms}
-use Rattle.gib_local.specs.Printing.{Naming, Apart, nowhere, ident, named, atom_name, operand, type_text, con_text, before, side_number, place_number, side_place, are_fields, par_text, arms_or, text_of, side_text, branches_text}
+use Rattle.gib_local.specs.Printing.{Naming, Apart, nowhere, ident, named, atom_name, operand, type_text, result_text, con_text, before, side_number, place_number, side_place, are_fields, par_text, arms_or, text_of, side_text, branches_text}
 use Rattle.gib_local.specs.HasText.{MayStand, IsWritten, IsBranch, scope_from, HasText, HasBranches}
 use Rattle.gib_local.proofs.World.{itself, meant_here, con_back, scope_names, world, passed, atom_back, named_back}
 use Rattle.gib_local.proofs.Ready.{step, field_place, next_is, HeadNamed, HeadBelow, StandInScope, Stands, Extends, extends_same, IsReady, places_before, unused_before, before_back, ready, before_extends}
@@ -29,8 +31,8 @@ use Rattle.gib_core.specs.Tree.{FunctionTerm, CoreTree}
 use Rattle.gib_core.specs.Met.{result_place}
 use Rattle.gib_local.specs.Tree.{LocalTree}
 use Rattle.gib_local.specs.Building.{build_body, build_functions, build_core, body, opening, types_of}
-use Rattle.gib_local.specs.Printing.{function_text, parameters_text, result_mark, local_of}
-use Rattle.gib_local.specs.HasText.{HasBody, HasCore, program_of, with_ends}
+use Rattle.gib_local.specs.Printing.{function_text, parameters_text, result_mark, results_mark, local_of}
+use Rattle.gib_local.specs.HasText.{HasBody, HasResult, HasCore, program_of, with_ends}
 use Rattle.gib_local.proofs.Whole.{point_back, give_back, call_back, write_back, past_back, prim_back, reach_back}
 
 module _ (p : Program) (nm : Naming) (ok : Apart nm) where
@@ -254,6 +256,9 @@ module _ (p : Program) (nm : Naming) (ok : Apart nm) where
     back (Then (Past h k) rest) = past_back p nm ok h k rest (back rest)
     back (Then (One (On kind x t u)) rest) = one_back p nm ok kind x t u rest (back u) (back rest)
     back (Then (Both fork (On i x t l) (On j y s r)) rest) = both_back fork i j x y t s l r rest (back l) (back r) (back rest)
+    back (Then (One (Several ys ts u)) rest) = λ xs ps d q at n m u st c h. absurd h.1
+    back (Then (Both fork (On i x t l) (Several ys ts r)) rest) = λ xs ps d q at n m u st c h. absurd h.1.2.1
+    back (Then (Both fork (Several ys ts l) r) rest) = λ xs ps d q at n m u st c h. absurd h.1.1
     back (Then (Prim x f y z) rest) = prim_back p nm ok x f y z rest (back rest)
     back (Then (Reach y by) rest) = reach_back p nm ok y by rest (back rest)
     back (Write h k ss ps) = write_back p nm ok h k ss ps
@@ -262,6 +267,7 @@ module _ (p : Program) (nm : Naming) (ok : Apart nm) where
     back (Give x) = give_back p nm ok x
     back (CaseTerm x bs) = case_back x bs (branches_back bs)
     back (IfTerm x t u) = if_back x t u (back t) (back u)
+    back (Tuple ts ss zs) = λ xs ps d q at n m u st c h. absurd h
 
     branches_back : (bs : Branches) → BackBranches bs
     branches_back NoBranch = λ xs ps d q at n m u st c b h. absurd b
@@ -281,49 +287,64 @@ module _ (p : Program) (nm : Naming) (ok : Apart nm) where
   parameter_types n [] h = refl
   parameter_types n (t ∷ ts) h = λ i. h.0 i ∷ parameter_types (n + 1) ts h.1 i
 
-  line_back : (ts : List Ty) (t : Ty) (u : Term) (ps : List PlaceName) (h : HasBody p ts t u) → (is_nowhere (result_place t) ≡ false → meant ps (nm.location 0) ≡ Some (IsPlace AtResult))
-      → build p (text_of nm p.table u (result_place t) 0) (opening (parameters_text nm p.table 0 ts) ps t) (passed (length (parameters_text nm p.table 0 ts)) []) ≡ Ok (record { term = u; passed = passed h.next [] })
+  line_back : (ts : List Ty) (t : Ty) (u : Term) (ps : List PlaceName) (h : HasBody p ts t u) → (is_nowhere (result_place (results.One t)) ≡ false → meant ps (nm.location 0) ≡ Some (IsPlace AtResult))
+      → build p (text_of nm p.table u (result_place (results.One t)) 0) (opening (parameters_text nm p.table 0 ts) ps t) (passed (length (parameters_text nm p.table 0 ts)) []) ≡ Ok (record { term = u; passed = passed h.next [] })
   line_back ts t u ps h here =
-      let d : Destination = result_place t in
+      let d : Destination = result_place (results.One t) in
       (λ i. build p (text_of nm p.table u d 0) (record { variables = parameter_names 0 ts [] i; places = ps; destination = d; at = AtResult }) (passed (parameter_count 0 ts i) []))
       ∙ back u (scope_from 0 ts []) ps d AtResult 0 (length ts) h.next [] (record { here = here; below = h.some; head = none_open t; head_below = none_below t; standing = none_stand t }) (λ j lo hi. refl) h.term
     where
-      none_open : (t : Ty) → HeadNamed nm ps (result_place t)
+      none_open : (t : Ty) → HeadNamed nm ps (result_place (results.One t))
       none_open WholeTy = tt
       none_open TruthTy = tt
       none_open (TreeTy i) = tt
 
-      none_below : (t : Ty) → HeadBelow (length ts) (result_place t)
+      none_below : (t : Ty) → HeadBelow (length ts) (result_place (results.One t))
       none_below WholeTy = tt
       none_below TruthTy = tt
       none_below (TreeTy i) = tt
 
-      none_stand : (t : Ty) → StandInScope (scope_from 0 ts []) (result_place t)
+      none_stand : (t : Ty) → StandInScope (scope_from 0 ts []) (result_place (results.One t))
       none_stand WholeTy = tt
       none_stand TruthTy = tt
       none_stand (TreeTy i) = tt
 
   body_by : (t : Ty) (ts : List Ty) (u : Term) (h : HasBody p ts t u)
-      → body (is_scalar t) p (parameters_text nm p.table 0 ts) (type_text p.table t) t (result_mark nm t) (text_of nm p.table u (result_place t) 0) ≡ Ok (record { term = u; passed = passed h.next [] })
+      → body (is_scalar t) p (parameters_text nm p.table 0 ts) (type_text p.table t) t (result_mark nm t) (text_of nm p.table u (result_place (results.One t)) 0) ≡ Ok (record { term = u; passed = passed h.next [] })
   body_by WholeTy ts u h = line_back ts WholeTy u [] h (λ e. absurd cc)
   body_by TruthTy ts u h = line_back ts TruthTy u [] h (λ e. absurd cc)
   body_by (TreeTy i) ts u h = line_back ts (TreeTy i) u (record { name = nm.location 0; meant = IsPlace AtResult } ∷ []) h (λ e. meant_here (nm.location 0) (IsPlace AtResult) [])
 
   body_back : (t : Ty) (ts : List Ty) (u : Term) (h : HasBody p ts t u)
-      → build_body p (parameters_text nm p.table 0 ts) (type_text p.table t) (result_mark nm t) (text_of nm p.table u (result_place t) 0) ≡ Ok (record { term = u; passed = passed h.next [] })
+      → build_body p (parameters_text nm p.table 0 ts) (type_text p.table t) (result_mark nm t) (text_of nm p.table u (result_place (results.One t)) 0) ≡ Ok (record { term = u; passed = passed h.next [] })
   body_back t ts u h =
       let qs : List Parameter = parameters_text nm p.table 0 ts in
-      ap (λ (s : Ty). body (is_scalar s) p qs (type_text p.table t) s (result_mark nm t) (text_of nm p.table u (result_place t) 0)) h.result_written ∙ body_by t ts u h
+      ap (λ (s : Ty). body (is_scalar s) p qs (type_text p.table t) s (result_mark nm t) (text_of nm p.table u (result_place (results.One t)) 0)) h.result_written ∙ body_by t ts u h
 
-  functions_back : (fs : List FunctionTerm) → AllByRecursion (λ (f : FunctionTerm). HasBody p f.parameters f.result f.body) fs → build_functions p (map (function_text nm p.table) fs) ≡ Ok fs
+  -- What a function gives is one thing, of a type that is written by its name.
+  single_back : (r : Results Ty) (ts : List Ty) (u : Term) → HasResult p ts r u → results.One (type_of_name p.table.types (result_text p.table r)) ≡ r
+  single_back (results.One t) ts u h = ap results.One h.result_written
+  single_back (results.Several rs) ts u h = absurd h
+
+  parameters_back : (r : Results Ty) (ts : List Ty) (u : Term) → HasResult p ts r u → types_of p.table.types (parameters_text nm p.table 0 ts) ≡ ts
+  parameters_back (results.One t) ts u h = parameter_types 0 ts h.parameters_written
+  parameters_back (results.Several rs) ts u h = absurd h
+
+  -- Goes on behind the body of a function.
+  result_back : {A : Type 0} (r : Results Ty) (ts : List Ty) (u : Term) (go : Term → Placed A) → HasResult p ts r u
+      → and_then (build_body p (parameters_text nm p.table 0 ts) (result_text p.table r) (results_mark nm r) (text_of nm p.table u (result_place r) 0)) (λ (s : Termed). go s.term) ≡ go u
+  result_back (results.One t) ts u go h = ap (λ (z : Placed Termed). and_then z (λ (s : Termed). go s.term)) (body_back t ts u h)
+  result_back (results.Several rs) ts u go h = absurd h
+
+  functions_back : (fs : List FunctionTerm) → AllByRecursion (λ (f : FunctionTerm). HasResult p f.parameters f.result f.body) fs → build_functions p (map (function_text nm p.table) fs) ≡ Ok fs
   functions_back [] h = refl
   functions_back (f ∷ fs) h =
       let qs : List Parameter = parameters_text nm p.table 0 f.parameters in
-      let make : List Ty → Ty → Term → FunctionTerm = λ ts t u. record { name = f.name; parameters = ts; result = t; body = u } in
-      ap (λ (z : Placed Termed). and_then z (λ r. and_then (build_functions p (map (function_text nm p.table) fs)) (λ rest. Ok (make (types_of p.table.types qs) (type_of_name p.table.types (type_text p.table f.result)) r.term ∷ rest))))
-      (body_back f.result f.parameters f.body h.0)
-      ∙ (ap (λ (z : Placed (List FunctionTerm)). and_then z (λ rest. Ok (make (types_of p.table.types qs) (type_of_name p.table.types (type_text p.table f.result)) f.body ∷ rest))) (functions_back fs h.1)
-      ∙ (λ i. Ok (make (parameter_types 0 f.parameters h.0.parameters_written i) (h.0.result_written i) f.body ∷ fs)))
+      let make : List Ty → Results Ty → Term → FunctionTerm = λ ts t u. record { name = f.name; parameters = ts; result = t; body = u } in
+      let one : Results Ty = results.One (type_of_name p.table.types (result_text p.table f.result)) in
+      result_back f.result f.parameters f.body (λ u. and_then (build_functions p (map (function_text nm p.table) fs)) (λ rest. Ok (make (types_of p.table.types qs) one u ∷ rest))) h.0
+      ∙ (ap (λ (z : Placed (List FunctionTerm)). and_then z (λ rest. Ok (make (types_of p.table.types qs) one f.body ∷ rest))) (functions_back fs h.1)
+      ∙ (λ i. Ok (make (parameters_back f.result f.parameters f.body h.0 i) (single_back f.result f.parameters f.body h.0 i) f.body ∷ fs)))
 
 offsets_back : (tb : Table) (ks : List ConId) → AllByRecursion (IsFound tb) ks → map (con tb) (map (con_text tb) ks) ≡ ks
 offsets_back tb [] h = refl

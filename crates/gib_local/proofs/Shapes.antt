@@ -2,11 +2,12 @@
 use Rattle.std.proofs.Common.{◌≡◌, ℕ, Bool, true, false, if◌then◌else◌, List, [], ◌∷◌, map, Some, refl, sym, subst}
 use Rattle.gib_types.specs.Table.{Table}
 use Rattle.gib_syntax.specs.Tree.{DataTree}
+use Rattle.gib_syntax.specs.Results as results
 use Rattle.gib_core.specs.declared.atom.Variable.{Variable}
 use Rattle.gib_core.specs.declared.atom.Access.TheVariants.{Offset, Skip}
 use Rattle.gib_core.specs.declared.atom.AccessMode.{AccessMode}
 use Rattle.gib_core.specs.declared.atom.AccessMode.TheVariants.{Skips, Offsets, Ends}
-use Rattle.gib_core.specs.Tree.{Term, Then, Write, Point, CallTerm, Give, CaseTerm, IfTerm, Past, One, Both, Prim, Reach, On, Branches, NoBranch, BranchThen, prepend, FunctionTerm, CoreTree}
+use Rattle.gib_core.specs.Tree.{Term, Then, Write, Point, CallTerm, Give, CaseTerm, IfTerm, Tuple, Past, One, Both, Prim, Reach, On, Several, Branches, NoBranch, BranchThen, prepend, FunctionTerm, CoreTree}
 use Rattle.gib_core.specs.declared.atom.Ended.{Ended}
 use Rattle.gib_core.specs.Reaching.{Later, uses, uses_any, skips_from, offsets_from, untold_from, reaches, laters, in_par, tells_ends, packed_variables, reach, reach_branches}
 use Rattle.gib_core.specs.Walk.{map_branches, as_it_is, with_body}
@@ -14,7 +15,7 @@ use Rattle.gib_core.specs.Marking.{mark_one, mark, mark_core}
 use Rattle.gib_core.specs.Met.{Destination, stands_too, result_place}
 use Rattle.gib_local.specs.Tree.{In, Cased, Chosen, LetIn, Be}
 use Rattle.gib_local.specs.Building.{is_flat}
-use Rattle.gib_local.specs.Printing.{Naming, nowhere, named, type_text, con_text, atom_name, operand, side_mark, side_place, side_number, are_fields, before, open_text, par_text, arms_text, arms_or, text_of, bind_text, branches_text, function_text, local_of}
+use Rattle.gib_local.specs.Printing.{Naming, nowhere, named, type_text, con_text, atom_name, operand, side_mark, side_place, side_number, are_fields, before, open_text, no_text, par_text, arms_text, arms_or, text_of, bind_text, branches_text, function_text, local_of}
 use Rattle.gib_local.specs.HasText.{IsBranch}
 use Rattle.gib_local.specs.HasShape.{IsFilled, HasShape, HasShapes}
 
@@ -40,6 +41,7 @@ module _ (tb : Table) (es : List Ended) where
   filled_kept mode true (Give x) h = absurd h
   filled_kept mode true (CaseTerm x bs) h = absurd h
   filled_kept mode true (IfTerm x t u) h = absurd h
+  filled_kept mode true (Tuple ts ss ps) h = absurd h
 
   branch_kept : (mode : AccessMode) (bs : Branches) → IsBranch bs → IsBranch (reach_branches mode tb es bs)
   branch_kept mode NoBranch h = absurd h
@@ -75,6 +77,9 @@ module _ (tb : Table) (es : List Ended) where
     shape_kept (Then (One (On kind x t u)) rest) mode q e = (shape_kept u mode q e.0, shape_kept rest mode q e.1)
     shape_kept (Then (Both fork (On i x t u) (On j y s w)) rest) mode q e =
         ((e.0.0, shape_kept u (in_par mode) (quiet_par mode q) e.0.1, shape_kept w (in_par mode) (quiet_par mode q) e.0.2), shape_kept rest mode q e.1)
+    shape_kept (Then (One (Several ys ts u)) rest) mode q e = absurd e.0
+    shape_kept (Then (Both fork (On i x t u) (Several ys ts w)) rest) mode q e = absurd e.0.2
+    shape_kept (Then (Both fork (Several ys ts u) r) rest) mode q e = absurd e.0.1
     shape_kept (Then (Prim x f y z) rest) mode q e = (tt, shape_kept rest mode q e.1)
     shape_kept (Then (Reach y by) rest) mode q e = (tt, shape_kept rest mode q e.1)
     shape_kept (Write h k ss ps) mode q e = tt
@@ -83,6 +88,7 @@ module _ (tb : Table) (es : List Ended) where
     shape_kept (Give x) mode q e = tt
     shape_kept (CaseTerm x bs) mode q e = (branch_kept mode bs e.0, shapes_kept bs mode q e.1)
     shape_kept (IfTerm x t u) mode q e = (shape_kept t mode q e.0, shape_kept u mode q e.1)
+    shape_kept (Tuple ts ss ps) mode q e = absurd e
 
     shapes_kept : (bs : Branches) (mode : AccessMode) → tells_ends mode ≡ false → HasShapes tb bs → HasShapes tb (reach_branches mode tb es bs)
     shapes_kept NoBranch mode q e = tt
@@ -106,6 +112,10 @@ module _ (nm : Naming) (tb : Table) where
     text_marked (Then (Both fork (On k x t u) (On j y s w)) rest) d at =
         λ i. par_text (are_fields k j) nm d k x.0 j y.0 (λ n. Be (named nm x) (type_text tb t) (side_mark nm k n) (text_marked u (side_place k) n i)) (λ n. Be (named nm y) (type_text tb s) (side_mark nm j n) (text_marked w (side_place j) n i))
         (text_marked rest (stands_too j y (stands_too k x d)) at i)
+    text_marked (Then (One (Several ys ts u)) rest) d at = λ i. no_text nm at (text_marked rest d at i)
+    text_marked (Then (Both fork (On k x t u) (Several ys ts w)) rest) d at = λ i. no_text nm at (text_marked rest (stands_too k x d) at i)
+    text_marked (Then (Both fork (Several ys ts u) (On j y s w)) rest) d at = λ i. no_text nm at (text_marked rest (stands_too j y d) at i)
+    text_marked (Then (Both fork (Several ys ts u) (Several zs qs w)) rest) d at = λ i. no_text nm at (text_marked rest d at i)
     text_marked (Then (Prim x f y z) rest) d at = λ i. bind_text nm tb (Prim x f y z) d at (text_marked rest d at i)
     text_marked (Then (Reach y by) rest) d at = λ i. bind_text nm tb (Reach y by) d at (text_marked rest d at i)
     text_marked (Write h k ss ps) d at = refl
@@ -114,6 +124,7 @@ module _ (nm : Naming) (tb : Table) where
     text_marked (Give x) d at = refl
     text_marked (CaseTerm x bs) d at = λ i. Cased nowhere (atom_name nm x) (arms_or (branches_marked bs d at i))
     text_marked (IfTerm x t u) d at = λ i. Chosen nowhere (operand nm x) (text_marked t d at i) (text_marked u d at i)
+    text_marked (Tuple ts ss ps) d at = refl
 
     branches_marked : (bs : Branches) (d : Destination) (at : ℕ) → branches_text nm tb (map_branches mark_one as_it_is bs) d at ≡ branches_text nm tb bs d at
     branches_marked NoBranch d at = refl
@@ -127,5 +138,5 @@ functions_marked nm tb (f ∷ fs) = λ i. record (function_text nm tb f) { body 
 pub core_marked : (nm : Naming) (datas : List DataTree) (core : CoreTree) → local_of nm datas (mark_core core) ≡ local_of nm datas core
 core_marked nm datas core = λ i. record (local_of nm datas core) {
   functions = functions_marked nm core.table core.functions i;
-  main = record (local_of nm datas core).main { body = text_marked nm core.table core.main.body (result_place core.main.result) 0 i };
+  main = record (local_of nm datas core).main { body = text_marked nm core.table core.main.body (result_place (results.One core.main.result)) 0 i };
 }

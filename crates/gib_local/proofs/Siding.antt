@@ -17,6 +17,7 @@ use Rattle.gib_core.specs.declared.atom.Variable.{Variable}
 use Rattle.gib_core.specs.declared.node.Binding.{Binding as CoreBinding}
 use Rattle.gib_core.specs.declared.node.Binding.TheVariants as b
 use Rattle.gib_core.specs.declared.node.BoundTerm.{BoundTerm}
+use Rattle.gib_core.specs.declared.node.BoundSide.TheVariants as side_of
 use Rattle.gib_core.specs.declared.node.Branch.{Branch}
 use Rattle.gib_core.specs.declared.node.Node.{Node}
 use Rattle.gib_core.specs.declared.node.Node.TheVariants as n
@@ -149,7 +150,7 @@ packed_fails p e b0 b1 b2 g x w ty at u kind q due e1 e2 h =
 -- a bound term
 
 pub one_made : (p : Program) (b0 b1 b2 : Builder) (g0 g1 : Goal) (x : Ident) (w : TypeName) (at : Option Mark) (u : Line) (s : BoundTerm) → Binds b0 b1 g0 g1 s (build_bound p (Be x w at u) (around_of b0 g0) (passed_of b0))
-    → b2 ≡ record b1 { variables = with_variable x s.variable.0 b1.variables } → Opens b0 b2 g1 (Some (b.One s)) (build_binding p (LetIn (Be x w at u)) (around_of b0 g0) (passed_of b0))
+    → b2 ≡ record b1 { variables = with_variable x s.variable.0 b1.variables } → Opens b0 b2 g1 (Some (b.One (side_of.One s))) (build_binding p (LetIn (Be x w at u)) (around_of b0 g0) (passed_of b0))
 one_made p b0 b1 b2 g0 g1 x w at u s h e =
     let o = sym e in
     let vs : with_variable x b0.fresh b0.variables ≡ with_variable x s.variable.0 b1.variables = ap₂ (λ k l. with_variable x k l) (sym h.variable) (sym h.stays.variables) in
@@ -157,8 +158,8 @@ one_made p b0 b1 b2 g0 g1 x w at u s h e =
     let l = sym h.at in record {
       is =
           ap (λ r. and_then r (one_of x b0.fresh (around_of b0 g0))) h.is
-          ∙ (λ i. Ok (record { binds = One (side_from (term_of b1.terms) s) ∷ []; around = record { variables = vs i; places = ps i; destination = destination_of g1.destination; at = l i }; passed = passed_of b1 }))
-          ∙ (λ i. Ok (record { binds = One (side_from (term_of (o i).terms) s) ∷ []; around = around_of (o i) g1; passed = passed_of (o i) }));
+          ∙ (λ i. Ok (record { binds = One (side_from (term_of b1.terms) (side_of.One s)) ∷ []; around = record { variables = vs i; places = ps i; destination = destination_of g1.destination; at = l i }; passed = passed_of b1 }))
+          ∙ (λ i. Ok (record { binds = One (side_from (term_of (o i).terms) (side_of.One s)) ∷ []; around = around_of (o i) g1; passed = passed_of (o i) }));
       grows = subst (λ (k : Builder). Grows b0.terms k.terms) o h.stays.grows;
       below = subst (λ (k : Builder). s.term.0 < length k.terms) o h.inside;
       variables = front_one (record { name = x.name.0; number = s.variable.0 }) b0.variables b2.variables (ap (λ (k : Builder). k.variables) e ∙ ap (λ m. with_variable x s.variable.0 m) h.stays.variables);
@@ -190,18 +191,18 @@ pub record Halfway (p : Program) (b0 b1 b2 : Builder) (g0 g1 : Goal) (x : Ident)
 -- With the left side, and then with the place between.
 after_left : (p : Program) (b0 b1 b2 : Builder) (g0 g1 : Goal) (x : Ident) (w : TypeName) (at : Option Mark) (t : Line) (o : Option (Ident × Ident)) (s : BoundTerm) (y : Ident) (z : TypeName) (on : Option Mark) (u : Line) → Halfway p b0 b1 b2 g0 g1 x w at t o s
     → build_binding p (ParIn (Be x w at t) o (Be y z on u)) (around_of b0 g0) (passed_of b0)
-    ≡ and_then (build_bound p (Be y z on u) (around_of b2 g1) (passed_of b2)) (both_of x y b0.fresh b1.fresh (around_of b0 g0) (side_from (term_of b1.terms) s))
+    ≡ and_then (build_bound p (Be y z on u) (around_of b2 g1) (passed_of b2)) (both_of x y b0.fresh b1.fresh (around_of b0 g0) (side_from (term_of b1.terms) (side_of.One s)))
 after_left p b0 b1 b2 g0 g1 x w at t o s y z on u h =
-    let l : Sided = record { side = side_from (term_of b1.terms) s; destination = destination_of g1.destination; passed = passed_of b1 } in
+    let l : Sided = record { side = side_from (term_of b1.terms) (side_of.One s); destination = destination_of g1.destination; passed = passed_of b1 } in
     ap (λ k. and_then k (left_of p x o (Be y z on u) y b0.fresh (around_of b0 g0))) h.left.is
     ∙ ap (λ k. and_then k (right_of p x (Be y z on u) y b0.fresh (around_of b0 g0) l)) (between_same p.table b0 b1 g0 g1 x b0.fresh s.variable.0 o h.left.stays h.left.at h.left.variable ∙ h.names.is)
-    ∙ ap (λ v. and_then (build_bound p (Be y z on u) (around_of b2 g1) v) (both_of x y b0.fresh b1.fresh (around_of b0 g0) (side_from (term_of b1.terms) s))) (sym (ap passed_of h.names.same))
+    ∙ ap (λ v. and_then (build_bound p (Be y z on u) (around_of b2 g1) v) (both_of x y b0.fresh b1.fresh (around_of b0 g0) (side_from (term_of b1.terms) (side_of.One s)))) (sym (ap passed_of h.names.same))
 
 pub both_made : (p : Program) (b0 b1 b2 b3 b4 b5 b6 : Builder) (g0 g1 g2 : Goal) (x : Ident) (w : TypeName) (at : Option Mark) (t : Line) (o : Option (Ident × Ident)) (l r : BoundTerm) (y : Ident) (z : TypeName) (on : Option Mark) (u : Line) (depth : Depth)
     → Halfway p b0 b1 b2 g0 g1 x w at t o l → Binds b2 b3 g1 g2 r (build_bound p (Be y z on u) (around_of b2 g1) (passed_of b2)) → depth.variables ≡ length b1.variables → depth.places ≡ length b1.places
     → b4 ≡ record b3 { variables = drop (length b3.variables - depth.variables) b3.variables; places = drop (length b3.places - depth.places) b3.places }
     → b5 ≡ record b4 { variables = with_variable x l.variable.0 b4.variables } → b6 ≡ record b5 { variables = with_variable y r.variable.0 b5.variables }
-    → Opens b0 b6 g2 (Some (b.Par false l r)) (build_binding p (ParIn (Be x w at t) o (Be y z on u)) (around_of b0 g0) (passed_of b0))
+    → Opens b0 b6 g2 (Some (b.Par false (side_of.One l) (side_of.One r))) (build_binding p (ParIn (Be x w at t) o (Be y z on u)) (around_of b0 g0) (passed_of b0))
 both_made p b0 b1 b2 b3 b4 b5 b6 g0 g1 g2 x w at t o l r y z on u depth h k dv dp e4 e5 e6 =
     let last : b6 ≡ record b4 { variables = with_variable y r.variable.0 (with_variable x l.variable.0 b4.variables) } = e6 ∙ ap (λ (m : Builder). record m { variables = with_variable y r.variable.0 m.variables }) e5 in
     let terms : b6.terms ≡ b3.terms = ap (λ (m : Builder). m.terms) last ∙ ap (λ (m : Builder). m.terms) e4 in
@@ -213,12 +214,12 @@ both_made p b0 b1 b2 b3 b4 b5 b6 g0 g1 g2 x w at t o l r y z on u depth h k dv d
     let variables : b6.variables ≡ with_variable y b1.fresh (with_variable x b0.fresh b0.variables) =
     ap (λ (m : Builder). m.variables) last ∙ (λ i. with_variable y (fresh i) (with_variable x (h.left.variable i) (vs i))) in
     let up : Grows b1.terms b3.terms = subst (λ (m : Builder). Grows m.terms b3.terms) h.names.same k.stays.grows in
-    let left : side_from (term_of b6.terms) l ≡ side_from (term_of b1.terms) l = ap (λ xs. side_from (term_of xs) l) terms ∙ side_grows b1.terms b3.terms l up h.left.inside in
-    let right : side_from (term_of b6.terms) r ≡ side_from (term_of b3.terms) r = ap (λ xs. side_from (term_of xs) r) terms in
+    let left : side_from (term_of b6.terms) (side_of.One l) ≡ side_from (term_of b1.terms) (side_of.One l) = ap (λ xs. side_from (term_of xs) (side_of.One l)) terms ∙ side_grows b1.terms b3.terms (side_of.One l) up h.left.inside in
+    let right : side_from (term_of b6.terms) (side_of.One r) ≡ side_from (term_of b3.terms) (side_of.One r) = ap (λ xs. side_from (term_of xs) (side_of.One r)) terms in
     let there : g2.at ≡ g0.at = k.at ∙ h.left.at in record {
       is =
           after_left p b0 b1 b2 g0 g1 x w at t o l y z on u h
-          ∙ ap (λ m. and_then m (both_of x y b0.fresh b1.fresh (around_of b0 g0) (side_from (term_of b1.terms) l))) k.is
+          ∙ ap (λ m. and_then m (both_of x y b0.fresh b1.fresh (around_of b0 g0) (side_from (term_of b1.terms) (side_of.One l)))) k.is
           ∙ (λ i. Ok (record {
             binds = Both false (sym left i) (sym right i) ∷ [];
             around = record { variables = sym variables i; places = sym places i; destination = destination_of g2.destination; at = sym there i };
@@ -239,7 +240,7 @@ both_left p e h v x w at t o y z on u q = fails_then e (build_bound p (Be x w at
 pub both_between : (p : Program) (e : BuildFault) (b0 b1 : Builder) (g0 g1 : Goal) (x : Ident) (w : TypeName) (at : Option Mark) (t : Line) (o : Option (Ident × Ident)) (s : BoundTerm) (y : Ident) (z : TypeName) (on : Option Mark) (u : Line) → Binds b0 b1 g0 g1 s (build_bound p (Be x w at t) (around_of b0 g0) (passed_of b0))
     → Fails e (between p.table (around_of b1 g1) x s.variable.0 (around_of b1 g1).destination o) → Fails e (build_binding p (ParIn (Be x w at t) o (Be y z on u)) (around_of b0 g0) (passed_of b0))
 both_between p e b0 b1 g0 g1 x w at t o s y z on u h q =
-    let l : Sided = record { side = side_from (term_of b1.terms) s; destination = destination_of g1.destination; passed = passed_of b1 } in
+    let l : Sided = record { side = side_from (term_of b1.terms) (side_of.One s); destination = destination_of g1.destination; passed = passed_of b1 } in
     let go = right_of p x (Be y z on u) y b0.fresh (around_of b0 g0) l in
     fails_for e (build_binding p (ParIn (Be x w at t) o (Be y z on u)) (around_of b0 g0) (passed_of b0)) (and_then (between p.table (around_of b1 g1) x s.variable.0 (destination_of g1.destination) o) go)
     (ap (λ k. and_then k (left_of p x o (Be y z on u) y b0.fresh (around_of b0 g0))) h.is ∙ ap (λ k. and_then k go) (between_same p.table b0 b1 g0 g1 x b0.fresh s.variable.0 o h.stays h.at h.variable))
@@ -248,7 +249,7 @@ both_between p e b0 b1 g0 g1 x w at t o s y z on u h q =
 pub both_right : (p : Program) (e : BuildFault) (b0 b1 b2 : Builder) (g0 g1 : Goal) (x : Ident) (w : TypeName) (at : Option Mark) (t : Line) (o : Option (Ident × Ident)) (s : BoundTerm) (y : Ident) (z : TypeName) (on : Option Mark) (u : Line) → Halfway p b0 b1 b2 g0 g1 x w at t o s
     → Fails e (build_bound p (Be y z on u) (around_of b2 g1) (passed_of b2)) → Fails e (build_binding p (ParIn (Be x w at t) o (Be y z on u)) (around_of b0 g0) (passed_of b0))
 both_right p e b0 b1 b2 g0 g1 x w at t o s y z on u h q =
-    fails_for e (build_binding p (ParIn (Be x w at t) o (Be y z on u)) (around_of b0 g0) (passed_of b0)) (and_then (build_bound p (Be y z on u) (around_of b2 g1) (passed_of b2)) (both_of x y b0.fresh b1.fresh (around_of b0 g0) (side_from (term_of b1.terms) s))) (after_left p b0 b1 b2 g0 g1 x w at t o s y z on u h) (fails_then e (build_bound p (Be y z on u) (around_of b2 g1) (passed_of b2)) (both_of x y b0.fresh b1.fresh (around_of b0 g0) (side_from (term_of b1.terms) s)) q)
+    fails_for e (build_binding p (ParIn (Be x w at t) o (Be y z on u)) (around_of b0 g0) (passed_of b0)) (and_then (build_bound p (Be y z on u) (around_of b2 g1) (passed_of b2)) (both_of x y b0.fresh b1.fresh (around_of b0 g0) (side_from (term_of b1.terms) (side_of.One s)))) (after_left p b0 b1 b2 g0 g1 x w at t o s y z on u h) (fails_then e (build_bound p (Be y z on u) (around_of b2 g1) (passed_of b2)) (both_of x y b0.fresh b1.fresh (around_of b0 g0) (side_from (term_of b1.terms) (side_of.One s))) q)
 
 -- a choice
 

@@ -11,8 +11,8 @@ use Rattle.gib_core.specs.declared.atom.Variable.{Variable}
 use Rattle.gib_core.specs.declared.atom.Atom.{Atom}
 use Rattle.gib_core.specs.declared.atom.Atom.TheVariants as a
 use Rattle.gib_core.specs.declared.atom.Access.{Access}
-use Rattle.gib_core.specs.Tree.{Term, Then, Write, Point, CallTerm, Give, CaseTerm, IfTerm, Past, Prim, Reach}
-use Rattle.gib_core.specs.Met.{Destination, Nowhere, Empty, Open}
+use Rattle.gib_core.specs.Tree.{Term, Then, Write, Point, CallTerm, Give, CaseTerm, IfTerm, Tuple, Past, Prim, Reach}
+use Rattle.gib_core.specs.Met.{Destination, Nowhere, Empty, Open, InParts}
 use Rattle.gib_core.specs.Rules.{is_nowhere}
 use Rattle.gib_local.specs.Tree.{Mark, Line, In, Made, NewPlace, PrimIn, ReachIn, Plus}
 use Rattle.gib_local.specs.Building.{Placed, Place, AtFirst, Meant, IsPlace, PlaceName, Around, Termed, Stepped, Program, if_due, meant, variable, atom, is_place, aims, is_flat, is_open_at, write, make, call, may_open, opened, build}
@@ -45,6 +45,8 @@ module _ (p : Program) (nm : Naming) (ok : Apart nm) where
   call_by f ys zs xs ps Nowhere q at n u st e = ap (λ l. Ok (record { term = CallTerm f l; passed = passed n u })) e
   call_by f ys zs xs ps Empty q at n u st e =
       aimed xs ps Empty q at n (Ok (record { term = CallTerm f ys; passed = passed n u })) st refl ∙ ap (λ l. Ok (record { term = CallTerm f l; passed = passed n u })) e
+  call_by f ys zs xs ps (InParts ts) q at n u st e =
+      aimed xs ps (InParts ts) q at n (Ok (record { term = CallTerm f ys; passed = passed n u })) st refl ∙ ap (λ l. Ok (record { term = CallTerm f l; passed = passed n u })) e
   call_by f ys zs xs ps (Open g k s) q at n u st e =
       aimed xs ps (Open g k s) q at n (Ok (record { term = CallTerm f ys; passed = passed n u })) st refl ∙ ap (λ l. Ok (record { term = CallTerm f l; passed = passed n u })) e
 
@@ -68,6 +70,7 @@ module _ (p : Program) (nm : Naming) (ok : Apart nm) where
   pub write_back : (h : Variable) (k : ConId) (ss zs : List Atom) → Backs p nm ok (Write h k ss zs)
   write_back h k ss zs xs ps Nowhere q at n m u st c t = absurd t.2
   write_back h k ss zs xs ps Empty q at n m u st c t = absurd t.2
+  write_back h k ss zs xs ps (InParts ts) q at n m u st c t = absurd t.2
   write_back h k ss zs xs ps (Open g j s) q at n m u st c t =
       let w : Around = world nm xs ps (Open g j s) q in
       let args : List Atom = map (atom w) (map (operand nm) (merge (fields_at p.table k.0) ss zs)) in
@@ -105,6 +108,7 @@ module _ (p : Program) (nm : Naming) (ok : Apart nm) where
       → build p (In nowhere (NewPlace (ident (nm.location h.0)) (Plus (ident (nm.location at)) (con_text p.table k))) (text_of nm p.table rest (Open h k []) at)) (world nm xs ps d q) (passed n u)
       ≡ Ok (record { term = Then (Past h k) rest; passed = passed m u })
   open_back h k rest back xs ps Nowhere q at n m u st c flat t = (let e : Nowhere ≡ Empty = t.1 in absurd cc)
+  open_back h k rest back xs ps (InParts ts) q at n m u st c flat t = (let e : InParts ts ≡ Empty = t.1 in absurd cc)
   open_back h k rest back xs ps (Open g j s) q at n m u st c flat t = (let e : Open g j s ≡ Empty = t.1 in absurd cc)
   open_back h k rest back xs ps Empty q at n m u st c flat t =
       let w : Around = world nm xs ps Empty q in
@@ -146,6 +150,7 @@ module _ (p : Program) (nm : Naming) (ok : Apart nm) where
   past_by true h k (Give x) back xs ps d q at n m u st c e t = absurd t.3
   past_by true h k (CaseTerm x bs) back xs ps d q at n m u st c e t = absurd t.3
   past_by true h k (IfTerm x r s) back xs ps d q at n m u st c e t = absurd t.3
+  past_by true h k (Tuple ts ss zs) back xs ps d q at n m u st c e t = absurd t.3
 
   pub past_back : (h : Variable) (k : ConId) (rest : Term) → Backs p nm ok rest → Backs p nm ok (Then (Past h k) rest)
   past_back h k rest back xs ps d q at n m u st c t = past_by (is_flat p.table k) h k rest back xs ps d q at n m u st c refl t

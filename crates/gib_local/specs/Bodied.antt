@@ -9,6 +9,7 @@ use Rattle.gib_syntax.specs.Declarations.{type_of_name}
 use Rattle.gib_core.specs.declared.node.TermId.{TermId}
 use Rattle.gib_core.specs.declared.program.CoreFunction.{CoreFunction}
 use Rattle.gib_core.specs.declared.program.CoreMain.{CoreMain}
+use Rattle.gib_core.specs.declared.program.CoreResult.TheVariants as given
 use Rattle.gib_core.specs.Arena.{Grows, term_of}
 use Rattle.gib_core.specs.Met.{Empty, Nowhere}
 use Rattle.gib_core.specs.Parts.{IsDeclared, AreDeclared, IsFunctionInside, function_term, main_term}
@@ -35,6 +36,7 @@ packed_around b m = record { variables = b.variables; places = with_place m.name
 abbrev pub scalar_body : Program → Builder → Option Mark → Line → Placed Termed
 scalar_body p b at line = no_mark at (build p line (scalar_around b) (passed_of b))
 
+-- The same of a packed result, which has to name its place.
 abbrev pub packed_body : Program → Builder → TypeName → Option Mark → Line → Placed Termed
 packed_body p b w at line = with_mark at (type_start w) (λ m. build p line (packed_around b m) (passed_of b))
 
@@ -44,6 +46,7 @@ pub record PutsBody (old new : Builder) (id : TermId) (r : Placed Termed) : Type
   pub grows : Grows old.terms new.terms
   pub inside : id.0 < length new.terms
 
+-- What building a body answers, beside what its text means.
 abbrev pub BuildsBody : Builder → Builder → Result TermId BuildFault → Placed Termed → Type 0
 BuildsBody old new (Ok id) r = PutsBody old new id r
 BuildsBody old new (Err e) r = Fails e r
@@ -55,8 +58,9 @@ pub record PutsFunction (old new : Builder) (p : Program) (made : CoreFunction) 
   pub is : build_body p t.parameters t.result t.place t.body ≡ Ok (record { term = term_of new.terms made.body.0; passed = passed_of new })
   pub name : made.name ≡ t.name.name
   pub parameters : made.parameters.items ≡ types_of p.table.types t.parameters
-  pub result : made.result ≡ type_of_name p.table.types t.result
+  pub result : made.result ≡ given.One (type_of_name p.table.types t.result)
 
+-- What building a function answers, beside what its text means.
 abbrev pub BuildsFunction : Builder → Builder → Program → Result CoreFunction BuildFault → FunctionText → Type 0
 BuildsFunction old new p (Ok made) t = PutsFunction old new p made t
 BuildsFunction old new p (Err e) t = Fails e (build_body p t.parameters t.result t.place t.body)
@@ -68,6 +72,7 @@ pub record PutsFunctions (old new : Builder) (p : Program) (made : List CoreFunc
   pub declared : AllByRecursion (IsDeclared (length p.table.types)) made
   pub is : r ≡ Ok (map (function_term (term_of new.terms)) made)
 
+-- What building functions answers, beside what their texts mean.
 abbrev pub BuildsFunctions : Builder → Builder → Program → Result (Vec CoreFunction) BuildFault → Placed (List FunctionTerm) → Type 0
 BuildsFunctions old new p (Ok made) r = PutsFunctions old new p made.items r
 BuildsFunctions old new p (Err e) r = Fails e r
@@ -80,6 +85,7 @@ pub record PutsMain (old new : Builder) (p : Program) (made : CoreMain) (t : Mai
   pub parameter : made.parameter ≡ type_of_name p.table.types t.parameter.ty
   pub result : made.result ≡ type_of_name p.table.types t.result
 
+-- What building main answers, beside what its text means.
 abbrev pub BuildsMain : Builder → Builder → Program → Result CoreMain BuildFault → MainText → Type 0
 BuildsMain old new p (Ok made) t = PutsMain old new p made t
 BuildsMain old new p (Err e) t = Fails e (build_body p (t.parameter ∷ []) t.result t.place t.body)

@@ -8,6 +8,7 @@ use Rattle.gib_syntax.specs.declared.tree.TypeName.{TypeName}
 use Rattle.gib_syntax.specs.declared.tree.TypeName.TheVariants as ty
 use Rattle.gib_syntax.specs.declared.tree.Parameter.{Parameter}
 use Rattle.gib_syntax.specs.Tree as source
+use Rattle.gib_syntax.specs.Results as results
 use Rattle.gib_syntax.specs.Declarations.{number_of, constructor_named, type_of_name, table_of_program}
 use Rattle.gib_core.specs.declared.atom.Variable.{Variable}
 use Rattle.gib_core.specs.declared.atom.Atom.{Atom}
@@ -17,7 +18,7 @@ use Rattle.gib_core.specs.declared.atom.Kind.TheVariants.{Here, Region, Scalar}
 use Rattle.gib_core.specs.declared.atom.Access.{Access}
 use Rattle.gib_core.specs.declared.atom.Access.TheVariants as by
 use Rattle.gib_core.specs.Tree.{Term, Then, Write, Point, CallTerm, Give, CaseTerm, IfTerm, Bind, Past, One, Both, Prim, Reach, Side, On, Branches, NoBranch, BranchThen, prepend, variables_from, FunctionTerm, CoreTree}
-use Rattle.gib_core.specs.Met.{Destination, Nowhere, Empty, Open, packed_types, stands_too, result_place}
+use Rattle.gib_core.specs.Met.{Destination, Nowhere, Empty, Open, InParts, packed_types, stands_too, result_place}
 use Rattle.gib_core.specs.Rules.{has_room, is_empty, is_nowhere}
 -- A location, by what it is: the place of a function's result; the start of the region of a name; behind the head of
 -- a variable; behind the value of a variable that stands.
@@ -133,6 +134,7 @@ behind_last p (x ∷ xs) = behind_last (AtNext x.0) xs
 abbrev pub next_place : Table → Destination → Option Place
 next_place tb Nowhere = None
 next_place tb Empty = None
+next_place tb (InParts ts) = None
 next_place tb (Open h k standing) = if has_room tb (Open h k standing) then Some (behind_last (AtFirst h.0) standing) else None
 
 -- A location is there, and it is this one.
@@ -232,12 +234,14 @@ access h (ByEnd z) = by.End (variable h z)
 abbrev pub is_open_at : ConId → Destination → Bool
 is_open_at k Nowhere = false
 is_open_at k Empty = false
+is_open_at k (InParts ts) = false
 is_open_at k (Open h c standing) = c.0 == k.0
 
 -- The variable of the open head; where none is open, 0.
 abbrev pub head_of : Destination → Variable
 head_of Nowhere = record { 0 = 0 }
 head_of Empty = record { 0 = 0 }
+head_of (InParts ts) = record { 0 = 0 }
 head_of (Open h c standing) = h
 
 -- A constructor has no packed field.
@@ -385,7 +389,7 @@ abbrev mutual
 
 -- What the body of a function is met with, its parameters' variables from 0 on.
 abbrev pub opening : List Parameter → List PlaceName → Ty → Around
-opening qs places t = record { variables = with_variables 0 (map (λ (q : Parameter). q.name) qs) []; places = places; destination = result_place t; at = AtResult }
+opening qs places t = record { variables = with_variables 0 (map (λ (q : Parameter). q.name) qs) []; places = places; destination = result_place (results.One t); at = AtResult }
 
 -- A body; its result has a place exactly where it is packed.
 abbrev pub body : Bool → Program → List Parameter → TypeName → Ty → Option Mark → Line → Placed Termed
@@ -407,11 +411,11 @@ build_functions p [] = Ok []
 build_functions p (f ∷ fs) =
     and_then (build_body p f.parameters f.result f.place f.body)
     (λ r. and_then (build_functions p fs)
-    (λ rest. Ok (record { name = f.name.name; parameters = types_of p.table.types f.parameters; result = type_of_name p.table.types f.result; body = r.term } ∷ rest)))
+    (λ rest. Ok (record { name = f.name.name; parameters = types_of p.table.types f.parameters; result = results.One (type_of_name p.table.types f.result); body = r.term } ∷ rest)))
 
 -- The heads of a text, as a source program: its bodies mean nothing.
 abbrev pub head : FunctionText → source.FunctionTree
-head f = record { name = f.name; parameters = f.parameters; result = f.result; body = source.Bit (record { start = 0; end = 0 }) false }
+head f = record { name = f.name; parameters = f.parameters; result = results.One f.result; body = source.Bit (record { start = 0; end = 0 }) false }
 
 -- The declarations of a text.
 abbrev pub declared : LocalTree → source.ProgramTree

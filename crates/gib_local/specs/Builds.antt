@@ -13,12 +13,14 @@ use Rattle.gib_core.specs.declared.atom.Kind.{Kind}
 use Rattle.gib_core.specs.declared.node.Binding.{Binding as CoreBinding}
 use Rattle.gib_core.specs.declared.node.Branch.{Branch}
 use Rattle.gib_core.specs.declared.node.BoundTerm.{BoundTerm}
+use Rattle.gib_core.specs.declared.node.BoundSide.TheVariants as side_of
+use Rattle.gib_core.specs.PartTypes.{types_in}
 use Rattle.gib_core.specs.declared.node.TermId.{TermId}
 use Rattle.gib_core.specs.declared.atom.Variable.{Variable}
 use Rattle.gib_core.specs.declared.node.Node.{Node}
 use Rattle.gib_core.specs.Arena.{Grows, Makes, IsBindingBelow, IsBranchBelow, term_of, bind_from, side_from, branches_from}
 use Rattle.gib_core.specs.Tree.{Term, Then, Bind, Past, variables_from}
-use Rattle.gib_core.specs.Met.{Destination, Nowhere, Empty, Open}
+use Rattle.gib_core.specs.Met.{Destination, Nowhere, Empty, Open, InParts}
 use Rattle.gib_local.specs.declared.destination.Destination.{Destination as Stored}
 use Rattle.gib_local.specs.declared.destination.Destination.TheVariants as d
 use Rattle.gib_local.specs.declared.destination.Goal.{Goal}
@@ -34,6 +36,7 @@ abbrev pub destination_of : Stored → Destination
 destination_of d.Nowhere = Nowhere
 destination_of d.Empty = Empty
 destination_of (d.Open h k standing) = Open h k standing.items
+destination_of (d.InParts types) = InParts (types_in types)
 
 -- What a term is met with.
 abbrev pub around_of : Builder → Goal → Around
@@ -155,7 +158,7 @@ Steps old new goal (Err e) r = Fails e r
 
 -- A side was built, with the next variable; the place is the same behind it.
 pub record Binds (old new : Builder) (before after : Goal) (s : BoundTerm) (r : Placed Sided) : Type 0 where
-  pub is : r ≡ Ok (record { side = side_from (term_of new.terms) s; destination = destination_of after.destination; passed = passed_of new })
+  pub is : r ≡ Ok (record { side = side_from (term_of new.terms) (side_of.One s); destination = destination_of after.destination; passed = passed_of new })
   pub stays : Stays old new
   pub inside : s.term.0 < length new.terms
   pub variable : s.variable.0 ≡ old.fresh
@@ -172,6 +175,7 @@ pub record NamesBetween (old new : Builder) (goal : Goal) (r : Placed Around) : 
   pub same : new ≡ record old { places = new.places }
   pub places : Fronts old.places new.places
 
+-- What is answered between two sides, beside what is met behind.
 abbrev pub BuildsBetween : Builder → Builder → Goal → Result (Unit {0}) BuildFault → Placed Around → Type 0
 BuildsBetween old new goal (Ok x) r = NamesBetween old new goal r
 BuildsBetween old new goal (Err e) r = Fails e r

@@ -19,44 +19,53 @@ use Rattle.gib_local.specs.Tree.{Mark, Operand, Named, Number, Bit, Location, St
 abbrev pub sign : Sign → Token
 sign a = t.Sign a
 
--- A name that begins with a lower-case letter, and one that begins with an upper-case letter.
+-- A name that begins with a lower-case letter.
 abbrev pub lower : Ident → Token
 lower x = t.Variable x.name
 
+-- A name that begins with an upper-case letter.
 abbrev pub upper : Ident → Token
 upper k = t.Constructor k.name
 
 -- ---- spelling
 
+-- An `@` with its name.
 abbrev pub spell_mark : Mark → List Token → List Token
 spell_mark m rest = t.Sign s.At ∷ lower m.name ∷ rest
 
+-- An `@` with its name, where there is one.
 abbrev pub spell_option : Option Mark → List Token → List Token
 spell_option None rest = rest
 spell_option (Some m) rest = spell_mark m rest
 
+-- The word of a truth value.
 abbrev pub bit_word : Bool → Token
 bit_word true = sign s.True
 bit_word false = sign s.False
 
+-- The word of an operand.
 abbrev pub operand_word : Operand → Token
 operand_word (Named x) = lower x
 operand_word (Number p n) = t.Number n
 operand_word (Bit p b) = bit_word b
 
+-- Operands, one behind another.
 abbrev pub spell_operands : List Operand → List Token → List Token
 spell_operands [] rest = rest
 spell_operands (x ∷ xs) rest = operand_word x ∷ spell_operands xs rest
 
+-- Names, one behind another.
 abbrev pub spell_names : List Ident → List Token → List Token
 spell_names [] rest = rest
 spell_names (x ∷ xs) rest = lower x ∷ spell_names xs rest
 
+-- The word of a type.
 abbrev pub type_word : TypeName → Token
 type_word (ty.Whole p) = sign s.Int
 type_word (ty.Truth p) = sign s.Bool
 type_word (ty.Declared x) = upper x
 
+-- The sign of an operator.
 abbrev pub operator_word : Operator → Token
 operator_word o.Add = sign s.Plus
 operator_word o.Subtract = sign s.Minus
@@ -66,16 +75,19 @@ operator_word o.Less = sign s.Less
 operator_word o.Quotient = sign s.Quotient
 operator_word o.Remainder = sign s.Remainder
 
+-- The start of a region, behind the head of a constructor, or behind a variable.
 abbrev pub spell_location : Location → List Token → List Token
 spell_location (Start r) rest = t.Sign s.Start ∷ lower r ∷ rest
 spell_location (Plus d k) rest = lower d ∷ sign s.Plus ∷ upper k ∷ rest
 spell_location (After x) rest = t.Sign s.After ∷ lower x ∷ rest
 
+-- How a field is reached.
 abbrev pub spell_way : Way → List Token → List Token
 spell_way ByOffset rest = t.Sign s.Offset ∷ rest
 spell_way (BySkip z) rest = t.Sign s.Skip ∷ lower z ∷ rest
 spell_way (ByEnd z) rest = t.Sign s.End ∷ lower z ∷ rest
 
+-- The name of the place between two sides, where it has one.
 abbrev pub spell_between : Option (Ident × Ident) → List Token → List Token
 spell_between None rest = rest
 spell_between (Some (l, x)) rest = t.Sign s.LetLocation ∷ lower l ∷ sign s.Equals ∷ t.Sign s.After ∷ lower x ∷ sign s.In ∷ rest
@@ -119,6 +131,7 @@ abbrev pub literal_at : Bool → Span → ℕ → Reader Operand
 literal_at true p n ws = Ok (Number p n, ws)
 literal_at false p n ws = Err (At (suc (length ws)))
 
+-- A name, a number or a truth value.
 abbrev pub operand_at : Places → Reader Operand
 operand_at at (t.Variable x ∷ ws) = Ok (Named (named at x ws), ws)
 operand_at at (t.Number n ∷ ws) = literal_at (nat_lt n (2 ^ 63)) (before at ws) n ws
@@ -146,6 +159,7 @@ names_at at ws = many is_variable (var_at at) ws
 abbrev pub mark_from : Places → Span → Reader Mark
 mark_from at p ws = then_at (var_at at ws) (λ x ws. Ok (record { sign = p; name = x }, ws))
 
+-- An `@` with its name.
 abbrev pub mark_at : Places → Reader Mark
 mark_at at (t.Sign s.At ∷ ws) = mark_from at (before at ws) ws
 mark_at at ws = Err (At (length ws))
@@ -159,11 +173,13 @@ option_at at ws = Ok (None, ws)
 abbrev pub head_at : Places → Reader Location
 head_at at ws = then_at (var_at at ws) (λ d ws. then_at (want s.Plus ws) (λ _ ws. then_at (con_at at ws) (λ k ws. Ok (Plus d k, ws))))
 
+-- A location by its first word.
 abbrev pub location_at : Places → Reader Location
 location_at at (t.Sign s.Start ∷ ws) = then_at (var_at at ws) (λ r ws. Ok (Start r, ws))
 location_at at (t.Sign s.After ∷ ws) = then_at (var_at at ws) (λ x ws. Ok (After x, ws))
 location_at at ws = head_at at ws
 
+-- How a field is reached.
 abbrev pub way_at : Places → Reader Way
 way_at at (t.Sign s.Offset ∷ ws) = Ok (ByOffset, ws)
 way_at at (t.Sign s.Skip ∷ ws) = then_at (var_at at ws) (λ z ws. Ok (BySkip z, ws))
@@ -175,6 +191,7 @@ abbrev pub operator_found : Option Operator → Reader Operator
 operator_found (Some f) ws = Ok (f, ws)
 operator_found None ws = Err (At (suc (length ws)))
 
+-- The sign of an operator.
 abbrev pub operator_at : Reader Operator
 operator_at (t.Sign a ∷ ws) = operator_found (operator_of a) ws
 operator_at ws = Err (At (length ws))
@@ -193,6 +210,7 @@ between_at at ws = Ok (None, ws)
 abbrev pub bound_from : Places → Reader Line → Ident → TypeName → Reader Bound
 bound_from at sub x w ws = then_at (option_at at ws) (λ m ws. then_at (want s.Equals ws) (λ _ ws. then_at (sub ws) (λ u ws. Ok (Be x w m u, ws))))
 
+-- A side: a variable, its type, and what it is bound to.
 abbrev pub bound_at : Places → Reader Line → Reader Bound
 bound_at at sub ws = then_at (var_at at ws) (λ x ws. then_at (want s.Colon ws) (λ _ ws. then_at (type_at at ws) (λ w ws. bound_from at sub x w ws)))
 

@@ -6,6 +6,8 @@ use Rattle.gib_types.specs.declared.table.ConId.{ConId}
 use Rattle.gib_types.specs.Table.{Table, fields_at, scalar_types, tree_types, is_scalar}
 use Rattle.gib_syntax.specs.Declarations.{type_of_name, table_of_program}
 use Rattle.gib_syntax.specs.Tree.{DataTree}
+use Rattle.gib_syntax.specs.Results as results
+use Rattle.gib_syntax.specs.Results.{Results}
 use Rattle.gib_core.specs.declared.atom.Variable.{Variable}
 use Rattle.gib_core.specs.declared.atom.Atom.{Atom}
 use Rattle.gib_core.specs.declared.atom.Atom.TheVariants as a
@@ -15,8 +17,8 @@ use Rattle.gib_core.specs.declared.atom.Access.{Access}
 use Rattle.gib_core.specs.declared.atom.Access.TheVariants as by
 use Rattle.gib_core.specs.Erasing.{literal_of}
 use Rattle.gib_core.specs.Ordered.{IsFound}
-use Rattle.gib_core.specs.Tree.{Term, Then, Write, Point, CallTerm, Give, CaseTerm, IfTerm, Bind, Past, One, Both, Prim, Reach, Side, On, Branches, NoBranch, BranchThen, variables_from, FunctionTerm, CoreTree}
-use Rattle.gib_core.specs.Met.{Destination, Nowhere, Empty, Open, result_place}
+use Rattle.gib_core.specs.Tree.{Term, Then, Write, Point, CallTerm, Give, CaseTerm, IfTerm, Tuple, Bind, Past, One, Both, Prim, Reach, Side, On, Several, Branches, NoBranch, BranchThen, variables_from, FunctionTerm, CoreTree}
+use Rattle.gib_core.specs.Met.{Destination, Nowhere, Empty, Open, InParts, result_place}
 use Rattle.gib_core.specs.Rules.{has_room, is_nowhere}
 use Rattle.gib_local.specs.Building.{Program, is_flat, is_in, gives_scalar, declared}
 use Rattle.gib_local.specs.Printing.{Naming, type_text, side_place, behind_one, behind_bind, function_text, local_of}
@@ -51,6 +53,7 @@ pub record HasFields (tb : Table) (xs : List ℕ) (k : ConId) (ss ps : List Atom
 abbrev pub IsOpenAt : Destination → Variable → ConId → Type 0
 IsOpenAt Nowhere h k = ⊥
 IsOpenAt Empty h k = ⊥
+IsOpenAt (InParts ts) h k = ⊥
 IsOpenAt (Open g c standing) h k = (g ≡ h) × (c ≡ k)
 
 -- A term fills this head.
@@ -62,6 +65,7 @@ FillsAtOnce tb xs h k (CallTerm f ys) = ⊥
 FillsAtOnce tb xs h k (Give x) = ⊥
 FillsAtOnce tb xs h k (CaseTerm x bs) = ⊥
 FillsAtOnce tb xs h k (IfTerm x t u) = ⊥
+FillsAtOnce tb xs h k (Tuple ts ss ps) = ⊥
 
 -- A side of a kind may stand at a destination, with a type.
 abbrev pub MayStand : Table → Destination → Kind → Ty → Type 0
@@ -69,10 +73,12 @@ MayStand tb d Here t = (has_room tb d ≡ true) × (is_scalar t ≡ false)
 MayStand tb d Region t = is_scalar t ≡ false
 MayStand tb d Scalar t = is_scalar t ≡ true
 
--- The variables in scope behind a side, and behind a binding.
+-- The variables in scope behind a side.
 abbrev pub scope_one : List ℕ → Side → List ℕ
 scope_one xs (On kind x t u) = x.0 ∷ xs
+scope_one xs (Several ys ts u) = xs
 
+-- Those behind a binding.
 abbrev pub scope_bind : List ℕ → Bind → List ℕ
 scope_bind xs (Past h k) = xs
 scope_bind xs (One s) = scope_one xs s
@@ -109,6 +115,7 @@ abbrev mutual
   HasText p (Give x) xs d n m = (n ≡ m) × HasAtom xs x
   HasText p (CaseTerm x bs) xs d n m = HasVariable xs x × IsBranch bs × HasBranches p bs xs d n m
   HasText p (IfTerm x t u) xs d n m = HasAtom xs x × ((k : ℕ) × HasText p t xs d n k × HasText p u xs d k m)
+  HasText p (Tuple ts ss ps) xs d n m = ⊥
 
   -- A binding has a text before the rest of its line, of which this is said by the next number.
   pub StartsText : Program → Bind → Term → List ℕ → Destination → ℕ → ℕ → (ℕ → Type 0) → Type 0
@@ -121,6 +128,7 @@ abbrev mutual
   -- A side.
   pub HasSide : Program → Side → List ℕ → Destination → ℕ → ℕ → Type 0
   HasSide p (On kind x t u) xs d n m = (x.0 ≡ n) × MayStand p.table d kind t × IsWritten p.table t × HasText p u xs (side_place kind) (n + 1) m
+  HasSide p (Several ys ts u) xs d n m = ⊥
 
   -- Branches.
   pub HasBranches : Program → Branches → List ℕ → Destination → ℕ → ℕ → Type 0
@@ -128,13 +136,23 @@ abbrev mutual
   HasBranches p (BranchThen k ys t bs) xs d n m =
       (ys ≡ variables_from n ys) × IsFound p.table k × ((j : ℕ) × HasText p t (scope_from n ys xs) d (n + length ys) j × HasBranches p bs xs d j m)
 
--- The body of a function has a text behind its parameters, one at least.
+-- The body of a function that gives one thing has a text behind its parameters, one at least.
 pub record HasBody (p : Program) (parameters : List Ty) (result : Ty) (t : Term) : Type 0 where
   pub some : 0 < length parameters
   pub next : ℕ
-  pub term : HasText p t (scope_from 0 parameters []) (result_place result) (length parameters) next
+  pub term : HasText p t (scope_from 0 parameters []) (result_place (results.One result)) (length parameters) next
   pub parameters_written : AllByRecursion (IsWritten p.table) parameters
   pub result_written : IsWritten p.table result
+
+-- The same of what a function gives; several parts have no text.
+abbrev pub HasResult : Program → List Ty → Results Ty → Term → Type 0
+HasResult p parameters (results.One t) u = HasBody p parameters t u
+HasResult p parameters (results.Several ts) u = ⊥
+
+-- What a function gives is of a type that is written by its name.
+abbrev pub IsResultWritten : Table → Results Ty → Type 0
+IsResultWritten tb (results.One t) = IsWritten tb t
+IsResultWritten tb (results.Several ts) = ⊥
 
 -- The program round the text of a core.
 abbrev pub program_of : Naming → CoreTree → Program
@@ -147,6 +165,6 @@ with_ends core = record core { marked = true }
 -- A core has a text, with the data declarations of its program.
 pub record HasCore (nm : Naming) (datas : List DataTree) (core : CoreTree) : Type 0 where
   pub table : table_of_program (declared (local_of nm datas core)) ≡ core.table
-  pub functions : AllByRecursion (λ (f : FunctionTerm). HasBody (program_of nm core) f.parameters f.result f.body) core.functions
+  pub functions : AllByRecursion (λ (f : FunctionTerm). HasResult (program_of nm core) f.parameters f.result f.body) core.functions
   pub main : HasBody (program_of nm core) (core.main.parameter ∷ []) core.main.result core.main.body
   pub offsets : AllByRecursion (IsFound core.table) core.offsets

@@ -57,17 +57,19 @@ abbrev pub all_kept : List ℕ → List DataDecl → List Kept
 all_kept types [] = []
 all_kept types (d ∷ ds) = map (kept_in types) d.constructors.items ++ all_kept types ds
 
--- How many fields a kept constructor, and one of the table, has.
+-- How many fields a kept constructor has.
 abbrev pub kept_count : Kept → ℕ
 kept_count k = k.count
 
+-- How many a constructor of the table has.
 abbrev pub count_of : Row → ℕ
 count_of r = length r.fields
 
--- Whether a kept constructor, and one of the table, has no packed field.
+-- Whether a kept constructor has no packed field.
 abbrev pub kept_flat : Kept → Bool
 kept_flat k = k.flat
 
+-- Whether a constructor of the table has none.
 abbrev pub flat_of : Row → Bool
 flat_of r = no_tree r.fields
 
@@ -87,16 +89,19 @@ constructor_of tb k n = and_then (constructor tb k) (λ c. as_many n (length (fi
 abbrev pub function_of : List FunctionTree → Ident → ℕ → Checked (Unit {0})
 function_of functions f n = and_then (function functions f) (λ g. as_many n (length g.parameters) f)
 
--- The ends of lines, each with its own names: an operand, a variable, a call, a constructor's value.
+-- A line ends with an operand; it counts as one more expression.
 abbrev pub given : Names → Counts → Span → Operand → Checked Counts
 given s n p x = and_then (one_more n p) (λ m. and_then (operand s.variables x) (λ _. Ok m))
 
+-- It ends with a variable.
 abbrev pub pointed : Names → Counts → Span → Ident → Checked Counts
 pointed s n p x = and_then (one_more n p) (λ m. and_then (old s.variables x) (λ _. Ok m))
 
+-- It ends with a call of a function that is declared.
 abbrev pub called : Declared → Names → Counts → Ident → List Operand → Checked Counts
 called d s n f xs = and_then (one_more n f.span) (λ m. and_then (function_of d.functions f (length xs)) (λ _. and_then (operands s.variables xs) (λ _. Ok m)))
 
+-- It ends with the value of a constructor that is declared.
 abbrev pub made : Declared → Names → Counts → Ident → List Operand → Checked Counts
 made d s n k xs = and_then (one_more n k.span) (λ m. and_then (constructor_of d.table k (length xs)) (λ _. and_then (operands s.variables xs) (λ _. Ok m)))
 

@@ -44,14 +44,17 @@ abbrev pub judged : CoreTree → Broken → Result CoreTree Refusal
 judged core None = Ok (mark_core core)
 judged core (Some broken) = Err (Breaks broken.0 broken.1)
 
+-- What is answered to the core of a text, or to a place that is not the one due.
 abbrev pub placed : LocalTree → Placed CoreTree → Result CoreTree Refusal
 placed t (Ok core) = judged core (broken_text t core)
 placed t (Err place) = Err (Misplaced place)
 
+-- What is answered to a text whose names were looked up.
 abbrev pub named : LocalTree → Checked (Unit {0}) → Result CoreTree Refusal
 named t (Ok x) = placed t (build_core t)
 named t (Err fault) = Err (Misnamed fault)
 
+-- What is answered to tokens that were read as a text, or were not.
 abbrev pub read : Read LocalTree → Result CoreTree Refusal
 read (Ok x) = named x.0 (check_text x.0)
 read (Err fault) = Err (Unread fault)

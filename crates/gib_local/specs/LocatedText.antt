@@ -14,6 +14,7 @@ use Rattle.gib_types.specs.Table.{Table, fields_at, name_at, numbers_from, const
 use Rattle.gib_syntax.specs.Tree.{ConstructorTree, DataTree}
 use Rattle.gib_core.specs.Tree.{CoreTree}
 use Rattle.gib_local.specs.Printing.{Naming, ident, type_text, local_of}
+pub use Rattle.gib_local.specs.Printing.{first_given}
 use Rattle.gib_local.specs.Texts.{spell_text}
 use Rattle.gib_local.specs.Tree.{LocalTree}
 
@@ -21,31 +22,31 @@ use Rattle.gib_local.specs.Tree.{LocalTree}
 abbrev pub numbered : ℕ → Naming
 numbered base = record { variable = λ n. base + 3 * n; location = λ n. base + (3 * n + 1); region = λ n. base + (3 * n + 2) }
 
--- Names of a program have smaller numbers, and those that its text gives have numbers from this one on.
-abbrev pub first_given : ℕ
-first_given = 2 ^ 31
-
 -- The names that a text gives.
 abbrev pub given : Naming
 given = numbered first_given
 
 -- ---- the data declarations of a table
 
+-- A constructor of the table, by its name.
 abbrev pub constructor_of : Table → ℕ → ConstructorTree
 constructor_of tb k = record { name = ident (name_at tb k); fields = map (type_text tb) (fields_at tb k) }
 
+-- A type of the table with its constructors.
 abbrev pub data_of : Table → ℕ → DataTree
 data_of tb n = record { name = ident (get_or tb.types n 0); constructors = map (constructor_of tb) (constructors_of tb n) }
 
+-- All types of the table, in its order.
 abbrev pub datas_of : Table → List DataTree
 datas_of tb = map (data_of tb) (numbers_from 0 (length tb.types))
 
 -- ---- tokens
 
--- The text of a core, and its tokens.
+-- The text of a core.
 abbrev pub located_tree : CoreTree → LocalTree
 located_tree core = local_of given (datas_of core.table) core
 
+-- The tokens of that text.
 abbrev pub located_tokens : CoreTree → List Token
 located_tokens core = spell_text (located_tree core) []
 
@@ -61,7 +62,7 @@ is_name upper (b ∷ rest) = is_ascii_alphabetic b && (if nat_lt b 91 then upper
 -- Whether the text of a token's name is a name.
 abbrev pub is_named : List (List ℕ) → Token → Bool
 is_named names (t.Variable x) = if nat_lt x.0 first_given then is_name false (token_text names (t.Variable x)) else true
-is_named names (t.Constructor k) = is_name true (token_text names (t.Constructor k))
+is_named names (t.Constructor k) = nat_lt k.0 first_given && is_name true (token_text names (t.Constructor k))
 is_named names (t.Number n) = true
 is_named names (t.Sign a) = true
 
@@ -99,6 +100,6 @@ spaced names x = written names x ++ gap x ∷ []
 abbrev pub text_with : List (List ℕ) → List Token → Option (List ℕ)
 text_with names tokens = if list_all (is_named names) tokens then Some (flat_map (spaced names) tokens) else None
 
--- The text of a core; none where a name of it is no name of LoCal text, as those of copies for types.
+-- The text of a core; none where a name of it is no name of LoCal text, as those of copies for types, and where several parts are bound or given.
 abbrev pub located_text : List (List ℕ) → CoreTree → Option (List ℕ)
 located_text names core = text_with names (located_tokens core)

@@ -16,41 +16,50 @@ use Rattle.gib_local.specs.Grammar.{starts_operand, option_at, sign, lower, uppe
 abbrev pub IsAt : Places → Ident → List Token → Type 0
 IsAt at x rest = x.span ≡ before at rest
 
+-- An `@` and its name stand before these words.
 abbrev pub MarkAt : Places → Mark → List Token → Type 0
 MarkAt at m rest = (m.sign ≡ before at (lower m.name ∷ rest)) × IsAt at m.name rest
 
+-- So does an `@` that may be absent.
 abbrev pub OptionAt : Places → Option Mark → List Token → Type 0
 OptionAt at None rest = Unit {0}
 OptionAt at (Some m) rest = MarkAt at m rest
 
+-- An operand stands before these words; a number is below the bound of literals.
 abbrev pub OperandAt : Places → Operand → List Token → Type 0
 OperandAt at (Named x) rest = IsAt at x rest
 OperandAt at (Number p n) rest = (p ≡ before at rest) × (n < 2 ^ 63)
 OperandAt at (Bit p b) rest = p ≡ before at rest
 
+-- Operands do, each before those behind it.
 abbrev pub OperandsAt : Places → List Operand → List Token → Type 0
 OperandsAt at [] rest = Unit {0}
 OperandsAt at (x ∷ xs) rest = OperandAt at x (spell_operands xs rest) × OperandsAt at xs rest
 
+-- Names do, each before those behind it.
 abbrev pub NamesAt : Places → List Ident → List Token → Type 0
 NamesAt at [] rest = Unit {0}
 NamesAt at (x ∷ xs) rest = IsAt at x (spell_names xs rest) × NamesAt at xs rest
 
+-- A type stands before these words.
 abbrev pub TypeAt : Places → TypeName → List Token → Type 0
 TypeAt at (ty.Whole p) rest = p ≡ before at rest
 TypeAt at (ty.Truth p) rest = p ≡ before at rest
 TypeAt at (ty.Declared x) rest = IsAt at x rest
 
+-- A location does, with its names.
 abbrev pub LocationAt : Places → Location → List Token → Type 0
 LocationAt at (Start r) rest = IsAt at r rest
 LocationAt at (Plus d k) rest = IsAt at d (sign s.Plus ∷ upper k ∷ rest) × IsAt at k rest
 LocationAt at (After x) rest = IsAt at x rest
 
+-- A way does, with the name that it goes by.
 abbrev pub WayAt : Places → Way → List Token → Type 0
 WayAt at ByOffset rest = Unit {0}
 WayAt at (BySkip z) rest = IsAt at z rest
 WayAt at (ByEnd z) rest = IsAt at z rest
 
+-- The name of the place between two sides does, and that of the side before it.
 abbrev pub BetweenAt : Places → Option (Ident × Ident) → List Token → Type 0
 BetweenAt at None rest = Unit {0}
 BetweenAt at (Some (l, x)) rest = IsAt at l (sign s.Equals ∷ t.Sign s.After ∷ lower x ∷ sign s.In ∷ rest) × IsAt at x (sign s.In ∷ rest)

@@ -18,6 +18,7 @@ abbrev pub ListAt : {A : Type 0} → (A → List Token → List Token) → (A �
 ListAt spell Stands [] rest = Unit {0}
 ListAt spell Stands (x ∷ xs) rest = Stands x (spell_list spell xs rest) × ListAt spell Stands xs rest
 
+-- A constructor with its fields stands before these tokens.
 abbrev pub ConstructorAt : Places → ConstructorTree → List Token → Type 0
 ConstructorAt at c rest = IsAt at c.name (spell_list spell_type c.fields rest) × ListAt spell_type (TypeAt at) c.fields rest
 
@@ -26,13 +27,16 @@ abbrev pub ConstructorsAt : Places → List ConstructorTree → List Token → T
 ConstructorsAt at [] rest = ⊥
 ConstructorsAt at (c ∷ cs) rest = ConstructorAt at c (spell_list spell_alternative cs rest) × ListAt spell_alternative (ConstructorAt at) cs rest
 
+-- A data declaration stands before these tokens.
 abbrev pub DataAt : Places → DataTree → List Token → Type 0
 DataAt at d rest = IsAt at d.name (t.Sign s.Equals ∷ spell_constructors d.constructors (t.Sign s.Semicolon ∷ rest)) × ConstructorsAt at d.constructors (t.Sign s.Semicolon ∷ rest)
 
+-- The constructors that store offsets do, where there are some.
 abbrev pub OffsetsAt : Places → List Ident → List Token → Type 0
 OffsetsAt at [] rest = Unit {0}
 OffsetsAt at (k ∷ ks) rest = IsAt at k (spell_list spell_con ks (t.Sign s.Semicolon ∷ rest)) × ListAt spell_con (IsAt at) ks (t.Sign s.Semicolon ∷ rest)
 
+-- A parameter does, with its type.
 abbrev pub ParameterAt : Places → Parameter → List Token → Type 0
 ParameterAt at q rest = IsAt at q.name (t.Sign s.Colon ∷ type_word q.ty ∷ t.Sign s.Close ∷ rest) × TypeAt at q.ty (t.Sign s.Close ∷ rest)
 
@@ -48,12 +52,14 @@ BodyAt at w place u rest =
     × OptionAt at place (t.Sign s.Equals ∷ spell_line u (t.Sign s.Semicolon ∷ rest))
     × LineAt at u 200 (t.Sign s.Semicolon ∷ rest)
 
+-- A function does: its name, its parameters, its result and body.
 abbrev pub FunctionAt : Places → FunctionText → List Token → Type 0
 FunctionAt at f rest =
     IsAt at f.name (spell_list spell_parameter f.parameters (spell_body f.result f.place f.body rest))
     × ParametersAt at f.parameters (spell_body f.result f.place f.body rest)
     × BodyAt at f.result f.place f.body rest
 
+-- Main does: its parameter, its result and body.
 abbrev pub MainAt : Places → MainText → List Token → Type 0
 MainAt at m rest = ParameterAt at m.parameter (spell_body m.result m.place m.body rest) × BodyAt at m.result m.place m.body rest
 

@@ -1,5 +1,5 @@
 -- A core as a LoCal text.
-use Rattle.std.specs.Prelude.{◌≡◌, ℕ, ◌+◌, Bool, true, false, List, [], ◌∷◌, map, Option, Some, None, get_or}
+use Rattle.std.specs.Prelude.{◌≡◌, ℕ, ◌+◌, ◌^◌, Bool, true, false, List, [], ◌∷◌, map, Option, Some, None, get_or}
 use Rattle.gib_base.specs.declared.Span.{Span}
 use Rattle.gib_types.specs.declared.table.Ty.{Ty}
 use Rattle.gib_types.specs.declared.table.Ty.TheVariants.{Whole, Truth, Tree}
@@ -11,6 +11,8 @@ use Rattle.gib_syntax.specs.declared.tree.TypeName.TheVariants as ty
 use Rattle.gib_syntax.specs.declared.tree.Parameter.{Parameter}
 use Rattle.gib_syntax.specs.Typing.{operator_type}
 use Rattle.gib_syntax.specs.Tree.{DataTree}
+use Rattle.gib_syntax.specs.Results as results
+use Rattle.gib_syntax.specs.Results.{Results}
 use Rattle.gib_core.specs.declared.atom.Variable.{Variable}
 use Rattle.gib_core.specs.declared.atom.Atom.{Atom}
 use Rattle.gib_core.specs.declared.atom.Atom.TheVariants as a
@@ -19,8 +21,8 @@ use Rattle.gib_core.specs.declared.atom.Kind.TheVariants.{Here, Region, Scalar}
 use Rattle.gib_core.specs.declared.atom.Access.{Access}
 use Rattle.gib_core.specs.declared.atom.Access.TheVariants as by
 use Rattle.gib_core.specs.Erasing.{literal_of}
-use Rattle.gib_core.specs.Tree.{Term, Then, Write, Point, CallTerm, Give, CaseTerm, IfTerm, Bind, Past, One, Both, Prim, Reach, Side, On, Branches, NoBranch, BranchThen, FunctionTerm, CoreTree}
-use Rattle.gib_core.specs.Met.{Destination, Nowhere, Empty, Open, stands_too, result_place}
+use Rattle.gib_core.specs.Tree.{Term, Then, Write, Point, CallTerm, Give, CaseTerm, IfTerm, Tuple, Bind, Past, One, Both, Prim, Reach, Side, On, Several, Branches, NoBranch, BranchThen, FunctionTerm, CoreTree}
+use Rattle.gib_core.specs.Met.{Destination, Nowhere, Empty, Open, InParts, stands_too, stands_behind, result_place}
 use Rattle.gib_local.specs.Tree.{Mark, Operand, Named, Number, Bit, Start, Plus, After, Way, ByOffset, BySkip, ByEnd, Line, In, Given, Pointed, Called, Made, Cased, Chosen, NewRegion, NewPlace, LetIn, ParIn, PrimIn, ReachIn, Bound, Be, Arms, LastArm, NextArm, FunctionText, LocalTree}
 use Rattle.gib_local.specs.Building.{is_flat}
 
@@ -38,6 +40,14 @@ nowhere = record { start = 0; end = 0 }
 -- A name.
 abbrev pub ident : ℕ → Ident
 ident n = record { name = record { 0 = n }; span = nowhere }
+
+-- Names of a program have smaller numbers, and those that its text gives have numbers from this one on.
+abbrev pub first_given : ℕ
+first_given = 2 ^ 31
+
+-- Several parts have no text: where they stand a constructor or a type is named so, which is no name.
+abbrev pub no_name : Ident
+no_name = ident first_given
 
 -- An `@` with the name of a location.
 abbrev pub mark : Naming → ℕ → Mark
@@ -65,6 +75,11 @@ type_text tb Whole = ty.Whole nowhere
 type_text tb Truth = ty.Truth nowhere
 type_text tb (Tree t) = ty.Declared (ident (get_or tb.types t.0 0))
 
+-- A type of a function's result.
+abbrev pub result_text : Table → Results Ty → TypeName
+result_text tb (results.One t) = type_text tb t
+result_text tb (results.Several ts) = ty.Declared no_name
+
 -- A constructor.
 abbrev pub con_text : Table → ConId → Ident
 con_text tb k = ident (name_at tb k.0)
@@ -80,6 +95,7 @@ way nm (by.End z) = ByEnd (named nm z)
 abbrev pub place_number : Destination → ℕ → ℕ
 place_number Nowhere x = x
 place_number Empty x = x
+place_number (InParts ts) x = x
 place_number (Open h k []) x = h.0
 place_number (Open h k (y ∷ ys)) x = x
 
@@ -92,6 +108,7 @@ last_of x (y ∷ ys) = last_of y ys
 abbrev pub before_field : Naming → Destination → ℕ → Line → Line
 before_field nm Nowhere x rest = rest
 before_field nm Empty x rest = rest
+before_field nm (InParts ts) x rest = rest
 before_field nm (Open h k []) x rest = rest
 before_field nm (Open h k (y ∷ ys)) x rest = In nowhere (NewPlace (ident (nm.location x)) (After (named nm (last_of y ys)))) rest
 
@@ -124,10 +141,11 @@ abbrev pub call_mark : Naming → Destination → ℕ → Option Mark
 call_mark nm Nowhere at = None
 call_mark nm Empty at = Some (mark nm at)
 call_mark nm (Open h k standing) at = Some (mark nm at)
+call_mark nm (InParts ts) at = Some (mark nm at)
 
 -- The destination behind a side.
 abbrev pub behind_one : Destination → Side → Destination
-behind_one d (On kind x t u) = stands_too kind x d
+behind_one d s = stands_behind s d
 
 -- The destination behind a binding.
 abbrev pub behind_bind : Destination → Bind → Destination
@@ -149,6 +167,10 @@ are_fields Scalar r = false
 abbrev pub open_text : Bool → Naming → ℕ → Variable → Ident → Line → Line
 open_text true nm at h k rest = rest
 open_text false nm at h k rest = In nowhere (NewPlace (ident (nm.location h.0)) (Plus (ident (nm.location at)) k)) rest
+
+-- Several variables.
+abbrev pub no_text : Naming → ℕ → Line → Line
+no_text nm at rest = open_text false nm at (record { 0 = 0 }) no_name rest
 
 -- Two sides. Where both are fields the right one's location gets its name between them, else before them.
 abbrev pub par_text : Bool → Naming → Destination → Kind → ℕ → Kind → ℕ → (ℕ → Bound) → (ℕ → Bound) → Line → Line
@@ -177,19 +199,24 @@ abbrev mutual
   text_of nm tb (Give x) d at = Given nowhere (operand nm x)
   text_of nm tb (CaseTerm x bs) d at = Cased nowhere (atom_name nm x) (arms_or (branches_text nm tb bs d at))
   text_of nm tb (IfTerm x t u) d at = Chosen nowhere (operand nm x) (text_of nm tb t d at) (text_of nm tb u d at)
+  text_of nm tb (Tuple ts ss ps) d at = Made no_name (mark nm at) []
 
   -- A binding, and then the rest of its line.
   pub bind_text : Naming → Table → Bind → Destination → ℕ → Line → Line
   bind_text nm tb (Past h k) d at rest = open_text (is_flat tb k) nm at h (con_text tb k) rest
   bind_text nm tb (One (On k x t u)) d at rest = before nm d k x.0 (In nowhere (LetIn (side_text nm tb (On k x t u) (side_number d k x.0))) rest)
+  bind_text nm tb (One (Several xs ts u)) d at rest = no_text nm at rest
   bind_text nm tb (Both fork (On k x t u) (On j y s w)) d at rest =
       par_text (are_fields k j) nm d k x.0 j y.0 (side_text nm tb (On k x t u)) (side_text nm tb (On j y s w)) rest
+  bind_text nm tb (Both fork (On k x t u) (Several ys ts w)) d at rest = no_text nm at rest
+  bind_text nm tb (Both fork (Several xs ts u) r) d at rest = no_text nm at rest
   bind_text nm tb (Prim x f y z) d at rest = In nowhere (PrimIn (named nm x) (type_text tb (operator_type f)) (operand nm y) f (operand nm z)) rest
   bind_text nm tb (Reach y by) d at rest = In nowhere (ReachIn (named nm y) (way nm by)) rest
 
   -- A side, whose location is named by this number.
   pub side_text : Naming → Table → Side → ℕ → Bound
   side_text nm tb (On k x t u) n = Be (named nm x) (type_text tb t) (side_mark nm k n) (text_of nm tb u (side_place k) n)
+  side_text nm tb (Several xs ts u) n = Be no_name (ty.Declared no_name) None (Made no_name (mark nm n) [])
 
   -- Branches, where there are some.
   pub branches_text : Naming → Table → Branches → Destination → ℕ → Option Arms
@@ -207,13 +234,18 @@ result_mark nm Whole = None
 result_mark nm Truth = None
 result_mark nm (Tree t) = Some (mark nm 0)
 
+-- The `@` of what a function gives; several parts have none.
+abbrev pub results_mark : Naming → Results Ty → Option Mark
+results_mark nm (results.One t) = result_mark nm t
+results_mark nm (results.Several ts) = None
+
 -- A function.
 abbrev pub function_text : Naming → Table → FunctionTerm → FunctionText
 function_text nm tb f = record {
   name = ident f.name.0;
   parameters = parameters_text nm tb 0 f.parameters;
-  result = type_text tb f.result;
-  place = result_mark nm f.result;
+  result = result_text tb f.result;
+  place = results_mark nm f.result;
   body = text_of nm tb f.body (result_place f.result) 0;
 }
 
@@ -227,7 +259,7 @@ local_of nm datas core = record {
     parameter = record { name = ident (nm.variable 0); ty = type_text core.table core.main.parameter };
     result = type_text core.table core.main.result;
     place = result_mark nm core.main.result;
-    body = text_of nm core.table core.main.body (result_place core.main.result) 0;
+    body = text_of nm core.table core.main.body (result_place (results.One core.main.result)) 0;
   };
 }
 

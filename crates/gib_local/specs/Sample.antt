@@ -7,6 +7,7 @@ use Rattle.gib_syntax.specs.declared.tree.Ident.{Ident}
 use Rattle.gib_syntax.specs.declared.tree.TypeName.{TypeName}
 use Rattle.gib_syntax.specs.declared.tree.TypeName.TheVariants as ty
 use Rattle.gib_syntax.specs.Tree.{DataTree}
+use Rattle.gib_syntax.specs.Results as results
 use Rattle.gib_core.specs.declared.atom.Variable.{Variable}
 use Rattle.gib_core.specs.declared.atom.Kind.TheVariants.{Here}
 use Rattle.gib_core.specs.Tree.{Term, Then, Write, Point, CallTerm, Past, One, On, var, CoreTree}
@@ -80,7 +81,7 @@ v n = record { 0 = n }
 abbrev pub core : Term → CoreTree
 core t = record {
   table = table;
-  functions = record { name = record { 0 = 3 }; parameters = Tree (record { 0 = 0 }) ∷ []; result = Tree (record { 0 = 0 }); body = t } ∷ [];
+  functions = record { name = record { 0 = 3 }; parameters = Tree (record { 0 = 0 }) ∷ []; result = results.One (Tree (record { 0 = 0 })); body = t } ∷ [];
   main = record { parameter = Tree (record { 0 = 0 }); result = Tree (record { 0 = 0 }); body = CallTerm (record { 0 = 3 }) (var 0 ∷ []) };
   offsets = [];
   marked = true;

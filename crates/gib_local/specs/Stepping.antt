@@ -15,13 +15,15 @@ number (t.Variable x) = 60
 number (t.Constructor k) = 61
 number (t.Number n) = 62
 
--- A name that begins with a lower-case letter, one that begins with an upper-case letter, and a number.
+-- A name that begins with a lower-case letter.
 abbrev pub a_name : Token
 a_name = t.Variable (record { 0 = 0 })
 
+-- One that begins with an upper-case letter.
 abbrev pub a_con : Token
 a_con = t.Constructor (record { 0 = 0 })
 
+-- A number.
 abbrev pub a_number : Token
 a_number = t.Number 0
 
@@ -43,15 +45,18 @@ pub data Symbol : Type 0 where
   MoreArmsS : Symbol
   TermS : Symbol
 
+-- What is still to come, the next first.
 abbrev pub Stack : Type 0
 Stack = List Symbol
 
+-- A token that is a type.
 abbrev pub is_type : Token → Bool
 is_type (t.Sign s.Int) = true
 is_type (t.Sign s.Bool) = true
 is_type (t.Constructor c) = true
 is_type n = false
 
+-- A token that is an operand.
 abbrev pub is_operand : Token → Bool
 is_operand (t.Sign s.True) = true
 is_operand (t.Sign s.False) = true
@@ -59,6 +64,7 @@ is_operand (t.Variable x) = true
 is_operand (t.Number m) = true
 is_operand n = false
 
+-- A token that is an operator.
 abbrev pub is_operator : Token → Bool
 is_operator (t.Sign s.Plus) = true
 is_operator (t.Sign s.Minus) = true
@@ -87,28 +93,33 @@ begin_term (t.Sign s.Case) k = Some (One a_name ∷ One (t.Sign s.Of) ∷ One (t
 begin_term (t.Sign s.If) k = Some (OperandS ∷ One (t.Sign s.Then) ∷ TermS ∷ One (t.Sign s.Else) ∷ TermS ∷ k)
 begin_term n k = None
 
+-- What follows the word that begins a location.
 abbrev pub begin_location : Token → Stack → Option Stack
 begin_location (t.Sign s.Start) k = Some (One a_name ∷ k)
 begin_location (t.Sign s.After) k = Some (One a_name ∷ k)
 begin_location (t.Variable x) k = Some (One (t.Sign s.Plus) ∷ One a_con ∷ k)
 begin_location n k = None
 
+-- What follows the word that begins a way.
 abbrev pub begin_way : Token → Stack → Option Stack
 begin_way (t.Sign s.Offset) k = Some k
 begin_way (t.Sign s.Skip) k = Some (One a_name ∷ k)
 begin_way (t.Sign s.End) k = Some (One a_name ∷ k)
 begin_way n k = None
 
+-- What follows the word behind `let`.
 abbrev pub begin_let : Token → Stack → Option Stack
 begin_let (t.Sign s.Par) k = Some (bound_symbols (One (t.Sign s.And) ∷ BetweenS ∷ bound_symbols k))
 begin_let (t.Variable x) k = Some (One (t.Sign s.Colon) ∷ TypeS ∷ LetRestS ∷ k)
 begin_let n k = None
 
+-- What follows the word behind the type of a side.
 abbrev pub begin_rest : Token → Stack → Option Stack
 begin_rest (t.Sign s.At) k = Some (One a_name ∷ One (t.Sign s.Equals) ∷ TermS ∷ k)
 begin_rest (t.Sign s.Equals) k = Some (LetEqualsS ∷ k)
 begin_rest n k = None
 
+-- What follows the word behind the `=` of a binding.
 abbrev pub begin_equals : Token → Stack → Option Stack
 begin_equals (t.Sign s.Open) k = Some (OperandS ∷ OperatorS ∷ OperandS ∷ One (t.Sign s.Close) ∷ k)
 begin_equals n k = begin_term n k
@@ -152,6 +163,7 @@ abbrev pub goes_on : (Stack → Goes) → ℕ → Option Stack → Goes
 goes_on more left None = Fails left
 goes_on more left (Some k) = more k
 
+-- The words, one after another.
 abbrev pub run : List Token → Stack → Goes
 run [] k = Stands k
 run (w ∷ ws) k = goes_on (run ws) (suc (length ws)) (advance k w)

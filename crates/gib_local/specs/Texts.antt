@@ -19,12 +19,15 @@ abbrev pub spell_list : {A : Type 0} → (A → List Token → List Token) → L
 spell_list spell [] rest = rest
 spell_list spell (x ∷ xs) rest = spell x (spell_list spell xs rest)
 
+-- A type.
 abbrev pub spell_type : TypeName → List Token → List Token
 spell_type w rest = type_word w ∷ rest
 
+-- A constructor's name.
 abbrev pub spell_con : Ident → List Token → List Token
 spell_con k rest = upper k ∷ rest
 
+-- A constructor with the types of its fields.
 abbrev pub spell_constructor : ConstructorTree → List Token → List Token
 spell_constructor c rest = upper c.name ∷ spell_list spell_type c.fields rest
 
@@ -32,10 +35,12 @@ spell_constructor c rest = upper c.name ∷ spell_list spell_type c.fields rest
 abbrev pub spell_alternative : ConstructorTree → List Token → List Token
 spell_alternative c rest = t.Sign s.Bar ∷ spell_constructor c rest
 
+-- The constructors of a data declaration, with bars between them.
 abbrev pub spell_constructors : List ConstructorTree → List Token → List Token
 spell_constructors [] rest = rest
 spell_constructors (c ∷ cs) rest = spell_constructor c (spell_list spell_alternative cs rest)
 
+-- A data declaration.
 abbrev pub spell_data : DataTree → List Token → List Token
 spell_data d rest = t.Sign s.Data ∷ upper d.name ∷ t.Sign s.Equals ∷ spell_constructors d.constructors (t.Sign s.Semicolon ∷ rest)
 
@@ -44,6 +49,7 @@ abbrev pub spell_offsets : List Ident → List Token → List Token
 spell_offsets [] rest = rest
 spell_offsets (k ∷ ks) rest = t.Sign s.Offsets ∷ upper k ∷ spell_list spell_con ks (t.Sign s.Semicolon ∷ rest)
 
+-- A parameter with its type, in parentheses.
 abbrev pub spell_parameter : Parameter → List Token → List Token
 spell_parameter q rest = t.Sign s.Open ∷ lower q.name ∷ t.Sign s.Colon ∷ type_word q.ty ∷ t.Sign s.Close ∷ rest
 
@@ -51,12 +57,15 @@ spell_parameter q rest = t.Sign s.Open ∷ lower q.name ∷ t.Sign s.Colon ∷ t
 abbrev pub spell_body : TypeName → Option Mark → Line → List Token → List Token
 spell_body w place u rest = t.Sign s.Colon ∷ type_word w ∷ spell_option place (t.Sign s.Equals ∷ spell_line u (t.Sign s.Semicolon ∷ rest))
 
+-- A function.
 abbrev pub spell_function : FunctionText → List Token → List Token
 spell_function f rest = t.Sign s.Fun ∷ lower f.name ∷ spell_list spell_parameter f.parameters (spell_body f.result f.place f.body rest)
 
+-- The main function.
 abbrev pub spell_main : MainText → List Token → List Token
 spell_main m rest = t.Sign s.Main ∷ spell_parameter m.parameter (spell_body m.result m.place m.body rest)
 
+-- A whole text.
 abbrev pub spell_text : LocalTree → List Token → List Token
 spell_text x rest = spell_list spell_data x.datas (spell_offsets x.offsets (spell_list spell_function x.functions (spell_main x.main rest)))
 

@@ -22,7 +22,7 @@ use crate::steps::{no_mark, type_start};
 use crate::text::FunctionLines;
 use crate::tree::Mark;
 use gib_base::Memory;
-use gib_core::{Core, CoreFunction, CoreMain, TermId};
+use gib_core::{Core, CoreFunction, CoreMain, CoreResult, TermId};
 use gib_syntax::{Ident, Parameter, TypeName};
 use gib_types::{ConId, Ty};
 use std::alloc::Global;
@@ -136,7 +136,7 @@ fn function(
     Ok(CoreFunction {
         name: lines.name.name,
         parameters,
-        result: source.type_named(lines.result),
+        result: CoreResult::One(source.type_named(lines.result)),
         body,
     })
 }

@@ -17,7 +17,7 @@ use crate::steps::{
     reach,
 };
 use crate::tree::Operand;
-use gib_core::{Atom, Binding, BoundTerm, Branch, Kind, Node, TermId};
+use gib_core::{Atom, Binding, BoundSide, BoundTerm, Branch, Kind, Node, TermId};
 use gib_syntax::Ident;
 use gib_types::Ty;
 
@@ -129,7 +129,7 @@ fn one(
 {
     let bound = bind_side(builder, source, goal, side)?;
     builder.bind(side.name, bound.variable)?;
-    Ok(Some(Binding::One(bound)))
+    Ok(Some(Binding::One(BoundSide::One(bound))))
 }
 
 /// Two sides.
@@ -162,8 +162,8 @@ fn both(
     builder.bind(sides.right.name, right.variable)?;
     Ok(Some(Binding::Par {
         fork: false,
-        left,
-        right,
+        left: BoundSide::One(left),
+        right: BoundSide::One(right),
     }))
 }
 

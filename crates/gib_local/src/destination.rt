@@ -1,15 +1,18 @@
 //! Where the value of a term is put.
 
-ghost use Rattle.std.specs.Prelude.{◌≡◌, length, IfOk, OnOk};
+ghost use Rattle.std.specs.Prelude.{◌≡◌, ℕ, length, IfOk, OnOk};
 ghost use Rattle.gib_types.specs.Table.{tree_types};
-ghost use Rattle.gib_core.specs.Met.{result_place, stands_too, with_field};
+ghost use Rattle.gib_core.specs.Parts.{results_of};
+ghost use Rattle.gib_core.specs.Tree.{Term};
+ghost use Rattle.gib_core.specs.Arena.{side_from};
+ghost use Rattle.gib_core.specs.Met.{result_place, stands_behind, stands_too, with_field};
 ghost use Rattle.gib_core.specs.Rules.{is_empty as empty, is_nowhere as nowhere};
 ghost use Rattle.gib_local.specs.Building.{behind_last, head_of, is_flat as flat, is_open_at as open_at, next_place as place_next};
 ghost use Rattle.gib_local.specs.Builds.{destination_of};
 
 use crate::place::Place;
 use gib_base::Memory;
-use gib_core::{Kind, Variable};
+use gib_core::{BoundSide, CoreResult, Kind, PartTypes, Variable};
 use gib_types::{ConId, Ty, TypeTable};
 
 /// Where a value is put.
@@ -25,6 +28,8 @@ pub enum Destination {
         constructor: ConId,
         standing: Vec<Variable>,
     },
+    /// As several parts of these types; no LoCal text says so.
+    InParts(PartTypes),
 }
 
 /// Where the value of a term is put: the destination, and the location where it is.
@@ -68,14 +73,15 @@ fn last_place(head: Variable, standing: &[Variable]) -> Place
 }
 
 impl Destination {
-    /// Where the result of a function is put, by its type.
-    pub fn of_result(ty: Ty) -> Destination
-        ensures { destination_of result ≡ result_place ty }
+    /// Where what a function gives is put.
+    pub fn of_result(given: CoreResult) -> Destination
+        ensures { destination_of result ≡ result_place (results_of given) }
     {
-        match ty {
-            Ty::Whole => Destination::Nowhere,
-            Ty::Truth => Destination::Nowhere,
-            Ty::Tree(_) => Destination::Empty,
+        match given {
+            CoreResult::One(Ty::Whole) => Destination::Nowhere,
+            CoreResult::One(Ty::Truth) => Destination::Nowhere,
+            CoreResult::One(Ty::Tree(_)) => Destination::Empty,
+            CoreResult::Several(types) => Destination::InParts(types),
         }
     }
 
@@ -87,6 +93,7 @@ impl Destination {
             Destination::Nowhere => true,
             Destination::Empty => false,
             Destination::Open { .. } => false,
+            Destination::InParts(_) => false,
         }
     }
 
@@ -98,6 +105,7 @@ impl Destination {
             Destination::Nowhere => false,
             Destination::Empty => true,
             Destination::Open { .. } => false,
+            Destination::InParts(_) => false,
         }
     }
 
@@ -112,6 +120,7 @@ impl Destination {
                 constructor: opened,
                 ..
             } => opened.0 == constructor.0,
+            Destination::InParts(_) => false,
         }
     }
 
@@ -123,6 +132,7 @@ impl Destination {
             Destination::Nowhere => Variable(0),
             Destination::Empty => Variable(0),
             Destination::Open { head, .. } => *head,
+            Destination::InParts(_) => Variable(0),
         }
     }
 
@@ -144,6 +154,7 @@ impl Destination {
                     None
                 }
             }
+            Destination::InParts(_) => None,
         }
     }
 
@@ -158,6 +169,7 @@ impl Destination {
                 standing.push(variable)?;
                 Ok(())
             }
+            Destination::InParts(_) => Ok(()),
         }
     }
 
@@ -173,6 +185,20 @@ impl Destination {
             Kind::Here => self.add_field(variable),
             Kind::Region => Ok(()),
             Kind::Scalar => Ok(()),
+        }
+    }
+
+    /// What is put so stands from now on; several variables stand at no place of their own.
+    ///
+    /// # Errors
+    ///
+    /// Want of memory.
+    pub fn stand_side(&mut self, side: BoundSide) -> Result<(), Memory>
+        ensures { (f : ℕ → Term) → OnOk result (destination_of self.new ≡ stands_behind (side_from f side) (destination_of self.old)) }
+    {
+        match side {
+            BoundSide::One(bound) => self.stand(bound.kind, bound.variable),
+            BoundSide::Several(_) => Ok(()),
         }
     }
 
@@ -199,6 +225,7 @@ impl Destination {
                     standing,
                 })
             }
+            Destination::InParts(types) => Ok(Destination::InParts(*types)),
         }
     }
 }

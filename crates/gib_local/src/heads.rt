@@ -2,6 +2,7 @@
 
 ghost use Rattle.std.specs.Prelude.{[], map, length, IfOk};
 ghost use Rattle.std.specs.List.{AllByRecursion};
+ghost use Rattle.gib_syntax.specs.Results as results;
 ghost use Rattle.gib_syntax.specs.Plain.{written_of, generic_of, generic_parameter, generic_function};
 ghost use Rattle.gib_check.specs.Answers.{Gives};
 ghost use Rattle.gib_check.specs.FirstFault as rule;
@@ -41,7 +42,7 @@ fn check_head(
     parameters: &[Parameter],
     result_type: TypeName,
 ) -> Result<(), TypeFault>
-    ensures { Gives (λ _. tt {0}) result (rule.check_head (datas_of known.now) [] (map generic_parameter parameters.now) (written_of result_type)) }
+    ensures { Gives (λ _. tt {0}) result (rule.check_head (datas_of known.now) [] (map generic_parameter parameters.now) (results.One (written_of result_type))) }
 {
     check_parameters(alloc, known, parameters)?;
     known.type_named(result_type)

@@ -159,7 +159,7 @@ pub fn printed_core_is_made()
 {}
 
 /// The text of a core that meets the build rules makes that core, in which ends of values are told, where the core is numbered in the order of the text, has
-/// no negative literal and no marks, fills a head without packed fields at once, and names declared types alone.
+/// no negative literal and no marks, gives and binds no several parts, fills a head without packed fields at once, and names declared types alone.
 #[tactic(auto, using(crate::proofs::Having::built_is_made))]
 pub fn built_core_is_made()
     ensures { (nm : Naming) (datas : List DataTree) (core : CoreTree) → Apart nm → IsTable core.table → table_of_program (declared (local_of nm datas core)) ≡ core.table
@@ -179,7 +179,8 @@ pub fn declarations_are_the_tables()
 {}
 
 /// The tree whose tokens are printed of a core makes that core, in which ends of values are told, where the core meets the build rules, is numbered in the
-/// order of the text, has no negative literal and no marks, fills a head without packed fields at once, and names declared types alone.
+/// order of the text, has no negative literal and no marks, gives and binds no several parts, fills a head without packed fields at once, and names declared
+/// types alone.
 pub fn located_core_is_made()
     ensures text { (core : CoreTree) → HasCore given (datas_of core.table) core → build_core (located_tree core) ≡ Ok (with_ends core) }
     ensures built { (core : CoreTree) → IsTable core.table → SignaturesDeclared core → AllTypesDeclared core → AreNumbered core → AreNatural core → AreShaped core
@@ -209,13 +210,13 @@ pub fn reaching_keeps_the_form()
 {}
 
 /// The line of core terms that an expression becomes has a text's form, where its cases have an arm for the first constructor of
-/// their type.
+/// their type, and nothing in it gives or binds several parts.
 #[tactic(auto, using(crate::proofs::Inferred::infer_shape))]
 pub fn inferring_makes_the_form()
     ensures { (g : Globals) (e : Expression) (sc : Scope) (n : ℕ) → Covered g e → HasShape g.table ((infer g e).line sc n).term }
 {}
 
-/// The core that the passes make of a program has a text's form, where no ends of values are told.
+/// The core that the passes make of a program in which nothing gives or binds several parts has a text's form, where no ends of values are told.
 pub fn passes_make_the_form()
     ensures { (mode : Mode) (p : ProgramTree) → tells_ends mode ≡ false → IsCovered p → AreShaped (reach_core mode (place_core (infer_program p))) }
 {}

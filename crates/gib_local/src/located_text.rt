@@ -154,7 +154,9 @@ fn is_named(names: &Texts, token: Token) -> bool
         Token::Variable(name) => {
             name.0 >= FIRST_GIVEN || is_name(false, names.long_or_none(name))
         }
-        Token::Constructor(name) => is_name(true, names.long_or_none(name)),
+        Token::Constructor(name) => {
+            name.0 < FIRST_GIVEN && is_name(true, names.long_or_none(name))
+        }
         Token::Number(_) => true,
         Token::Sign(_) => true,
     }

@@ -6,37 +6,38 @@ ghost use Rattle.std.specs.Prelude.{◌≡◌, ◌<◌, ◌+◌, ◌++◌, ◌�
 ghost use Rattle.std.specs.List.{AllByRecursion};
 ghost use Rattle.std.specs.Result.{IsErrOf};
 ghost use Rattle.gib_core.specs.Arena.{IsBindingBelow, IsBranchBelow, IsEnd, term_of, side_from, bind_from, binds_from, branches_from};
-ghost use Rattle.gib_core.specs.Parts.{IsFunctionInside, function_term, main_term, core_of};
+ghost use Rattle.gib_core.specs.Parts.{IsFunctionInside, function_term, main_term, results_of, core_of};
 ghost use Rattle.gib_core.specs.Met.{result_place};
 ghost use Rattle.gib_types.specs.Table.{fields_at, merge};
-ghost use Rattle.gib_local.specs.Tree.{Made, PrimIn, ReachIn};
+ghost use Rattle.gib_core.specs.declared.node.BoundSide.TheVariants as side_of;
+ghost use Rattle.gib_local.specs.Tree.{Made, LetIn, PrimIn, ReachIn};
 ghost use Rattle.gib_syntax.specs.Typing.{operator_type};
 ghost use Rattle.gib_local.specs.Builds.{destination_of};
 ghost use Rattle.gib_local.specs.Building.{is_flat};
-ghost use Rattle.gib_local.specs.Printing.{ident, mark, named, operand, type_text, con_text, way, are_fields, side_place, side_text, branches_text, arms_or, text_of, behind_bind, function_text, result_mark};
+ghost use Rattle.gib_local.specs.Printing.{ident, mark, named, operand, type_text, result_text, con_text, way, are_fields, side_place, side_number, side_text, branches_text, arms_or, text_of, behind_bind, function_text, results_mark};
 ghost use Rattle.gib_local.specs.Grammar.{spell_line, spell_arms, spell_between, spell_bound};
 ghost use Rattle.gib_local.specs.Texts.{spell_body, spell_function, spell_list, spell_main};
-ghost use Rattle.gib_local.specs.LineTokens.{put_in, put_room, put_bind, put_sides, put_branch, before_each, behind_all, main_text};
+ghost use Rattle.gib_local.specs.LineTokens.{put_in, put_room, put_no_text, put_before, put_bind, put_sides, put_branch, before_each, behind_all, main_text};
 ghost use Rattle.gib_local.specs.LocatedText.{given, located_text, located_tokens};
 
 use crate::destination::{Destination, is_flat};
 use crate::located_text::bytes_of;
 use crate::print_fault::PrintFault;
 use crate::put::{
-    merged, put_before, put_call_mark, put_constructor, put_mark, put_name, put_operand,
-    put_operands, put_operator, put_result_mark, put_side_mark, put_type, put_variables, put_way,
-    side_number,
+    merged, put_before, put_call_mark, put_constructor, put_mark, put_name, put_no_name,
+    put_operand, put_operands, put_operator, put_result, put_results_mark, put_side_mark, put_type,
+    put_variables, put_way, side_number,
 };
 use crate::put_declarations::{put_datas, put_offsets, put_parameter, put_parameters};
 use crate::spelled::Spelled;
 use gib_base::token::{Sign, Token};
 use gib_base::{Memory, Name, Texts};
 use gib_core::{
-    Access, Atom, Binding, BoundTerm, Branch, Core, CoreFunction, CoreMain, Kind, Node, TermId,
-    Terms, Variable,
+    Access, Atom, Binding, BoundSide, BoundTerm, Branch, Core, CoreFunction, CoreMain, CoreResult,
+    Kind, Node, TermId, Terms, Variable,
 };
 use gib_syntax::Operator;
-use gib_types::{ConId, Ty, TypeTable};
+use gib_types::{ConId, TypeTable};
 use std::alloc::Global;
 
 /// What terms are printed of.
@@ -77,10 +78,10 @@ fn pass(from: &Printed, destination: &mut Destination, binding: Binding) -> Resu
             };
             Ok(())
         }
-        Binding::One(side) => destination.stand(side.kind, side.variable),
+        Binding::One(side) => destination.stand_side(side),
         Binding::Par { left, right, .. } => {
-            destination.stand(left.kind, left.variable)?;
-            destination.stand(right.kind, right.variable)
+            destination.stand_side(left)?;
+            destination.stand_side(right)
         }
         Binding::Prim { .. } => Ok(()),
         Binding::Reach { .. } => Ok(()),
@@ -136,6 +137,19 @@ fn put_room(
     out.put_location(at)?;
     out.put_sign(Sign::Equals)?;
     out.put_location(head.0)?;
+    out.put_sign(Sign::LetLocation)
+}
+
+/// In place of several variables, before the rest of their line.
+fn put_no_text(at: u32, out: &mut Spelled) -> Result<(), Memory>
+    ensures { OnOk result (out.new ≡ put_no_text given at out.old) }
+{
+    out.put_sign(Sign::In)?;
+    put_no_name(out)?;
+    out.put_sign(Sign::Plus)?;
+    out.put_location(at)?;
+    out.put_sign(Sign::Equals)?;
+    out.put_location(0)?;
     out.put_sign(Sign::LetLocation)
 }
 
@@ -299,6 +313,10 @@ fn put_end(from: &Printed, target: &Target, id: TermId, out: &mut Spelled) -> Re
             put_operand(*condition, out)?;
             out.put_sign(Sign::If)
         }
+        Node::Tuple { .. } => {
+            put_mark(target.at, out)?;
+            put_no_name(out)
+        }
     }
 }
 
@@ -318,24 +336,14 @@ fn put_binding(
 {
     match binding {
         Binding::Past { head, constructor } => put_room(from.types, at, head, constructor, out),
-        Binding::One(side) => {
-            out.put_sign(Sign::In)?;
-            put_side(
-                from,
-                side,
-                side_number(before, side.kind, side.variable),
-                out,
-            )?;
-            out.put_sign(Sign::Let)?;
-            put_before(before, side.kind, side.variable, out)
-        }
-        Binding::Par { left, right, .. } => {
-            if are_fields(left.kind, right.kind) {
-                put_fields(from, before, parent, left, right, out)
-            } else {
-                put_sides(from, before, parent, left, right, out)
+        Binding::One(BoundSide::One(side)) => put_one(from, before, parent, side, out),
+        Binding::One(BoundSide::Several(_)) => put_no_text(at, out),
+        Binding::Par { left, right, .. } => match (left, right) {
+            (BoundSide::One(left), BoundSide::One(right)) => {
+                put_par(from, before, parent, left, right, out)
             }
-        }
+            _ => put_no_text(at, out),
+        },
         Binding::Prim {
             variable,
             operator,
@@ -354,6 +362,47 @@ fn put_binding(
     }
 }
 
+/// A side of the term of a number.
+#[cycle(terms)]
+fn put_one(
+    from: &Printed,
+    before: &Destination,
+    parent: TermId,
+    side: BoundTerm,
+    out: &mut Spelled,
+) -> Result<(), Memory>
+    requires inside { parent.0 < length from.now.terms.now }
+    requires below { side.term.0 < parent.0 }
+    ensures { OnOk result (out.new ≡ put_before given (destination_of before.now) side.kind side.variable.0 (put_in (LetIn (side_text given from.now.types.now (side_from (term_of from.now.terms.now) (side_of.One side)) (side_number (destination_of before.now) side.kind side.variable.0))) out.old)) }
+{
+    let number = side_number(before, side.kind, side.variable);
+    out.put_sign(Sign::In)?;
+    put_side(from, side, number, out)?;
+    out.put_sign(Sign::Let)?;
+    put_before(before, side.kind, side.variable, out)
+}
+
+/// Two sides of the term of a number.
+#[cycle(terms)]
+fn put_par(
+    from: &Printed,
+    before: &Destination,
+    parent: TermId,
+    left: BoundTerm,
+    right: BoundTerm,
+    out: &mut Spelled,
+) -> Result<(), Memory>
+    requires inside { parent.0 < length from.now.terms.now }
+    requires below { (left.term.0 < parent.0) × (right.term.0 < parent.0) }
+    ensures { OnOk result (out.new ≡ put_sides (are_fields left.kind right.kind) given (destination_of before.now) left.kind left.variable.0 right.kind right.variable.0 (side_text given from.now.types.now (side_from (term_of from.now.terms.now) (side_of.One left))) (side_text given from.now.types.now (side_from (term_of from.now.terms.now) (side_of.One right))) out.old) }
+{
+    if are_fields(left.kind, right.kind) {
+        put_fields(from, before, parent, left, right, out)
+    } else {
+        put_sides(from, before, parent, left, right, out)
+    }
+}
+
 /// Two sides that are fields, of the term of a number.
 #[cycle(terms)]
 fn put_fields(
@@ -366,7 +415,7 @@ fn put_fields(
 ) -> Result<(), Memory>
     requires inside { parent.0 < length from.now.terms.now }
     requires below { (left.term.0 < parent.0) × (right.term.0 < parent.0) }
-    ensures { OnOk result (out.new ≡ put_sides true given (destination_of before.now) left.kind left.variable.0 right.kind right.variable.0 (side_text given from.now.types.now (side_from (term_of from.now.terms.now) left)) (side_text given from.now.types.now (side_from (term_of from.now.terms.now) right)) out.old) }
+    ensures { OnOk result (out.new ≡ put_sides true given (destination_of before.now) left.kind left.variable.0 right.kind right.variable.0 (side_text given from.now.types.now (side_from (term_of from.now.terms.now) (side_of.One left))) (side_text given from.now.types.now (side_from (term_of from.now.terms.now) (side_of.One right))) out.old) }
 {
     out.put_sign(Sign::In)?;
     put_side(from, right, right.variable.0, out)?;
@@ -395,7 +444,7 @@ fn put_sides(
 ) -> Result<(), Memory>
     requires inside { parent.0 < length from.now.terms.now }
     requires below { (left.term.0 < parent.0) × (right.term.0 < parent.0) }
-    ensures { OnOk result (out.new ≡ put_sides false given (destination_of before.now) left.kind left.variable.0 right.kind right.variable.0 (side_text given from.now.types.now (side_from (term_of from.now.terms.now) left)) (side_text given from.now.types.now (side_from (term_of from.now.terms.now) right)) out.old) }
+    ensures { OnOk result (out.new ≡ put_sides false given (destination_of before.now) left.kind left.variable.0 right.kind right.variable.0 (side_text given from.now.types.now (side_from (term_of from.now.terms.now) (side_of.One left))) (side_text given from.now.types.now (side_from (term_of from.now.terms.now) (side_of.One right))) out.old) }
 {
     out.put_sign(Sign::In)?;
     put_side(
@@ -421,7 +470,7 @@ fn put_sides(
 #[cycle(terms)]
 fn put_side(from: &Printed, side: BoundTerm, at: u32, out: &mut Spelled) -> Result<(), Memory>
     requires inside { side.term.0 < length from.now.terms.now }
-    ensures { OnOk result (out.new ≡ spell_bound (side_text given from.now.types.now (side_from (term_of from.now.terms.now) side) at) out.old) }
+    ensures { OnOk result (out.new ≡ spell_bound (side_text given from.now.types.now (side_from (term_of from.now.terms.now) (side_of.One side)) at) out.old) }
 {
     put_term(from, &side_target(side.kind, at), side.term, out)?;
     out.put_sign(Sign::Equals)?;
@@ -474,19 +523,24 @@ fn put_branches(
 }
 
 /// The type of a result, its place, and the body.
-fn put_body(from: &Printed, ty: Ty, body: TermId, out: &mut Spelled) -> Result<(), Memory>
+fn put_body(
+    from: &Printed,
+    gives: CoreResult,
+    body: TermId,
+    out: &mut Spelled,
+) -> Result<(), Memory>
     requires inside { body.0 < length from.now.terms.now }
-    ensures { OnOk result (out.new ≡ spell_body (type_text from.now.types.now ty) (result_mark given ty) (text_of given from.now.types.now (term_of from.now.terms.now body.0) (result_place ty) 0) out.old) }
+    ensures { OnOk result (out.new ≡ spell_body (result_text from.now.types.now (results_of gives)) (results_mark given (results_of gives)) (text_of given from.now.types.now (term_of from.now.terms.now body.0) (result_place (results_of gives)) 0) out.old) }
 {
     let target = Target {
-        destination: Destination::of_result(ty),
+        destination: Destination::of_result(gives),
         at: 0,
     };
     out.put_sign(Sign::Semicolon)?;
     put_term(from, &target, body, out)?;
     out.put_sign(Sign::Equals)?;
-    put_result_mark(ty, out)?;
-    put_type(from.types, ty, out)?;
+    put_results_mark(gives, out)?;
+    put_result(from.types, gives, out)?;
     out.put_sign(Sign::Colon)
 }
 
@@ -520,7 +574,7 @@ fn put_main(from: &Printed, main: CoreMain, out: &mut Spelled) -> Result<(), Mem
     requires inside { main.body.0 < length from.now.terms.now }
     ensures { OnOk result (out.new ≡ spell_main (main_text given from.now.types.now (main_term (term_of from.now.terms.now) main)) out.old) }
 {
-    put_body(from, main.result, main.body, out)?;
+    put_body(from, CoreResult::One(main.result), main.body, out)?;
     put_parameter(from.types, Variable(0), main.parameter, out)?;
     out.put_sign(Sign::Main)
 }
@@ -546,7 +600,7 @@ fn tokens_of(alloc: Global, core: &Core) -> Result<Vec<Token>, Memory>
 ///
 /// # Errors
 ///
-/// `NoText` where one of these names is none of LoCal text; `Memory`.
+/// `NoText` where one of these names is none of LoCal text, or where several parts are bound or given; `Memory`.
 pub fn print_located(alloc: Global, core: &Core, names: &Texts) -> Result<Vec<u8>, PrintFault>
     ensures text { IfOk result (λ out. located_text names.now.long (core_of core.now) ≡ Some out.items) }
     ensures none { IsErrOf result PrintFault.NoText → located_text names.now.long (core_of core.now) ≡ None }

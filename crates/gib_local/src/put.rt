@@ -4,18 +4,19 @@ ghost use Rattle.std.specs.Prelude.{◌≡◌, ◌∷◌, ◌++◌, map, take, d
 ghost use Rattle.gib_types.specs.Table.{merge};
 ghost use Rattle.gib_core.specs.Erasing.{literal_of};
 ghost use Rattle.gib_core.specs.Met.{Nowhere};
+ghost use Rattle.gib_core.specs.Parts.{results_of};
 ghost use Rattle.gib_local.specs.Tree.{After, NewPlace};
-ghost use Rattle.gib_local.specs.Printing.{ident, mark, atom_name, operand, type_text, con_text, way, named, last_of, side_mark, call_mark, result_mark, side_number, place_number};
+ghost use Rattle.gib_local.specs.Printing.{ident, no_name, mark, atom_name, operand, type_text, result_text, con_text, way, named, last_of, side_mark, call_mark, result_mark, results_mark, side_number, place_number};
 ghost use Rattle.gib_local.specs.Grammar.{lower, upper, spell_mark, spell_option, operand_word, spell_operands, type_word, operator_word, spell_way, spell_names};
 ghost use Rattle.gib_local.specs.Builds.{destination_of};
 ghost use Rattle.gib_local.specs.LocatedText.{given};
 ghost use Rattle.gib_local.specs.LineTokens.{put_in, put_before, put_field};
 
 use crate::destination::Destination;
-use crate::spelled::Spelled;
+use crate::spelled::{FIRST_GIVEN, Spelled};
 use gib_base::token::{Sign, Token};
 use gib_base::{Memory, Name};
-use gib_core::{Access, Atom, Kind, Variable};
+use gib_core::{Access, Atom, CoreResult, Kind, Variable};
 use gib_syntax::Operator;
 use gib_types::{ConId, Ty, TyId, TypeTable};
 use std::alloc::Global;
@@ -111,6 +112,27 @@ pub(crate) fn put_type(types: &TypeTable, ty: Ty, out: &mut Spelled) -> Result<(
     }
 }
 
+/// The name that is none, where several parts have no text.
+pub(crate) fn put_no_name(out: &mut Spelled) -> Result<(), Memory>
+    ensures { OnOk result (out.new ≡ upper no_name ∷ out.old) }
+{
+    out.put(Token::Constructor(Name(FIRST_GIVEN)))
+}
+
+/// The type of what a function gives.
+pub(crate) fn put_result(
+    types: &TypeTable,
+    gives: CoreResult,
+    out: &mut Spelled,
+) -> Result<(), Memory>
+    ensures { OnOk result (out.new ≡ type_word (result_text types.now (results_of gives)) ∷ out.old) }
+{
+    match gives {
+        CoreResult::One(ty) => put_type(types, ty, out),
+        CoreResult::Several(_) => put_no_name(out),
+    }
+}
+
 pub(crate) fn put_constructor(
     types: &TypeTable,
     constructor: ConId,
@@ -175,17 +197,28 @@ pub(crate) fn put_call_mark(
         Destination::Nowhere => Ok(()),
         Destination::Empty => put_mark(number, out),
         Destination::Open { .. } => put_mark(number, out),
+        Destination::InParts(_) => put_mark(number, out),
     }
 }
 
 /// The `@` of a result.
-pub(crate) fn put_result_mark(ty: Ty, out: &mut Spelled) -> Result<(), Memory>
+fn put_result_mark(ty: Ty, out: &mut Spelled) -> Result<(), Memory>
     ensures { OnOk result (out.new ≡ spell_option (result_mark given ty) out.old) }
 {
     match ty {
         Ty::Whole => Ok(()),
         Ty::Truth => Ok(()),
         Ty::Tree(_) => put_mark(0, out),
+    }
+}
+
+/// The `@` of what a function gives.
+pub(crate) fn put_results_mark(gives: CoreResult, out: &mut Spelled) -> Result<(), Memory>
+    ensures { OnOk result (out.new ≡ spell_option (results_mark given (results_of gives)) out.old) }
+{
+    match gives {
+        CoreResult::One(ty) => put_result_mark(ty, out),
+        CoreResult::Several(_) => Ok(()),
     }
 }
 
@@ -263,6 +296,7 @@ fn put_field(destination: &Destination, x: Variable, out: &mut Spelled) -> Resul
             [] => Ok(()),
             [first, more @ ..] => put_after(x.0, last_of(*first, more), out),
         },
+        Destination::InParts(_) => Ok(()),
     }
 }
 
@@ -308,6 +342,7 @@ fn place_number(destination: &Destination, x: Variable) -> u32
             [] => head.0,
             [_, ..] => x.0,
         },
+        Destination::InParts(_) => x.0,
     }
 }
 

@@ -1,5 +1,6 @@
 use Rattle.std.proofs.Common.{refl, ap, ◌∙◌, ◌∷◌, [], map}
 use Rattle.std.proofs.lemmas.Result.{err_from_is_err_and}
+use Rattle.gib_syntax.specs.Results as results
 use Rattle.gib_syntax.specs.Plain.{written_of, generic_of, generic_parameter}
 use Rattle.gib_check.specs.FirstFault.{check_declarations, check_head}
 use Rattle.gib_check.proofs.Opening.{gives_same}
@@ -31,7 +32,7 @@ returns-in_err-check_heads-clause-checked c =
 
 pub returns-clause-checked : goal.returns-clause-checked
 returns-clause-checked c =
-    gives_same (λ _. tt {0}) c.check_head.result (check_declarations (generic_of (declared (text_of c.args.known.now)))) (check_head (datas_of c.args.known.now) [] (map generic_parameter (c.main-main.result.parameter ∷ [])) (written_of c.main-main.result.result))
+    gives_same (λ _. tt {0}) c.check_head.result (check_declarations (generic_of (declared (text_of c.args.known.now)))) (check_head (datas_of c.args.known.now) [] (map generic_parameter (c.main-main.result.parameter ∷ [])) (results.One (written_of c.main-main.result.result)))
     (after_heads c.args.known.now c.datas-datas.result.now c.functions.result.now c.main-main.result (c.datas-datas.ensures ∙ ap (λ (z : TextParts). z.datas) c.text-text.ensures) (c.functions.ensures.value ∙ ap (λ (z : TextParts). z.functions) c.text-text.ensures) (c.main-main.ensures.value ∙ ap (λ (z : TextParts). z.main) c.text-text.ensures)
     c.in_ok-check_datas.ensures c.in_ok-check_fields.ensures c.in_ok-check_heads.ensures)
     c.check_head.ensures

@@ -6,28 +6,34 @@ use Rattle.gib_local.specs.LocatedText.{given}
 use Rattle.gib_local.proofs.print.+terms.Given as goal
 
 abbrev pub decreases-put_term : goal.decreases-put_term
-decreases-put_term l = 4 * l.id.0 + 3
+decreases-put_term l = 5 * l.id.0 + 4
 
 abbrev pub decreases-put_end : goal.decreases-put_end
-decreases-put_end l = 4 * l.id.0 + 2
+decreases-put_end l = 5 * l.id.0 + 3
 
 abbrev pub decreases-put_binding : goal.decreases-put_binding
-decreases-put_binding l = 4 * l.parent.0 + 2
+decreases-put_binding l = 5 * l.parent.0 + 3
+
+abbrev pub decreases-put_one : goal.decreases-put_one
+decreases-put_one l = 5 * l.parent.0 + 2
+
+abbrev pub decreases-put_par : goal.decreases-put_par
+decreases-put_par l = 5 * l.parent.0 + 2
 
 abbrev pub decreases-put_fields : goal.decreases-put_fields
-decreases-put_fields l = 4 * l.parent.0 + 1
+decreases-put_fields l = 5 * l.parent.0 + 1
 
 abbrev pub decreases-put_sides : goal.decreases-put_sides
-decreases-put_sides l = 4 * l.parent.0 + 1
+decreases-put_sides l = 5 * l.parent.0 + 1
 
 abbrev pub decreases-put_side : goal.decreases-put_side
-decreases-put_side l = 4 * l.side.term.0 + 4
+decreases-put_side l = 5 * l.side.term.0 + 5
 
 abbrev pub decreases-put_branch : goal.decreases-put_branch
-decreases-put_branch l = 4 * l.branch.now.term.0 + 4
+decreases-put_branch l = 5 * l.branch.now.term.0 + 5
 
 abbrev pub decreases-put_branches : goal.decreases-put_branches
-decreases-put_branches l = 4 * l.parent.0 + 1
+decreases-put_branches l = 5 * l.parent.0 + 1
 
 abbrev pub invariant-put_branches-branches : goal.invariant-put_branches-branches
 invariant-put_branches-branches l =
