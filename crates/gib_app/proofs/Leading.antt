@@ -8,6 +8,7 @@ use Rattle.gib_packed.specs.declared.root.Root.{Root}
 use Rattle.gib_file.specs.Framed.{File}
 use Rattle.gib_file.specs.Packed.{Packed, IsPacked}
 use Rattle.gib_file.specs.Surveyed.{Surveyed}
+use Rattle.gib_syntax.specs.Results as results
 use Rattle.gib_syntax.specs.Tree.{ProgramTree}
 use Rattle.gib_syntax.specs.Declarations.{table_of_program, input_type, output_type}
 use Rattle.gib_syntax.specs.Meaning.{Outcome, Stops, run}
@@ -72,7 +73,7 @@ end_meant p l v settings lines m a of h =
     record {
       goes_in = there.goes_in;
       answered = there.answered;
-      means = subst (λ (o : Outcome). IsAnswer (layouts_of settings.skips p) m.cells (output_type p) o a) (core_means p settings.skips l of settings.depth v) there.means;
+      means = subst (λ (o : Outcome). IsAnswer (layouts_of settings.skips p) m.cells (results.One (output_type p)) o a) (core_means p settings.skips l of settings.depth v) there.means;
     }
 
 -- The root that is the answer stands for what the program means.
@@ -94,7 +95,7 @@ end_stopped p v settings lines m a other ended nowhere = stopped_so (layouts_of 
 pub loaded_end : (l : LoweredParts) (v : Datum) (settings js : Settings) (chunks : ℕ) (lines : List Line) (m1 m2 : Memory) (place : Root) (tails : List ℕ) (a : Answer) → js ≡ settings → settings.chunks ≡ chunks
     → IsLoaded l chunks v m1 place tails
     → IsAnswered l.code (weave_start (core_of l.core) l.code m1 (word_of place) settings.depth settings.fork tails) lines m2 a
-    → IsAnswer l.code.laid m2.cells (core_of l.core).main.result (core_run (core_of l.core) settings.depth v) a → IsEndBy (engine_of l) v js lines m2 a
+    → IsAnswer l.code.laid m2.cells (results.One (core_of l.core).main.result) (core_run (core_of l.core) settings.depth v) a → IsEndBy (engine_of l) v js lines m2 a
 loaded_end l v settings js chunks lines m1 m2 place tails a same enough loaded answered means =
     let here : IsLoaded l settings.chunks v m1 place tails = subst (λ (n : ℕ). IsLoaded l n v m1 place tails) (sym enough) loaded in
     let there : IsEndBy (engine_of l) v settings lines m2 a = record {

@@ -26,12 +26,14 @@ use Rattle.gib_locked.specs.declared.journal.Line.{Line}
 use Rattle.gib_locked.specs.declared.settings.Settings.{Settings}
 use Rattle.gib_locked.proofs.OneEnd.{not_answered}
 use Rattle.gib_locked.proofs.ReadJournal.{text_is_one}
+use Rattle.gib_syntax.specs.Results as results
 use Rattle.gib_syntax.specs.Tree.{ProgramTree}
 use Rattle.gib_syntax.specs.Declarations.{table_of_program, input_type}
 use Rattle.gib_syntax.specs.Meaning.{Outcome, Gives, Stops, run}
 use Rattle.gib_syntax.specs.Meaning.{Reason as Meaning}
 use Rattle.gib_machine.specs.Machine.{stopped}
 use Rattle.gib_weave.specs.Sound.{IsAnswer, means_why}
+use Rattle.gib_weave.proofs.Roots.{no_parts}
 use Rattle.gib_app.specs.Cores.{layouts_of}
 use Rattle.gib_app.specs.Replaying.{IsEndOf, IsShownEnd, IsValueless, LacksChunks, OnJournal, code_for, root_in, start_for}
 
@@ -95,14 +97,15 @@ one_reason reason.Trap reason.Trap e = refl
 abbrev Told : LaidOut → Store → Ty → Outcome → Answer → Type 0
 Told laid s ty owed a = ((place : Root) × (root_in a ≡ Ok place) × ((v : Datum) × (owed ≡ Gives v))) ⊎ ((why : Reason) × (a ≡ stopped why) × (root_in a ≡ Err why) × (owed ≡ Stops (means_why why)))
 
-told_by : (laid : LaidOut) (s : Store) (ty : Ty) (owed : Outcome) (a : Answer) → IsAnswer laid s ty owed a → Told laid s ty owed a
+told_by : (laid : LaidOut) (s : Store) (ty : Ty) (owed : Outcome) (a : Answer) → IsAnswer laid s (results.One ty) owed a → Told laid s ty owed a
 told_by laid s ty owed (answer.Whole z) h = inl (root.Whole z, refl, (whole z, h.2))
 told_by laid s ty owed (answer.Truth b) h = inl (root.Truth b, refl, (truth b, h.1))
 told_by laid s ty owed (answer.At a) h = inl (root.At a, refl, (h.1, h.3))
+told_by laid s ty owed (answer.Parts ws) h = absurd (no_parts ty h.0 h.2)
 told_by laid s ty owed answer.Deep h = inr (reason.Deep, refl, refl, h)
 told_by laid s ty owed answer.Trap h = inr (reason.Trap, refl, refl, h)
 
-module _ (laid : LaidOut) (s : Store) (ty : Ty) (owed : Outcome) (a : Answer) (is : IsAnswer laid s ty owed a) where
+module _ (laid : LaidOut) (s : Store) (ty : Ty) (owed : Outcome) (a : Answer) (is : IsAnswer laid s (results.One ty) owed a) where
   pub root_there : (v : Datum) → owed ≡ Gives v → (place : Root) × (root_in a ≡ Ok place)
   root_there v e = elim (told_by laid s ty owed a is) [
     | inl r ↦ (r.0, r.1)

@@ -19,7 +19,9 @@ use Rattle.gib_load.specs.Placement.{placed_in, begun, Placement}
 use Rattle.gib_load.specs.Preorder.{heads}
 use Rattle.gib_load.specs.Refusal.{Refused, at_start, at_head, Spent}
 use Rattle.gib_load.proofs.Spots.{heads_limit}
+use Rattle.gib_syntax.specs.Results as results
 use Rattle.gib_syntax.specs.Tree.{ProgramTree}
+use Rattle.gib_syntax.specs.Typing.{one_type}
 use Rattle.gib_syntax.specs.Declarations.{table_of_program, input_type, output_type}
 use Rattle.gib_syntax.specs.Meaning.{Outcome, Stops, run}
 use Rattle.gib_core.specs.Cost.{Cost, run_cost, body_cost}
@@ -38,6 +40,7 @@ use Rattle.gib_weave.specs.declared.root_run.RunFault.TheVariants as fault
 use Rattle.gib_weave.specs.Running.{IsStart, RunEnds}
 use Rattle.gib_pool.specs.Runs.{IsRun}
 use Rattle.gib_weave.specs.Sound.{IsAnswer, means_why}
+use Rattle.gib_weave.proofs.Roots.{no_parts}
 use Rattle.gib_arena.specs.declared.sole_mem.SoleMem.{SoleMem}
 use Rattle.gib_app.specs.declared.machine_run.Ran.{Ran}
 use Rattle.gib_app.specs.declared.made.Reason.{Reason}
@@ -82,20 +85,21 @@ load_halts core laid depth forks v m m' refused spent =
 
 -- An answer of the machine is a root for what was owed.
 module _ (laid : LaidOut) (s : Store) (ty : Ty) (owed : Outcome) where
-  pub whole_stands : (z : ℤ) → IsAnswer laid s ty owed (answer.Whole z) → IsRootOf laid s ty owed (root.Whole z)
-  whole_stands z h = record { result = whole z; means = h.2; stands = subst (λ (t : Ty). Stands laid s (root.Whole z) t (whole z)) (sym h.0) (a_whole h.1) }
+  pub whole_stands : (z : ℤ) → IsAnswer laid s (results.One ty) owed (answer.Whole z) → IsRootOf laid s ty owed (root.Whole z)
+  whole_stands z h = record { result = whole z; means = h.2; stands = subst (λ (t : Ty). Stands laid s (root.Whole z) t (whole z)) (sym (ap one_type h.0)) (a_whole h.1) }
 
-  pub truth_stands : (b : Bool) → IsAnswer laid s ty owed (answer.Truth b) → IsRootOf laid s ty owed (root.Truth b)
-  truth_stands b h = record { result = truth b; means = h.1; stands = subst (λ (t : Ty). Stands laid s (root.Truth b) t (truth b)) (sym h.0) a_truth }
+  pub truth_stands : (b : Bool) → IsAnswer laid s (results.One ty) owed (answer.Truth b) → IsRootOf laid s ty owed (root.Truth b)
+  truth_stands b h = record { result = truth b; means = h.1; stands = subst (λ (t : Ty). Stands laid s (root.Truth b) t (truth b)) (sym (ap one_type h.0)) a_truth }
 
-  pub tree_stands : (a : ℕ) → IsAnswer laid s ty owed (answer.At a) → IsRootOf laid s ty owed (root.At a)
-  tree_stands a h = record { result = h.1; means = h.3; stands = subst (λ (t : Ty). Stands laid s (root.At a) t h.1) (sym h.2) (a_tree {t = record { 0 = h.0 }} h.4.dec) }
+  pub tree_stands : (a : ℕ) → IsAnswer laid s (results.One ty) owed (answer.At a) → IsRootOf laid s ty owed (root.At a)
+  tree_stands a h = record { result = h.1; means = h.3; stands = subst (λ (t : Ty). Stands laid s (root.At a) t h.1) (sym (ap one_type h.2)) (a_tree {t = record { 0 = h.0 }} h.4.dec) }
 
 -- An answer is a root for what was owed, or says why there is none.
-pub answered : (laid : LaidOut) (s : Store) (ty : Ty) (owed : Outcome) (a : Answer) → IsAnswer laid s ty owed a → MatchResult (root_in a) (IsRootOf laid s ty owed) (λ other. owed ≡ Stops (means_why other))
+pub answered : (laid : LaidOut) (s : Store) (ty : Ty) (owed : Outcome) (a : Answer) → IsAnswer laid s (results.One ty) owed a → MatchResult (root_in a) (IsRootOf laid s ty owed) (λ other. owed ≡ Stops (means_why other))
 answered laid s ty owed (answer.Whole z) h = whole_stands laid s ty owed z h
 answered laid s ty owed (answer.Truth b) h = truth_stands laid s ty owed b h
 answered laid s ty owed (answer.At a) h = tree_stands laid s ty owed a h
+answered laid s ty owed (answer.Parts ws) h = absurd (no_parts ty h.0 h.2)
 answered laid s ty owed answer.Deep h = h
 answered laid s ty owed answer.Trap h = h
 

@@ -8,8 +8,9 @@ use Rattle.gib_syntax.specs.declared.tree.Ident.{Ident}
 use Rattle.gib_syntax.specs.declared.tree.Operator.{Operator}
 use Rattle.gib_syntax.specs.declared.tree.Operator.TheVariants as o
 use Rattle.gib_syntax.specs.Forms.{WrittenType, WrittenTypes, WholeAt, TruthAt, VariableAt, DataAt, NoType, MoreTypes}
-use Rattle.gib_syntax.specs.GenericTree.{GenericExpression, GenericArguments, GenericArms, GenericVar, GenericNum, GenericBit, GenericParen, GenericOp, GenericCall, GenericMake, GenericLet, GenericPar, GenericIf, GenericCase, GenericNoArgument, GenericArgument, GenericLastArm, GenericNextArm, GenericConstructorTree, GenericDataTree, GenericParameterTree, GenericFunctionTree, GenericMainTree, GenericProgramTree}
-use Rattle.gib_syntax.specs.Spelling.{spell, spell_arguments, spell_arms, spell_bit, spell_operator, spell_variables, spell_type, spell_written, spell_types, spell_type_arguments, spell_type_parameters, spell_more, spell_constructors, spell_datas, spell_parameters, spell_body, spell_functions, spell_main, spell_program}
+use Rattle.gib_syntax.specs.GenericTree.{GenericExpression, GenericArguments, GenericArms, GenericVar, GenericNum, GenericBit, GenericParen, GenericOp, GenericCall, GenericMake, GenericLet, GenericPar, GenericIf, GenericCase, GenericTuple, GenericLetSeveral, GenericParSeveral, GenericNoArgument, GenericArgument, GenericLastArm, GenericNextArm, GenericConstructorTree, GenericDataTree, GenericParameterTree, GenericFunctionTree, GenericMainTree, GenericProgramTree}
+use Rattle.gib_syntax.specs.Results.{Results, One, Several}
+use Rattle.gib_syntax.specs.Spelling.{spell, spell_arguments, spell_arms, spell_bit, spell_operator, spell_variables, spell_names, spell_further_names, spell_parts, spell_further_parts, spell_type, spell_written, spell_types, spell_type_arguments, spell_type_parameters, spell_more, spell_constructors, spell_datas, spell_parameters, spell_further_types, spell_results, spell_body, spell_functions, spell_main, spell_program}
 
 module _ (T : Token → Type 0) where
   abbrev All : List Token → Type 0
@@ -18,6 +19,15 @@ module _ (T : Token → Type 0) where
   after_variables : (xs : List Ident) (rest : List Token) → All (spell_variables xs rest) → All rest
   after_variables [] rest h = h
   after_variables (x ∷ xs) rest h = after_variables xs rest h.1
+
+  after_further_names : (xs : List Ident) (rest : List Token) → All (spell_further_names xs rest) → All rest
+  after_further_names [] rest h = h
+  after_further_names (x ∷ xs) rest h = after_further_names xs rest h.1.1
+
+  after_names : (xs : List Ident) (rest : List Token) → All (spell_names xs rest) → All rest
+  after_names [] rest h = h
+  after_names (x ∷ []) rest h = h.1
+  after_names (x ∷ y ∷ ys) rest h = (after_further_names (y ∷ ys) (t.Sign s.Close ∷ rest) h.1.1).1
 
   mutual
     after_type : (w : WrittenType) (rest : List Token) → All (spell_type w rest) → All rest
@@ -68,6 +78,24 @@ module _ (T : Token → Type 0) where
     after (GenericIf p a b c) rest h =
         after c rest (after b (t.Sign s.Else ∷ spell c rest) (after a (t.Sign s.Then ∷ spell b (t.Sign s.Else ∷ spell c rest)) h.1).1).1
     after (GenericCase p x arms) rest h = (after_arms arms (t.Sign s.CloseBrace ∷ rest) h.1.1.1.1).1
+    after (GenericTuple p xs) rest h = (after_parts xs (t.Sign s.Close ∷ rest) h.1).1
+    after (GenericLetSeveral p xs a b) rest h =
+        let bound = t.Sign s.In ∷ spell b rest in
+        after b rest (after a bound (after_names xs (t.Sign s.Equals ∷ spell a bound) h.1).1).1
+    after (GenericParSeveral p xs a ys b c) rest h =
+        let bound = t.Sign s.In ∷ spell c rest in
+        let right = t.Sign s.Equals ∷ spell b bound in
+        let left = t.Sign s.And ∷ spell_names ys right in
+        let second = after a left (after_names xs (t.Sign s.Equals ∷ spell a left) h.1.1).1 in
+        after c rest (after b bound (after_names ys right second.1).1).1
+
+    after_parts : (xs : GenericArguments) (rest : List Token) → All (spell_parts xs rest) → All rest
+    after_parts GenericNoArgument rest h = h
+    after_parts (GenericArgument a xs) rest h = after_further_parts xs rest (after a (spell_further_parts xs rest) h)
+
+    after_further_parts : (xs : GenericArguments) (rest : List Token) → All (spell_further_parts xs rest) → All rest
+    after_further_parts GenericNoArgument rest h = h
+    after_further_parts (GenericArgument a xs) rest h = after_further_parts xs rest (after a (spell_further_parts xs rest) h.1)
 
     after_arguments : (xs : GenericArguments) (rest : List Token) → All (spell_arguments xs rest) → All rest
     after_arguments GenericNoArgument rest h = h
@@ -112,8 +140,18 @@ module _ (T : Token → Type 0) where
   after_type_parameters [] rest h = h
   after_type_parameters (x ∷ xs) rest h = (after_variables xs (t.Sign s.CloseBracket ∷ rest) h.1.1).1
 
-  after_body : (w : WrittenType) (e : GenericExpression) (rest : List Token) → All (spell_body w e rest) → All rest
-  after_body w e rest h = (after e (t.Sign s.Semicolon ∷ rest) (after_type w (t.Sign s.Equals ∷ spell e (t.Sign s.Semicolon ∷ rest)) h.1).1).1
+  after_further_types : (ws : List WrittenType) (rest : List Token) → All (spell_further_types ws rest) → All rest
+  after_further_types [] rest h = h
+  after_further_types (w ∷ ws) rest h = after_further_types ws rest (after_type w (spell_further_types ws rest) h.1)
+
+  after_results : (r : Results WrittenType) (rest : List Token) → All (spell_results r rest) → All rest
+  after_results (One w) rest h = after_type w rest h
+  after_results (Several []) rest h = h
+  after_results (Several (w ∷ ws)) rest h =
+      let behind = t.Sign s.Close ∷ rest in (after_further_types ws behind (after_type w (spell_further_types ws behind) h.1)).1
+
+  after_body : (r : Results WrittenType) (e : GenericExpression) (rest : List Token) → All (spell_body r e rest) → All rest
+  after_body r e rest h = (after e (t.Sign s.Semicolon ∷ rest) (after_results r (t.Sign s.Equals ∷ spell e (t.Sign s.Semicolon ∷ rest)) h.1).1).1
 
   in_functions : (fs : List GenericFunctionTree) (rest : List Token) → All (spell_functions fs rest) → AllByRecursion IsFunctionNamed fs
   in_functions [] rest h = tt {0}

@@ -11,6 +11,7 @@ use Rattle.gib_packed.specs.declared.root.Root.TheVariants as place
 use Rattle.gib_print.specs.Image.{IsImageOf, image_of}
 use Rattle.gib_syntax.specs.Declarations.{output_type}
 use Rattle.gib_syntax.specs.Meaning.{Gives, Stops, run}
+use Rattle.gib_syntax.specs.Results as results
 use Rattle.gib_syntax.specs.Tree.{ProgramTree}
 use Rattle.gib_code.specs.declared.answer.Answer.{Answer}
 use Rattle.gib_code.specs.declared.answer.Answer.TheVariants as answer
@@ -75,7 +76,7 @@ start_for p settings v = start_on p settings (loaded_for p settings v)
 pub record IsEndOf (p : ProgramTree) (v : Datum) (settings : Settings) (lines : List Line) (memory : Memory) (a : Answer) : Type 0 where
   pub goes_in : GoesIn p settings v
   pub answered : IsAnswered (code_for p settings) (start_for p settings v) lines memory a
-  pub means : IsAnswer (layouts_of settings.skips p) memory.cells (output_type p) (run p settings.depth v) a
+  pub means : IsAnswer (layouts_of settings.skips p) memory.cells (results.One (output_type p)) (run p settings.depth v) a
 
 -- The value cannot be loaded, or an event draws where all chunks are drawn.
 abbrev pub LacksChunks : ProgramTree → Datum → Settings → List Line → Type 0
@@ -109,6 +110,7 @@ abbrev pub root_in : Answer → Result Root Reason
 root_in (answer.Whole z) = Ok (place.Whole z)
 root_in (answer.Truth b) = Ok (place.Truth b)
 root_in (answer.At a) = Ok (place.At a)
+root_in (answer.Parts ws) = Err reason.Deep
 root_in answer.Deep = Err reason.Deep
 root_in answer.Trap = Err reason.Trap
 

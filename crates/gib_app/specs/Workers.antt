@@ -7,6 +7,7 @@ use Rattle.gib_types.specs.Tree.{Datum}
 use Rattle.gib_mem.specs.Memory.{Memory}
 use Rattle.gib_mem.specs.Plain.{nothing}
 use Rattle.gib_packed.specs.declared.root.Root.{Root}
+use Rattle.gib_syntax.specs.Results as results
 use Rattle.gib_syntax.specs.Tree.{ProgramTree}
 use Rattle.gib_core.specs.LoweredParts.{LoweredParts}
 use Rattle.gib_core.specs.Meaning.{core_run}
@@ -81,7 +82,7 @@ start_by e settings loaded = weave_start e.core e.code loaded.memory (word_of lo
 pub record IsEndBy (e : Engine) (v : Datum) (settings : Settings) (lines : List Line) (memory : Memory) (a : Answer) : Type 0 where
   pub goes_in : GoesInto e settings v
   pub answered : IsAnswered e.code (start_by e settings (loaded_by e settings v)) lines memory a
-  pub means : IsAnswer e.laid memory.cells e.core.main.result (core_run e.core settings.depth v) a
+  pub means : IsAnswer e.laid memory.cells (results.One e.core.main.result) (core_run e.core settings.depth v) a
 
 -- The value cannot be loaded, or an event draws where all chunks are drawn.
 abbrev pub LacksBy : Engine → Datum → Settings → List Line → Type 0

@@ -67,7 +67,8 @@ fn root_in(answer: Answer) -> Result<Root, gib_code::Reason>
         Answer::Whole(value) => Ok(Root::Whole(value)),
         Answer::Truth(value) => Ok(Root::Truth(value)),
         Answer::At(address) => Ok(Root::At(address)),
-        Answer::Deep => Err(gib_code::Reason::Deep),
+        // main gives one value
+        Answer::Parts(_) | Answer::Deep => Err(gib_code::Reason::Deep),
         Answer::Trap => Err(gib_code::Reason::Trap),
     }
 }

@@ -13,6 +13,7 @@ use Rattle.gib_syntax.specs.declared.tree.TypeName.TheVariants as ty
 use Rattle.gib_syntax.specs.declared.tree.Operator.TheVariants as o
 use Rattle.gib_syntax.specs.Tree.{Expression, Var, Num, Op, Call, Make, Par, Case, NoArgument, Argument, LastArm, NextArm, DataTree, FunctionTree, MainTree, ProgramTree}
 use Rattle.gib_syntax.specs.Plain.{generic_of}
+use Rattle.gib_syntax.specs.Results.{One}
 use Rattle.gib_syntax.specs.GenericFine.{IsGenericFineProgram}
 use Rattle.gib_syntax.specs.Spelling.{Places, spell_program, IsPlacedProgram, levels_program}
 use Rattle.gib_gen.specs.Made.{front, source_text}
@@ -47,7 +48,7 @@ work at k =
     record {
       name = x 3 60;
       parameters = record { name = x 4 58; ty = ty.Declared (x 0 56) } ∷ [];
-      result = ty.Declared (x 0 53);
+      result = One (ty.Declared (x 0 53));
       body = Case (at 51) (x 4 50) (NextArm (x 1 47) (x 5 46 ∷ []) (leaf_arm at k) (LastArm (x 2 33) (x 6 32 ∷ x 7 31 ∷ []) (node_arm at)));
     }
 
@@ -92,7 +93,7 @@ three = omega arith
 pub fine : (at : Places) (k : ℕ) → k < 2 ^ 63 → IsGenericFineProgram (generic_of (program at k))
 fine at k h = record {
   datas = ((λ e. absurd cc), tt);
-  functions = (((λ e. absurd cc), ((((tt, three, refl, refl), h, refl, refl), refl, tt), ((tt, refl, tt), (tt, refl, tt), (tt, refl, (tt, refl, tt))))), tt);
+  functions = (((λ e. absurd cc), ((((tt, three, refl, refl), h, refl, refl), refl, tt), ((tt, refl, tt), (tt, refl, tt), (tt, refl, (tt, refl, tt)))), tt), tt);
   main = (tt, refl, tt);
 }
 

@@ -6,6 +6,7 @@ use Rattle.gib_types.specs.declared.table.Ty.TheVariants.{Whole}
 use Rattle.gib_types.specs.Table.{Table, con_at, name_at}
 use Rattle.gib_syntax.specs.declared.tree.Parameter.{Parameter}
 use Rattle.gib_syntax.specs.Tree.{FunctionTree, ProgramTree}
+use Rattle.gib_syntax.specs.Results.{One}
 use Rattle.gib_syntax.specs.Spelling.{Places}
 use Rattle.gib_syntax.specs.Declarations.{place_of, table_of_program}
 use Rattle.gib_syntax.specs.Typing.{Globals, globals_of, Scope, Has, Covers, IsTypedFunction, IsTypedProgram, expressions, bindings}
@@ -32,18 +33,18 @@ module _ (at : Places) (k : ℕ) where
   covered : Covers g.table 0 (1 ∷ (2 ∷ []))
   covered = record { own = ((0, refl, refl), ((1, refl, refl), tt)); each = each; once = (refl, (refl, tt)) }
 
-  leaf_typed : Has g ((5, Whole) ∷ scope) (leaf_arm at k) tree_type
-  leaf_typed = (0, refl, refl, ((refl, (refl, refl, refl), refl), tt))
+  leaf_typed : Has g ((5, Whole) ∷ scope) (leaf_arm at k) (One tree_type)
+  leaf_typed = (0, refl, refl, ((refl, (refl, (Whole, refl, refl), refl), refl), tt))
 
-  node_typed : Has g ((7, tree_type) ∷ ((6, tree_type) ∷ scope)) (node_arm at) tree_type
+  node_typed : Has g ((7, tree_type) ∷ ((6, tree_type) ∷ scope)) (node_arm at) (One tree_type)
   node_typed = (
     tree_type,
     tree_type,
-    (work at k, refl, refl, (refl, tt)),
-    (work at k, refl, refl, (refl, tt)),
+    (work at k, refl, refl, ((tree_type, refl, refl), tt)),
+    (work at k, refl, refl, ((tree_type, refl, refl), tt)),
     refl,
     refl,
-    (1, refl, refl, (refl, (refl, tt))),
+    (1, refl, refl, ((tree_type, refl, refl), ((tree_type, refl, refl), tt))),
   )
 
   work_typed : IsTypedFunction g (work at k).parameters (work at k).result (work at k).body
@@ -57,13 +58,13 @@ module _ (at : Places) (k : ℕ) where
     few_expressions = at_most _ 15 2000 refl (omega arith);
   }
 
-  main_typed : IsTypedFunction g ((main_tree at).parameter ∷ []) (main_tree at).result (main_tree at).body
+  main_typed : IsTypedFunction g ((main_tree at).parameter ∷ []) (One (main_tree at).result) (main_tree at).body
   main_typed = record {
     known = ((tree_type, refl), tt);
     known_result = (tree_type, refl);
     scope = scope;
     bound = (refl, refl);
-    typed = (work at k, refl, refl, (refl, tt));
+    typed = (work at k, refl, refl, ((tree_type, refl, refl), tt));
     few_variables = at_most _ 1 200 refl (omega arith);
     few_expressions = at_most _ 2 2000 refl (omega arith);
   }
