@@ -2,7 +2,7 @@
 
 use crate::programs::compile;
 use gib_base::{Name, Texts};
-use gib_syntax::{ConstructorDecl, DataDecl, FunctionDecl, Program, TypeName};
+use gib_syntax::{ConstructorDecl, DataDecl, FunctionDecl, Program, ResultTypes, TypeName};
 use std::alloc::{AllocError, Global};
 use std::test::Fail;
 
@@ -51,6 +51,23 @@ fn put_data(out: &mut Vec<u8>, texts: &Texts, data: &DataDecl) -> Result<(), All
     Ok(())
 }
 
+/// The types of several parts.
+fn put_parts(out: &mut Vec<u8>, texts: &Texts, types: &[TypeName]) -> Result<(), AllocError> {
+    put(out, b"(")?;
+    for ty in types {
+        put_type(out, texts, *ty)?;
+    }
+    put(out, b")")
+}
+
+/// What a function gives.
+fn put_results(out: &mut Vec<u8>, texts: &Texts, results: &ResultTypes) -> Result<(), AllocError> {
+    match results {
+        ResultTypes::One(ty) => put_type(out, texts, *ty),
+        ResultTypes::Several(types) => put_parts(out, texts, types),
+    }
+}
+
 /// The head of a function.
 fn put_head(out: &mut Vec<u8>, texts: &Texts, function: &FunctionDecl) -> Result<(), AllocError> {
     put(out, b"fun")?;
@@ -59,7 +76,7 @@ fn put_head(out: &mut Vec<u8>, texts: &Texts, function: &FunctionDecl) -> Result
         put_type(out, texts, parameter.ty)?;
     }
     put(out, b":")?;
-    put_type(out, texts, function.result)
+    put_results(out, texts, &function.result)
 }
 
 /// What a program declares.
@@ -87,7 +104,7 @@ fn declared(alloc: Global, source: &str) -> Result<Vec<u8>, AllocError> {
 }
 
 /// Sources with what their copies declare.
-const SOURCES: [(&str, &str); 5] = [
+const SOURCES: [(&str, &str); 6] = [
     // A copied type's fields are of the copy.
     (
         "data List a = Nil | Cons a (List a) ; fun len [a] (l : (List a)) : Int = case l of { Nil -> 0 ; Cons x r -> (1 + len [a] r) } ; main (n : Int) : Int = len [Int] (Cons [Int] n Nil [Int]) ;",
@@ -107,6 +124,11 @@ const SOURCES: [(&str, &str); 5] = [
     (
         "data Box a = Box a ; data Pair a b = Pair a b ; main (p : (Pair (Box Int) Bool)) : Bool = case p of { Pair b t -> t } ;",
         " data Pair[Box[Int] Bool] | Pair[Box[Int] Bool] Box[Int] Bool data Box[Int] | Box[Int] Int main Pair[Box[Int] Bool] : Bool",
+    ),
+    // Each part of a result has its own type.
+    (
+        "data Box a = Box a ; fun swap [a b] (x : (Box a)) (y : b) : (b, (Box a)) = (y, x) ; main (n : Int) : Int = let (t, b) = swap [Int Bool] (Box [Int] n) True in n ;",
+        " data Box[Int] | Box[Int] Int fun swap[Int Bool] Box[Int] Bool : ( Bool Box[Int] ) main Int : Int",
     ),
     // What nobody asks for has no copy.
     (

@@ -10,7 +10,11 @@ pub const TWO_LEAVES: &[u8] = &[1, 0, 1, 0, 0, 0, 0, 0, 0, 0, 0, 2, 0, 0, 0, 0, 
 pub const ADD_ONE: &str =
     "data Tree = Leaf Int | Node Tree Tree ; fun add1 (t : Tree) : Tree = case t of { Leaf n -> Leaf (n + 1) ; Node l r -> let par a = add1 l and b = add1 r in Node a b } ; main (t : Tree) : Tree = add1 t ;";
 
-/// The journal of a run of it in which a task takes its own right side back.
+/// A program whose sides give a tree and a number each, which the branch behind them puts together.
+pub const BOTH: &str =
+    "data Tree = Leaf Int | Node Tree Tree ; fun both (t : Tree) : (Tree, Int) = case t of { Leaf n -> (Leaf (n + 1), n) ; Node l r -> let par (a, x) = both l and (b, y) = both r in (Node a b, (x + y)) } ; main (t : Tree) : Tree = let (u, s) = both t in Node u (Leaf s) ;";
+
+/// The journal of a run of the first one in which a task takes its own right side back.
 pub const TAKEN: &str =
     "gibj 3\ndepth 10000 chunks 1024 fork 4 skips 0\nstep 0 7\nfork 0\nstep 0 11\ntake 0\nstep 0 16\nfinish 0\nend\n";
 

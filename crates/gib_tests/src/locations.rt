@@ -1,6 +1,6 @@
 //! What the location checker says of the cores of programs.
 
-use crate::forking::ADD_ONE;
+use crate::forking::{ADD_ONE, BOTH};
 use crate::programs::compile;
 use gib_access::reach;
 use gib_core::{AccessMode, Core};
@@ -75,7 +75,7 @@ fn is_broken_at(alloc: Global, source: &str, rule: u8, term: u64) -> bool {
 
 #[test]
 fn cores_whose_fields_are_reached_meet_the_build_rules(rt: HostRuntime) -> Result<(), Fail> {
-    for source in &[ADD_ONE, RIGHT, SUM, EACH] {
+    for source in &[ADD_ONE, RIGHT, SUM, EACH, BOTH] {
         assert!(rt; is_built(rt.alloc(), source, AccessMode::Skips), "{source}");
         assert!(rt; is_built(rt.alloc(), source, AccessMode::Ends), "{source}");
     }

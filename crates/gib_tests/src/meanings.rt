@@ -4,9 +4,14 @@ use crate::programs::meaning;
 use std::test::Fail;
 
 /// Sources, payloads and what the programs give, or `deep`.
-const ROWS: [(&str, &[u8], &str); 3] = [
+const ROWS: [(&str, &[u8], &str); 4] = [
     (
         "fun f (n : Int) : Int = (n + 1) ; main (n : Int) : Int = f (f n) ;",
+        b"\x05\0\0\0\0\0\0\0",
+        "deep",
+    ),
+    (
+        "fun two (n : Int) : (Int, Int) = (n, (n + 1)) ; main (n : Int) : Int = let (a, b) = two n in (a + b) ;",
         b"\x05\0\0\0\0\0\0\0",
         "deep",
     ),

@@ -1,7 +1,7 @@
 //! Two workers at a gate where each waits for the other's point: what they do is what no single thread can. Another worker steals a side and
 //! ends it before the first one begins the other side.
 
-use crate::forking::{ADD_ONE, Meeting, TWO_LEAVES};
+use crate::forking::{ADD_ONE, BOTH, Meeting, TWO_LEAVES};
 use crate::harness::{End, Ended, Fails, call, has_files, is_end};
 use gib_app::Status;
 use gib_unit_tests::bytes::{packed, push_times};
@@ -54,8 +54,15 @@ const CHUNKS: &str = "gib: chunks\n";
 
 const BY_ZERO: &str = "gib: division by zero\n";
 
+/// What both sides give, under one head.
+const TOGETHER: &str = "(Node (Node (Leaf 2) (Leaf 3)) (Leaf 3))\n";
+
 const STOLEN: Option<&[u8]> = Some(
     b"gibj 3\ndepth 10000 chunks 1024 fork 4 skips 0\nstep 0 7\nfork 0\nsteal 0\nstep 1 13\nfinish 1\nstep 0 11\njoin 0\nstep 0 6\nfinish 0\nend\n",
+);
+
+const PARTS_STOLEN: Option<&[u8]> = Some(
+    b"gibj 3\ndepth 10000 chunks 1024 fork 4 skips 0\nstep 0 7\nfork 0\nsteal 0\nstep 1 17\nfinish 1\nstep 0 16\njoin 0\nstep 0 32\nfinish 0\nend\n",
 );
 
 const LEFT_DIVIDED: Option<&[u8]> = Some(
@@ -89,7 +96,7 @@ type Row<'a> = (
     Option<&'a [u8]>,
 );
 
-const ROWS: [Row<'static>; 12] = [
+const ROWS: [Row<'static>; 14] = [
     (ADD_ONE, TWO_LEAVES, FEW_CHUNKS, Status::Done, ADDED, None),
     // Forks inside of forks, each of whose sides is a tree.
     (BUILD, THREE, RUN, Status::Done, BUILT, None),
@@ -103,6 +110,16 @@ const ROWS: [Row<'static>; 12] = [
     (BUILD, THIRTEEN, FEW_CHUNKS, Status::Full, CHUNKS, None),
     // The journal tells it so.
     (ADD_ONE, TWO_LEAVES, TRACE, Status::Done, ADDED, STOLEN),
+    // Sides of several parts.
+    (BOTH, TWO_LEAVES, FEW_CHUNKS, Status::Done, TOGETHER, None),
+    (
+        BOTH,
+        TWO_LEAVES,
+        TRACE,
+        Status::Done,
+        TOGETHER,
+        PARTS_STOLEN,
+    ),
     // The left side's reason is told, whichever ends first.
     (DIVIDES_LEFT, ZERO, THREE_DEEP, Status::Trap, BY_ZERO, None),
     (

@@ -19,7 +19,7 @@ fn entries(alloc: Global, slots: u32) -> Result<Vec<Entry>, Memory> {
         name: None,
         start: 0,
         slots,
-        result: Ty::Whole,
+        result: AnswerType::One(Ty::Whole),
     };
     Vec::from_slice(alloc, &[main])
 }
@@ -69,9 +69,33 @@ fn ends(alloc: Global) -> Result<Code, Memory> {
     Ok(Code::new(layouts, instructions, functions))
 }
 
+// Each instruction on parts, and a fork whose right side binds three.
+fn parts(alloc: Global) -> Result<Code, Memory> {
+    let layouts = layouts(alloc)?;
+    let functions = entries(alloc, 11)?;
+    let scalars = Vec::from_slice(alloc, &[Operand::Slot(1), Operand::Number(7)])?;
+    let instructions = vec![in alloc;
+        Instr::Into { part: 0, count: 2 },
+        Instr::Out { part: 0, count: 2 },
+        Instr::GiveParts(scalars),
+        Instr::Part { to: 2, part: 1 },
+        Instr::Fork(Fork {
+            right: 5,
+            joint: 9,
+            kind: Kind::Several,
+            targets: Targets { first: 8, count: 3 },
+            result: AnswerType::Parts,
+        }),
+    ]?;
+    Ok(Code::new(layouts, instructions, functions))
+}
+
 const DIVISION: &[u8] = b"main 3\n0 quot %1 %0 3\n1 rem %2 %1 %0\n2 give %2\n";
 
 const ENDS: &[u8] = b"main 4\n0 got %2 0\n1 over %0 %3\n2 leafend %0 9\n3 end %3 %2\n";
+
+const PARTS: &[u8] =
+    b"main 11\n0 into 0\n1 out\n2 gives %1 7\n3 part %2 1\n4 fork 5 9 several %8 %9 %10\n";
 
 #[test]
 fn divisions_and_ends_are_listed_by_their_words(rt: HostRuntime) -> Result<(), Fail> {
@@ -79,5 +103,12 @@ fn divisions_and_ends_are_listed_by_their_words(rt: HostRuntime) -> Result<(), F
     assert!(rt; is_listed(rt.alloc(), &code, DIVISION)?);
     let code = ends(rt.alloc())?;
     assert!(rt; is_listed(rt.alloc(), &code, ENDS)?);
+    Ok(())
+}
+
+#[test]
+fn parts_are_listed_by_their_words(rt: HostRuntime) -> Result<(), Fail> {
+    let code = parts(rt.alloc())?;
+    assert!(rt; is_listed(rt.alloc(), &code, PARTS)?);
     Ok(())
 }

@@ -19,7 +19,7 @@ fn shown(alloc: Global, tokens: &Tokens) -> Result<String, AllocError> {
 }
 
 /// Texts, and their tokens with their spans.
-const TEXTS: [(Dialect, &[u8], &str); 15] = [
+const TEXTS: [(Dialect, &[u8], &str); 16] = [
     (
         Dialect::Source,
         b"data Tree = Leaf Int | Node Tree Tree ;",
@@ -54,6 +54,11 @@ const TEXTS: [(Dialect, &[u8], &str); 15] = [
         Dialect::Source,
         b"===<=:{}*a-b",
         "0-2 Sign(Same); 2-3 Sign(Equals); 3-4 Sign(Less); 4-5 Sign(Equals); 5-6 Sign(Colon); 6-7 Sign(OpenBrace); 7-8 Sign(CloseBrace); 8-9 Sign(Times); 9-10 Variable(Name(0)); 10-11 Sign(Minus); 11-12 Variable(Name(1)); ",
+    ),
+    (
+        Dialect::Source,
+        b"(a,b , 1)--,\n,",
+        "0-1 Sign(Open); 1-2 Variable(Name(0)); 2-3 Sign(Comma); 3-4 Variable(Name(1)); 5-6 Sign(Comma); 7-8 Number(1); 8-9 Sign(Close); 13-14 Sign(Comma); ",
     ),
     (
         Dialect::Source,

@@ -41,6 +41,8 @@ mod print;
 #[cfg(test)]
 mod region;
 #[cfg(test)]
+mod several;
+#[cfg(test)]
 mod terms;
 #[cfg(test)]
 mod types;

@@ -361,13 +361,13 @@ fn program(alloc: Global, copied: Atom, line: Line, offsets: &[ConId]) -> Result
     functions.push(CoreFunction {
         name: COPY,
         parameters: Vec::from_slice(alloc, &[TREE])?,
-        result: TREE,
+        result: CoreResult::One(TREE),
         body: copy,
     })?;
     functions.push(CoreFunction {
         name: SIZE,
         parameters: Vec::from_slice(alloc, &[TREE])?,
-        result: Ty::Whole,
+        result: CoreResult::One(Ty::Whole),
         body: size,
     })?;
     let main = CoreMain {

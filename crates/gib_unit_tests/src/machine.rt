@@ -1,7 +1,7 @@
 //! Machines are made, where there is memory for them, and begin again in the memory that they have.
 
 use gib_base::Memory;
-use gib_code::{Code, Kind, Side};
+use gib_code::{AnswerType, Code, Kind, Side, Targets};
 use gib_machine::Machine;
 use gib_types::sample::trees;
 use gib_types::{Layouts, Ty};
@@ -24,8 +24,8 @@ fn restarts(alloc: Global, code: &Code) -> Result<bool, Memory> {
         depth: 100,
         level: 3,
         kind: Kind::Here,
-        variable: 2,
-        result: Ty::Whole,
+        targets: Targets { first: 2, count: 1 },
+        result: AnswerType::One(Ty::Whole),
     };
     let mut machine = Machine::of_side(alloc, code, &side)?;
     Ok(machine.restart(code, &side))

@@ -2,7 +2,7 @@
 
 ghost use Rattle.std.specs.Prelude.{◌≡◌, ◌<◌, ◌≤◌, length, IfOk};
 ghost use Rattle.gib_types.specs.Table.{IsTyBelow};
-ghost use Rattle.gib_core.specs.Arena.{IsBindingBelow, PartsBelow};
+ghost use Rattle.gib_core.specs.Arena.{IsBindingBelow, PartsBelow, term_in};
 
 use gib_base::{Memory, Name, Names, Texts};
 use gib_core::*;
@@ -83,15 +83,15 @@ pub fn write(
     )
 }
 
-pub fn bound(kind: Kind, number: u32, ty: Ty, term: TermId) -> BoundTerm
-    ensures { result.term ≡ term }
+pub fn bound(kind: Kind, number: u32, ty: Ty, term: TermId) -> BoundSide
+    ensures { term_in result ≡ term }
 {
-    BoundTerm {
+    BoundSide::One(BoundTerm {
         kind,
         variable: Variable(number),
         ty,
         term,
-    }
+    })
 }
 
 /// past %h, and the rest
@@ -204,7 +204,7 @@ pub fn core_of(
     let function = CoreFunction {
         name,
         parameters,
-        result: ty,
+        result: CoreResult::One(ty),
         body: bodies.0,
     };
     let functions = vec![in alloc; function]?;
