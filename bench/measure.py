@@ -2,6 +2,7 @@
 
 import math
 import os
+import re
 import shutil
 import subprocess
 import sys
@@ -47,6 +48,15 @@ PRINTED = Aims(seconds=2)
 
 class Missed(Exception):
     """The program did not do what it was measured at."""
+
+
+def instructions(words):
+    """How many instructions a command takes, with its output thrown away."""
+    counted = subprocess.run(["valgrind", "--tool=callgrind", "--callgrind-out-file=/dev/null", *words], capture_output=True, text=True)
+    found = re.search(r"Collected : (\d+)", counted.stderr)
+    if counted.returncode or not found:
+        raise Missed(f"status {counted.returncode} {counted.stderr.strip()[-200:]}")
+    return int(found.group(1))
 
 
 def run_once(words, out):

@@ -3,14 +3,12 @@
 Instructions are counted by valgrind's callgrind where that is installed, and then decide; the least processor time of some runs is printed beside."""
 
 import os
-import re
 import shutil
-import subprocess
 import sys
 import tempfile
 
 import inputs
-from measure import Missed, run_once
+from measure import Missed, instructions, run_once
 
 # Reading a file of version 2 takes at most so many times what one of version 1 takes.
 MOST = 1.02
@@ -76,15 +74,6 @@ def payload(most):
 def second_version(description, bytes_of_value):
     lengths = len(bytes_of_value).to_bytes(8, "little") + len(description).to_bytes(8, "little")
     return b"GIBP\x02\0\0\0" + lengths + description + bytes_of_value
-
-
-def instructions(words):
-    """How many instructions a command takes, with its output thrown away."""
-    counted = subprocess.run(["valgrind", "--tool=callgrind", "--callgrind-out-file=/dev/null", *words], capture_output=True, text=True)
-    found = re.search(r"Collected : (\d+)", counted.stderr)
-    if counted.returncode or not found:
-        raise Missed(f"status {counted.returncode} {counted.stderr.strip()[-200:]}")
-    return int(found.group(1))
 
 
 class Versions:

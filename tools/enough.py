@@ -275,19 +275,19 @@ def enough(asked, workers, forks):
     return " ".join(found)
 
 
-def has_type_parameters(path):
-    """Whether a source has types in brackets outside its comments; one that cannot be read has none."""
+def is_past(path):
+    """Whether a source has types in brackets, or parts with commas, outside its comments; one that cannot be read has none."""
     try:
         with open(path, encoding="utf-8") as file:
-            return any("[" in line.split("--")[0] for line in file)
+            return any(set("[,") & set(line.split("--")[0]) for line in file)
     except (OSError, UnicodeDecodeError):
         return False
 
 
 def main():
     source, given, workers, forks, skips, *program = sys.argv[1:]
-    if has_type_parameters(source):
-        print("gib enough: programs with type parameters are not looked at", file=sys.stderr)
+    if is_past(source):
+        print("gib enough: programs with type parameters or results of several parts are not looked at", file=sys.stderr)
         sys.exit(1)
     asked = Asked(source, given, ["--skips"] if skips else [], program)
     try:

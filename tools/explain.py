@@ -30,7 +30,7 @@ from source import OPERATIONS, SIGNS, WORDS, Program, Token, counted, listed, to
 GROUPS = [
     ({"var", "Con", "int", "True", "False", "(", "let", "if", "case"}, "an expression"),
     ({"var", "Con", "int", "True", "False", "("}, "an argument (a name, a number or '(')"),
-    ({"Int", "Bool", "Con"}, "a type"),
+    ({"Int", "Bool", "Con", "var", "("}, "a type"),
     (set(OPERATIONS), "an operation"),
 ]
 SAMPLES = {"var": "x", "Con": "X", "int": "0"}
@@ -89,13 +89,24 @@ class Fault(NamedTuple):
 HINTS = [
     (lambda at: at.text in WORDS and at.due == {"var"}, "'{0}' is a word of the language, and no name"),
     (lambda at: at.text == "=" and at.before.text == "<", "there is no <=: a <= b is (if (b < a) then False else True)"),
+    (lambda at: at.text in OPERATIONS and at.due == {",", ")"}, "parts are no side of an operation"),
     (lambda at: at.text in OPERATIONS and ")" in at.due, "each operation has parentheses of its own: ((a {0} b) {0} c)"),
     (lambda at: at.text == "-" and "let" in at.due, "there are no negative literals: -1 is (0 - 1)"),
     (lambda at: at.text in OPERATIONS, "each operation has parentheses of its own: (a {0} b)"),
     (lambda at: at.text == "|" and at.before.text == "=", "'|' stands between two constructors, and none in front of the first one"),
     (lambda at: at.text == "|" and "|" in (at.before.text, at.after.text), "there is no ||: a || b is (if a then True else b)"),
     (lambda at: at.text == "|" and (";" in at.due or at.due == {"Con"}), "arms are set apart by ';', and none stands in front of the first one"),
-    (lambda at: at.token.kind == "var" and "Int" in at.due, "the name of a type begins with a capital letter"),
+    (lambda at: at.text == "," and {"var", ")"} <= at.due, "fields and arguments stand side by side, without commas: Node l r, f x y"),
+    (lambda at: at.text == "," and "var" in at.due, "parts stand in parentheses: (a, b)"),
+    (lambda at: at.text == "," and at.due == {"="}, "several names stand in parentheses: let (x, y) = .. in .."),
+    (lambda at: at.text == "," and at.due == {":"}, "each parameter has parentheses of its own: (x : Int) (y : Int)"),
+    (lambda at: at.text == ")" and at.due == {","}, "one name or type alone has no parentheses"),
+    (lambda at: "," in at.due and at.due <= {",", ")"}, "a comma stands between two"),
+    (
+        lambda at: at.before.text == "(" and at.due == {"Con"},
+        "a type in parentheses has arguments, (List Int): parts are what a function gives, and main gives one value",
+    ),
+    (lambda at: at.text == "[" and "let" in at.due, "there are no lists but those of a data type: data List a = Nil | Cons a (List a)"),
     (lambda at: at.text == "main" and "let" in at.due, "main cannot be called: give a function what it does"),
     (
         lambda at: {";", "}"} <= at.due and at.text not in ("", "in", "then", "else", "of"),
@@ -111,7 +122,7 @@ HINTS = [
     (lambda at: at.due == {"="}, "a let is let x = .. in ..: it names a value, without a type, and functions are declared outside"),
     (lambda at: at.text == "{" and "(" in at.due, "a case is: case x of { Leaf n -> .. ; Node left right -> .. }"),
     (lambda at: at.text == "=" and "->" in at.due, "an arm is: Leaf n -> .."),
-    (lambda at: at.due == {"("}, "a parameter is (name : Type)"),
+    (lambda at: "(" in at.due and at.due <= {"(", "["}, "a parameter is (name : Type)"),
 ]
 
 
@@ -133,11 +144,9 @@ CHARACTERS = {
     "%": "there is no %: a % b is (a rem b)",
     "&": "there is no &&: a && b is (if a then b else False)",
     "!": "there is no !: not a is (if a then False else True)",
-    ",": "fields and arguments stand side by side, without commas: Node l r, f x y",
     "_": "each field has a name, which begins with a small letter",
     '"': "there are no strings",
-    "'": "there are no type parameters and no characters",
-    "[": "there are no lists but those of a data type: data List = Nil | Cons Int List",
+    "'": "a type variable is a name alone, data List a = Nil | Cons a (List a); there are no characters",
     ".": "there are no fractions, and a field is named by a case",
     "\\": "functions are declared, and are no values",
     "#": "a comment is -- to the end of the line",
@@ -162,7 +171,7 @@ def source_notes(path, place, kind, program):
     elif kind == "nested too deep":
         yield "expressions stand in one another on at most 200 levels: give one of them a function of its own"
     elif kind == "over a limit":
-        yield "at most 200 constructors, 8 fields, 1,000 functions; 200 variables and 2,000 expressions of a function"
+        yield "at most 200 constructors, 8 fields, 1,000 functions; 200 variables and 2,000 expressions of a function; 8 parts, 8 type variables"
     else:
         yield Program(source).notes.get((kind, place))
 
