@@ -40,6 +40,7 @@ abbrev pub forms_onto : List Form → List TypeNode → List Form
 forms_onto fs [] = fs
 forms_onto fs (n ∷ ns) = forms_onto (fs ++ form_from fs n ∷ []) ns
 
+-- The types that a table's nodes are, by their numbers.
 abbrev pub forms_of : List TypeNode → List Form
 forms_of ns = forms_onto [] ns
 
@@ -60,6 +61,7 @@ pub record GrowsTo (old new : List Form) : Type 0 where
 abbrev pub cut : ℕ → ℕ
 cut n = if nat_lt n 65 then n else 65
 
+-- The words of what may be no type, cut likewise.
 abbrev pub short_words : Option Form → Option ℕ
 short_words None = None
 short_words (Some f) = Some (cut (words f))
