@@ -38,7 +38,7 @@ pub use ended::EndedSet;
 pub use lowered::Lowered;
 pub use mentions::push_binders;
 pub use node::{Binding, BoundParts, BoundSide, BoundTerm, Branch, Node, TermId, Terms};
-pub use part_types::{MOST_PARTS, PartTypes};
+pub use part_types::{MOST_PARTS, PartTypes, Unpacked};
 pub use print::print_core;
 pub use program::{Core, CoreFunction, CoreMain, CoreResult};
 pub use rule::Rule;

@@ -87,7 +87,10 @@ impl Target {
             Destination::Nowhere => false,
             Destination::Empty => false,
             Destination::Open { .. } => false,
-            Destination::InParts(due) => same_types(types, due.as_slice()),
+            Destination::InParts(due) => {
+                let due = due.unpacked();
+                same_types(types, due.as_slice())
+            }
         }
     }
 

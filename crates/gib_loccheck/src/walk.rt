@@ -279,7 +279,8 @@ fn check_parts(
     requires below { AllByRecursion (IsPartBelow parent.0) tuple.now.parts.now }
     ensures { Checks (core_of core.now) walk.old walk.new (met_parts core.now.table (setting_of walk.old target.now) (tree_types (types_in tuple.now.types)) (parts_from (term_of core.now.terms) tuple.now.parts.now)) result }
 {
-    let types = tuple.types.as_slice();
+    let listed = tuple.types.unpacked();
+    let types = listed.as_slice();
     let mut place = 0;
     let mut left = tuple.parts;
     'parts: while let [part, after @ ..] = left {

@@ -42,7 +42,10 @@ fn result_fits(target: &Target, given: CoreResult) -> bool
 {
     match given {
         CoreResult::One(ty) => ty.is(target.due) && may_give(target, ty),
-        CoreResult::Several(types) => target.are_due(types.as_slice()),
+        CoreResult::Several(types) => {
+            let types = types.unpacked();
+            target.are_due(types.as_slice())
+        }
     }
 }
 

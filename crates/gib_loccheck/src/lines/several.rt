@@ -26,13 +26,14 @@ pub fn variables_of(alloc: Global, parts: &BoundParts) -> Result<Vec<Variable>, 
     ensures { IfOk result (λ v. v.items ≡ variables_from parts.now.first.0 (types_in parts.now.types)) }
 {
     let mut variables = Vec::new(alloc);
-    let mut number = parts.first.0;
-    let mut left = parts.types.as_slice();
+    let mut number = u64::from(parts.first.0);
+    let types = parts.types.unpacked();
+    let mut left = types.as_slice();
     'variables: while let [_, after @ ..] = left {
-        if number == u32::MAX {
+        let Ok(variable) = u32::try_from(number) else {
             return Err(AllocError);
-        }
-        variables.push(Variable(number))?;
+        };
+        variables.push(Variable(variable))?;
         number += 1;
         left = after;
     }
@@ -59,7 +60,8 @@ fn several_rule(
     if any_bound(walk, variables)? {
         return Ok(Some(Rule::Scope));
     }
-    if !are_several(parts.first, parts.types.as_slice()) {
+    let types = parts.types.unpacked();
+    if !are_several(parts.first, types.as_slice()) {
         return Ok(Some(Rule::Several));
     }
     Ok(None)
@@ -72,7 +74,8 @@ fn judge_several(walk: &mut Walk, parts: &BoundParts) -> Result<(), LocFault>
     let variables = variables_of(walk.alloc, parts)?;
     let rule = several_rule(walk, parts, &variables)?;
     judge(walk, rule)?;
-    bind_variables(&mut walk.bound, &variables, parts.types.as_slice())?;
+    let types = parts.types.unpacked();
+    bind_variables(&mut walk.bound, &variables, types.as_slice())?;
     Ok(())
 }
 

@@ -30,7 +30,8 @@ pub struct Tuple<'a> {
 fn is_whole(types: &TypeTable, walk: &Walk, tuple: &Tuple<'_>) -> bool
     ensures { result ≡ whole_is types.now (before_of walk.now) (types_in tuple.now.types) tuple.now.scalars.now (length tuple.now.parts.now) }
 {
-    let listed = tuple.types.as_slice();
+    let given = tuple.types.unpacked();
+    let listed = given.as_slice();
     are_declared(types, listed)
         && (have_scalar_types(walk, tuple.scalars, listed)
             && tuple.parts.len() == packed_count(listed))
@@ -45,7 +46,9 @@ fn are_parts(types: &TypeTable, walk: &Walk, target: &Target, tuple: &Tuple<'_>)
         Destination::Empty => true,
         Destination::Open { .. } => true,
         Destination::InParts(due) => {
-            same_types(tuple.types.as_slice(), due.as_slice()) && is_whole(types, walk, tuple)
+            let due = due.unpacked();
+            let given = tuple.types.unpacked();
+            same_types(given.as_slice(), due.as_slice()) && is_whole(types, walk, tuple)
         }
     }
 }

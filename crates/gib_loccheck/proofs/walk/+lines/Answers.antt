@@ -131,11 +131,11 @@ check_part-returns t c =
 
 pub check_parts-returns-in_err-check_part : goal.check_parts-returns-in_err-check_part
 check_parts-returns-in_err-check_part t c =
-    let h = parts_blame (core_of c.args.core.now) c.in_err-check_part.field-0.0 c.args.walk.now c.parts.walk c.args.target.now (term_of c.args.core.now.terms) (tree_types (types_in c.args.tuple.now.types)) c.args.tuple.now.parts.now c.parts.left.now c.parts.place c.args.parent.0 _ c.packed_at-ty.result c.in-len1-up.len_at_least (c.packed_at-ty.ensures ∙ ap (λ (ts : List Ty). get_or (tree_types ts) c.parts.place Whole) c.as_slice-types.ensures) c.parts.invariant c.in_err-check_part.ensures in search rules
+    let h = parts_blame (core_of c.args.core.now) c.in_err-check_part.field-0.0 c.args.walk.now c.parts.walk c.args.target.now (term_of c.args.core.now.terms) (tree_types (types_in c.args.tuple.now.types)) c.args.tuple.now.parts.now c.parts.left.now c.parts.place c.args.parent.0 _ c.packed_at-ty.result c.in-len1-up.len_at_least (c.packed_at-ty.ensures ∙ ap (λ (ts : List Ty). get_or (tree_types ts) c.parts.place Whole) (c.as_slice-types.ensures ∙ c.unpacked-listed.ensures)) c.parts.invariant c.in_err-check_part.ensures in search rules
 
 pub check_parts-parts-preserved : goal.check_parts-parts-preserved
 check_parts-parts-preserved t c =
-    parts_next (core_of c.args.core.now) c.args.walk.now c.parts.walk c.check_part.new.walk c.args.target.now (term_of c.args.core.now.terms) (tree_types (types_in c.args.tuple.now.types)) c.args.tuple.now.parts.now c.parts.left.now c.parts.place c.args.parent.0 _ c.packed_at-ty.result c.in-len1-up.len_at_least (c.packed_at-ty.ensures ∙ ap (λ (ts : List Ty). get_or (tree_types ts) c.parts.place Whole) c.as_slice-types.ensures) c.parts.invariant c.in_ok-check_part.ensures.0 c.in_ok-check_part.ensures.1
+    parts_next (core_of c.args.core.now) c.args.walk.now c.parts.walk c.check_part.new.walk c.args.target.now (term_of c.args.core.now.terms) (tree_types (types_in c.args.tuple.now.types)) c.args.tuple.now.parts.now c.parts.left.now c.parts.place c.args.parent.0 _ c.packed_at-ty.result c.in-len1-up.len_at_least (c.packed_at-ty.ensures ∙ ap (λ (ts : List Ty). get_or (tree_types ts) c.parts.place Whole) (c.as_slice-types.ensures ∙ c.unpacked-listed.ensures)) c.parts.invariant c.in_ok-check_part.ensures.0 c.in_ok-check_part.ensures.1
 
 pub check_binding-returns-in-Prim : goal.check_binding-returns-in-Prim
 check_binding-returns-in-Prim t c = let h = c.behind_operation.ensures (core_of c.args.core.now) in search rules
