@@ -1,13 +1,14 @@
 -- The machine's state, what it still owes, and the work that is left.
-use Rattle.std.specs.Prelude.{◌≡◌, ℕ, zero, suc, ◌+◌, ◌<◌, ◌≤◌, if◌then◌else◌, Bool, true, false, pos, List, [], ◌∷◌, ◌++◌, map, Option, Some, None, get_or, drop, length}
+use Rattle.std.specs.Prelude.{◌≡◌, ℕ, zero, suc, ◌+◌, ◌<◌, ◌≤◌, if◌then◌else◌, Bool, true, false, pos, List, [], ◌∷◌, ◌++◌, map, Option, Some, None, MatchOption, get_or, drop, length}
 use Rattle.gib_types.specs.declared.table.Ty.{Ty}
 use Rattle.gib_types.specs.Table.{Table, fields_at}
 use Rattle.gib_types.specs.Tree.{Datum, whole, truth, con, data_of}
 use Rattle.gib_syntax.specs.declared.exprs.Arm.{Arm}
-use Rattle.gib_syntax.specs.declared.exprs.Node.{Node}
-use Rattle.gib_syntax.specs.declared.exprs.Node.TheVariants as n
+use Rattle.gib_base.specs.declared.Span.{Span}
+use Rattle.gib_plain.specs.declared.lookup.Next.{Next}
+use Rattle.gib_plain.specs.declared.lookup.Next.TheVariants as x
 use Rattle.gib_syntax.specs.Tree.{Expression, Arguments, Arms, Var, Num, Bit, Paren, Op, Call, Make, Let, Par, If, Case, Tuple, LetSeveral, ParSeveral, NoArgument, Argument, LastArm, NextArm, FunctionTree, ProgramTree}
-use Rattle.gib_syntax.specs.Arena.{tree_of}
+use Rattle.gib_syntax.specs.Arena.{tree_of, arguments_from}
 use Rattle.gib_syntax.specs.Parts.{Parts, program_of}
 use Rattle.gib_syntax.specs.declared.tree.TypeName.{TypeName}
 use Rattle.gib_syntax.specs.Declarations.{number_of, constructor_named, function_named, table_of_program, type_of_name}
@@ -55,23 +56,6 @@ fields_made table (Some c) = fields_at table c
 abbrev pub types_in : Table → List TypeName → List Ty
 types_in table as' = map (type_of_name table.types) as'
 
--- The types that a node carries where it is a tuple, none else.
-abbrev pub tuple_types : Table → Node → List Ty
-tuple_types table (n.Variable x) = []
-tuple_types table (n.Whole p v) = []
-tuple_types table (n.Truth p b) = []
-tuple_types table (n.Paren p a) = []
-tuple_types table (n.Operation p f a b) = []
-tuple_types table (n.Call f xs) = []
-tuple_types table (n.Make k xs) = []
-tuple_types table (n.Let p x a b) = []
-tuple_types table (n.LetPar p x a y b c) = []
-tuple_types table (n.If p a b c) = []
-tuple_types table (n.Case p x arms) = []
-tuple_types table (n.Tuple p ts xs) = types_in table ts.items
-tuple_types table (n.LetSeveral p qs a b) = []
-tuple_types table (n.ParSeveral p qs a rs b c) = []
-
 -- The parts of an expression that are evaluated before all else, in the order in which they are evaluated.
 abbrev pub first_parts : Table → Expression → List Expression
 first_parts table (Var x) = []
@@ -88,6 +72,12 @@ first_parts table (Case p x arms) = []
 first_parts table (Tuple p as' xs) = in_turn (types_in table as') (expressions_of xs)
 first_parts table (LetSeveral p qs a b) = a ∷ []
 first_parts table (ParSeveral p qs a rs b c) = a ∷ b ∷ []
+
+-- What comes next at a place among the first parts of an expression, where these are the trees of numbers.
+abbrev pub IsNext : (ℕ → Expression) → Table → Expression → ℕ → Next → Type 0
+IsNext f table e at (x.Part found) =
+    MatchOption found (drop at (first_parts table e) ≡ []) (λ i. drop at (first_parts table e) ≡ f i.0 ∷ drop (at + 1) (first_parts table e))
+IsNext f table e at (x.Tuple ts is) = (span : Span) × (e ≡ Tuple span ts.now (arguments_from f is.now))
 
 -- The value at a place, 0 where there is none.
 abbrev pub value_at : List Datum → ℕ → Datum

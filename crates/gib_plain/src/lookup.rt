@@ -7,7 +7,7 @@ ghost use Rattle.gib_syntax.specs.Tree.{Expression, Case};
 ghost use Rattle.gib_syntax.specs.Arena.{layer, tree_of, arguments_from, case_from};
 ghost use Rattle.gib_syntax.specs.Parts.{program_of, function_tree};
 ghost use Rattle.gib_syntax.specs.Declarations.{table_of_program, constructor_named, function_named};
-ghost use Rattle.gib_plain.specs.Running.{first_parts, expressions_of, fields_made, types_in, tuple_types, arm_of};
+ghost use Rattle.gib_plain.specs.Running.{IsNext, expressions_of, fields_made, types_in, arm_of};
 ghost use Rattle.gib_plain.specs.Turns.{in_turn};
 
 use crate::turns::argument_at;
@@ -15,6 +15,14 @@ use gib_base::{Memory, Name};
 use gib_check::Typed;
 use gib_syntax::{Arm, ExprId, FunctionDecl, Node, TypeName};
 use gib_types::{ConId, Ty};
+
+/// What comes next of an expression.
+pub enum Next<'a> {
+    /// The next part, if one is left.
+    Part(Option<ExprId>),
+    /// The expression is a tuple of these types and parts, whose turn is sought by `tuple_part`.
+    Tuple(&'a [TypeName], &'a [ExprId]),
+}
 
 /// The function of a name.
 pub fn function(typed: &Typed, name: Name) -> Option<&FunctionDecl>
@@ -109,14 +117,32 @@ fn part_in_turn(types: &[Ty], parts: &[ExprId], at: usize) -> Option<ExprId>
     argument_at(types, parts, at)
 }
 
-/// The part at a place among those of an expression that are evaluated first, where those of a tuple have these types.
-fn part(typed: &Typed, types: &[Ty], node: &Node, at: usize) -> Option<ExprId>
-    requires { types.now ≡ tuple_types (table_of_program (program_of typed.now)) node.now }
-    ensures { (f : ℕ → Expression) → MatchOption result
-        (drop at (first_parts (table_of_program (program_of typed.now)) (layer f (Some node.now))) ≡ [])
-        (λ i. drop at (first_parts (table_of_program (program_of typed.now)) (layer f (Some node.now))) ≡ f i.0 ∷ drop (at + 1) (first_parts (table_of_program (program_of typed.now)) (layer f (Some node.now)))) }
+/// The part at a place among those of a tuple whose types are written so. In `types` the types are put, each time anew.
+///
+/// # Errors
+///
+/// Want of memory.
+pub fn tuple_part(
+    typed: &Typed,
+    types: &mut Vec<Ty>,
+    names: &[TypeName],
+    parts: &[ExprId],
+    at: usize,
+) -> Result<Option<ExprId>, Memory>
+    ensures { (f : ℕ → Expression) → IfOk result (λ next. MatchOption next
+        (drop at (in_turn (types_in (table_of_program (program_of typed.now)) names.now) (expressions_of (arguments_from f parts.now))) ≡ [])
+        (λ i. drop at (in_turn (types_in (table_of_program (program_of typed.now)) names.now) (expressions_of (arguments_from f parts.now))) ≡ f i.0 ∷ drop (at + 1) (in_turn (types_in (table_of_program (program_of typed.now)) names.now) (expressions_of (arguments_from f parts.now))))) }
 {
-    match node {
+    types.clear();
+    push_types(types, typed, names)?;
+    Ok(part_in_turn(types, parts, at))
+}
+
+/// The part at a place among those of an expression that are evaluated first; of a tuple, what it is made of.
+fn next_at<'a>(typed: &Typed, node: &'a Node, at: usize) -> Next<'a>
+    ensures { (f : ℕ → Expression) → IsNext f (table_of_program (program_of typed.now)) (layer f (Some node.now)) at result }
+{
+    let found = match node {
         Node::Variable(_) => None,
         Node::Whole(_, _) => None,
         Node::Truth(_, _) => None,
@@ -128,44 +154,20 @@ fn part(typed: &Typed, types: &[Ty], node: &Node, at: usize) -> Option<ExprId>
         Node::LetPar { left, right, .. } => part_of_two(*left, *right, at),
         Node::If { condition, .. } => part_of_one(*condition, at),
         Node::Case { .. } => None,
-        Node::Tuple { parts, .. } => part_in_turn(types, parts, at),
+        Node::Tuple { types, parts, .. } => return Next::Tuple(types, parts),
         Node::LetSeveral { bound, .. } => part_of_one(*bound, at),
         Node::ParSeveral { left, right, .. } => part_of_two(*left, *right, at),
-    }
+    };
+    Next::Part(found)
 }
 
-/// The types of the parts of a tuple are put in place of others; of any other expression, nothing.
-fn put_part_types(types: &mut Vec<Ty>, typed: &Typed, node: &Node) -> Result<(), Memory>
-    ensures { OnOk result (types.new.items ≡ tuple_types (table_of_program (program_of typed.now)) node.now) }
-{
-    types.clear();
-    if let Node::Tuple { types: names, .. } = node {
-        push_types(types, typed, names)?;
-    }
-    Ok(())
-}
-
-/// The part at a place among those of the expression of a number that are evaluated first. In `types` a tuple's types are
-/// put, each time anew.
-///
-/// # Errors
-///
-/// Want of memory.
-pub fn next_part(
-    typed: &Typed,
-    types: &mut Vec<Ty>,
-    id: ExprId,
-    at: usize,
-) -> Result<Option<ExprId>, Memory>
-    ensures { IfOk result (λ next. MatchOption next
-        (drop at (first_parts (table_of_program (program_of typed.now)) (tree_of typed.now.exprs id.0)) ≡ [])
-        (λ i. drop at (first_parts (table_of_program (program_of typed.now)) (tree_of typed.now.exprs id.0)) ≡ tree_of typed.now.exprs i.0 ∷ drop (at + 1) (first_parts (table_of_program (program_of typed.now)) (tree_of typed.now.exprs id.0)))) }
+/// The part at a place among those of the expression of a number that are evaluated first; of a tuple, what it is made of.
+pub fn next_part(typed: &Typed, id: ExprId, at: usize) -> Next<'_>
+    ensures { IsNext (tree_of typed.now.exprs) (table_of_program (program_of typed.now)) (tree_of typed.now.exprs id.0) at result }
 {
     let exprs = typed.program().exprs();
     if id.0 as usize >= exprs.len() {
-        return Ok(None);
+        return Next::Part(None);
     }
-    let node = exprs.node(id);
-    put_part_types(types, typed, node)?;
-    Ok(part(typed, types, node, at))
+    next_at(typed, exprs.node(id), at)
 }

@@ -11,14 +11,14 @@ ghost use Rattle.gib_syntax.specs.Arena.{tree_of};
 ghost use Rattle.gib_plain.specs.Running.{Waiting, Entering, Leaving, Ended, doing_for, IsScalar, IsMadeBy, with_done, value_at, is_over, IsReady, ComesTo, Goes, owes, complete, finished, finished_cost, complete_cost, frame_at, types_in, code_of, Code};
 ghost use Rattle.gib_base.specs.declared.Span.{Span};
 ghost use Rattle.gib_syntax.specs.declared.tree.Ident.{Ident};
-ghost use Rattle.gib_syntax.specs.Tree.{Arguments, Call, Make, Case};
-ghost use Rattle.gib_syntax.specs.Arena.{case_from, ArmsBelow};
+ghost use Rattle.gib_syntax.specs.Tree.{Arguments, Call, Make, Case, Tuple};
+ghost use Rattle.gib_syntax.specs.Arena.{arguments_from, case_from, ArmsBelow};
 ghost use Rattle.std.specs.List.{AllByRecursion};
 ghost use Rattle.gib_value.specs.Heap.{IsWithin};
 ghost use Rattle.gib_plain.specs.Told.{told};
 ghost use Rattle.gib_plain.specs.Turns.{in_place};
 
-use crate::lookup::{arm, function, next_part, push_types};
+use crate::lookup::{Next, arm, function, next_part, push_types, tuple_part};
 use crate::operators::{operated, truth_of};
 use crate::outcome::Outcome;
 use crate::stack::{
@@ -479,6 +479,28 @@ impl Machine {
         }
     }
 
+    // The next part of a tuple, or what is done with all of them.
+    fn go_on_tuple(
+        &mut self,
+        typed: &Typed,
+        types: &[TypeName],
+        parts: &[ExprId],
+        at: usize,
+    ) -> Result<(), Memory>
+        ensures { OnOk result ((fs : List Waiting) (f : Waiting) (span : Span) → IsReady self.old fs f → length f.finished ≡ at →
+            tree_of typed.now.exprs f.id ≡ Tuple span types.now (arguments_from (tree_of typed.now.exprs) parts.now) →
+            ComesTo (code_of typed.now) self.new fs (complete (code_of typed.now) f) (complete_cost (code_of typed.now) f)) }
+    {
+        let part = tuple_part(typed, &mut self.types, types, parts, at)?;
+        match part {
+            Some(next) => {
+                self.enter_next(next);
+                Ok(())
+            }
+            None => self.build_tuple(typed, types),
+        }
+    }
+
     // The next part of the newest frame, or what is done with all of them.
     fn go_on(&mut self, typed: &Typed) -> Result<(), Memory>
         ensures { OnOk result ((fs : List Waiting) (f : Waiting) → IsReady self.old fs f →
@@ -487,8 +509,11 @@ impl Machine {
         let Some((id, at)) = self.top() else {
             return Ok(());
         };
-        let part = next_part(typed, &mut self.types, id, at)?;
-        match part {
+        let found = match next_part(typed, id, at) {
+            Next::Part(found) => found,
+            Next::Tuple(types, parts) => return self.go_on_tuple(typed, types, parts, at),
+        };
+        match found {
             Some(next) => {
                 self.enter_next(next);
                 Ok(())
