@@ -21,6 +21,7 @@ use crate::value::Value;
 use gib_base::letters::{digits_len, name_len};
 use gib_base::{Memory, Name, Texts};
 use gib_types::{ConId, Ty, TyId, TypeTable};
+use itoa::Buffer;
 use std::alloc::Global;
 
 /// The length of the token at the front, or 0 where none begins.
@@ -82,26 +83,23 @@ fn candidate(token: &[u8]) -> Option<i64>
 }
 
 /// Whether the token is the text of the number.
-fn is_text_of(alloc: Global, token: &[u8], z: i64) -> Result<bool, Memory>
-    ensures { IfOk result (λ same. (same ≡ true → token.now ≡ signed_decimal z) × (same ≡ false → token.now ≡ signed_decimal z → ⊥)) }
+fn is_text_of(token: &[u8], z: i64) -> bool
+    ensures yes { result ≡ true → token.now ≡ signed_decimal z }
+    ensures no { result ≡ false → token.now ≡ signed_decimal z → ⊥ }
 {
-    let digits = format!(in alloc; "{z}")?;
-    Ok(token == digits.as_bytes())
+    let mut digits = Buffer::new();
+    token == digits.format(z).as_bytes()
 }
 
 /// The number that the token is.
-fn number_of(alloc: Global, token: &[u8]) -> Result<Option<i64>, Memory>
-    ensures { IfOk result (λ found. MatchOption found ((z : ℤ) → FitsSigned w64 z → token.now ≡ signed_decimal z → ⊥) (λ z. token.now ≡ signed_decimal z)) }
+fn number_of(token: &[u8]) -> Option<i64>
+    ensures { MatchOption result ((z : ℤ) → FitsSigned w64 z → token.now ≡ signed_decimal z → ⊥) (λ z. token.now ≡ signed_decimal z) }
 {
     let Some(z) = candidate(token) else {
-        return Ok(None);
+        return None;
     };
     // A number has one text: no zeros lead it, and no sign but a minus.
-    if is_text_of(alloc, token, z)? {
-        Ok(Some(z))
-    } else {
-        Ok(None)
-    }
+    if is_text_of(token, z) { Some(z) } else { None }
 }
 
 /// The constructor of the type whose name has the number.
@@ -242,7 +240,7 @@ fn find_leaf(context: &Context<'_>, ty: Ty, token: &[u8]) -> Result<Option<Node>
     ensures { IfOk result (λ found. MatchOption found ((node : Node) → IsLeaf context.now.types.now context.now.names.now.short ty token.now node → ⊥) (λ node. IsLeaf context.now.types.now context.now.names.now.short ty token.now node)) }
 {
     match ty {
-        Ty::Whole => match number_of(context.alloc, token)? {
+        Ty::Whole => match number_of(token) {
             Some(z) => Ok(Some(Node::Whole(z))),
             None => Ok(None),
         },

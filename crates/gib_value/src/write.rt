@@ -1,6 +1,7 @@
 //! The text of a value.
 
 ghost use Rattle.std.specs.Prelude.{◌≡◌, ◌<◌, ◌+◌, ◌++◌, ◌∷◌, [], reverse, length, map, OnOk, IfOk};
+ghost use Rattle.std.specs.Fmt.{signed_decimal};
 ghost use Rattle.std.specs.List.{AllByRecursion};
 ghost use Rattle.gib_types.specs.Tree.{IsTyped};
 ghost use Rattle.gib_value.specs.declared.write.Due.TheVariants.{Field as field_due};
@@ -13,8 +14,9 @@ use crate::context::Context;
 use crate::heap::Heap;
 use crate::node::Node;
 use crate::value::Value;
-use gib_base::{Memory, Texts, push_signed};
+use gib_base::{Memory, Texts};
 use gib_types::{ConId, TypeTable};
+use itoa::Buffer;
 use std::alloc::Global;
 
 /// What is still to be written: a field after its space, or a closing parenthesis.
@@ -22,6 +24,15 @@ use std::alloc::Global;
 enum Due {
     Field(Node),
     Close,
+}
+
+/// Writes a number.
+fn push_number(out: &mut Vec<u8>, z: i64) -> Result<(), Memory>
+    ensures { OnOk result (out.new.items ≡ out.old.items ++ signed_decimal z) }
+{
+    let mut digits = Buffer::new();
+    out.extend_from_slice(digits.format(z).as_bytes())?;
+    Ok(())
 }
 
 /// Writes a truth value.
@@ -92,7 +103,7 @@ impl Writer {
         ensures less { OnOk result (due_size heap.now (reverse self.new.due.items) < size (value_of heap.now node) + due_size heap.now (reverse self.old.due.items)) }
     {
         match node {
-            Node::Whole(z) => push_signed(context.alloc, &mut self.out, z),
+            Node::Whole(z) => push_number(&mut self.out, z),
             Node::Truth(b) => push_truth(&mut self.out, b),
             Node::Con { con, count, first } => {
                 if count == 0 {
