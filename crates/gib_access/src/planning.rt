@@ -17,7 +17,7 @@ use std::alloc::Global;
 
 /// A field that a line reaches by an end: the field directly before it, and the number of bindings before the first term that
 /// uses it.
-#[derive(Clone, Copy, Debug)]
+#[derive(Clone, Copy)]
 pub struct Planned {
     pub field: Variable,
     pub before: Variable,

@@ -14,14 +14,14 @@ use gib_check::Kind;
 use gib_file::HeadFault;
 
 /// What a line says: words, and what stands behind them.
-#[derive(Clone, Copy, Debug)]
+#[derive(Clone, Copy)]
 pub struct Said<'a> {
     pub words: &'a [u8],
     pub detail: Detail<'a>,
 }
 
 /// What stands behind the words of a line.
-#[derive(Clone, Copy, Debug)]
+#[derive(Clone, Copy)]
 pub enum Detail<'a> {
     Nothing,
     /// A number, in decimal.
@@ -35,7 +35,7 @@ pub enum Detail<'a> {
 }
 
 /// What a call answers to a stop.
-#[derive(Clone, Copy, Debug)]
+#[derive(Clone, Copy)]
 pub struct Answer<'a> {
     pub status: Status,
     pub said: Said<'a>,

@@ -5,7 +5,7 @@ use gib_arena::SoleMem;
 use gib_base::Texts;
 
 /// Why a job ends without a value.
-#[derive(Clone, Copy, Debug, PartialEq, Eq)]
+#[derive(Clone, Copy, PartialEq, Eq)]
 pub enum Reason {
     /// The program means none on the input, for this reason.
     Meant(gib_code::Reason),

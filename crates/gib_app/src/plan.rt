@@ -6,7 +6,7 @@ use gib_base::limits::FILE_BYTES;
 use gib_base::token::Dialect;
 
 /// Where bytes come from.
-#[derive(Clone, Copy, Debug)]
+#[derive(Clone, Copy)]
 pub enum Document<'a> {
     /// They are part of the product.
     BuiltIn(&'a [u8]),
@@ -19,7 +19,7 @@ pub enum Document<'a> {
 }
 
 /// What is done with a source and a second file.
-#[derive(Clone, Copy, Debug, PartialEq, Eq)]
+#[derive(Clone, Copy, PartialEq, Eq)]
 pub enum Job {
     /// Prints the value of a program on a packed input, within a depth of calls.
     Run,
@@ -46,7 +46,7 @@ pub enum Job {
 }
 
 /// What inputs are read as.
-#[derive(Clone, Copy, Debug, PartialEq, Eq)]
+#[derive(Clone, Copy, PartialEq, Eq)]
 pub enum Format {
     /// The packed file of a value.
     Packed,
@@ -59,7 +59,7 @@ pub enum Format {
 }
 
 /// The options of all jobs; a job looks at its own.
-#[derive(Clone, Copy, Debug, PartialEq, Eq)]
+#[derive(Clone, Copy, PartialEq, Eq)]
 pub struct Options {
     /// How many workers run.
     pub workers: u32,
@@ -88,14 +88,14 @@ pub struct Options {
 }
 
 /// The names under which a source and an input that are made are written.
-#[derive(Clone, Copy, Debug)]
+#[derive(Clone, Copy)]
 pub struct MadeNames<'a> {
     pub source: &'a str,
     pub input: &'a str,
 }
 
 /// An input: where it comes from, and how many bytes of it are read at most.
-#[derive(Clone, Copy, Debug)]
+#[derive(Clone, Copy)]
 pub struct Input<'a> {
     pub document: Document<'a>,
     pub most: u64,
@@ -104,7 +104,7 @@ pub struct Input<'a> {
 /// What to do: a source and an input are made and written, where they have names; the source is read, then the second file and the
 /// third; the job is done with them; the file that it makes is written under the target's name, and then the packed file of its result
 /// under the name `pack`.
-#[derive(Clone, Copy, Debug)]
+#[derive(Clone, Copy)]
 pub struct Plan<'a> {
     pub first: Option<MadeNames<'a>>,
     pub source: Document<'a>,

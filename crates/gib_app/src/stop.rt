@@ -7,7 +7,7 @@ use crate::made::Reason;
 use crate::source_fault::SourceFault;
 
 /// Why a call puts no output, or not all of it.
-#[derive(Clone, Copy, Debug)]
+#[derive(Clone, Copy)]
 pub enum Stop<'a> {
     /// The words are not taken.
     Usage,

@@ -5,7 +5,7 @@ use std::alloc::Global;
 use std::marker::Model;
 
 /// What stands at numbers: found without a search, in as much memory as the greatest of the numbers asks for.
-#[derive(Debug, Drop)]
+#[derive(Drop)]
 pub struct ByNumber<T> {
     entries: Vec<Option<T>>,
 }

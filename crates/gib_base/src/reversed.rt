@@ -6,7 +6,7 @@ use std::marker::Model;
 
 /// Items, each put before all that were put earlier. They are seen in their order: the one that was put last is
 /// the first.
-#[derive(Debug, Drop)]
+#[derive(Drop)]
 pub struct Reversed<T> {
     /// The last item first.
     items: Vec<T>,

@@ -7,7 +7,7 @@ use crate::limits::LITERAL;
 
 /// Which texts a text is one of: programs, or programs whose places are written out. The second have words and signs
 /// that the first do not have.
-#[derive(Clone, Copy, Debug, PartialEq, Eq)]
+#[derive(Clone, Copy, PartialEq, Eq)]
 pub enum Dialect {
     Source,
     Located,
@@ -109,7 +109,7 @@ pub enum Token {
 }
 
 /// What a piece of a source text is.
-#[derive(Clone, Copy, Debug, PartialEq, Eq)]
+#[derive(Clone, Copy, PartialEq, Eq)]
 pub enum Piece {
     /// A blank or a comment, which is no token.
     Gap,

@@ -12,7 +12,7 @@ use gib_types::ConId;
 use std::alloc::{AllocError, Global};
 
 /// The place of the first arm of each constructor, from a lowest constructor on.
-#[derive(Debug, Drop)]
+#[derive(Drop)]
 pub struct ArmIndex {
     pub lowest: u32,
     pub places: ByNumber<u32>,

@@ -16,11 +16,11 @@ use gib_types::Ty;
 use std::alloc::Global;
 
 /// The number of a function: its place among the functions but main, in the order of the text.
-#[derive(Clone, Copy, Debug, PartialEq, Eq)]
+#[derive(Clone, Copy, PartialEq, Eq)]
 pub struct FunctionId(pub u32);
 
 /// The types of a function's parameters and of its result; of several parts, where it is not asked, `Int`.
-#[derive(Debug, Drop)]
+#[derive(Drop)]
 pub struct FunctionHead {
     pub parameters: Vec<Ty>,
     pub result: Ty,

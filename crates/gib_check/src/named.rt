@@ -22,7 +22,7 @@ use std::marker::Model;
 
 /// A constructor: its name and its type's, the place of the type's declaration, the run of its fields' types, and how
 /// many these are.
-#[derive(Clone, Copy, Debug)]
+#[derive(Clone, Copy)]
 pub struct RowDecl {
     pub name: Name,
     pub owner: Name,

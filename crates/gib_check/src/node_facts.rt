@@ -20,7 +20,7 @@ use gib_types::Ty;
 use std::alloc::{AllocError, Global};
 
 /// What is known of an expression: where its type comes from, and the places of its arms.
-#[derive(Debug, Drop)]
+#[derive(Drop)]
 pub struct NodeFacts {
     pub origin: TypeOrigin,
     pub arms: ArmIndex,

@@ -9,7 +9,7 @@ use gib_types::Ty;
 
 /// Where the type of an expression comes from. It does not depend on where the expression stands, so that
 /// one number may stand at several places of a program.
-#[derive(Clone, Copy, Debug, PartialEq, Eq)]
+#[derive(Clone, Copy, PartialEq, Eq)]
 pub enum TypeOrigin {
     /// This type, whatever is in scope.
     Fixed(Ty),

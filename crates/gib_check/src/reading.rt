@@ -15,7 +15,7 @@ use gib_types::types::{TypeId, TypeNode, Types};
 use std::alloc::Global;
 
 /// What type variables stand for.
-#[derive(Debug, Drop)]
+#[derive(Drop)]
 pub enum Meaning {
     /// Each for itself.
     Opaque,

@@ -32,7 +32,7 @@ pub struct Part {
 }
 
 /// A declared type: the number of its name, and its arguments.
-#[derive(Debug, Drop)]
+#[derive(Drop)]
 pub struct DeclaredType {
     pub name: u32,
     pub arguments: Vec<TypeId>,

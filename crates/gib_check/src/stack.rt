@@ -5,7 +5,7 @@ use std::alloc::Global;
 use std::marker::Model;
 
 /// Items, of which the one that was put last is the first to be taken. They are seen in that order.
-#[derive(Debug, Drop)]
+#[derive(Drop)]
 pub struct Stack<T> {
     /// The top last.
     items: Vec<T>,

@@ -4,7 +4,7 @@ use crate::instruction::{AnswerType, Kind, Targets};
 use std::alloc::Global;
 
 /// Why a run has no value.
-#[derive(Clone, Copy, Debug, PartialEq, Eq)]
+#[derive(Clone, Copy, PartialEq, Eq)]
 pub enum Reason {
     /// A call had no depth left.
     Deep,
@@ -13,7 +13,7 @@ pub enum Reason {
 }
 
 /// What a run ends with.
-#[derive(Clone, Copy, Debug, PartialEq, Eq)]
+#[derive(Clone, Copy, PartialEq, Eq)]
 pub enum Answer {
     /// A number.
     Whole(i64),
@@ -30,7 +30,7 @@ pub enum Answer {
 }
 
 /// A right side that waits for a machine.
-#[derive(Debug, Drop)]
+#[derive(Drop)]
 pub struct Side {
     /// The label of its first instruction.
     pub start: u32,

@@ -8,7 +8,7 @@ use gib_base::Name;
 use gib_types::Ty;
 
 /// A slot or a literal.
-#[derive(Clone, Copy, Debug, PartialEq, Eq)]
+#[derive(Clone, Copy, PartialEq, Eq)]
 pub enum Operand {
     /// What the slot holds.
     Slot(u32),
@@ -17,7 +17,7 @@ pub enum Operand {
 }
 
 /// What is done with two operands.
-#[derive(Clone, Copy, Debug, PartialEq, Eq)]
+#[derive(Clone, Copy, PartialEq, Eq)]
 pub enum Operation {
     Add,
     Sub,
@@ -31,7 +31,7 @@ pub enum Operation {
 }
 
 /// Where the value of a right side is put.
-#[derive(Clone, Copy, Debug, PartialEq, Eq)]
+#[derive(Clone, Copy, PartialEq, Eq)]
 pub enum Kind {
     /// At the cursor of the region that is being made.
     Here,
@@ -44,14 +44,14 @@ pub enum Kind {
 }
 
 /// Slots one behind another, which the value of a right side sets: one, or one for each of its parts, in declared order.
-#[derive(Clone, Copy, Debug, PartialEq, Eq)]
+#[derive(Clone, Copy, PartialEq, Eq)]
 pub struct Targets {
     pub first: u32,
     pub count: u8,
 }
 
 /// The type of what a function or a right side gives.
-#[derive(Clone, Copy, Debug, PartialEq, Eq)]
+#[derive(Clone, Copy, PartialEq, Eq)]
 pub enum AnswerType {
     /// One value of this type.
     One(Ty),
@@ -61,7 +61,7 @@ pub enum AnswerType {
 
 /// A fork: its right side begins at the label `right`, and behind both sides the code goes on at the label `joint`. The value of the
 /// right side is of type `result` and sets the slots `targets`.
-#[derive(Clone, Copy, Debug, PartialEq, Eq)]
+#[derive(Clone, Copy, PartialEq, Eq)]
 pub struct Fork {
     pub right: u32,
     pub joint: u32,
@@ -71,14 +71,14 @@ pub struct Fork {
 }
 
 /// Where a switch goes on for a constructor.
-#[derive(Clone, Copy, Debug, PartialEq, Eq)]
+#[derive(Clone, Copy, PartialEq, Eq)]
 pub struct Arm {
     pub constructor: u32,
     pub label: u32,
 }
 
 /// One instruction. `to` is the slot that is set, `tree` a slot that holds the place of a head.
-#[derive(Debug, Drop)]
+#[derive(Drop)]
 pub enum Instr {
     Move {
         to: u32,
@@ -217,7 +217,7 @@ pub enum Instr {
 }
 
 /// A function in the code.
-#[derive(Clone, Copy, Debug, PartialEq, Eq)]
+#[derive(Clone, Copy, PartialEq, Eq)]
 pub struct Entry {
     /// None for main.
     pub name: Option<Name>,

@@ -3,11 +3,11 @@
 ghost use Rattle.std.specs.Prelude.{◌≡◌, ◌<◌, ◌^◌, pos};
 
 /// A variable: its number in its function, in the order in which the printed text binds them.
-#[derive(Clone, Copy, Debug, PartialEq, Eq)]
+#[derive(Clone, Copy, PartialEq, Eq)]
 pub struct Variable(pub u32);
 
 /// A variable or a literal.
-#[derive(Clone, Copy, Debug, PartialEq, Eq)]
+#[derive(Clone, Copy, PartialEq, Eq)]
 pub enum Atom {
     Variable(Variable),
     Whole(i64),
@@ -15,7 +15,7 @@ pub enum Atom {
 }
 
 /// Where the value of a bound term is put.
-#[derive(Clone, Copy, Debug, PartialEq, Eq)]
+#[derive(Clone, Copy, PartialEq, Eq)]
 pub enum Kind {
     /// At the place of the next field of the open head.
     Here,
@@ -26,7 +26,7 @@ pub enum Kind {
 }
 
 /// How a field of an arm is reached.
-#[derive(Clone, Copy, Debug, PartialEq, Eq)]
+#[derive(Clone, Copy, PartialEq, Eq)]
 pub enum Access {
     /// By the offset that its head stores.
     Offset,
@@ -37,14 +37,14 @@ pub enum Access {
 }
 
 /// A packed parameter: the number of its function's name, and its place among the function's parameters.
-#[derive(Clone, Copy, Debug, PartialEq, Eq)]
+#[derive(Clone, Copy, PartialEq, Eq)]
 pub struct Ended {
     pub function: u32,
     pub place: u32,
 }
 
 /// How all fields of a core are reached.
-#[derive(Clone, Copy, Debug, PartialEq, Eq)]
+#[derive(Clone, Copy, PartialEq, Eq)]
 pub enum AccessMode {
     Skips,
     Offsets,

@@ -12,11 +12,11 @@ use std::alloc::{AllocError, Global};
 use std::marker::Model;
 
 /// The number of a term.
-#[derive(Clone, Copy, Debug, PartialEq, Eq)]
+#[derive(Clone, Copy, PartialEq, Eq)]
 pub struct TermId(pub u32);
 
 /// A variable with its type, and the term that it is bound to.
-#[derive(Clone, Copy, Debug)]
+#[derive(Clone, Copy)]
 pub struct BoundTerm {
     pub kind: Kind,
     pub variable: Variable,
@@ -25,7 +25,7 @@ pub struct BoundTerm {
 }
 
 /// Variables one behind another, from the first one on, with their types, and the term that gives their values.
-#[derive(Clone, Copy, Debug)]
+#[derive(Clone, Copy)]
 pub struct BoundParts {
     pub first: Variable,
     pub types: PartTypes,
@@ -33,7 +33,7 @@ pub struct BoundParts {
 }
 
 /// What is bound to a term.
-#[derive(Clone, Copy, Debug)]
+#[derive(Clone, Copy)]
 pub enum BoundSide {
     One(BoundTerm),
     Several(BoundParts),
@@ -55,7 +55,7 @@ impl BoundSide {
 }
 
 /// One binding.
-#[derive(Clone, Copy, Debug)]
+#[derive(Clone, Copy)]
 pub enum Binding {
     /// Room for the head of a constructor, which the variable names.
     Past {
@@ -85,7 +85,7 @@ pub enum Binding {
 }
 
 /// A branch of a case: a constructor, the variables of its fields in declared order, and its term.
-#[derive(Debug, Drop)]
+#[derive(Drop)]
 pub struct Branch {
     pub constructor: ConId,
     pub variables: Vec<Variable>,
@@ -93,7 +93,7 @@ pub struct Branch {
 }
 
 /// One term, with its parts by their numbers.
-#[derive(Debug, Drop)]
+#[derive(Drop)]
 pub enum Node {
     /// A binding, and the rest of its line.
     Then(Binding, TermId),

@@ -11,14 +11,14 @@ use std::alloc::AllocError;
 pub const MOST_PARTS: usize = 8;
 
 /// At most eight types, in declared order: each by its code, as many as the count says. Nodes hold them, so they are small.
-#[derive(Clone, Copy, Debug)]
+#[derive(Clone, Copy)]
 pub struct PartTypes {
     codes: [u16; 8],
     count: u8,
 }
 
 /// At most eight types, in declared order: as many of these as the count says.
-#[derive(Clone, Copy, Debug)]
+#[derive(Clone, Copy)]
 pub struct Unpacked {
     types: [Ty; 8],
     count: u8,

@@ -6,7 +6,7 @@ use gib_syntax::Operator;
 use gib_types::{ConId, Ty};
 
 /// The word that a line of the core's text begins with.
-#[derive(Clone, Copy, Debug, PartialEq, Eq)]
+#[derive(Clone, Copy, PartialEq, Eq)]
 pub enum Keyword {
     Fun,
     Main,
@@ -30,7 +30,7 @@ pub enum Keyword {
 }
 
 /// One piece of the core's text.
-#[derive(Clone, Copy, Debug, PartialEq, Eq)]
+#[derive(Clone, Copy, PartialEq, Eq)]
 pub enum Piece {
     /// The start of a line on a level of nesting.
     Line(u64, Keyword),

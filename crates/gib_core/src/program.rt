@@ -10,14 +10,14 @@ use gib_types::{ConId, Ty, TypeTable};
 use std::marker::Model;
 
 /// What a function gives: one thing of a type, or several parts.
-#[derive(Clone, Copy, Debug)]
+#[derive(Clone, Copy)]
 pub enum CoreResult {
     One(Ty),
     Several(PartTypes),
 }
 
 /// A function of a core. Its parameters are its first variables.
-#[derive(Debug, Drop)]
+#[derive(Drop)]
 pub struct CoreFunction {
     pub name: Name,
     pub parameters: Vec<Ty>,
@@ -26,7 +26,7 @@ pub struct CoreFunction {
 }
 
 /// Main of a core. Its parameter is its first variable.
-#[derive(Clone, Copy, Debug)]
+#[derive(Clone, Copy)]
 pub struct CoreMain {
     pub parameter: Ty,
     pub result: Ty,

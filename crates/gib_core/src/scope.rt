@@ -5,7 +5,7 @@ use gib_base::Name;
 use gib_types::{ConId, Ty};
 
 /// What a name of the source became: an atom, with its type.
-#[derive(Clone, Copy, Debug)]
+#[derive(Clone, Copy)]
 pub struct Slot {
     pub name: Name,
     pub atom: Atom,
@@ -13,7 +13,7 @@ pub struct Slot {
 }
 
 /// A variable that was bound, with its type.
-#[derive(Clone, Copy, Debug)]
+#[derive(Clone, Copy)]
 pub struct Bound {
     pub variable: Variable,
     pub ty: Ty,
@@ -21,14 +21,14 @@ pub struct Bound {
 
 /// What a packed field of an arm, from the second one on, stands behind: the field directly before it, in
 /// a head of the constructor.
-#[derive(Clone, Copy, Debug)]
+#[derive(Clone, Copy)]
 pub struct Behind {
     pub constructor: ConId,
     pub before: Variable,
 }
 
 /// A variable in scope: whether it is reached, and where it is a field what it stands behind.
-#[derive(Clone, Copy, Debug)]
+#[derive(Clone, Copy)]
 pub struct Known {
     pub variable: Variable,
     pub reached: bool,

@@ -17,7 +17,7 @@ pub struct Due {
 }
 
 /// How a task ended.
-#[derive(Clone, Copy, Debug, PartialEq, Eq)]
+#[derive(Clone, Copy, PartialEq, Eq)]
 pub enum Ending {
     /// Its side has this answer.
     Answer(Answer),

@@ -4,7 +4,7 @@ ghost use Rattle.std.specs.Prelude.{◌≡◌};
 ghost use Rattle.gib_local.specs.Building.{same_place, is_there, is_place, is_region, place_meant};
 
 /// A location, by what it is.
-#[derive(Clone, Copy, Debug)]
+#[derive(Clone, Copy)]
 pub enum Place {
     /// The place of a function's result.
     AtResult,
@@ -17,7 +17,7 @@ pub enum Place {
 }
 
 /// What a name stands for among regions and locations.
-#[derive(Clone, Copy, Debug)]
+#[derive(Clone, Copy)]
 pub enum Meant {
     IsRegion,
     IsPlace(Place),

@@ -18,7 +18,7 @@ use std::alloc::Global;
 use std::snapshot::Snapshot;
 
 /// Whether a run goes on, and if not, why it ended.
-#[derive(Clone, Copy, Debug, PartialEq, Eq)]
+#[derive(Clone, Copy, PartialEq, Eq)]
 pub enum End {
     Going,
     /// The root has ended.
@@ -44,7 +44,7 @@ impl<'a> Fits for Held<'a> {
 }
 
 /// What a worker did in its turn.
-#[derive(Clone, Copy, Debug, PartialEq, Eq)]
+#[derive(Clone, Copy, PartialEq, Eq)]
 pub(crate) enum Did {
     /// One event.
     Applied(Event),

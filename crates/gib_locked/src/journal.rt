@@ -14,7 +14,7 @@ use std::alloc::Global;
 pub(crate) const MOST: u64 = 9223372036854775807;
 
 /// A line of a journal: steps of one task one after another, or one other event of a task.
-#[derive(Clone, Copy, Debug, PartialEq, Eq)]
+#[derive(Clone, Copy, PartialEq, Eq)]
 pub enum Line {
     /// So many steps of the task, one at least.
     Steps(u32, u64),

@@ -14,7 +14,7 @@ use std::marker::Model;
 /// What follows a term: the call returns, and before it the ends of the trees of the cases around are told; or the code goes on
 /// at a label. A scalar is then left in the slot; a packed value sets none. Several parts go to variables one behind another, of
 /// these types.
-#[derive(Clone, Copy, Debug)]
+#[derive(Clone, Copy)]
 pub(crate) enum Ending {
     Returns,
     To {
@@ -29,14 +29,14 @@ pub(crate) enum Ending {
 }
 
 /// Where a term stands: in a function whose ends are told; in a side of a `par`.
-#[derive(Clone, Copy, Debug)]
+#[derive(Clone, Copy)]
 pub(crate) struct Around {
     pub ends: bool,
     pub par: bool,
 }
 
 /// Where a term stands, and what follows it.
-#[derive(Clone, Copy, Debug)]
+#[derive(Clone, Copy)]
 pub(crate) struct At {
     pub around: Around,
     pub ending: Ending,
@@ -94,7 +94,7 @@ impl Around {
 }
 
 /// A tree that a case is on, and its last packed field, which ends where it does.
-#[derive(Clone, Copy, Debug)]
+#[derive(Clone, Copy)]
 pub(crate) struct LastField {
     pub tree: u32,
     pub field: u32,

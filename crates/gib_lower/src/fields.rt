@@ -12,7 +12,7 @@ use std::alloc::Global;
 use std::marker::Model;
 
 /// A packed field: its variable, the slot of the case, and where in the head its address is stored.
-#[derive(Clone, Copy, Debug)]
+#[derive(Clone, Copy)]
 pub(crate) struct StoredField {
     pub variable: u32,
     pub tree: u32,

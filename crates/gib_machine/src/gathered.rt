@@ -7,7 +7,7 @@ ghost use Rattle.gib_machine.specs.State.{left_in, word_end, with_part};
 use gib_mem::{Mem, WORD_BYTES};
 
 /// The number that the lowest bytes of a number are, how many more are due, and where the next one stands.
-#[derive(Clone, Copy, Debug)]
+#[derive(Clone, Copy)]
 pub struct Gathered {
     pub at: u64,
     pub number: u64,

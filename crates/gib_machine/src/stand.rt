@@ -12,7 +12,7 @@ use crate::state::{Doing, End, Machine};
 use gib_code::{Answer, Code, Instr};
 
 /// Where a machine stands.
-#[derive(Clone, Copy, Debug, PartialEq, Eq)]
+#[derive(Clone, Copy, PartialEq, Eq)]
 pub enum Stand {
     /// It can make a step.
     Goes,

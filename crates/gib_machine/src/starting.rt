@@ -21,7 +21,7 @@ use std::alloc::{AllocError, Global};
 
 /// How a machine begins: where, with how many slots, how many calls and forks may nest, with which slots it ends where it is a right
 /// side, with what type of answer, and whether it opens a region first.
-#[derive(Clone, Copy, Debug)]
+#[derive(Clone, Copy)]
 pub struct Start {
     pub label: u32,
     pub slots: u32,

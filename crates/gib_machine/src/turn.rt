@@ -1,7 +1,7 @@
 //! What a micro-step did.
 
 /// What a micro-step did.
-#[derive(Clone, Copy, Debug, PartialEq, Eq)]
+#[derive(Clone, Copy, PartialEq, Eq)]
 pub enum Turn {
     /// One memory action, or none where the instruction has none.
     Went,

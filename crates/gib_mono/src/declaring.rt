@@ -27,7 +27,7 @@ use gib_syntax::{
 use gib_types::types::TypeId;
 
 /// A type as the copy writes it, with its number.
-#[derive(Clone, Copy, Debug)]
+#[derive(Clone, Copy)]
 pub struct Written {
     pub name: TypeName,
     pub ty: TypeId,

@@ -15,7 +15,7 @@ use std::alloc::Global;
 use std::marker::Model;
 
 /// Why a program has no copy.
-#[derive(Clone, Copy, Debug, PartialEq, Eq)]
+#[derive(Clone, Copy, PartialEq, Eq)]
 pub enum MonoFault {
     Memory,
     /// A use is over a limit.
@@ -23,7 +23,7 @@ pub enum MonoFault {
 }
 
 /// A declaration, by its place among those of its kind, with types for its type variables.
-#[derive(Debug, Drop, PartialEq, Eq, Hash)]
+#[derive(Drop, PartialEq, Eq, Hash)]
 pub enum CopyKey {
     Data(u32, Vec<TypeId>),
     Function(u32, Vec<TypeId>),

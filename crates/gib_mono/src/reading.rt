@@ -14,7 +14,7 @@ use gib_types::types::{TypeId, TypeNode, Types};
 use std::alloc::Global;
 
 /// A use of a declared type with types for its type variables, and where its name stands.
-#[derive(Debug, Drop)]
+#[derive(Drop)]
 pub struct Use {
     pub name: Name,
     pub types: Vec<TypeId>,

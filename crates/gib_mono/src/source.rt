@@ -15,7 +15,7 @@ use std::alloc::{AllocError, Global};
 use std::marker::Model;
 
 /// Where a constructor is declared: the place of its type, and its own among the type's constructors.
-#[derive(Clone, Copy, Debug)]
+#[derive(Clone, Copy)]
 pub struct RowPlace {
     pub owner: u32,
     pub constructor: u32,

@@ -1,7 +1,7 @@
 //! What stands for a value.
 
 /// A scalar itself, or the address at which a constructor stands in region memory.
-#[derive(Clone, Copy, Debug, PartialEq, Eq)]
+#[derive(Clone, Copy, PartialEq, Eq)]
 pub enum Root {
     Whole(i64),
     Truth(bool),

@@ -3,7 +3,7 @@
 use gib_value::Value;
 
 /// What a run gives: a value, or why there is none.
-#[derive(Debug, Drop)]
+#[derive(Drop)]
 pub enum Outcome {
     Gives(Value),
     /// A call came with no depth left.

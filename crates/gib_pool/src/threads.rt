@@ -25,7 +25,7 @@ use std::sync::Wait;
 use std::thread::{Threads, join};
 
 /// How a run is set.
-#[derive(Clone, Copy, Debug)]
+#[derive(Clone, Copy)]
 pub struct Config {
     /// How many workers run at a time: at least 1, for which 0 stands too. There are twice as many, each in a thread of its own, the first in
     /// the caller's, since one that waits lets another run; and the first alone where nothing can be forked, or one runs at a time.

@@ -8,7 +8,7 @@ use std::alloc::{AllocError, Global};
 use std::marker::Model;
 
 /// The number of an expression.
-#[derive(Clone, Copy, Debug, PartialEq, Eq)]
+#[derive(Clone, Copy, PartialEq, Eq)]
 pub struct ExprId(pub u32);
 
 /// A variable, and the expression that it is bound to.
@@ -28,7 +28,7 @@ impl Bound {
 }
 
 /// An arm of a case: a constructor, the variables of its fields, and what the case is there.
-#[derive(Debug, Drop)]
+#[derive(Drop)]
 pub struct Arm {
     pub constructor: Ident,
     pub variables: Vec<Ident>,
@@ -36,7 +36,7 @@ pub struct Arm {
 }
 
 /// One expression, with its parts by their numbers. A span is that of the first token.
-#[derive(Debug, Drop)]
+#[derive(Drop)]
 pub enum Node {
     Variable(Ident),
     Whole(Span, u64),

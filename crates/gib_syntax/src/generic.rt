@@ -10,7 +10,7 @@ use std::alloc::{AllocError, Global};
 use std::marker::Model;
 
 /// One expression, with its parts by their numbers. A span is that of the first token.
-#[derive(Debug, Drop)]
+#[derive(Drop)]
 pub enum GenericNode {
     Variable(Ident),
     Whole(Span, u64),

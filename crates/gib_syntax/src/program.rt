@@ -9,21 +9,21 @@ use crate::written::{ResultRuns, Run};
 use std::marker::Model;
 
 /// A parameter with its type, a run of one type.
-#[derive(Clone, Copy, Debug, PartialEq, Eq)]
+#[derive(Clone, Copy, PartialEq, Eq)]
 pub struct GenericParameter {
     pub name: Ident,
     pub ty: Run,
 }
 
 /// A constructor of a data declaration, with the types of its fields, a run of as many types.
-#[derive(Clone, Copy, Debug)]
+#[derive(Clone, Copy)]
 pub struct GenericConstructor {
     pub name: Ident,
     pub fields: Run,
 }
 
 /// A data declaration with its type variables.
-#[derive(Debug, Drop)]
+#[derive(Drop)]
 pub struct GenericData {
     pub name: Ident,
     pub variables: Vec<Ident>,
@@ -31,7 +31,7 @@ pub struct GenericData {
 }
 
 /// A function declaration with its type variables.
-#[derive(Debug, Drop)]
+#[derive(Drop)]
 pub struct GenericFunction {
     pub name: Ident,
     pub variables: Vec<Ident>,
@@ -41,7 +41,7 @@ pub struct GenericFunction {
 }
 
 /// The declaration of main, which has no type variables.
-#[derive(Clone, Copy, Debug)]
+#[derive(Clone, Copy)]
 pub struct GenericMain {
     pub parameter: GenericParameter,
     pub result: Run,

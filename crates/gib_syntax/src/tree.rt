@@ -8,14 +8,14 @@ use gib_types::Ty;
 use std::marker::Model;
 
 /// A name where it stands in the text.
-#[derive(Clone, Copy, Debug, PartialEq, Eq)]
+#[derive(Clone, Copy, PartialEq, Eq)]
 pub struct Ident {
     pub name: Name,
     pub span: Span,
 }
 
 /// A type as it is written: `Int`, `Bool` or the name of a declared type.
-#[derive(Clone, Copy, Debug, PartialEq, Eq)]
+#[derive(Clone, Copy, PartialEq, Eq)]
 pub enum TypeName {
     Whole(Span),
     Truth(Span),
@@ -23,7 +23,7 @@ pub enum TypeName {
 }
 
 /// The operators: `+`, `-`, `*`, `==`, `<`, `quot` and `rem`.
-#[derive(Clone, Copy, Debug, PartialEq, Eq)]
+#[derive(Clone, Copy, PartialEq, Eq)]
 pub enum Operator {
     Add,
     Subtract,
@@ -56,35 +56,35 @@ impl Operator {
 }
 
 /// A constructor of a data declaration, with the types of its fields.
-#[derive(Debug, Drop)]
+#[derive(Drop)]
 pub struct ConstructorDecl {
     pub name: Ident,
     pub fields: Vec<TypeName>,
 }
 
 /// A data declaration.
-#[derive(Debug, Drop)]
+#[derive(Drop)]
 pub struct DataDecl {
     pub name: Ident,
     pub constructors: Vec<ConstructorDecl>,
 }
 
 /// A parameter with its type.
-#[derive(Clone, Copy, Debug, PartialEq, Eq)]
+#[derive(Clone, Copy, PartialEq, Eq)]
 pub struct Parameter {
     pub name: Ident,
     pub ty: TypeName,
 }
 
 /// What a function gives: a value of one type, or several parts.
-#[derive(Debug, Drop)]
+#[derive(Drop)]
 pub enum ResultTypes {
     One(TypeName),
     Several(Vec<TypeName>),
 }
 
 /// A function declaration.
-#[derive(Debug, Drop)]
+#[derive(Drop)]
 pub struct FunctionDecl {
     pub name: Ident,
     pub parameters: Vec<Parameter>,
@@ -93,7 +93,7 @@ pub struct FunctionDecl {
 }
 
 /// The declaration of main.
-#[derive(Clone, Copy, Debug)]
+#[derive(Clone, Copy)]
 pub struct MainDecl {
     pub parameter: Parameter,
     pub result: TypeName,

@@ -11,7 +11,7 @@ use std::marker::Model;
 
 /// The head of a constructor: how many bytes it has in all, how many of them are offsets and how many are
 /// scalars, and how many packed fields follow it. A head has at most 65 bytes.
-#[derive(Clone, Copy, Debug, PartialEq, Eq)]
+#[derive(Clone, Copy, PartialEq, Eq)]
 pub struct Layout {
     pub head: u8,
     pub offsets: u8,
@@ -20,7 +20,7 @@ pub struct Layout {
 }
 
 /// A table of types, and the layouts of all its constructors, where the listed ones have offsets.
-#[derive(Debug, Drop)]
+#[derive(Drop)]
 pub struct Layouts {
     types: TypeTable,
     with_offsets: Vec<ConId>,

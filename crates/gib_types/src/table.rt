@@ -9,15 +9,15 @@ use std::alloc::Global;
 use std::marker::Model;
 
 /// The number of a declared type, in the order of the text.
-#[derive(Clone, Copy, Debug, PartialEq, Eq)]
+#[derive(Clone, Copy, PartialEq, Eq)]
 pub struct TyId(pub u32);
 
 /// The number of a constructor among all constructors of the program, in the order of the text: its tag.
-#[derive(Clone, Copy, Debug, PartialEq, Eq)]
+#[derive(Clone, Copy, PartialEq, Eq)]
 pub struct ConId(pub u32);
 
 /// A type of the language: `Int`, `Bool` or a declared type.
-#[derive(Clone, Copy, Debug, PartialEq, Eq)]
+#[derive(Clone, Copy, PartialEq, Eq)]
 pub enum Ty {
     Whole,
     Truth,
@@ -62,7 +62,7 @@ impl Ty {
 }
 
 /// A constructor: its name, the type that it belongs to, and the types of its fields in declared order.
-#[derive(Debug, Drop)]
+#[derive(Drop)]
 pub struct Constructor {
     pub name: Name,
     pub owner: TyId,
@@ -70,7 +70,7 @@ pub struct Constructor {
 }
 
 /// The declared types, and their constructors in the order of the text.
-#[derive(Debug, Drop)]
+#[derive(Drop)]
 pub struct TypeTable {
     types: Vec<Name>,
     constructors: Vec<Constructor>,

@@ -10,11 +10,11 @@ use std::alloc::{AllocError, Global};
 use std::marker::Model;
 
 /// The number of a type: its place among those that were met.
-#[derive(Clone, Copy, Debug, PartialEq, Eq, Hash)]
+#[derive(Clone, Copy, PartialEq, Eq, Hash)]
 pub struct TypeId(pub u32);
 
 /// A type, with its arguments by their numbers. A type variable and a declared type stand by the numbers of their names.
-#[derive(Debug, Drop, PartialEq, Eq, Hash)]
+#[derive(Drop, PartialEq, Eq, Hash)]
 pub enum TypeNode {
     Whole,
     Truth,

@@ -13,7 +13,7 @@ use std::marker::Model;
 
 /// The nodes made so far, seen as their values: a constructor's fields stand before it, and any number of
 /// constructors may have the same fields.
-#[derive(Debug, Drop)]
+#[derive(Drop)]
 pub struct Heap {
     nodes: Vec<Node>,
 }

@@ -4,7 +4,7 @@ use gib_types::ConId;
 
 /// A value: a number, a truth value, or a constructor with `count` fields, which stand in a heap one after
 /// the other, the first one at the place `first`.
-#[derive(Clone, Copy, Debug)]
+#[derive(Clone, Copy)]
 pub enum Node {
     Whole(i64),
     Truth(bool),

@@ -10,7 +10,7 @@ use std::alloc::Global;
 use std::marker::Model;
 
 /// A value: its root, and a heap that holds all its parts but the root.
-#[derive(Debug, Drop)]
+#[derive(Drop)]
 pub struct Value {
     heap: Heap,
     root: Node,

@@ -1,7 +1,7 @@
 //! The events of a weave.
 
 /// What may happen next, each to the task of a number.
-#[derive(Clone, Copy, Debug, PartialEq, Eq)]
+#[derive(Clone, Copy, PartialEq, Eq)]
 pub enum Event {
     /// It makes a micro-step.
     Step(u32),

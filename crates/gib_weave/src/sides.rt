@@ -12,7 +12,7 @@ use std::alloc::Global;
 use std::marker::Model;
 
 /// A right side that its task neither joined nor took.
-#[derive(Debug, Drop)]
+#[derive(Drop)]
 pub enum RightSide {
     /// Nobody began it.
     Waiting(Side),
@@ -21,7 +21,7 @@ pub enum RightSide {
 }
 
 /// How far a right side is.
-#[derive(Clone, Copy, Debug, PartialEq, Eq)]
+#[derive(Clone, Copy, PartialEq, Eq)]
 pub enum Newest {
     /// Nobody began it.
     Waiting,
@@ -30,7 +30,7 @@ pub enum Newest {
 }
 
 /// The right sides of a task, seen with the newest first. Those that wait are the newest, since the oldest one is begun first.
-#[derive(Debug, Drop)]
+#[derive(Drop)]
 pub struct Sides {
     /// The oldest first.
     items: Vec<RightSide>,

@@ -34,7 +34,7 @@ pub enum WeaveFault {
 }
 
 /// Whether a task runs.
-#[derive(Clone, Copy, Debug, PartialEq, Eq)]
+#[derive(Clone, Copy, PartialEq, Eq)]
 pub enum Stage {
     Running,
     /// It ended, and is not joined.

@@ -22,7 +22,7 @@ use std::alloc::Global;
 use std::marker::Model;
 
 /// How many calls may be nested, and how many forks.
-#[derive(Clone, Copy, Debug, PartialEq, Eq)]
+#[derive(Clone, Copy, PartialEq, Eq)]
 pub struct Nesting {
     pub calls: u32,
     pub forks: u32,

@@ -7,7 +7,7 @@ use std::alloc::Global;
 use std::marker::Model;
 
 /// What is known of a variable in scope, and what was known of it before.
-#[derive(Clone, Copy, Debug)]
+#[derive(Clone, Copy)]
 pub struct InScope {
     pub known: Known,
     pub before: Option<Known>,
