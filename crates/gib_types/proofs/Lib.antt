@@ -1,8 +1,6 @@
 pub mod Owners
 pub mod Indexes
 pub mod LayoutLemmas
-pub mod WideSample
-pub mod SampleLemmas
 pub mod Copied
 pub mod Naming
 pub mod FieldLemmas

@@ -6,7 +6,6 @@ pub mod Loaded
 pub mod Tree
 pub mod TreeCode
 pub mod Bytes
-pub mod Samples
 pub mod Form
 pub mod SameForm
 pub mod Types

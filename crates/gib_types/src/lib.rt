@@ -5,7 +5,6 @@ mod copy;
 mod fields;
 pub mod law;
 pub mod layouts;
-pub mod sample;
 pub mod table;
 pub mod types;
 

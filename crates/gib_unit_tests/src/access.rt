@@ -2,11 +2,11 @@
 
 ghost use Rattle.std.specs.Prelude.{◌≡◌, ◌++◌, ◌∷◌, [], ◌<◌, ◌≤◌, length, map, IfOk, OnOk};
 
+use crate::sample::add;
 use crate::terms::*;
 use gib_access::reach;
 use gib_base::{Memory, Name};
 use gib_core::*;
-use gib_types::sample::add;
 use gib_types::{ConId, Ty, TypeTable};
 use std::alloc::Global;
 use std::test::*;

@@ -1,8 +1,8 @@
 //! Code that is put together by hand, as it is listed.
 
+use crate::sample::trees;
 use gib_base::{Memory, Names, Texts};
 use gib_code::*;
-use gib_types::sample::trees;
 use gib_types::{Layouts, Ty};
 use std::alloc::Global;
 use std::test::*;

@@ -2,11 +2,11 @@
 
 ghost use Rattle.std.specs.Prelude.{◌≡◌, ◌++◌, ◌∷◌, [], ◌<◌, ◌≤◌, length, map, IfOk, OnOk};
 
+use crate::sample::trees;
 use crate::terms::*;
 use gib_base::{Memory, Name};
 use gib_core::*;
 use gib_syntax::Operator;
-use gib_types::sample::trees;
 use gib_types::{ConId, Ty};
 use std::alloc::Global;
 use std::test::*;

@@ -4,9 +4,9 @@ ghost use Rattle.std.specs.Prelude.{IfOk};
 ghost use Rattle.gib_types.specs.Tree.{IsTyped};
 
 use crate::bytes::{packed, push_times};
+use crate::sample::mixed;
 use gib_base::{Names, Texts};
 use gib_file::{pack, read_header, survey, unpack};
-use gib_types::sample::mixed;
 use gib_types::{Ty, TyId, TypeTable};
 use gib_value::Value;
 use std::alloc::{AllocError, Global};

@@ -41,6 +41,8 @@ mod print;
 #[cfg(test)]
 mod region;
 #[cfg(test)]
+mod sample;
+#[cfg(test)]
 mod several;
 #[cfg(test)]
 mod terms;

@@ -3,13 +3,13 @@
 ghost use Rattle.std.specs.Prelude.{◌≡◌, true};
 
 use crate::bytes::{packed, push_times};
+use crate::sample::mixed;
 use gib_base::Memory;
 use gib_file::{read_header, survey};
 use gib_load::{LoadFault, load};
 use gib_mem::{Mem, PlainMem};
 use gib_packed::Root;
 use gib_region::Tails;
-use gib_types::sample::mixed;
 use gib_types::{Layouts, Ty, TyId, TypeTable};
 use std::alloc::{AllocError, Global};
 use std::test::*;

@@ -2,12 +2,12 @@
 
 ghost use Rattle.std.specs.Prelude.{◌≡◌, ◌<◌, ◌≤◌, length, IfOk};
 
+use crate::sample::trees;
 use crate::terms::*;
 use gib_base::{Memory, Name};
 use gib_core::*;
 use gib_loccheck::{LocFault, loccheck};
 use gib_syntax::Operator;
-use gib_types::sample::trees;
 use gib_types::{ConId, Ty};
 use std::alloc::Global;
 use std::test::*;

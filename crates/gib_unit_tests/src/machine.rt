@@ -1,9 +1,9 @@
 //! Machines are made, where there is memory for them, and begin again in the memory that they have.
 
+use crate::sample::trees;
 use gib_base::Memory;
 use gib_code::{AnswerType, Code, Kind, Side, Targets};
 use gib_machine::Machine;
-use gib_types::sample::trees;
 use gib_types::{Layouts, Ty};
 use std::alloc::Global;
 use std::test::*;

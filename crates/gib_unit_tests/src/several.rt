@@ -5,12 +5,12 @@ ghost use Rattle.gib_types.specs.declared.table.Ty.TheVariants.{Whole, Tree};
 ghost use Rattle.gib_core.specs.Arena.{term_in};
 ghost use Rattle.gib_core.specs.PartTypes.{types_in};
 
+use crate::sample::trees;
 use crate::terms::*;
 use gib_access::reach;
 use gib_base::{Memory, Name};
 use gib_core::*;
 use gib_syntax::Operator;
-use gib_types::sample::trees;
 use gib_types::{ConId, Ty};
 use std::alloc::Global;
 use std::test::*;

@@ -2,8 +2,8 @@
 
 ghost use Rattle.std.specs.Prelude.{◌≡◌, IfOk, length};
 
+use crate::sample::add;
 use gib_base::{Memory, Name};
-use gib_types::sample::add;
 use gib_types::{ConId, Layout, Layouts, Ty, TyId, TypeTable};
 use std::alloc::Global;
 use std::test::*;

@@ -1,6 +1,6 @@
 use Rattle.std.proofs.Common.{ap, map, List, refl}
 use Rattle.gib_base.specs.declared.name.Name.{Name}
-use Rattle.gib_types.proofs.WideSample.{sample_is_table}
+use Rattle.gib_unit_tests.proofs.WideSample.{sample_is_table}
 use Rattle.gib_unit_tests.proofs.types.table.Goals as goal
 
 pub make-requires : goal.make-requires

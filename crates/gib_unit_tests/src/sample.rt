@@ -2,10 +2,10 @@
 
 ghost use Rattle.std.specs.Prelude.{◌≡◌, ◌++◌, ◌∷◌, [], map, IfOk, OnOk};
 ghost use Rattle.gib_types.specs.Table.{row_of};
-ghost use Rattle.gib_types.specs.Samples.{entry, tree_table, mixed_table};
+ghost use Rattle.gib_unit_tests.specs.Samples.{entry, tree_table, mixed_table};
 
-use crate::{Constructor, Ty, TyId, TypeTable};
 use gib_base::{Memory, Name};
+use gib_types::{Constructor, Ty, TyId, TypeTable};
 use std::alloc::Global;
 
 const TREE: Ty = Ty::Tree(TyId(0));
@@ -17,7 +17,7 @@ const LIST: Ty = Ty::Tree(TyId(3));
 /// # Errors
 ///
 /// Want of memory.
-pub fn add(
+pub(crate) fn add(
     alloc: Global,
     rows: &mut Vec<Constructor>,
     name: u32,
@@ -40,7 +40,7 @@ pub fn add(
 /// # Errors
 ///
 /// Want of memory.
-pub fn trees(alloc: Global) -> Result<TypeTable, Memory>
+pub(crate) fn trees(alloc: Global) -> Result<TypeTable, Memory>
     ensures { IfOk result (λ table. table ≡ tree_table) }
 {
     let types = Vec::from_slice(alloc, &[Name(0)])?;
@@ -56,7 +56,7 @@ pub fn trees(alloc: Global) -> Result<TypeTable, Memory>
 /// # Errors
 ///
 /// Want of memory.
-pub fn mixed(alloc: Global) -> Result<TypeTable, Memory>
+pub(crate) fn mixed(alloc: Global) -> Result<TypeTable, Memory>
     ensures { IfOk result (λ table. table ≡ mixed_table) }
 {
     let types = Vec::from_slice(alloc, &[Name(0), Name(1), Name(2), Name(3)])?;

@@ -1,9 +1,9 @@
 use Rattle.std.proofs.Common.{ap, map, List, refl, subst, sym}
 use Rattle.gib_base.specs.declared.name.Name.{Name}
 use Rattle.gib_types.specs.Table.{IsTable}
-use Rattle.gib_types.specs.Samples.{mixed_table}
-use Rattle.gib_types.proofs.SampleLemmas.{mixed_ok, same_parts}
-use Rattle.gib_types.proofs.sample.mixed.Goals as goal
+use Rattle.gib_unit_tests.specs.Samples.{mixed_table}
+use Rattle.gib_unit_tests.proofs.SampleLemmas.{mixed_ok, same_parts}
+use Rattle.gib_unit_tests.proofs.sample.mixed.Goals as goal
 
 pub make-requires : goal.make-requires
 make-requires c =

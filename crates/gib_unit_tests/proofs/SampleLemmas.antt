@@ -5,7 +5,7 @@ use Rattle.gib_base.specs.declared.name.Name.{Name}
 use Rattle.gib_types.specs.declared.table.Ty.TheVariants.{Whole, Truth}
 use Rattle.gib_types.specs.declared.table.Constructor.{Constructor}
 use Rattle.gib_types.specs.Table.{Row, Table, row_of, table_of, con_at, IsRow, IsTable}
-use Rattle.gib_types.specs.Samples.{entry, tree, tree_table, mixed_table}
+use Rattle.gib_unit_tests.specs.Samples.{entry, tree, tree_table, mixed_table}
 
 same_name : (a b : ℕ) → ◌≡◌ {A = Option ℕ} (Some a) (Some b) → b ≡ a
 same_name a b e = cc
