@@ -95,7 +95,7 @@ def main():
         for row in rows():
             table.row(row)
         print("\n| A command | seconds |\n|---|---|", flush=True)
-        source, tree = table.put("source", inputs.source(1_000_000).encode()), table.put("tree", inputs.tree_file(LEAVES))
+        source, tree = table.put("source", inputs.source(1_000_000)), table.put("tree", inputs.tree_file(LEAVES))
         program, text = table.put("program", inputs.TREE.encode()), table.put("text", inputs.tree_text(LEAVES))
         table.command("`check` of a source of 1,000,000 bytes", ["check", source], b"ok\n")
         table.command("`code` of it", ["code", source])
