@@ -4,6 +4,7 @@ An edit says that a function with another body breaks its contract. So its sum i
 the definitions to which these contracts lead; comments and blank lines aside. An edit that stands in no function has the whole file in their place.
 """
 
+import fcntl
 import functools
 import hashlib
 import importlib.machinery
@@ -220,9 +221,27 @@ def read_last():
     return {label: Tried(sum, commit, why) for label, sum, commit, why in lines}
 
 
-def write_last(tried):
-    head = "".join(line + "\n" for line in read(LAST).splitlines() if line.startswith("#"))
-    rows = (f"{label} {each.sum} {each.commit} {each.why}\n" for label, each in sorted(tried.items()))
-    with open(LAST + ".new", "w", encoding="utf-8") as file:
-        file.write(head + "".join(rows))
-    os.replace(LAST + ".new", LAST)
+def record(found, labels):
+    """Puts what was found of edits into tools/edits/last, and drops from it what is none of these labels. Two that do so wait for one another."""
+    here = os.open(HERE, os.O_RDONLY)
+    try:
+        fcntl.flock(here, fcntl.LOCK_EX)
+        head = "".join(line + "\n" for line in read(LAST).splitlines() if line.startswith("#"))
+        tried = {label: each for label, each in {**read_last(), **found}.items() if label in labels}
+        rows = (f"{label} {each.sum} {each.commit} {each.why}\n" for label, each in sorted(tried.items()))
+        with open(LAST + ".new", "w", encoding="utf-8") as file:
+            file.write(head + "".join(rows))
+        os.replace(LAST + ".new", LAST)
+    finally:
+        os.close(here)
+
+
+def fault(edit, tried):
+    """Why an edit has to be tried, by what was found of it; None where nothing is due."""
+    if not edit.fits():
+        return "it does not fit its file any more"
+    if tried is None:
+        return "it is new"
+    if tried.sum not in ("-", edit.sum()):
+        return f"what it stands on has changed since {tried.commit}"
+    return None
