@@ -44,14 +44,18 @@ crates() {
 }
 
 # Has `find` tell, by further words, of all that a crate's program is built of in a folder. Names are told from that folder on.
-sources() {
-  local folder=$1 crate=$2 name places=()
-  shift 2
-  for name in $(crates "$crate" "$folder"); do
-    places+=("crates/$name/src" "crates/$name/specs" "crates/$name/proofs")
+sources() (
+  cd "$1" || exit
+  places=(crates.txt)
+  [ ! -f HANDLES ] || places+=(HANDLES)
+  for name in $(crates "$2" .); do
+    for place in "crates/$name/src" "crates/$name/specs" "crates/$name/proofs"; do
+      [ ! -d "$place" ] || places+=("$place")
+    done
   done
-  cd "$folder" && find "${places[@]}" crates.txt HANDLES -type f \( -name '*.rt' -o -name '*.antt' -o -name crates.txt -o -name HANDLES \) "$@" 2> /dev/null
-}
+  shift 2
+  find "${places[@]}" -type f \( -name '*.rt' -o -name '*.antt' -o -name crates.txt -o -name HANDLES \) "$@" 2> /dev/null
+)
 
 # The sum of that text, names and bytes.
 sum_text() (
