@@ -1,5 +1,5 @@
-# What the script `gib` does beside the program: help on one command, `eval`, `enough`, `located`, `pretty`, `where`, `prove` and `which`, texts that are
-# spread over lines, and outputs that are inputs. `gib` reads this file, and calls `desk` with the words before it runs the program.
+# What the script `gib` does beside the program: help on one command, `eval`, `convert`, `enough`, `located`, `pretty`, `where`, `prove` and `which`,
+# texts that are spread over lines, and outputs that are inputs. `gib` reads this file, and calls `desk` with the words before it runs the program.
 
 # shellcheck disable=SC2154  # `gib` sets it
 manual=$root/docs/LANGUAGE.md
@@ -128,6 +128,26 @@ evaluate() {
   [[ ${#names[@]} = [23] ]] || misused eval
   room=$(mktemp -d) || exit 70
   pack_named "$room" && run_program run "${options[@]}" -- "${names[1]}" "$room/packed"
+  status=$?
+  rm -rf "$room"
+  exit $status
+}
+
+# `convert OLD FILE NEW OUT [--skips] [--v1]`: what a file of one program holds goes over to another program by its text, in which constructors
+# have names and no tags.
+convert() {
+  local room status option shows=() packs=()
+  [[ ${#names[@]} = 5 ]] || misused convert
+  for option in "${options[@]}"; do
+    case $option in
+      --skips) shows+=("$option") ;;
+      --v1) packs+=("$option") ;;
+      *) misused convert ;;
+    esac
+  done
+  room=$(mktemp -d) || exit 70
+  run_program show "${shows[@]}" -- "${names[1]}" "${names[2]}" > "$room/text" &&
+    text_file=$room/text text_name="the text of ${names[2]}" run_program pack "${packs[@]}" -- "${names[3]}" "$room/text" "${names[4]}"
   status=$?
   rm -rf "$room"
   exit $status
@@ -272,6 +292,7 @@ spare_inputs() {
   local output input inputs=("${names[@]:1:2}")
   case ${names[0]} in
     pack | trace) outputs+=("${names[@]:3:1}") ;;
+    convert) inputs+=("${names[@]:3:1}") outputs+=("${names[@]:4:1}") ;;
     replay) inputs+=("${names[@]:3:1}") ;;
   esac
   for output in "${outputs[@]}"; do
@@ -300,6 +321,10 @@ desk() {
     eval)
       [ -n "$force" ] || spare_inputs
       ready && evaluate
+      ;;
+    convert)
+      [ -n "$force" ] || spare_inputs
+      ready && convert
       ;;
     enough) ready && enough ;;
     located) ready_located && locate ;;
