@@ -1,16 +1,8 @@
-# What the script `gib` does beside the program: help on one command, `eval`, `enough`, `located`, `pretty` and `where`, texts that are spread over lines,
-# and outputs that are inputs. `gib` reads this file, and calls `desk` with the words before it runs the program.
+# What the script `gib` does beside the program: help on one command, `eval`, `convert`, `enough`, `located`, `pretty`, `where`, `prove` and `which`,
+# texts that are spread over lines, and outputs that are inputs. `gib` reads this file, and calls `desk` with the words before it runs the program.
 
 # shellcheck disable=SC2154  # `gib` sets it
 manual=$root/docs/LANGUAGE.md
-
-# Ends with a line on standard error.
-stop() {
-  local status=$1
-  shift
-  echo "gib: $*" >&2
-  exit "$status"
-}
 
 # Ends where a file cannot be read.
 is_file() {
@@ -141,6 +133,26 @@ evaluate() {
   exit $status
 }
 
+# `convert OLD FILE NEW OUT [--skips] [--v1]`: what a file of one program holds goes over to another program by its text, in which constructors
+# have names and no tags.
+convert() {
+  local room status option shows=() packs=()
+  [[ ${#names[@]} = 5 ]] || misused convert
+  for option in "${options[@]}"; do
+    case $option in
+      --skips) shows+=("$option") ;;
+      --v1) packs+=("$option") ;;
+      *) misused convert ;;
+    esac
+  done
+  room=$(mktemp -d) || exit 70
+  run_program show "${shows[@]}" -- "${names[1]}" "${names[2]}" > "$room/text" &&
+    text_file=$room/text text_name="the text of ${names[2]}" run_program pack "${packs[@]}" -- "${names[3]}" "$room/text" "${names[4]}"
+  status=$?
+  rm -rf "$room"
+  exit $status
+}
+
 # `enough SRC [INP] [OPTION ..]`: prints options that suffice for a run on a packed file, or on a text. Python lets the program's core happen once, and
 # the program itself tries what that finds.
 enough() {
@@ -219,6 +231,33 @@ where() {
   exit
 }
 
+# -- which program runs ----------------------------------------------------------------------------------------------------------
+
+# `prove`: proves all of it, and builds both programs.
+prove_all() {
+  [[ ${#names[@]} = 1 && ${#options[@]} = 0 ]] || misused prove
+  ! is_installed || stop 70 "the sources are not here: gib prove in a checkout of Gib proves a program"
+  # shellcheck source=tools/build.bash
+  . "$root/tools/build.bash"
+  prove_crate gib
+  prove_crate gib_located -- data/add_one.gib
+  GIB_PROGRAM="" tell_which GIB_PROGRAM gib ""
+  exit
+}
+
+# `which [located] [--path]`: says which program calls run.
+say_which() {
+  local only_path=""
+  [ "${options[*]}" != --path ] || only_path=yes
+  [[ ${#options[@]} -eq 0 || -n $only_path ]] || misused which
+  case "${names[*]:1}" in
+    "") tell_which GIB_PROGRAM gib "$only_path" ;;
+    located) tell_which GIB_LOCATED gib_located "$only_path" ;;
+    *) misused which ;;
+  esac
+  exit
+}
+
 # -- words -----------------------------------------------------------------------------------------------------------------------
 
 # Takes words apart: `names` (the command first) and their `places` among the words, `options`, the files of `outputs` that options name, and `force`.
@@ -240,7 +279,7 @@ take_words() {
       options+=("$word")
       case $word in
         --image=* | --pack=*) outputs+=("${word#*=}") ;;
-        --*=* | --skips | --v1 | --from) ;;
+        --*=* | --skips | --v1 | --from | --path) ;;
         *) last=$word ;;
       esac
     fi
@@ -253,6 +292,7 @@ spare_inputs() {
   local output input inputs=("${names[@]:1:2}")
   case ${names[0]} in
     pack | trace) outputs+=("${names[@]:3:1}") ;;
+    convert) inputs+=("${names[@]:3:1}") outputs+=("${names[@]:4:1}") ;;
     replay) inputs+=("${names[@]:3:1}") ;;
   esac
   for output in "${outputs[@]}"; do
@@ -282,8 +322,14 @@ desk() {
       [ -n "$force" ] || spare_inputs
       ready && evaluate
       ;;
+    convert)
+      [ -n "$force" ] || spare_inputs
+      ready && convert
+      ;;
     enough) ready && enough ;;
     located) ready_located && locate ;;
+    prove) prove_all ;;
+    which) say_which ;;
     run | pack | trace | replay)
       if [ -n "$force" ]; then
         words=()

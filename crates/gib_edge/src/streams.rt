@@ -10,7 +10,7 @@ use std::io;
 use std::io::{Read, Write};
 
 // How many bytes one read asks for at most.
-const READ_BYTES: u64 = 4096;
+const READ_BYTES: u64 = 65_536;
 
 /// Reads until `most` bytes have come, or none come.
 pub(crate) fn read_front<F: Read>(
