@@ -33,11 +33,12 @@ compile() {
   shift
   need_rt
   lock "$crate"
-  if ! is_compiled "$crate"; then
+  find_program "$crate"
+  if [ "$found" != unproved ]; then
     echo "gib: compiling $crate without proof first, which takes some minutes; gib prove proves it, some $(minutes_of "$crate") minutes of one processor" >&2
     attended "$root/tools/quick" "$crate" "$(twin_path "$crate")" "$@" || exit 70
-    find_text "$crate"
-    is_compiled "$crate" || stop 70 "sources of $crate were changed while it was compiled: call again"
+    find_program "$crate"
+    [ "$found" = unproved ] || stop 70 "sources of $crate were changed while it was compiled: call again"
     echo "gib: built without proof; it stops where one of its own checks fails" >&2
   fi
   unlock
@@ -83,8 +84,8 @@ prove_crate() {
   made=$(proved_path "$crate")
   need_rt
   lock "$crate.prove"
-  find_text "$crate"
-  if ! is_proved "$crate"; then
+  find_program "$crate"
+  if [ "$found" != proved ]; then
     begun_with=$text
     log=$(mktemp) || exit 70
     echo "gib: proving and building $crate, $(crates "$crate" | wc -l) crates; from nothing that is work for some $(minutes_of "$crate") minutes of one processor" >&2

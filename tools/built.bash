@@ -43,8 +43,9 @@ crates() {
     }' "${2:-$root}/crates.txt"
 }
 
-# Has `find` tell, by further words, of all that a crate's program is built of in a folder. Names are told from that folder on.
-sources() (
+# The sum of the text that a crate's program is built of in a folder: names and bytes of the sources of its crates, crates.txt and HANDLES.
+sum_text() (
+  set -o pipefail
   cd "$1" || exit
   places=(crates.txt)
   [ ! -f HANDLES ] || places+=(HANDLES)
@@ -53,39 +54,25 @@ sources() (
       [ ! -d "$place" ] || places+=("$place")
     done
   done
-  shift 2
-  find "${places[@]}" -type f \( -name '*.rt' -o -name '*.antt' -o -name crates.txt -o -name HANDLES \) "$@" 2> /dev/null
+  sum=$(find "${places[@]}" -type f \( -name '*.rt' -o -name '*.antt' -o -name crates.txt -o -name HANDLES \) -print0 | LC_ALL=C sort -z | xargs -0 sha256sum | sha256sum) &&
+    echo "${sum%% *}"
 )
-
-# The sum of that text, names and bytes.
-sum_text() (
-  set -o pipefail
-  sum=$(sources "$@" -print0 | LC_ALL=C sort -z | (cd "$1" && xargs -0 -r sha256sum) | sha256sum) && echo "${sum%% *}"
-)
-
-# Sets `text` to the sum of this checkout's. Reading it all would take longer than most calls: where no file has another size, another date or
-# another place on the disk than when it was last read, the sum is the one that was noted then.
-find_text() {
-  local crate=$1 noted=$root/out/$1.text listed seen
-  listed=$(sources "$root" "$crate" -printf '%p %s %T@ %C@ %i\n' | sha256sum)
-  listed=${listed%% *}
-  if ! read -r seen text 2> /dev/null < "$noted" || [ "$seen" != "$listed" ]; then
-    text=$(sum_text "$root" "$crate") || stop 70 "the sources of $crate cannot be read"
-    { mkdir -p "$root/out" && echo "$listed $text" > "$noted.$$" && mv -f "$noted.$$" "$noted"; } 2> /dev/null || rm -f "$noted.$$"
-  fi
-}
 
 # -- records ---------------------------------------------------------------------------------------------------------------------
 
-# Reads a program's record into `record`. Answers whether there is one of this kind, and the program is the one that it tells of.
-is_recorded() {
-  local program=$1 kind=$2 word rest sum
+# Reads a program's record into `record`.
+read_record() {
+  local word rest
   record=()
-  [ -x "$program" ] && [ -r "$program.built" ] || return
   while read -r word rest; do
     [ -z "$word" ] || record["$word"]=$rest
-  done < "$program.built"
-  [ "${record[kind]:-}" = "$kind" ] && sum=$(sha256sum < "$program") && [ "${sum%% *}" = "${record[program]:-}" ]
+  done 2> /dev/null < "$1.built"
+}
+
+# Whether a program has a record of this kind, which is read, and is the one that it tells of.
+is_recorded() {
+  local sum
+  [ -x "$1" ] && read_record "$1" && [ "${record[kind]:-}" = "$2" ] && sum=$(sha256sum < "$1") && [ "${sum%% *}" = "${record[program]:-}" ]
 }
 
 # Whether a crate's program of `text` was proved here, and whether there is one that was compiled without proof.
@@ -94,6 +81,32 @@ is_proved() {
 }
 is_compiled() {
   is_recorded "$(twin_path "$1")" unproved && [ "${record[text]:-}" = "$text" ]
+}
+
+# Lists what was found of a crate's program the last time, and then all that it was found by, with size, place on the disk, and the time of the last
+# change of any kind, which nobody can set: the sources of its crates, also folders that are not there yet, the programs, and their records.
+listed() {
+  local name places=(crates.txt HANDLES "crates/$1/out/$1" "crates/$1/out/$1.built" "out/$1" "out/$1.built")
+  for name in $3; do
+    places+=("crates/$name/src" "crates/$name/specs" "crates/$name/proofs")
+  done
+  printf '%s %s\n%s\n' "$2" "$3" "$root"
+  cd "$root" && find "${places[@]}" -type f -printf '%p %s %C@ %i\n' 2> /dev/null
+}
+
+# Sets `text` to the sum of a crate's text, and `found` to what there is of it: proved, unproved or nothing. To read all of it would take longer than
+# most calls do: where the list is the one that was noted, so is what was found.
+find_program() {
+  local crate=$1 noted=$root/out/$1.noted names
+  if read -r found text names 2> /dev/null < "$noted" && listed "$crate" "$found $text" "$names" | cmp -s - "$noted"; then
+    return
+  fi
+  names=$(crates "$crate" "$root" | tr '\n' ' ')
+  # What changes while it is read is seen by the next call.
+  { mkdir -p "$root/out" && listed "$crate" "" "${names% }" > "$noted.$$"; } 2> /dev/null
+  text=$(sum_text "$root" "$crate") || stop 70 "the sources of $crate cannot be read"
+  if is_proved "$crate"; then found=proved; elif is_compiled "$crate"; then found=unproved; else found=nothing; fi
+  { sed -i "1s/^/$found $text/" "$noted.$$" && mv -f "$noted.$$" "$noted"; } 2> /dev/null || rm -f "$noted.$$"
 }
 
 # The commit that stands here.
@@ -119,8 +132,8 @@ write_record() {
 
 # Writes the record of a proved program whose build has ended, where its sources are those that it began with.
 note_proved() {
-  local crate=$1 begun_with=$2
-  find_text "$crate"
+  local crate=$1 begun_with=$2 text
+  text=$(sum_text "$root" "$crate")
   if [ "$text" != "$begun_with" ]; then
     echo "gib: sources of $crate were changed while it was proved, so what was built is not taken" >&2
     return 70
@@ -153,18 +166,18 @@ choose() {
     is_recorded "$chosen" handed-on || stop 70 "$chosen is not what was installed"
     return
   fi
-  find_text "$crate"
-  if is_proved "$crate"; then
-    chosen=$(proved_path "$crate")
+  find_program "$crate"
+  if [ "$found" = proved ]; then
+    chosen=$root/crates/$crate/out/$crate
     return
   fi
   [ "${GIB_PROVED:-}" != 1 ] || stop 70 "there is no proved program of this text: gib prove makes it"
-  if ! is_compiled "$crate"; then
-    # shellcheck source=tools/build.bash
+  if [ "$found" != unproved ]; then
+    # shellcheck source=build.bash
     . "$root/tools/build.bash"
     compile "$crate" "$@"
   fi
-  chosen=$(twin_path "$crate")
+  chosen=$root/out/$crate
   [ ! -t 2 ] || echo "gib: not proved (gib prove)" >&2
 }
 
@@ -182,14 +195,12 @@ tell_which() {
     # Whoever handed it on says that it was proved; here nobody knows.
     if [ "${record[was]:-}" = proved ]; then said=$(told "handed on" "$program"); else said=$(told "handed on, not proved" "$program"); fi
   else
-    find_text "$crate"
-    if is_proved "$crate"; then
-      program=$(proved_path "$crate") && said=$(told proved "$program")
-    elif is_compiled "$crate"; then
-      program=$(twin_path "$crate") && said=$(told "not proved" "$program")
-    else
-      said="none of this text yet: the next call compiles it without proof"
-    fi
+    find_program "$crate"
+    case $found in
+      proved) program=$(proved_path "$crate") && read_record "$program" && said=$(told proved "$program") ;;
+      unproved) program=$(twin_path "$crate") && read_record "$program" && said=$(told "not proved" "$program") ;;
+      *) said="none of this text yet: the next call compiles it without proof" ;;
+    esac
   fi
   [ -z "$only_path" ] || said=$program
   [ -z "$said" ] || echo "$said"
