@@ -4,7 +4,7 @@
 #
 # A record is written last, in one piece, and has a line for each of these words:
 #   kind           proved, unproved, or handed-on, which only `tools/install` writes
-#   program, text  sums of the program's bytes and of its text
+#   program, text  sums of the program's bytes and of its text; of one that was compiled without proof that of the code alone
 #   folder         where it was built: a proved program is one whose build this very checkout saw end
 #   commit, kit    for people
 declare -A record
@@ -43,7 +43,8 @@ crates() {
     }' "${2:-$root}/crates.txt"
 }
 
-# The sum of the text that a crate's program is built of in a folder: names and bytes of the sources of its crates, crates.txt and HANDLES.
+# The sum of the text of a crate's program in a folder: names and bytes of the sources of its crates, crates.txt and HANDLES. With the word code it is
+# that of what is compiled, which specs and proofs are not.
 sum_text() (
   set -o pipefail
   cd "$1" || exit
@@ -51,7 +52,7 @@ sum_text() (
   [ ! -f HANDLES ] || places+=(HANDLES)
   for name in $(crates "$2" .); do
     for place in "crates/$name/src" "crates/$name/specs" "crates/$name/proofs"; do
-      [ ! -d "$place" ] || places+=("$place")
+      [ ! -d "$place" ] || [[ ${3:-} = code && $place != */src ]] || places+=("$place")
     done
   done
   sum=$(find "${places[@]}" -type f \( -name '*.rt' -o -name '*.antt' -o -name crates.txt -o -name HANDLES \) -print0 | LC_ALL=C sort -z | xargs -0 sha256sum | sha256sum) &&
@@ -75,12 +76,12 @@ is_recorded() {
   [ -x "$1" ] && read_record "$1" && [ "${record[kind]:-}" = "$2" ] && sum=$(sha256sum < "$1") && [ "${sum%% *}" = "${record[program]:-}" ]
 }
 
-# Whether a crate's program of `text` was proved here, and whether there is one that was compiled without proof.
+# Whether a crate's program of `text` was proved here, and whether there is one of `code` that was compiled without proof.
 is_proved() {
   is_recorded "$(proved_path "$1")" proved && [ "${record[text]:-}" = "$text" ] && [ "${record[folder]:-}" = "$root" ]
 }
 is_compiled() {
-  is_recorded "$(twin_path "$1")" unproved && [ "${record[text]:-}" = "$text" ]
+  is_recorded "$(twin_path "$1")" unproved && [ "${record[text]:-}" = "$code" ]
 }
 
 # Lists what was found of a crate's program the last time, and then all that it was found by, with size, place on the disk, and the time of the last
@@ -97,14 +98,14 @@ listed() {
 # Sets `text` to the sum of a crate's text, and `found` to what there is of it: proved, unproved or nothing. To read all of it would take longer than
 # most calls do: where the list is the one that was noted, so is what was found.
 find_program() {
-  local crate=$1 noted=$root/out/$1.noted names
+  local crate=$1 noted=$root/out/$1.noted names code
   if read -r found text names 2> /dev/null < "$noted" && listed "$crate" "$found $text" "$names" | cmp -s - "$noted"; then
     return
   fi
   names=$(crates "$crate" "$root" | tr '\n' ' ')
   # What changes while it is read is seen by the next call.
   { mkdir -p "$root/out" && listed "$crate" "" "${names% }" > "$noted.$$"; } 2> /dev/null
-  text=$(sum_text "$root" "$crate") || stop 70 "the sources of $crate cannot be read"
+  text=$(sum_text "$root" "$crate") && code=$(sum_text "$root" "$crate" code) || stop 70 "the sources of $crate cannot be read"
   if is_proved "$crate"; then found=proved; elif is_compiled "$crate"; then found=unproved; else found=nothing; fi
   { sed -i "1s/^/$found $text/" "$noted.$$" && mv -f "$noted.$$" "$noted"; } 2> /dev/null || rm -f "$noted.$$"
 }

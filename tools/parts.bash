@@ -2,7 +2,7 @@
 # `tools/trial`, which proves nothing; both print the sums.
 
 # Each tries the programs that GIB and GIB_LOCATED name, or reads pages and sources; its last line is 'N passed, M failed'.
-parts=(examples/check examples/starve examples/transcripts docs/believed docs/cited)
+parts=(examples/check examples/starve examples/transcripts docs/believed docs/cited docs/house tools/edits/due)
 
 printed=$(mktemp) || exit 1
 trap 'rm -f "$printed"' EXIT
