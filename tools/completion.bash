@@ -4,7 +4,7 @@ _gib() {
   local gib=${COMP_WORDS[0]} current=${COMP_WORDS[COMP_CWORD]} before=${COMP_WORDS[COMP_CWORD - 1]} told
   COMPREPLY=()
   if [ "$COMP_CWORD" -eq 1 ]; then
-    told=$("$gib" --help 2> /dev/null | sed -n 's/^gib \([a-z]*\) .*/\1/p')
+    told=$("$gib" --help 2> /dev/null | sed -n 's/^gib \([a-z]*\).*/\1/p')
     mapfile -t COMPREPLY < <(compgen -W "$told --help" -- "$current")
     return
   fi
