@@ -88,7 +88,7 @@ prove_crate() {
   if [ "$found" != proved ]; then
     begun_with=$text
     log=$(mktemp) || exit 70
-    echo "gib: proving and building $crate, $(crates "$crate" | wc -l) crates; from nothing that is work for some $(minutes_of "$crate") minutes of one processor" >&2
+    echo "gib: proving $crate, $(crates "$crate" | wc -l) crates; from nothing that is work for some $(minutes_of "$crate") minutes of one processor" >&2
     # rt takes a program for its stamp; this one's build was not seen.
     rm -f "$made" "$made.stamp" "$made.built"
     (cd "$root/crates/$crate" && rt run "$@" 9>&-) 2>&1 | tee "$log" | progress "$crate" >&2
