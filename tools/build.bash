@@ -10,12 +10,14 @@ lock() {
 }
 unlock() { exec 9>&-; }
 
-# Runs a builder that ends where this script is ended.
+# Runs a builder that ends, with all that it began, where this script is ended: in a process group of its own.
 attended() {
   local child status
-  "$@" 9>&- &
+  set -m
+  "$@" 9>&- < /dev/null &
   child=$!
-  trap 'trap "" INT TERM HUP; kill -TERM "$child" 2> /dev/null; wait "$child"; stop 70 "the build was ended"' INT TERM HUP
+  set +m
+  trap 'trap "" INT TERM HUP; kill -TERM -- "-$child" 2> /dev/null; wait "$child"; stop 70 "the build was ended"' INT TERM HUP
   wait "$child"
   status=$?
   trap - INT TERM HUP
