@@ -10,14 +10,14 @@ lock() {
 }
 unlock() { exec 9>&-; }
 
-# Runs a builder that ends, with all that it began, where this script is ended: in a process group of its own.
+# Runs a builder that ends, with all that it began, where this script is ended: in a process group of its own. What dies by INT, a shell does not tell.
 attended() {
   local child status
   set -m
   "$@" 9>&- < /dev/null &
   child=$!
   set +m
-  trap 'trap "" INT TERM HUP; kill -TERM -- "-$child" 2> /dev/null; wait "$child"; stop 70 "the build was ended"' INT TERM HUP
+  trap 'trap "" INT TERM HUP; kill -INT -- "-$child"; kill -TERM -- "-$child"; wait "$child"; stop 70 "the build was ended"' INT TERM HUP
   wait "$child"
   status=$?
   trap - INT TERM HUP
