@@ -1,11 +1,12 @@
 """How many micro-steps a second the machine makes on one processor, and what it takes to make one for a depth of calls."""
 
 import os
+import shutil
 import sys
 import tempfile
 
 import inputs
-from measure import RUNS, Missed, measure
+from measure import RUNS, Missed, instructions, measure
 
 # So many steps a second are the aim.
 AIM = 60_000_000
@@ -69,6 +70,43 @@ CASES = (
     ("heads put and got", BOXES, 999_998, 16_384, 1_000_000, box_steps, lambda n: 2 * n * (n + 1)),
 )
 
+# Passes over a tree of 1,024 leaves, as many as the argument says.
+LEAVES = 1024
+
+GROW = """data Tree = Leaf Int | Node Tree Tree ;
+
+fun grow (n : Int) : Tree = if (n < 1) then Leaf 1 else let a = grow (n - 1) in let b = grow (n - 1) in Node a b ;
+"""
+
+SUMS = """
+fun sums (n : Int) (tree : Tree) : Int = if (n < 1) then 0 else (sum tree + sums (n - 1) tree) ;
+
+main (n : Int) : Int = let tree = grow 10 in sums n tree ;
+"""
+
+SUM_TREE = "fun sum (tree : Tree) : Int = case tree of { Leaf n -> n ; Node left right -> (sum left + sum right) } ;\n"
+SUM_PAR = "fun sum (tree : Tree) : Int = case tree of { Leaf n -> n ; Node left right -> let par a = sum left and b = sum right in (a + b) } ;\n"
+
+COPIES = """
+fun add_one (tree : Tree) : Tree =
+  case tree of { Leaf n -> Leaf (n + 1) ; Node left right -> let a = add_one left in let b = add_one right in Node a b } ;
+
+fun copies (n : Int) (tree : Tree) : Int =
+  if (n < 1) then 0 else let other = add_one tree in case other of { Leaf k -> 0 ; Node left right -> copies (n - 1) tree } ;
+
+main (n : Int) : Int = let tree = grow 10 in copies n tree ;
+"""
+
+# What is counted in instructions: the program and its two numbers, what it gives for a number, of what there are so many more in the run on the
+# second number, and how many instructions each may take.
+COUNTED = (
+    ("a sum, a leaf", GROW + SUM_TREE + SUMS, 2, 20, lambda n: n * LEAVES, 18 * LEAVES, 940),
+    ("a sum in place, a leaf", GROW + SUM_PAR + SUMS, 2, 20, lambda n: n * LEAVES, 18 * LEAVES, 990),
+    ("add_one, a leaf", GROW + COPIES, 2, 20, lambda n: 0, 18 * LEAVES, 1_630),
+    ("fib, a call", FIB, 0, 20, fibonacci, 2 * fibonacci(21) - 2, 400),
+    ("a box", BOXES, 0, 20_000, lambda n: 2 * n * (n + 1), 20_000, 2_530),
+)
+
 # A machine is made for so many calls, and for frames of few words and of many.
 DEPTHS = (10_000, 1_000_000)
 WIDE = 512
@@ -108,6 +146,18 @@ class Steps:
         words = ["run", self.at("program"), self.at("number"), "--depth", str(depth), "--chunks", str(chunks)]
         return measure([*self.gib, *words], self.at("out"), self.at("out"), b"%d\n" % due)
 
+    def count(self, what, program, first, second, result, more, most):
+        """Instructions for each of what there is more in the run on the second number."""
+        counts = []
+        for number in (first, second):
+            self.run(program, number, 100_000, 4_096, result(number))
+            words = ["run", self.at("program"), self.at("number"), "--depth", "100000", "--chunks", "4096", "--workers", "1"]
+            counts.append(instructions([*self.gib, *words]))
+        each = (counts[1] - counts[0]) / more
+        print(f"{what:22}{each:>14,.0f} instructions", flush=True)
+        if each > most:
+            self.miss(what, f"more than {most:,} instructions")
+
     def speed(self, what, program, size, chunks, depth, steps, result):
         """Steps a second, by the time over that of the same run on 0."""
         seconds = self.run(program, size, depth, chunks, result(size))[0] - self.run(program, 0, depth, chunks, result(0))[0]
@@ -141,6 +191,12 @@ def main():
                 steps.speed(*case)
             except Missed as missed:
                 steps.miss(case[0], missed)
+        if shutil.which("valgrind") is not None:
+            for row in COUNTED:
+                try:
+                    steps.count(*row)
+                except Missed as missed:
+                    steps.miss(row[0], missed)
         steps.making("make, few words", SUM, 0)
         steps.making(f"make, {WIDE} words", wide_program(WIDE), wide_answer(WIDE))
     print(f"{steps.missed} missed")

@@ -10,12 +10,14 @@ lock() {
 }
 unlock() { exec 9>&-; }
 
-# Runs a builder that ends where this script is ended.
+# Runs a builder that ends, with all that it began, where this script is ended: in a process group of its own. What dies by INT, a shell does not tell.
 attended() {
   local child status
-  "$@" 9>&- &
+  set -m
+  "$@" 9>&- < /dev/null &
   child=$!
-  trap 'trap "" INT TERM HUP; kill -TERM "$child" 2> /dev/null; wait "$child"; stop 70 "the build was ended"' INT TERM HUP
+  set +m
+  trap 'trap "" INT TERM HUP; kill -INT -- "-$child"; kill -TERM -- "-$child"; wait "$child"; stop 70 "the build was ended"' INT TERM HUP
   wait "$child"
   status=$?
   trap - INT TERM HUP
@@ -88,7 +90,7 @@ prove_crate() {
   if [ "$found" != proved ]; then
     begun_with=$text
     log=$(mktemp) || exit 70
-    echo "gib: proving and building $crate, $(crates "$crate" | wc -l) crates; from nothing that is work for some $(minutes_of "$crate") minutes of one processor" >&2
+    echo "gib: proving $crate, $(crates "$crate" | wc -l) crates; from nothing that is work for some $(minutes_of "$crate") minutes of one processor" >&2
     # rt takes a program for its stamp; this one's build was not seen.
     rm -f "$made" "$made.stamp" "$made.built"
     (cd "$root/crates/$crate" && rt run "$@" 9>&-) 2>&1 | tee "$log" | progress "$crate" >&2

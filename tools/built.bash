@@ -55,8 +55,8 @@ sum_text() (
       [ ! -d "$place" ] || [[ ${3:-} = code && $place != */src ]] || places+=("$place")
     done
   done
-  sum=$(find "${places[@]}" -type f \( -name '*.rt' -o -name '*.antt' -o -name crates.txt -o -name HANDLES \) -print0 | LC_ALL=C sort -z | xargs -0 sha256sum | sha256sum) &&
-    echo "${sum%% *}"
+  sum=$(find "${places[@]}" -type f \( -name '*.rt' -o -name '*.antt' -o -name crates.txt -o -name HANDLES \) -print0 |
+    LC_ALL=C sort -z | xargs -0 sha256sum | sha256sum) && echo "${sum%% *}"
 )
 
 # -- records ---------------------------------------------------------------------------------------------------------------------
@@ -126,8 +126,8 @@ write_record() {
   local program=$1 kind=$2 text=$3 sum
   sum=$(sha256sum < "$program") || return
   {
-    printf '%s\n' "kind $kind" "program ${sum%% *}" "text $text" "folder $root" "commit $(commit)" "kit $(rt version 2> /dev/null | head -n 1)" > "$program.built.$$" &&
-      mv -f "$program.built.$$" "$program.built"
+    printf '%s\n' "kind $kind" "program ${sum%% *}" "text $text" "folder $root" "commit $(commit)" \
+      "kit $(rt version 2> /dev/null | head -n 1)" > "$program.built.$$" && mv -f "$program.built.$$" "$program.built"
   } 2> /dev/null || { rm -f "$program.built.$$"; return 1; }
 }
 

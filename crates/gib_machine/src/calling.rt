@@ -98,7 +98,7 @@ impl Machine {
             let slots = slots_of(code, function);
             let back = self.ip + 1;
             self.went_to(start);
-            self.frames.enter(slots, arguments, back, answer);
+            self.frames.enter::<M, A>(slots, arguments, back, answer);
         }
     }
 

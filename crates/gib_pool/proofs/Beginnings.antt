@@ -1,10 +1,11 @@
 -- How a task begins, and what its end is to whoever began it.
 use Rattle.std.proofs.Common.{◌≡◌, ℕ, ◌≤◌, List, [], refl, sym, ap, subst, ◌∙◌, arith}
-use Rattle.std.specs.Prelude.{Option, Err}
+use Rattle.std.specs.Prelude.{Option, Result, Ok, Err}
 use Rattle.std.specs.Vec.{vec_capacity}
 use Rattle.gib_types.specs.Tree.{Datum}
 use Rattle.gib_syntax.specs.Results as results
 use Rattle.gib_mem.specs.Memory.{Memory, fresh, IsBounded}
+use Rattle.gib_code.specs.declared.answer.Answer.{Answer}
 use Rattle.gib_code.specs.declared.answer.Side.{Side}
 use Rattle.gib_code.specs.Program.{CodeTree}
 use Rattle.gib_packed.specs.declared.root.Root.{Root}
@@ -19,6 +20,7 @@ use Rattle.gib_machine.specs.Sides.{side_start}
 use Rattle.gib_machine.specs.Starting.{waiting_of}
 use Rattle.gib_machine.specs.Stepping.{with_tails}
 use Rattle.gib_weave.specs.Owing.{Debt}
+use Rattle.gib_weave.specs.declared.root_run.RunFault.{RunFault}
 use Rattle.gib_weave.specs.declared.root_run.RunFault.TheVariants as fault
 use Rattle.gib_weave.specs.Paying.{Bill, root_share, whole_of}
 use Rattle.gib_weave.specs.Places.{IsSmall, tail_covers}
@@ -41,7 +43,7 @@ use Rattle.gib_pool.specs.declared.active.ActiveTask.{ActiveTask}
 use Rattle.gib_pool.specs.Frames.{lent_of, AreHere}
 use Rattle.gib_pool.specs.Active.{Holds, IsHere, OwesStill, Settles}
 use Rattle.gib_pool.specs.Lent.{Lends}
-use Rattle.gib_pool.specs.Runs.{IsRun, outcome, pass_memory}
+use Rattle.gib_pool.specs.Runs.{IsRun, IsOutcome, pass_memory}
 use Rattle.gib_pool.specs.Turn.{owing, Works}
 use Rattle.gib_weave.proofs.Bills.{bill_tight, root_bill, root_counted}
 use Rattle.gib_weave.proofs.Memories.{bounded_small, tails_apart, tails_have_room}
@@ -125,18 +127,30 @@ root_owes l v place tails depth level d ok bd st = record {
 tight : (core : CoreTree) (depth level : ℕ) (d : Datum) (n limit : ℕ) → n ≡ limit → IsPaid (whole_of core depth level d) n → Tight limit (run_cost core depth level d)
 tight core depth level d n limit e p = bill_tight core depth level d limit p.owed p.bill (subst (λ (k : ℕ). Bill (whole_of core depth level d) k p.owed p.bill) e p.paid)
 
--- Where a run says that all chunks are drawn, its first pass drew them.
-pub full_drawn : (l : LoweredParts) (Has : Debt → Type 0) (e : Ending) (p p' : Pass) → outcome e ≡ Err fault.Full → Settles l Has e p → view p' ≡ view p → drawn_by p' ≡ (view p').holding.seen → drawn_by p' ≡ (view p').branch.limit
-full_drawn l Has (ending.Answer a) p p' is s same all = absurd cc
-full_drawn l Has ending.Full p p' is s same all = all ∙ (ap (λ (w : View). w.holding.seen) same ∙ (s.0 ∙ sym (ap (λ (w : View). w.branch.limit) same)))
-full_drawn l Has ending.NotRun p p' is s same all = absurd s
+-- A task that was begun was run.
+pub was_run : (l : LoweredParts) (Has : Debt → Type 0) (e : Ending) (p : Pass) → Settles l Has e p → e ≡ ending.NotRun → ⊥
+was_run l Has e p s is = subst (λ (x : Ending). Settles l Has x p) is s
 
-pub root_ends : (l : LoweredParts) (depth level : ℕ) (d : Datum) (j : ActiveTask) (e : Ending) (v : Memory) (p p' : Pass) → OwesStill l (root_debt l depth level d) j → Settles l (λ (z : Debt). OwesStill l z j) e p
-    → v.limit ≡ (view p').branch.limit → view p' ≡ view p → drawn_by p' ≡ (view p').holding.seen → IsRun l depth level d v (pass_memory p') (outcome e)
-root_ends l depth level d j (ending.Answer a) v p p' owes s limit same all =
-    subst (λ (w : View). IsAnswer l.code.laid (cells_of w.holding) (results.One (core_of l.core).main.result) (core_run (core_of l.core) depth d) a) (sym same) (s (root_debt l depth level d) owes).0
-root_ends l depth level d j ending.Full v p p' owes s limit same all =
+-- A run whose root was run does not want memory.
+pub wants_none : (e : Ending) (r : Result Answer RunFault) → IsOutcome e r → r ≡ Err fault.Memory → ⊥
+wants_none (ending.Answer a) r told is = absurd cc
+wants_none ending.Full r told is = absurd cc
+wants_none ending.NotRun r told is = told
+
+-- Where a run says that all chunks are drawn, its first pass drew them.
+pub full_drawn : (l : LoweredParts) (Has : Debt → Type 0) (e : Ending) (r : Result Answer RunFault) (p p' : Pass) → IsOutcome e r → r ≡ Err fault.Full → Settles l Has e p → view p' ≡ view p → drawn_by p' ≡ (view p').holding.seen → drawn_by p' ≡ (view p').branch.limit
+full_drawn l Has (ending.Answer a) r p p' told is s same all = absurd cc
+full_drawn l Has ending.Full r p p' told is s same all = all ∙ (ap (λ (w : View). w.holding.seen) same ∙ (s.0 ∙ sym (ap (λ (w : View). w.branch.limit) same)))
+full_drawn l Has ending.NotRun r p p' told is s same all = absurd s
+
+pub root_ends : (l : LoweredParts) (depth level : ℕ) (d : Datum) (j : ActiveTask) (e : Ending) (r : Result Answer RunFault) (v : Memory) (p p' : Pass) → OwesStill l (root_debt l depth level d) j → Settles l (λ (z : Debt). OwesStill l z j) e p
+    → v.limit ≡ (view p').branch.limit → view p' ≡ view p → drawn_by p' ≡ (view p').holding.seen → IsOutcome e r → IsRun l depth level d v (pass_memory p') r
+root_ends l depth level d j (ending.Answer a) r v p p' owes s limit same all told =
+    subst (IsRun l depth level d v (pass_memory p')) (sym told)
+    (subst (λ (w : View). IsAnswer l.code.laid (cells_of w.holding) (results.One (core_of l.core).main.result) (core_run (core_of l.core) depth d) a) (sym same) (s (root_debt l depth level d) owes).0)
+root_ends l depth level d j ending.Full r v p p' owes s limit same all told =
     let seen : (view p').holding.seen ≡ (view p').branch.limit = ap (λ (w : View). w.holding.seen) same ∙ (s.0 ∙ sym (ap (λ (w : View). w.branch.limit) same)) in
     let drawn : drawn_by p ≡ v.limit = sym (ap (λ (w : View). share w.holding) same) ∙ (all ∙ (seen ∙ sym limit)) in
+    subst (IsRun l depth level d v (pass_memory p')) (sym told)
     (tight (core_of l.core) depth level d (drawn_by p) v.limit drawn (s.1 (root_debt l depth level d) owes), seen)
-root_ends l depth level d j ending.NotRun v p p' owes s limit same all = absurd s
+root_ends l depth level d j ending.NotRun r v p p' owes s limit same all told = absurd s

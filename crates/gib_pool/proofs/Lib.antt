@@ -16,3 +16,5 @@ pub mod Turns
 pub mod Standing
 pub mod Standings
 pub mod Joinings
+-- Whose forks are stolen.
+pub mod Thieves

@@ -9,3 +9,4 @@ pub mod Active
 pub mod Runs
 pub mod Together
 pub mod Forking
+pub mod Victims

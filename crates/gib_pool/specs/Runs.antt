@@ -22,11 +22,11 @@ use Rattle.gib_frame.specs.declared.due.Ending.TheVariants as ending
 abbrev pub pass_memory : Pass → Memory
 pass_memory p = shown_alone (view p)
 
--- What a run answers whose root ended so.
-abbrev pub outcome : Ending → Result Answer RunFault
-outcome (ending.Answer a) = Ok a
-outcome ending.Full = Err fault.Full
-outcome ending.NotRun = Err fault.Memory
+-- A run whose root was run and ended so answers this.
+abbrev pub IsOutcome : Ending → Result Answer RunFault → Type 0
+IsOutcome (ending.Answer a) r = r ≡ Ok a
+IsOutcome ending.Full r = r ≡ Err fault.Full
+IsOutcome ending.NotRun r = ⊥
 
 -- How a run by several workers ends that started with this value, and may nest so many calls and forks: with what the core means; or
 -- all chunks are drawn, and so many may not be enough for the run; or memory was wanted.

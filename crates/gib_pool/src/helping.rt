@@ -34,11 +34,13 @@ pub(crate) fn run_task<'a, R: Wait, G: Gate>(
     let (reply, arena, lowered, side, pass) = task.open();
     if !workspace.begin(lowered.code(), side) {
         put_answer(rt, reply, Ending::NotRun, pass);
+        hooks.answered();
         return workspace;
     }
     let active = ActiveTask::make(workspace, Tails::new(), pass);
     let (ending, pass, workspace) = work(rt, arena, lowered, active, forks, hooks, permit);
     put_answer(rt, reply, ending, pass);
+    hooks.answered();
     workspace
 }
 
@@ -105,7 +107,6 @@ pub(crate) fn help<'a, R: Wait, G: Gate>(rt: &R, worker: Worker<'a>, hooks: &Hoo
         let mut permit = hooks.permits.acquire(rt);
         hooks.stolen();
         workspace = run_task(rt, task, workspace, &mut forks, hooks, &mut permit);
-        hooks.answered();
         permit.release(rt);
     }
     unreachable!()

@@ -1,18 +1,19 @@
 //! A run of a core on a value that was loaded, by several workers.
 
-ghost use Rattle.std.specs.Prelude.{◌≡◌, ◌≤◌, ℕ, List, IfOk, IsErrOf};
+ghost use Rattle.std.specs.Prelude.{◌≡◌, ◌≢◌, ◌≤◌, ℕ, List, IfOk, IsErrOf};
 ghost use Rattle.std.specs.Vec.{vec_capacity};
 ghost use Rattle.gib_types.specs.Tree.{Datum};
 ghost use Rattle.gib_core.specs.Parts.{core_of};
 ghost use Rattle.gib_machine.specs.Stepping.{with_tails};
 ghost use Rattle.gib_weave.specs.Running.{IsStart, Kept, word_of};
 ghost use Rattle.gib_weave.specs.Starting.{root_start};
-ghost use Rattle.gib_weave.specs.declared.root_run.RunFault.TheVariants.{Full};
+ghost use Rattle.gib_weave.specs.declared.root_run.RunFault.TheVariants.{Full, Memory};
 ghost use Rattle.gib_arena.specs.Passes.{view, IsOf};
 ghost use Rattle.gib_arena.specs.Tree.{IsAlone};
+ghost use Rattle.gib_frame.specs.declared.due.Ending.TheVariants.{NotRun};
 ghost use Rattle.gib_frame.specs.Answers.{drawn_by};
 ghost use Rattle.gib_pool.specs.Active.{IsBackWhole};
-ghost use Rattle.gib_pool.specs.Runs.{pass_memory, outcome, IsRun};
+ghost use Rattle.gib_pool.specs.Runs.{pass_memory, IsOutcome, IsRun};
 
 use crate::active::ActiveTask;
 use crate::permits::Permits;
@@ -42,14 +43,15 @@ pub struct Loaded {
     pub root: Root,
 }
 
-/// What a run answers whose root ended so.
+/// What a run answers whose root was run and ended so.
 fn outcome_of(ending: Ending) -> Result<Answer, RunFault>
-    ensures { result ≡ outcome ending }
+    requires { ending ≢ NotRun }
+    ensures { IsOutcome ending result }
 {
     match ending {
         Ending::Answer(answer) => Ok(answer),
         Ending::Full => Err(RunFault::Full),
-        Ending::NotRun => Err(RunFault::Memory),
+        Ending::NotRun => unreachable!(),
     }
 }
 
@@ -88,7 +90,7 @@ fn count_all(arena: &Arena, pass: &mut Pass)
 ///
 /// # Errors
 ///
-/// `Full`: it draws a chunk, and all are drawn, so so many may not be enough. `Memory`: want of memory.
+/// `Full`: it draws a chunk, and all are drawn, so so many may not be enough. `Memory`: want of memory, before the first step.
 fn run_in<'a, R: Threads + Wait + Sync, G: Gate + Sync>(
     rt: &R,
     alloc: Global,
@@ -105,6 +107,7 @@ fn run_in<'a, R: Threads + Wait + Sync, G: Gate + Sync>(
     ensures ends { (d : Datum) → IsStart shared.entry.now.lowered.now root tails (pass_memory first) d
         → IsRun shared.entry.now.lowered.now config.depth config.forks d (pass_memory first) (pass_memory result.1) result.0 }
     ensures full { IsErrOf result.0 Full → (pass_memory result.1).share ≡ (pass_memory result.1).limit }
+    ensures wants { IsErrOf result.0 Memory → pass_memory result.1 ≡ pass_memory first }
 {
     shared.lowered.core();
     let code = shared.lowered.code();
@@ -131,7 +134,7 @@ fn run_in<'a, R: Threads + Wait + Sync, G: Gate + Sync>(
 ///
 /// # Errors
 ///
-/// `Full`: it draws a chunk, and all are drawn, so so many may not be enough. `Memory`: want of memory.
+/// `Full`: it draws a chunk, and all are drawn, so so many may not be enough. `Memory`: want of memory, before the first step.
 pub fn run_by<R: Threads + Wait + Sync, G: Gate + Sync>(
     rt: &R,
     alloc: Global,
@@ -145,6 +148,7 @@ pub fn run_by<R: Threads + Wait + Sync, G: Gate + Sync>(
         → IsRun lowered.entry.now config.depth config.forks d (⟦<SoleMem as Mem>⟧.view loaded.memory) (⟦<SoleMem as Mem>⟧.view result.1) result.0 }
     ensures kept { Kept (⟦<SoleMem as Mem>⟧.view loaded.memory) (⟦<SoleMem as Mem>⟧.view result.1) }
     ensures full { IsErrOf result.0 Full → (⟦<SoleMem as Mem>⟧.view result.1).share ≡ (⟦<SoleMem as Mem>⟧.view result.1).limit }
+    ensures wants { IsErrOf result.0 Memory → ⟦<SoleMem as Mem>⟧.view result.1 ≡ ⟦<SoleMem as Mem>⟧.view loaded.memory }
 {
     let Loaded {
         memory,

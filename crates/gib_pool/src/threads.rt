@@ -1,11 +1,12 @@
 //! The workers of a run and their threads.
 
-ghost use Rattle.std.specs.Prelude.{◌≡◌, ◌<◌, [], length, map, is_some, Some, false, IfOk};
+ghost use Rattle.std.specs.Prelude.{◌≡◌, ◌≢◌, ◌<◌, ◌+◌, ◌-◌, ◌++◌, ℕ, [], length, map, slice_get, is_some, Some, false, IfOk};
 ghost use Rattle.gib_code.specs.Instruction.{instruction_of};
 ghost use Rattle.gib_machine.specs.Sides.{fork_of};
 ghost use Rattle.gib_weave.specs.Owing.{Debt};
 ghost use Rattle.gib_pool.specs.Forking as spec;
 ghost use Rattle.gib_pool.specs.Active.{Holds, IsOver, OwesStill};
+ghost use Rattle.gib_pool.specs.Victims.{deques, victims, listed, in_turn};
 
 use crate::active::ActiveTask;
 use crate::forks::new_forks;
@@ -36,15 +37,42 @@ pub struct Config {
     pub forks: u32,
 }
 
-/// Gives a worker a stealer of the forks of each other one, first of those of the next one.
+/// Gives the worker at a place a stealer of the forks of another one.
+///
+/// # Errors
+///
+/// Want of memory.
+fn add_stealer<'a>(
+    workers: &mut Vec<Worker<'a>>,
+    place: usize,
+    other: usize,
+) -> Result<(), AllocError>
+    requires there { place < length workers.old.items }
+    requires other { other < length workers.old.items }
+    ensures same { IfOk result (λ _. deques workers.new.items ≡ deques workers.old.items) }
+    ensures more { IfOk result (λ _. victims workers.new.items place ≡ victims workers.old.items place ++ listed (slice_get (deques workers.old.items) other)) }
+    ensures others { IfOk result (λ _. (q : ℕ) → q ≢ place → victims workers.new.items q ≡ victims workers.old.items q) }
+{
+    let stealer = Stealer::make(&workers[other].forks)?;
+    workers[place].stealers.push(stealer)?;
+    Ok(())
+}
+
+/// Gives the worker at a place a stealer of the forks of each other one, first of those of the next one.
+///
+/// # Errors
+///
+/// Want of memory.
 fn add_stealers<'a>(workers: &mut Vec<Worker<'a>>, place: usize) -> Result<(), AllocError>
-    requires { place < length workers.old.items }
-    ensures { length workers.new.items ≡ length workers.old.items }
+    requires there { place < length workers.old.items }
+    requires none { victims workers.old.items place ≡ [] }
+    ensures same { IfOk result (λ _. deques workers.new.items ≡ deques workers.old.items) }
+    ensures turn { IfOk result (λ _. victims workers.new.items place ≡ in_turn (deques workers.old.items) place (length workers.old.items - 1)) }
+    ensures others { IfOk result (λ _. (q : ℕ) → q ≢ place → victims workers.new.items q ≡ victims workers.old.items q) }
 {
     let count = workers.len();
-    'steps: for step in 1..count {
-        let stealer = Stealer::make(&workers[(place + step) % count].forks)?;
-        workers[place].stealers.push(stealer)?;
+    'steps: for step in 0..count - 1 {
+        add_stealer(workers, place, (place + 1 + step) % count)?;
     }
     Ok(())
 }
@@ -67,7 +95,7 @@ fn workspace_of(
     Ok(Some(workspace))
 }
 
-/// So many workers without forks, the first one last, each of which may steal from all others. Their workspaces are made for the run of
+/// So many workers without forks, the first one last, each of which may steal from all others, the next one first. Their workspaces are made for the run of
 /// the code.
 ///
 /// # Errors
@@ -79,7 +107,8 @@ pub(crate) fn make_workers<'a>(
     config: Config,
     count: u32,
 ) -> Result<Vec<Worker<'a>>, AllocError>
-    ensures { IfOk result (λ workers. length workers.items ≡ count) }
+    ensures count { IfOk result (λ workers. length workers.items ≡ count) }
+    ensures turn { IfOk result (λ workers. (p : ℕ) → p < count → victims workers.items p ≡ in_turn (deques workers.items) p (count - 1)) }
 {
     let mut workers = Vec::new(alloc);
     'made: for step in 0..count {

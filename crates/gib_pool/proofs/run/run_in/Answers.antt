@@ -1,10 +1,7 @@
 use Rattle.std.proofs.Common.{◌≡◌, ℕ, [], sym, ap, subst, ◌∙◌, arith}
-use Rattle.std.specs.Prelude.{Result}
 use Rattle.gib_types.specs.Tree.{Datum}
 use Rattle.gib_core.specs.Parts.{core_of}
-use Rattle.gib_code.specs.declared.answer.Answer.{Answer}
 use Rattle.gib_machine.specs.State.{State}
-use Rattle.gib_weave.specs.declared.root_run.RunFault.{RunFault}
 use Rattle.gib_weave.specs.Running.{IsStart, word_of}
 use Rattle.gib_weave.specs.Starting.{root_start}
 use Rattle.gib_arena.specs.declared.memory.Pass.{Pass}
@@ -14,9 +11,9 @@ use Rattle.gib_arena.specs.Shown.{shown_alone}
 use Rattle.gib_frame.specs.Answers.{drawn_by}
 use Rattle.gib_weave.specs.Owing.{Debt}
 use Rattle.gib_pool.specs.Active.{OwesStill}
-use Rattle.gib_pool.specs.Runs.{pass_memory, IsRun}
+use Rattle.gib_pool.specs.Runs.{pass_memory}
 use Rattle.gib_pool.specs.Turn.{Works}
-use Rattle.gib_pool.proofs.Beginnings.{IsMade, active_owes, made_holds, root_debt, root_owes, root_ends, full_drawn}
+use Rattle.gib_pool.proofs.Beginnings.{IsMade, active_owes, made_holds, root_debt, root_owes, root_ends, full_drawn, was_run, wants_none}
 use Rattle.gib_pool.proofs.Passing.{root_bounded}
 use Rattle.gib_pool.proofs.Standing.{whole}
 use Rattle.gib_pool.proofs.run.run_in.Goals as goal
@@ -81,11 +78,16 @@ returns-clause-ends g c = λ d st.
     in
     let last = c.count_all-2 in
     let limit = ap (λ (v : View). v.branch.limit) last.ensures.same ∙ (c.work_together-ending.ensures.over.back.same.limit ∙ (ap (λ (p : Pass). (view p).branch.limit) active.pass ∙ ap (λ (v : View). v.branch.limit) counted.same)) in
-    subst (λ (o : Result Answer RunFault). IsRun l depth level d (pass_memory c.args.first) (pass_memory last.new.pass) o) (sym c.outcome_of.ensures)
-    (root_ends l depth level d c.make-active.result c.work_together-ending.result.0 (pass_memory c.args.first) c.work_together-ending.result.1 last.new.pass (owes d st) c.work_together-ending.ensures.over.settles (sym limit) last.ensures.same last.ensures.all)
+    root_ends l depth level d c.make-active.result c.work_together-ending.result.0 c.outcome_of.result (pass_memory c.args.first) c.work_together-ending.result.1 last.new.pass (owes d st) c.work_together-ending.ensures.over.settles (sym limit) last.ensures.same last.ensures.all c.outcome_of.ensures
+
+pub outcome_of-requires : goal.outcome_of-requires
+outcome_of-requires g c = was_run c.args.shared.now.lowered.now (λ (d : Debt). OwesStill c.args.shared.now.lowered.now d c.make-active.result) c.work_together-ending.result.0 c.work_together-ending.result.1 c.work_together-ending.ensures.over.settles
+
+pub returns-clause-wants : goal.returns-clause-wants
+returns-clause-wants g c = λ e. absurd (wants_none c.work_together-ending.result.0 c.outcome_of.result c.outcome_of.ensures e)
 
 pub returns-clause-full : goal.returns-clause-full
 returns-clause-full g c = λ e.
     let l = c.args.shared.now.lowered.now in
     let last = c.count_all-2 in
-    full_drawn l (λ (d : Debt). OwesStill l d c.make-active.result) c.work_together-ending.result.0 c.work_together-ending.result.1 last.new.pass (sym c.outcome_of.ensures ∙ e) c.work_together-ending.ensures.over.settles last.ensures.same last.ensures.all
+    full_drawn l (λ (d : Debt). OwesStill l d c.make-active.result) c.work_together-ending.result.0 c.outcome_of.result c.work_together-ending.result.1 last.new.pass c.outcome_of.ensures e c.work_together-ending.ensures.over.settles last.ensures.same last.ensures.all
