@@ -1,3 +1,4 @@
 pub mod TwoWords
 pub mod Faults
 pub mod Saying
+pub mod Reading

@@ -10,9 +10,13 @@ added_none : {X : Type 0} (o : Option (List X)) → Appends o o []
 added_none None = tt {0}
 added_none (Some l) = ap Some (sym (append-nil l))
 
-added_whole : {X : Type 0} (a b : Option (List X)) (xs : List X) → Appends a b xs → AppendsPart a b xs
+pub added_whole : {X : Type 0} (a b : Option (List X)) (xs : List X) → Appends a b xs → AppendsPart a b xs
 added_whole None b xs h = tt {0}
 added_whole (Some l) b xs h = (length xs, h ∙ ap (λ ys. Some (l ++ ys)) (sym (take-length xs)))
+
+pub added_some : {X : Type 0} (o : Option (List X)) (xs : List X) → AppendsPart o o xs
+added_some None xs = tt {0}
+added_some (Some l) xs = (0, ap Some (sym (append-nil l)))
 
 -- Nothing was said.
 pub nothing_put : (now : SinkView) → IsPut now now []

@@ -2,7 +2,7 @@
 use Rattle.std.specs.Prelude.{◌≡◌, ◌⊎◌, ℕ, false, List, [], ◌∷◌, Option, Some, None, codes}
 use Rattle.gib_base.specs.Texts.{TextsView}
 use Rattle.gib_syntax.specs.Tree.{ProgramTree}
-use Rattle.gib_edge.specs.Views.{Held, ShelfView, SinkView}
+use Rattle.gib_edge.specs.Views.{Call, ReadOf, Held, ShelfView, SinkView}
 use Rattle.gib_edge.specs.Causes.{IsFrontOf, Appends, AppendsPart, Rose}
 use Rattle.gib_local.specs.LocatedText.{located_text}
 use Rattle.gib_app.specs.Running.{IsProgram}
@@ -34,6 +34,13 @@ pub record IsRead (words : List (List ℕ)) (kept : List ℕ → Held) (source :
   pub name : List ℕ
   pub words_are : words ≡ program ∷ name ∷ []
   pub held : IsFrontOf (kept name) 1048577 source
+
+-- The calls of the shelf that the words ask for: one read, where they name one file.
+abbrev pub located_calls : List (List ℕ) → List Call
+located_calls [] = []
+located_calls (program ∷ []) = []
+located_calls (program ∷ name ∷ []) = ReadOf name 1048577 ∷ []
+located_calls (program ∷ name ∷ further ∷ rest) = []
 
 -- The words name a source, and the text of its core was put.
 pub record IsPrinted (words : List (List ℕ)) (kept : List ℕ → Held) (before now : Option (List ℕ)) : Type 0 where

@@ -1,11 +1,13 @@
 //! From the words of a command line to the LoCal text of a source's core.
 
-ghost use Rattle.std.specs.Prelude.{◌≡◌, ◌∷◌, [], ℕ, List, Some, OnOk, IfOk, IfErr, MatchOption};
-ghost use Rattle.gib_edge.specs.Causes.{IsFrontOf};
+ghost use Rattle.std.specs.Prelude.{◌≡◌, ◌≤◌, ◌∷◌, [], ℕ, List, Some, OnOk, OnErr, IfOk, IfErr, MatchOption};
+ghost use Rattle.gib_edge.specs.Causes.{Appends, AppendsPart, IsFrontOf};
+ghost use Rattle.gib_edge.specs.Views.{ReadOf};
+ghost use Rattle.gib_app.specs.Ending.{ReadsStay, OutStays};
 ghost use Rattle.gib_app.specs.Lines.{IsPut};
 ghost use Rattle.gib_app.specs.Stopping.{answer_of};
 ghost use Rattle.gib_app.specs.Words.{bytes_of};
-ghost use Rattle.gib_located.specs.LocatedSource.{HasCoreText, IsFault, IsUnreadSource, IsPrinted, IsCallFault, IsEnd, answer_for_fault};
+ghost use Rattle.gib_located.specs.LocatedSource.{HasCoreText, IsFault, IsUnreadSource, IsPrinted, IsCallFault, IsEnd, answer_for_fault, located_calls};
 
 use gib_app::Status;
 use gib_app::answer::{Answer, Detail, Said, answer_to};
@@ -68,6 +70,13 @@ fn read_source<'a, S: Shelf>(
 ) -> Result<Vec<u8>, Fault<'a>>
     ensures bytes { IfOk result (λ bytes. IsFrontOf ((S.view shelf.old).kept name.now) 1048577 bytes.items) }
     ensures fault { IfErr result (IsUnreadSource name.now (S.view shelf.old) (S.view shelf.new)) }
+    ensures same { (file : List ℕ) → (S.view shelf.new).kept file ≡ (S.view shelf.old).kept file }
+    ensures later { (file : List ℕ) → (S.view shelf.old).reads file ≤ (S.view shelf.new).reads file }
+    ensures quiet { OnOk result ((file : List ℕ) → (S.view shelf.new).reads file ≡ (S.view shelf.old).reads file) }
+    ensures reads { IfErr result (λ fault. ReadsStay (S.view shelf.old).reads (S.view shelf.new).reads (answer_for_fault fault).status) }
+    ensures writes { (file : List ℕ) → (S.view shelf.new).writes file ≡ (S.view shelf.old).writes file }
+    ensures called { OnOk result (Appends (S.view shelf.old).calls (S.view shelf.new).calls (ReadOf name.now 1048577 ∷ [])) }
+    ensures once { OnErr result (AppendsPart (S.view shelf.old).calls (S.view shelf.new).calls (ReadOf name.now 1048577 ∷ [])) }
 {
     match shelf.read(alloc, name, MOST) {
         Ok(bytes) => Ok(bytes),
@@ -85,6 +94,14 @@ fn call<'a, S: Shelf, O: Sink>(
 ) -> Result<(), Fault<'a>>
     ensures printed { OnOk result (IsPrinted (bytes_of words.now) (S.view shelf.old).kept (O.view out.old).taken (O.view out.new).taken) }
     ensures fault { IfErr result (IsCallFault (bytes_of words.now) (S.view shelf.old) (S.view shelf.new) (O.view out.old) (O.view out.new)) }
+    ensures same { (file : List ℕ) → (S.view shelf.new).kept file ≡ (S.view shelf.old).kept file }
+    ensures later { (file : List ℕ) → (S.view shelf.old).reads file ≤ (S.view shelf.new).reads file }
+    ensures quiet { OnOk result ((file : List ℕ) → (S.view shelf.new).reads file ≡ (S.view shelf.old).reads file) }
+    ensures reads { IfErr result (λ fault. ReadsStay (S.view shelf.old).reads (S.view shelf.new).reads (answer_for_fault fault).status) }
+    ensures writes { (file : List ℕ) → (S.view shelf.new).writes file ≡ (S.view shelf.old).writes file }
+    ensures out_quiet { OnOk result ((O.view out.new).faults ≡ (O.view out.old).faults) }
+    ensures out { IfErr result (λ fault. OutStays (O.view out.old) (O.view out.new) (answer_for_fault fault).status) }
+    ensures calls { AppendsPart (S.view shelf.old).calls (S.view shelf.new).calls (located_calls (bytes_of words.now)) }
 {
     let Some(name) = source_name(words) else {
         return Err(Fault::Stopped(Stop::Usage));
@@ -142,7 +159,18 @@ pub fn located<S: Shelf, O: Sink, E: Sink>(
 ) -> Status
     // Each status comes only by its cause, and its line is put on `err`, or a front of the line where the count of `err` rose. `Done` comes
     // only where exactly the text of the core of the source was put.
-    ensures { (said : List ℕ) × IsEnd (bytes_of words.now) (S.view shelf.old) (S.view shelf.new) (O.view out.old) (O.view out.new) result said × IsPut (E.view err.old) (E.view err.new) said }
+    ensures ends { (said : List ℕ) × IsEnd (bytes_of words.now) (S.view shelf.old) (S.view shelf.new) (O.view out.old) (O.view out.new) result said × IsPut (E.view err.old) (E.view err.new) said }
+
+    // What files hold stays, and so do the counts of writes; those of reads never fall, and rise only with the status that tells of
+    // them; but at `Done` and `WriteFault` nothing is put.
+    ensures same { (name : List ℕ) → (S.view shelf.new).kept name ≡ (S.view shelf.old).kept name }
+    ensures reads_later { (name : List ℕ) → (S.view shelf.old).reads name ≤ (S.view shelf.new).reads name }
+    ensures reads { ReadsStay (S.view shelf.old).reads (S.view shelf.new).reads result }
+    ensures writes { (name : List ℕ) → (S.view shelf.new).writes name ≡ (S.view shelf.old).writes name }
+    ensures quiet { OutStays (O.view out.old) (O.view out.new) result }
+
+    // The source is read once at most, with one byte more than its limit asked for, and no other file is touched.
+    ensures calls { AppendsPart (S.view shelf.old).calls (S.view shelf.new).calls (located_calls (bytes_of words.now)) }
 {
     let answer = match call(alloc, words, shelf, out) {
         Ok(()) => return Status::Done,

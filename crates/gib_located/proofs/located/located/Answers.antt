@@ -7,11 +7,11 @@ use Rattle.gib_located.specs.LocatedSource.{IsEnd}
 use Rattle.gib_located.proofs.Saying.{nothing_put, line_put}
 use Rattle.gib_located.proofs.located.located.Goals as goal
 
-pub returns-in-Ok : goal.returns-in-Ok
-returns-in-Ok g c = ([], inl (refl, refl, c.in-Ok.ensures.printed), nothing_put (g.E.Sink.view c.args.err.now))
+pub returns-in-Ok-clause-ends : goal.returns-in-Ok-clause-ends
+returns-in-Ok-clause-ends g c = ([], inl (refl, refl, c.in-Ok.ensures.printed), nothing_put (g.E.Sink.view c.args.err.now))
 
-pub returns : goal.returns
-returns g c =
+pub returns-clause-ends : goal.returns-clause-ends
+returns-clause-ends g c =
     let before : ShelfView = g.S.Shelf.view c.args.shelf.now in
     let now : ShelfView = g.S.Shelf.view c.call.new.shelf in
     let a : SinkView = g.O.Sink.view c.args.out.now in
