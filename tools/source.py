@@ -11,7 +11,8 @@ SIGNS = "[ ] -> == = | ; , ( ) : { } + - * <".split()
 OPERATIONS = ("+", "-", "*", "==", "<", "quot", "rem")
 ATOMS = ("var", "Con", "int", "True", "False", "(")
 TYPES = ("Int", "Bool", "Con", "var", "(")
-TOKEN = re.compile(r"--[^\n]*|[ \t\r\n]+|([a-z][A-Za-z0-9_]*)|([A-Z][A-Za-z0-9_]*)|([0-9]+)|(" + "|".join(map(re.escape, SIGNS)) + ")")
+# `@` is a sign of LoCal texts alone.
+TOKEN = re.compile(r"--[^\n]*|[ \t\r\n]+|([a-z][A-Za-z0-9_]*)|([A-Z][A-Za-z0-9_]*)|([0-9]+)|(" + "|".join(map(re.escape, [*SIGNS, "@"])) + ")")
 
 
 class Token(NamedTuple):
@@ -66,6 +67,13 @@ class Node(NamedTuple):
     place: int
     parts: tuple
 
+    def inner(self):
+        """The expressions that stand directly in it, in their order."""
+        if self.form == "case":
+            return [body for _, _, body in self.parts[1]]
+        several = [part if isinstance(part, list) else [part] for part in self.parts]
+        return [part for parts in several for part in parts if isinstance(part, Node)]
+
 
 class Parser:
     """Makes the tree of a source that has no fault in its syntax."""
@@ -105,6 +113,11 @@ class Parser:
         functions = self.several(("fun",), self.function)
         main = self.take("main")
         return datas, [*functions, (main, [], *self.head_and_body([self.parameter()]))]
+
+    def main_head(self):
+        """Main's parameter, as a list, and what it gives; `main` is a word, which stands nowhere else."""
+        self.at = next(at for at, token in enumerate(self.tokens) if token.kind == "main") + 1
+        return [self.parameter()], (self.take(":"), self.results())[1]
 
     def data(self):
         self.take("data")
