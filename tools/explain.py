@@ -17,12 +17,18 @@ from concurrent.futures import ThreadPoolExecutor
 from itertools import zip_longest
 from typing import NamedTuple
 
+# Whether lines for an editor are asked for, in place of those for a person.
+BY_LINE = os.environ.get("GIB_EXPLAIN") == "line"
 ROOT = os.path.dirname(os.path.dirname(os.path.abspath(__file__)))
 sys.dont_write_bytecode = True
 sys.path.insert(0, os.path.join(ROOT, "examples", "python"))
 
-from gbp import GREATEST, LEAST, MAGIC, SCALARS, Schema, opened  # noqa: E402
-from source import OPERATIONS, SIGNS, WORDS, Program, Token, counted, listed, tokens_of  # noqa: E402
+from description import Schema  # noqa: E402
+from faults import Program, limit_note  # noqa: E402
+from gbp import MAGIC, opened  # noqa: E402
+from source import OPERATIONS, SIGNS, TYPES, WORDS, Parser, Token, tokens_of  # noqa: E402
+from texts import BadText, TextSource, listed  # noqa: E402
+from values import GREATEST, convey  # noqa: E402
 
 # -- tokens that are due -----------------------------------------------------------------------------------------------------------
 
@@ -73,31 +79,68 @@ def due_line(due):
 
 
 class Fault(NamedTuple):
-    """A token that cannot stand, those beside it, and what is due in its place."""
+    """A token that cannot stand, those beside it, the operation in front of it in the same parentheses, and what is due in its place."""
 
     before: Token
     token: Token
     after: Token
+    operation: str
     due: set
 
     @property
     def text(self):
         return self.token.text
 
+    def second(self):
+        """How a second operation stands in parentheses of its own: that which binds closer inside."""
+        closer = [sign in ("*", "quot", "rem") for sign in (self.operation, self.text)]
+        looser = [sign in ("==", "<") for sign in (self.operation, self.text)]
+        if closer[1] and not closer[0] or looser[0] and not looser[1]:
+            return f"(a {self.operation} (b {self.text} c))"
+        return f"((a {self.operation} b) {self.text} c)"
 
-# What somebody who wrote this is told: the first of these that fits. `{0}` is the token.
+
+def operation_before(tokens):
+    """The operation in front of the end of these tokens, in the same parentheses."""
+    deep = 0
+    for token in reversed(tokens):
+        deep += (token.kind == ")") - (token.kind == "(")
+        if deep < 0:
+            break
+        if deep == 0 and token.kind in OPERATIONS:
+            return token.text
+    return ""
+
+
+DECLARATION_ENDS = "each declaration ends with ';'"
+
+# What somebody who wrote this is told: the first of these that fits. `{0}` is the token, `{1}` two operations, `{2}` what stands in front.
 HINTS = [
     (lambda at: at.text in WORDS and at.due == {"var"}, "'{0}' is a word of the language, and no name"),
     (lambda at: at.text == "=" and at.before.text == "<", "there is no <=: a <= b is (if (b < a) then False else True)"),
     (lambda at: at.text in OPERATIONS and at.due == {",", ")"}, "parts are no side of an operation"),
+    (lambda at: at.text == "-" and at.before.text in OPERATIONS, "there are no negative literals: -1 is (0 - 1)"),
+    (lambda at: at.text in OPERATIONS and ")" in at.due and at.operation, "each operation has parentheses of its own: {1}"),
     (lambda at: at.text in OPERATIONS and ")" in at.due, "each operation has parentheses of its own: ((a {0} b) {0} c)"),
     (lambda at: at.text == "-" and "let" in at.due, "there are no negative literals: -1 is (0 - 1)"),
     (lambda at: at.text in OPERATIONS, "each operation has parentheses of its own: (a {0} b)"),
     (lambda at: at.text == "|" and at.before.text == "=", "'|' stands between two constructors, and none in front of the first one"),
     (lambda at: at.text == "|" and "|" in (at.before.text, at.after.text), "there is no ||: a || b is (if a then True else b)"),
     (lambda at: at.text == "|" and (";" in at.due or at.due == {"Con"}), "arms are set apart by ';', and none stands in front of the first one"),
-    (lambda at: at.text == "," and {"var", ")"} <= at.due, "fields and arguments stand side by side, without commas: Node l r, f x y"),
+    (lambda at: at.text == "," and at.due == {")"}, "each operation has parentheses of its own: ((a + b), (c - d))"),
+    (lambda at: at.text == "," and ")" in at.due and at.due & ({"var"} | set(OPERATIONS)), "fields and arguments stand side by side, without commas: Node l r, f x y"),
     (lambda at: at.text == "," and "var" in at.due, "parts stand in parentheses: (a, b)"),
+    (lambda at: at.text == "->" and at.before.kind in TYPES and ")" in at.due, "no function is a value: a type is Int, Bool, Tree or (List Int)"),
+    (lambda at: at.before.text == "(" and at.due == {"Con"} and at.after.text == "->", "no function is a value: a type is Int, Bool, Tree or (List Int)"),
+    (
+        lambda at: at.before.kind == "Con" and at.token.kind in (*TYPES, "[") and at.due <= {")", "="},
+        "a type with arguments stands in parentheses, without brackets: ({2} Int)",
+    ),
+    (lambda at: at.text == ")" and "Bool" in at.due, "a type in parentheses has arguments, (List Int); one without has none: ({2}) is {2}"),
+    (lambda at: at.token.kind == "int" and at.due == {"Con"}, "a case looks at constructors: a number is compared by if (n == {0}) then .. else .."),
+    (lambda at: at.text in ("True", "False") and at.due == {"Con"}, "a case looks at constructors: a truth value is asked by if"),
+    (lambda at: at.text == ";" and "in" in at.due, "a let has what it is for behind it: let x = .. in .."),
+    (lambda at: at.text == "(" and at.due == {":"}, "main has one parameter: a type with both, data Both = Both Int Int"),
     (lambda at: at.text == "," and at.due == {"="}, "several names stand in parentheses: let (x, y) = .. in .."),
     (lambda at: at.text == "," and at.due == {":"}, "each parameter has parentheses of its own: (x : Int) (y : Int)"),
     (lambda at: at.text == ")" and at.due == {","}, "one name or type alone has no parentheses"),
@@ -115,7 +158,7 @@ HINTS = [
     (lambda at: at.due == {"of"}, "a case looks at a name: let y = f x in case y of { .. }"),
     (lambda at: at.text == "}" and at.before.text == ";", "a ';' stands between two arms, and none behind the last one"),
     (lambda at: {"var", "->"} <= at.due, "an arm has a name for each field, and no pattern in a pattern"),
-    (lambda at: at.text in ("", "fun", "main", "data") and ";" in at.due, "each declaration ends with ';'"),
+    (lambda at: at.text in ("", "fun", "main", "data") and ";" in at.due, DECLARATION_ENDS),
     (lambda at: at.text == "data" and "fun" in at.due, "types stand first, then functions, then main"),
     (lambda at: at.text == "fun" and not at.due, "functions stand before main"),
     (lambda at: "else" in at.due, "an if has both parts: if a then b else c"),
@@ -126,18 +169,35 @@ HINTS = [
 ]
 
 
-def syntax_notes(source, place, program):
+class Told(NamedTuple):
+    """A fault: its place and kind, what there is to say of it, and the place of what is to blame, where that is another one."""
+
+    place: int
+    kind: str
+    notes: list
+    mark: int | None = None
+
+
+def syntax_told(source, place, kind, program):
+    """What there is to say of the token at a place, which cannot stand there."""
     tokens = [Token("", "", 0), *tokens_of(source)]
     at = next(number for number, token in enumerate(tokens) if number and (token.place >= place or not token.text))
     before, token, after = tokens[at - 1], tokens[at], tokens[min(at + 1, len(tokens) - 1)]
-    yield f"{repr(token.text) if token.text else 'the end of the text'} cannot stand here"
+    notes = [f"{repr(token.text) if token.text else 'the end of the text'} cannot stand here"]
     if place > LONGEST:
-        return
-    fault = Fault(before, token, after, due_tokens(program, source[:place]))
-    yield due_line(fault.due)
-    yield next((hint.replace("{0}", fault.text) for fits, hint in HINTS if fits(fault)), None)
+        return Told(place, kind, notes)
+    fault = Fault(before, token, after, operation_before(tokens[:at]), due_tokens(program, source[:place]))
+    hint = next((hint for fits, hint in HINTS if fits(fault)), None)
+    if hint:
+        hint = hint.replace("{0}", fault.text).replace("{1}", fault.second()).replace("{2}", before.text)
+    ends = before.text and hint == DECLARATION_ENDS
+    return Told(place, kind, notes + [note for note in (due_line(fault.due), hint) if note], before.place + len(before.text) if ends else None)
 
 
+SIGNS_OF_TWO = {
+    r"!=": "there is no !=: instead of if (a != b) then x else y write if (a == b) then y else x",
+    r"_\s*->": "each constructor has an arm of its own, Nil -> .. ; Cons first rest -> ..: none stands for the others",
+}
 CHARACTERS = {
     ">": "there is no >: a > b is (b < a), and a >= b is (if (a < b) then False else True)",
     "/": "there is no /: a / b is (a quot b); a comment is -- to the end of the line",
@@ -153,137 +213,171 @@ CHARACTERS = {
 }
 
 
+def character_note(source, place):
+    front = next((note for sign, note in SIGNS_OF_TWO.items() if re.match(sign, source[place : place + 10])), None)
+    letter = source[place : place + 1]
+    return front or CHARACTERS.get(letter) or ("a source has letters of ASCII alone" if not letter.isascii() else None)
+
+
+def told_of(source, place, kind, program):
+    """What there is to say of a fault in the bytes, tokens or syntax of a source, or over a limit."""
+    if kind == "syntax":
+        return syntax_told(source, place, kind, program)
+    note = {
+        "bad character": lambda: character_note(source, place),
+        "number too large": lambda: f"the greatest number is {GREATEST}",
+        "nested too deep": lambda: "expressions stand in one another on at most 200 levels: give one of them a function of its own",
+        "over a limit": lambda: limit_note(source, place),
+    }[kind]()
+    return Told(place, kind, [note] if note else [])
+
+
+# -- all faults of a source --------------------------------------------------------------------------------------------------------
+
+UNREAD = ("syntax", "bad character", "number too large", "nested too deep")
+MOST = 8
+BEGUN = re.compile(r"--[^\n]*|\b(data|fun|main)\b")
+
+
+def without(source, place):
+    """A source with blanks in the place of the declaration that ends with a place or goes on there, and the word that it begins with."""
+    begun = [match.start() for match in BEGUN.finditer(source) if match[1]]
+    own = max((start for start in begun if start < place), default=0)
+    end = min((start for start in begun if start > own), default=len(source))
+    return source[:own] + re.sub(r"[^\n]", " ", source[own:end]) + source[end:], source[own : own + 4]
+
+
+def checked(program, source):
+    """The kind and place of the first fault that the program finds in a text."""
+    with tempfile.TemporaryDirectory(prefix="gib-explain-") as room:
+        path = os.path.join(room, "rest.gib")
+        with open(path, "w", encoding="latin-1") as file:
+            file.write(source)
+        said = subprocess.run([*program, "check", path], capture_output=True, text=True, timeout=10).stderr
+    found = re.fullmatch(r"gib: source: (.*) at ([0-9]+)\n", said)
+    return (found[1], int(found[2])) if found else (None, 0)
+
+
+def further_unread(source, place, program):
+    """The faults of further declarations that the program cannot read, each found with those before it left out; what is left of the source then, and the names
+    of the functions that are left out, none where a type is."""
+    found, missing = [], set()
+    while len(found) < MOST:
+        rest, word = without(source, place)
+        missing = None if word == "data" or missing is None else missing | functions_of(source) - functions_of(rest)
+        source = rest
+        kind, further = checked(program, source)
+        if kind not in UNREAD or further >= len(source.rstrip()):
+            break
+        # What stands in a wrong place is left out itself.
+        if further == place:
+            place += 1
+        else:
+            place = further
+            found.append(told_of(source, place, kind, program))
+    return found, source, missing
+
+
+def functions_of(source):
+    return set(re.findall(r"fun\s+(\w+)", source))
+
+
+def named_told(source, missing):
+    """All faults in names, counts and types, by kind and place."""
+    parser = Parser(tokens_of(source))
+    datas, functions = parser.several(("data",), parser.data), parser.several(("fun",), parser.function)
+    if parser.next() == "main":
+        functions.append(parser.main())
+    program = Program(source, datas, functions, missing)
+    return {(kind, place): Told(place, kind, [note], program.marks.get((kind, place))) for (kind, place), note in program.notes.items()}
+
+
+def source_told(source, place, kind, program):
+    """What there is to say of the fault that the program has found, and of the further ones."""
+    if kind not in UNREAD:
+        named = named_told(source, ())
+        first = named.pop((kind, place), Told(place, kind, []))
+        return told_of(source, place, kind, program) if kind == "over a limit" else first, sorted(named.values())
+    first = told_of(source, place, kind, program)
+    further, source, missing = further_unread(source, place, program)
+    return first, further + (sorted(named_told(source, missing).values()) if missing is not None else [])
+
+
+# -- how it is shown ---------------------------------------------------------------------------------------------------------------
+
+# A line shows so many letters, and where the place is far to the right so many in front of it.
+WIDE, FRONT = 100, 60
+
+
+def line_and_column(source, place):
+    """Both counted from 1."""
+    return source.count("\n", 0, place) + 1, place - source.rfind("\n", 0, place)
+
+
+def marked(source, place):
+    """The line of a place, and a mark under it."""
+    start = source.rfind("\n", 0, place) + 1
+    column = place - start
+    front = column - FRONT if column >= 80 else 0
+    text = source[start:].partition("\n")[0][front : front + WIDE].replace("\t", " ")
+    return [re.sub(r"[^ -~]", "?", text), " " * (column - front) + "^"]
+
+
+def shown(source, first, further):
+    """Lines for a person: what is to say of the first fault, and a line for each further one."""
+    yield from first.notes
+    if first.mark is not None:
+        line, column = line_and_column(source, first.mark)
+        yield f"here, line {line}, column {column}:"
+        yield from marked(source, first.mark)
+    for other in further[:MOST]:
+        line, column = line_and_column(source, other.place if other.mark is None else other.mark)
+        yield f"also line {line}, column {column}: {'; '.join([other.kind, *other.notes])}"
+    if len(further) > MOST:
+        yield f"and {len(further) - MOST} more"
+
+
+def listed_by_line(path, source, first, further):
+    """A line for each fault, as editors take them."""
+    for at, other in enumerate([first, *further]):
+        line, column = line_and_column(source, other.place if other.mark is None else other.mark)
+        yield f"{path}:{line}:{column}: {'also ' * (at > 0)}{'; '.join([other.kind, *other.notes])}"
+
+
 def source_notes(path, place, kind, program):
     """The notes for a fault of a kind at a place of a source."""
     with open(path, "rb") as file:
         data = file.read()
     if data[:4] == MAGIC:
-        yield f"{path} is a packed file: the source stands before it"
-        return
+        return [f"{path} is a packed file: the source stands before it"]
     source = data.decode("latin-1")
-    if kind == "syntax":
-        yield from syntax_notes(source, place, program)
-    elif kind == "bad character":
-        letter = source[place : place + 1]
-        yield CHARACTERS.get(letter) or ("a source has letters of ASCII alone" if not letter.isascii() else None)
-    elif kind == "number too large":
-        yield f"the greatest number is {GREATEST}"
-    elif kind == "nested too deep":
-        yield "expressions stand in one another on at most 200 levels: give one of them a function of its own"
-    elif kind == "over a limit":
-        yield "at most 200 constructors, 8 fields, 1,000 functions; 200 variables and 2,000 expressions of a function; 8 parts, 8 type variables"
-    else:
-        yield Program(source).notes.get((kind, place))
+    first, further = source_told(source, place, kind, program)
+    return listed_by_line(path, source, first, further) if BY_LINE else shown(source, first, further)
 
 
 # -- texts of values ---------------------------------------------------------------------------------------------------------------
 
-PART = re.compile(r"--[^\n]*|\s+|([()])|([^()\s]+?)(?=--|[()\s]|\Z)")
+
+class Nowhere:
+    """A sink that keeps nothing."""
+
+    def open(self, made):
+        pass
+
+    def scalar(self, value, kind):
+        pass
+
+    def close(self, made):
+        pass
 
 
-def text_tokens(text):
-    for match in PART.finditer(text):
-        if match.lastindex:
-            yield match[0] if match[0].isascii() else "what stands here", match.start()
-
-
-def due_value(schema, kind):
-    """What a value of a type looks like."""
-    if kind in SCALARS:
-        return "a number" if kind == "Int" else "True or False"
-    several = [f"({made.name} ..)" if made.fields else made.name for made in schema.types[kind]]
-    return listed(several[:8] + ["others"] * (len(several) > 8), "or")
-
-
-def number_fault(token):
-    """Why a token is no number as a text has it; none where it is one."""
-    if not re.fullmatch(r"-?[0-9]+", token):
-        return f"{token} is no Int: a number is due"
-    if len(token) > 30 or not LEAST <= int(token) <= GREATEST:
-        return f"an Int is {LEAST} to {GREATEST}"
-    return None if str(int(token)) == token else f"that number is written {int(token)}"
-
-
-class Reading:
-    """A text of a value, read token by token. `frames` has the constructors that are open, each with the number of its fields so far."""
-
-    def __init__(self, schema):
-        self.schema, self.frames = schema, []
-        self.opened = self.ended = False  # "(" was the last token; the value is whole
-
-    def kind(self):
-        """The type that is due; none where ")" is."""
-        if not self.frames:
-            return self.schema.parameter
-        made, count = self.frames[-1]
-        return made.fields[count] if count < len(made.fields) else None
-
-    def field(self):
-        made, count = self.frames[-1]
-        return f"field {count + 1} of {made.name}"
-
-    def put(self):
-        """A value has ended: it is a field of the constructor that is open, or the whole."""
-        if self.frames:
-            self.frames[-1][1] += 1
-        else:
-            self.ended = True
-
-    def take(self, token):
-        """Takes a token. Answers why it cannot stand, or nothing."""
-        kind = self.kind()
-        if self.ended:
-            return "the value has ended before this"
-        if token == ")":
-            return self.close(kind)
-        if kind is None:
-            made = self.frames[-1][0]
-            return f"{made.name} has {counted(len(made.fields), 'field')}: ')' is due"
-        if token == "(" and kind not in SCALARS:
-            if self.opened:
-                return "the name of a constructor is due behind '('"
-            self.opened = True
-            return None
-        why = self.name(token, kind)
-        return why and why + (f" ({self.field()}, on level {len(self.frames) + 1})" if self.frames else "")
-
-    def close(self, kind):
-        if self.opened or kind is not None:
-            missing = self.field() if self.frames and not self.opened else "a value"
-            return f"{missing} is missing: {due_value(self.schema, kind)} is due"
-        self.frames.pop()
-        self.put()
-        return None
-
-    def name(self, token, kind):
-        """A number, a truth value or the name of a constructor."""
-        if kind in SCALARS:
-            fault = number_fault(token) if kind == "Int" else None if token in ("True", "False") else f"{token} is no Bool: True or False is due"
-            return fault or self.put()
-        made = self.schema.by_name.get(token)
-        if made is None or made.type != kind:
-            owner = f", but of {made.type}" if made else ""
-            return f"{token} is no constructor of {kind}{owner}: {due_value(self.schema, kind)} is due"
-        if bool(made.fields) != self.opened:
-            some = f"has {counted(len(made.fields), 'field')}, and stands in parentheses: ({token} {' '.join(made.fields)})"
-            return f"{token} {some if made.fields else 'has no fields, and stands without parentheses'}"
-        if self.opened:
-            self.frames.append([made, 0])
-            self.opened = False
-            return None
-        return self.put()
-
-
-def text_notes(schema, text, place):
-    """The note for a fault at a place of a text: why the token there cannot stand."""
-    reading = Reading(schema)
-    for token, start in text_tokens(text):
-        why = reading.take(token)
-        if why or start >= place:
-            return [why]
-    if not reading.frames:
-        return [f"the text is empty: {due_value(schema, schema.parameter)} is due"]
-    return [f"the text ends too early: {counted(len(reading.frames), 'constructor')} not closed"]
+def text_notes(schema, text):
+    """Why the first token of a text that cannot stand cannot."""
+    try:
+        convey(schema.parameter, TextSource(schema, text), Nowhere())
+    except BadText as fault:
+        return [fault.note]
+    return []
 
 
 # -- packed files ------------------------------------------------------------------------------------------------------------------
@@ -324,17 +418,18 @@ def notes(words):
     with open(words[2], "rb") as file:
         data = file.read()
     if words[0] == "text":
-        return text_notes(schema, data.decode("latin-1"), int(words[3]))
+        return text_notes(schema, data.decode("latin-1"))
     return packed_notes(schema, words[2], data)
 
 
 def main():
     try:
-        told = [note for note in notes(sys.argv[1:]) if note]
+        words = sys.argv[1:]
+        told = [note for note in notes(words) if note]
     except Exception:  # what cannot be explained is not explained
         told = []
     for note in told:
-        print("  " + note)
+        print(note if BY_LINE and words[0] == "source" else "  " + note)
     sys.exit(0 if told else 1)
 
 
