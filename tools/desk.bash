@@ -122,12 +122,22 @@ pack_named() {
   run_on_line "$room/line" pack -- "${names[1]}" "$room/line" "$room/packed" > "$room/out"
 }
 
+# Runs the program that words name on a packed file.
+run_packed() {
+  names[2]=$1
+  if [[ " ${options[*]} " = *" --stats "* ]]; then
+    (measure)
+  else
+    run_program run "${options[@]}" -- "${names[1]}" "$1"
+  fi
+}
+
 # `eval SRC [TXT] [OPTION ..]`: packs a text, runs the program on it and prints the result.
 evaluate() {
   local room status
   [[ ${#names[@]} = [23] ]] || misused eval
   room=$(mktemp -d) || exit 70
-  pack_named "$room" && run_program run "${options[@]}" -- "${names[1]}" "$room/packed"
+  pack_named "$room" && run_packed "$room/packed"
   status=$?
   rm -rf "$room"
   exit $status
@@ -184,6 +194,51 @@ enough() {
   rm -rf "$room"
   exit $status
 } 3>&1
+
+# `run .. --stats`: runs it, and says what that took.
+measure() {
+  local word rest=()
+  [[ ${#names[@]} = 3 ]] || misused run
+  command -v python3 > /dev/null || stop 70 "--stats needs Python 3"
+  for word in "${options[@]}"; do
+    [ "$word" = --stats ] || rest+=("$word")
+  done
+  python3 "$root/tools/stats.py" "${names[1]}" "${names[2]}" "${rest[@]}" -- "$program"
+  exit
+}
+
+# `test SRC [OPTION ..]`: runs a program on each of its texts that has a result beside it, and tells what differs.
+test_program() {
+  local text due front=${names[1]%.gib} passed=0 failed=0 room
+  [[ ${#names[@]} = 2 ]] || misused test
+  is_file "${names[1]}"
+  room=$(mktemp -d) || exit 70
+  for text in "$front"*.txt; do
+    due=${text%.txt}.out
+    if ! [ -f "$due" ] || has_longer "$front" "$text"; then continue; fi
+    (names=(eval "${names[1]}" "$text") && evaluate) > "$room/made" 2>&1
+    if diff "$due" "$room/made" > "$room/differs"; then
+      passed=$((passed + 1))
+    else
+      failed=$((failed + 1))
+      echo "$text: due (<) and printed (>):"
+      cut -c 1-200 "$room/differs"
+    fi
+  done
+  rm -rf "$room"
+  echo "$passed passed, $failed failed"
+  [ "$failed" -eq 0 ] && [ "$passed" -gt 0 ]
+  exit
+}
+
+# Whether a text belongs to a program with a longer name than this one.
+has_longer() {
+  local other
+  for other in "$1"?*.gib; do
+    [[ $2 != "${other%.gib}"* ]] || return 0
+  done
+  return 1
+}
 
 # `located SRC`: prints the LoCal text of the core of a source. A program of its own makes it.
 locate() {
@@ -279,7 +334,7 @@ take_words() {
       options+=("$word")
       case $word in
         --image=* | --pack=*) outputs+=("${word#*=}") ;;
-        --*=* | --skips | --v1 | --from | --path) ;;
+        --*=* | --skips | --v1 | --from | --path | --stats) ;;
         *) last=$word ;;
       esac
     fi
@@ -327,6 +382,7 @@ desk() {
       ready && convert
       ;;
     enough) ready && enough ;;
+    test) ready && test_program ;;
     located) ready_located && locate ;;
     prove) prove_all ;;
     which) say_which ;;
@@ -339,6 +395,9 @@ desk() {
         take_words "${words[@]}"
       else
         spare_inputs
+      fi
+      if [ "${names[0]}" = run ] && [[ " ${options[*]} " = *" --stats "* ]]; then
+        ready && measure
       fi
       if [ "${names[0]}" = pack ] && [ ${#names[@]} -eq 4 ] && is_spread "${names[2]}"; then
         ready && pack_spread "${words[@]}"

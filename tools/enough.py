@@ -47,6 +47,7 @@ class Runs:
     def __init__(self, source, given, words, program):
         self.source, self.given, self.words, self.program = source, given, words, program
         self.command = "local" if is_located(source) else "run"
+        self.is_exact = False  # whether the least number that was found last is the least
 
     def ended(self, depth, chunks, *words):
         """The status of a run, where it is 0, too deep or out of chunks; else its line and status are the end."""
@@ -72,6 +73,7 @@ class Runs:
         while low < high and spent() < until:
             middle = (low + high) // 2
             low, high = (low, middle) if suffices(middle) else (middle + 1, high)
+        self.is_exact = low == high
         return high
 
 
