@@ -2,7 +2,9 @@
 """What more there is to say of a fault that the program has told. The script `gib` calls this behind the program's line, and shows what it prints.
 
     explain.py source SRC PLACE KIND PROGRAM ..   a fault in a source; PROGRAM is asked which tokens it would take at PLACE
-    explain.py text SRC TXT PLACE                 a fault in the text of a value
+    explain.py located SRC PLACE KIND             a fault in a LoCal text
+    explain.py rule SRC TERM RULE                 a build rule that the core of a LoCal text breaks
+    explain.py text SRC TXT                       a fault in the text of a value
     explain.py packed SRC FILE                    a packed file of other types, or a file that is not packed
 
 It decides nothing: where it finds nothing to say, or fails, it prints nothing, with status 1.
@@ -26,6 +28,7 @@ sys.path.insert(0, os.path.join(ROOT, "examples", "python"))
 from description import Schema  # noqa: E402
 from faults import Program, limit_note  # noqa: E402
 from gbp import MAGIC, opened  # noqa: E402
+from located import place_note, rule_note  # noqa: E402
 from source import OPERATIONS, SIGNS, TYPES, WORDS, Parser, Token, tokens_of  # noqa: E402
 from texts import BadText, TextSource, listed  # noqa: E402
 from values import GREATEST, convey  # noqa: E402
@@ -340,8 +343,7 @@ def shown(source, first, further):
 def listed_by_line(path, source, first, further):
     """A line for each fault, as editors take them."""
     for at, other in enumerate([first, *further]):
-        line, column = line_and_column(source, other.place if other.mark is None else other.mark)
-        yield f"{path}:{line}:{column}: {'also ' * (at > 0)}{'; '.join([other.kind, *other.notes])}"
+        yield from by_line(path, source, other.place if other.mark is None else other.mark, "also " * (at > 0) + other.kind, other.notes)
 
 
 def source_notes(path, place, kind, program):
@@ -410,7 +412,36 @@ def packed_notes(schema, path, data):
     return ["it was packed for this program's types, and is damaged"]
 
 
+def located_notes(path, place, kind):
+    """Which location is due at a place of a LoCal text."""
+    with open(path, encoding="latin-1") as file:
+        source = file.read()
+    note = place_note(source, place) if kind == "wrong place" else None
+    return by_line(path, source, place, kind, [note]) if BY_LINE else [note]
+
+
+def rule_notes(path, term, rule):
+    """Where the term of a core stands in its LoCal text, and what the rule that it breaks asks for."""
+    with open(path, encoding="latin-1") as file:
+        source = file.read()
+    place, note = rule_note(source, rule, term)
+    if BY_LINE:
+        return by_line(path, source, place, f"location rule {rule}", [note])
+    line, column = line_and_column(source, place)
+    return [f"{path}, line {line}, column {column}:", *marked(source, place), note]
+
+
+def by_line(path, source, place, kind, notes):
+    """A fault in one line, as editors take it."""
+    line, column = line_and_column(source, place)
+    return [f"{path}:{line}:{column}: {'; '.join(filter(None, [kind, *notes]))}"]
+
+
 def notes(words):
+    if words[0] == "located":
+        return located_notes(words[1], int(words[2]), words[3])
+    if words[0] == "rule":
+        return rule_notes(words[1], int(words[2]), words[3])
     if words[0] == "source":
         return source_notes(words[1], int(words[2]), words[3], words[4:])
     with open(words[1], encoding="latin-1") as file:
@@ -428,8 +459,9 @@ def main():
         told = [note for note in notes(words) if note]
     except Exception:  # what cannot be explained is not explained
         told = []
-    for note in told:
-        print(note if BY_LINE and words[0] == "source" else "  " + note)
+    for at, note in enumerate(told):
+        is_head = words[0] == "rule" and at == 0
+        print(note if is_head or BY_LINE and words[0] in ("source", "located", "rule") else "  " + note)
     sys.exit(0 if told else 1)
 
 

@@ -1,5 +1,6 @@
-"""Pages for a browser: an image's chunks as bars, its values as trees, and a journal's tasks as lanes."""
+"""Pages for a browser: an image's chunks as bars, its values as trees, and a journal's tasks as lanes, to be played; and journals for viewers of traces."""
 
+import json
 from html import escape
 
 from image import ADDRESS_ANSWER, CHUNK, INDIRECTION, KINDS, Torn
@@ -14,7 +15,8 @@ svg { display: block; width: 100%; height: auto } svg text { font: 12px sans-ser
 h1 { font-size: 1.4em } h2 { font-size: 1.1em; margin-top: 1.6em }
 td, th { padding: 2px 12px 2px 0; text-align: right } td:first-child, td:last-child { text-align: left }
 pre { font: 13px/1.5 monospace; margin: 0 } pre i { display: inline-block; width: .8em; height: .8em; margin-right: .6em; border: 1px solid #777 }
-a { color: #1b4f8a } .more { color: #777 }
+a { color: #1b4f8a } .more { color: #777 } #said { font-weight: bold; min-height: 1.5em } svg text.drawn { font-size: 10px; fill: #a03020 }
+.later { opacity: 0.12 } .now rect { stroke: #c0392b; stroke-width: 2 } .now text { fill: #c0392b; font-weight: bold } .now path { stroke-width: 2.5 }
 """
 
 
@@ -181,60 +183,127 @@ def tree_line(image, at, level):
 
 # -- journals ------------------------------------------------------------------------------------------------------------------
 
+# A lane is so high, and its middle so far below the upper edge.
+LANE, MIDDLE = 48, 34
 
-def journal_page(journal, name):
-    """A page on a journal: a lane for each task."""
-    return page(name, journal_body(journal))
+PLAYER = """const shapes = [...document.querySelectorAll('[data-n]')], said = document.getElementById('said'), bar = document.getElementById('bar');
+let at = words.length - 1, timer = null;
+function show(n) {
+  at = Math.min(Math.max(n, 0), words.length - 1);
+  for (const shape of shapes) {
+    shape.classList.toggle('later', +shape.dataset.n > at);
+    shape.classList.toggle('now', +shape.dataset.n === at);
+  }
+  said.textContent = words[at];
+  bar.value = at;
+}
+function play() {
+  if (timer) { clearInterval(timer); timer = null; return; }
+  if (at === words.length - 1) show(0);
+  timer = setInterval(() => at < words.length - 1 ? show(at + 1) : play(), Math.max(20, Math.min(700, 20000 / words.length)));
+}
+const keys = { ArrowRight: () => show(at + 1), ArrowLeft: () => show(at - 1), Home: () => show(0), End: () => show(words.length - 1), ' ': play };
+document.addEventListener('keydown', (event) => { if (keys[event.key]) { event.preventDefault(); keys[event.key](); } });
+bar.max = words.length - 1;
+bar.addEventListener('input', () => show(+bar.value));
+document.getElementById('play').addEventListener('click', (event) => { event.target.blur(); play(); });
+show(location.hash ? +location.hash.slice(1) : words.length - 1);
+"""
 
 
-def journal_body(journal):
+def journal_page(journal, name, draws=()):
+    """A page on a journal: a lane for each task, which a person can play. `draws` has for lines the chunks that are drawn there."""
+    return page(name, journal_body(journal, dict(draws)))
+
+
+def journal_body(journal, draws):
     told = ", ".join(f"{name} {value}" for name, value in journal.settings.items())
     counts = journal.total().counts
     yield f"<p>{told}. {len(journal.tasks):,} tasks make {counts['step']:,} steps; {counts['fork']:,} forks, of which {counts['steal']:,} are stolen."
     yield " To the right are steps in the journal's order, in which one task moves at a time.</p>"
     if len(journal.tasks) > LANES or len(journal.events) > EVENTS:
         yield f'<p class="more">The first {min(len(journal.tasks), LANES)} lanes and {min(len(journal.events), EVENTS):,} events.</p>'
-    yield from lanes(journal)
+    yield '<p><button id="play">play</button> <input id="bar" type="range" min="0" style="width:60%"> keys: ← → Home End, blank plays</p><p id="said"></p>'
+    yield from lanes(journal, draws)
     yield "<p><b>▾</b> a fork: a side waits. <b>●</b> a side is stolen, and becomes a task. <b>▴</b> the task goes on with a side that nobody stole."
-    yield " <b>■</b> the task has put its answer. <b>◆</b> an answer is joined.</p>"
+    yield " <b>■</b> the task has put its answer. <b>◆</b> an answer is joined. <b>c3</b> chunk 3 is drawn there.</p>"
+    words = [event_words(event, draws) for event in journal.events[:EVENTS]]
+    yield f"<script>const words = {json.dumps(words)};\n{PLAYER}</script>"
 
 
 MARKS = {"fork": "▾", "steal": "●", "take": "▴", "finish": "■", "join": "◆"}
 
 
-def lanes(journal):
+def event_words(event, draws):
+    """What happens in an event, for a person."""
+    told = {
+        "step": f"makes {event.steps:,} steps",
+        "fork": "begins a fork: its right side waits",
+        "steal": f"has its side stolen by task {event.other}",
+        "take": "goes on with the side that nobody stole",
+        "finish": "has put its answer",
+        "join": f"takes the answer of task {event.other}",
+    }[event.what]
+    drawn = "".join(f", and draws chunk {chunk}" for chunk in draws.get(event.line, ()))
+    return f"line {event.line}: task {event.task} {told}{drawn}"
+
+
+def lanes(journal, draws):
     """The lanes as a drawing. Each event takes the width of its steps, and a little of its own."""
     events = journal.events[:EVENTS]
     shown = min(len(journal.tasks), LANES)
     steps = sum(event.steps for event in events) or 1
     own = min(14, 0.6 * (WIDTH - LABEL) / max(len(events), 1))
     scale = max(WIDTH - LABEL - own * len(events) - 10, 10) / steps
-    left = {}
-    for place, event in enumerate(events):
-        left[event.line] = LABEL + place * own + event.clock * scale
-    yield f'<svg viewBox="0 0 {WIDTH} {20 + shown * 44}" role="img" aria-label="tasks">'
+    left = {event.line: LABEL + place * own + event.clock * scale for place, event in enumerate(events)}
+    yield f'<svg viewBox="0 0 {WIDTH} {20 + shown * LANE}" role="img" aria-label="tasks">'
     yield '<defs><marker id="tip" viewBox="0 0 8 8" refX="7" refY="4" markerWidth="7" markerHeight="7" orient="auto"><path d="M0 0L8 4L0 8z" fill="#555"/></marker></defs>'
     for task in range(shown):
-        lane, y = journal.tasks[task], 30 + task * 44
+        lane, y = journal.tasks[task], MIDDLE + task * LANE
         start, end = left.get(lane.first, WIDTH), left.get(lane.last, WIDTH)
         yield f'<text x="0" y="{y + 4}">task {task}</text><path d="M{start:.1f} {y}H{end:.1f}" stroke="#bbb"/>'
-    for event in events:
+    for place, event in enumerate(events):
         if event.task < shown:
-            yield from lane_event(event, left[event.line], 30 + event.task * 44, own, scale, shown)
+            drawn = " ".join(f"c{chunk}" for chunk in draws.get(event.line, ()))
+            yield f'<g data-n="{place}"><title>{escape(event_words(event, draws))}</title>'
+            yield from lane_event(event, left[event.line], own, scale, shown)
+            if drawn:
+                yield f'<text class="drawn" x="{left[event.line]:.1f}" y="{MIDDLE + event.task * LANE - 12}">{drawn}</text>'
+            yield "</g>"
     yield "</svg>"
 
 
-def lane_event(event, x, y, own, scale, shown):
-    """An event in its lane; a steal and a join have an arrow to or from the other task's lane."""
-    title = f"<title>line {event.line}: {escape(event.what)} {event.steps or ''}</title>"
+def lane_event(event, x, own, scale, shown):
+    """An event in its lane; a fork has an arrow down, a steal and a join have one to or from the other task's lane."""
+    y = MIDDLE + event.task * LANE
     if event.what == "step":
-        yield f'<g>{title}<rect x="{x:.1f}" y="{y - 8}" width="{max(event.steps * scale, 0.8):.1f}" height="16" fill="#7fb0dd"/></g>'
+        yield f'<rect x="{x:.1f}" y="{y - 8}" width="{max(event.steps * scale, 0.8):.1f}" height="16" fill="#7fb0dd"/>'
         return
     if own > 3:
-        yield f'<g>{title}<text x="{x + own / 2 - 4:.1f}" y="{y + 4}">{MARKS[event.what]}</text></g>'
+        yield f'<text x="{x + own / 2 - 4:.1f}" y="{y + 4}">{MARKS[event.what]}</text>'
+    if event.what == "fork":
+        yield f'<path d="M{x + own / 2:.1f} {y + 8}v9" stroke="#555" marker-end="url(#tip)"/>'
     if event.other is not None and event.other < shown:
-        other = 30 + event.other * 44
+        other = MIDDLE + event.other * LANE
         start, end = (y, other) if event.what == "steal" else (other, y)
         step = 9 if end > start else -9
         colour = "#c0612b" if event.what == "steal" else "#3f8f4f"
         yield f'<path d="M{x + own / 2:.1f} {start + step}V{end - step}" stroke="{colour}" marker-end="url(#tip)"/>'
+
+
+def trace_events(journal, draws=()):
+    """A journal as Perfetto and Chrome's tracing take it: a thread for each task, a microsecond for each step and each other event, arrows for steals and joins."""
+    draws, events = dict(draws), []
+    for lane in journal.tasks:
+        events.append({"ph": "M", "name": "thread_name", "pid": 0, "tid": lane.number, "args": {"name": f"task {lane.number}"}})
+    for place, event in enumerate(journal.events):
+        at = {"pid": 0, "tid": event.task, "ts": event.clock + place}
+        args = {"line": event.line, "told": event_words(event, draws)}
+        if event.line in draws:
+            args["chunks"] = list(draws[event.line])
+        events.append({"ph": "X", "name": event.what, "dur": event.steps or 1, "args": args, **at})
+        if event.other is not None:
+            ends = [at, {**at, "tid": event.other}] if event.what == "steal" else [{**at, "tid": event.other, "ts": at["ts"] - 1}, at]
+            flow = {"name": event.what, "cat": "side", "id": place}
+            events += [{"ph": "s", **flow, **ends[0]}, {"ph": "f", "bp": "e", **flow, **ends[1]}]
+    yield json.dumps({"traceEvents": events, "displayTimeUnit": "ns"})
