@@ -20,6 +20,9 @@ from gib_work import Row
 # So many tasks are with the scheduler at a time: enough for each worker, and its memory stays small whatever the number of files.
 WINDOW = 2000
 
+# Fewer files than this are done sooner in one process, unless each of them takes long.
+FEW = 1000
+
 # Dask's scheduler gives a task to another worker so many times before it holds the task for the cause.
 DEATHS = 3
 
@@ -99,9 +102,11 @@ def do_by(given, work, batches):
     if given.alone:
         yield from do_alone(work, batches)
         return
-    import dask
-    from distributed import Client, LocalCluster
-
+    try:
+        import dask
+        from distributed import Client, LocalCluster
+    except ImportError as error:
+        sys.exit(f"many: {error}: Debian's package python3-distributed has Dask for /usr/bin/python3; --alone does without")
     if given.scheduler:
         with Client(given.scheduler) as client:
             yield from do_spread(client, work, batches)
@@ -142,6 +147,8 @@ def main():
     rows = {name: old[name] for name in names if name in old and gib_work.is_done(work, asked, old[name])}
     kept = len(rows)
     due = [name for name in names if name not in rows]
+    if 0 < len(due) < FEW and not given.alone and not given.scheduler:
+        print(f"many: {len(due)} files are done sooner with --alone: below {FEW:,} starting the workers takes longer than the work", file=sys.stderr)
     table.write_table(path, rows)
     # Each row is put as it comes, so a run that is cut off has lost only what it had not done.
     with open(path, "a", encoding="utf-8", errors="surrogateescape", newline="\n") as file:
