@@ -394,6 +394,12 @@ def not_packed(data):
     return "is a text: gib pack makes a packed file of it, and gib eval takes it as it is"
 
 
+def moved(told, due):
+    """A note where two descriptions differ in the tags of their constructors alone."""
+    if re.sub(rb":[0-9]+", b"", told) == re.sub(rb":[0-9]+", b"", due):
+        yield "the same types stand at other places in the two programs: in each program of a chain the shared types stand first, in the same order"
+
+
 def packed_notes(schema, path, data):
     """Why a file is not packed, or not for a program: the first line in which their types differ."""
     if data[:4] != MAGIC:
@@ -408,7 +414,7 @@ def packed_notes(schema, path, data):
     pair = [text.decode("latin-1").splitlines() for text in (told, schema.description())]
     for ours, theirs in zip_longest(*pair, fillvalue="no more"):
         if ours != theirs:
-            return [f"it was packed for: {ours[:200]}", f"the program takes: {theirs[:200]}"]
+            return [f"it was packed for: {ours[:200]}", f"the program takes: {theirs[:200]}", *moved(told, schema.description())]
     return ["it was packed for this program's types, and is damaged"]
 
 
