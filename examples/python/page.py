@@ -4,6 +4,7 @@ import json
 from html import escape
 
 from image import ADDRESS_ANSWER, CHUNK, INDIRECTION, KINDS, Torn
+from texts import listed
 
 # A page shows at most so many chunks, arrows, lines of a tree, lanes and events; it says where there are more.
 CHUNKS, ARROWS, TREE, LANES, EVENTS = 64, 300, 2000, 64, 20_000
@@ -223,6 +224,8 @@ def journal_body(journal, draws):
     yield " To the right are steps in the journal's order, in which one task moves at a time.</p>"
     if len(journal.tasks) > LANES or len(journal.events) > EVENTS:
         yield f'<p class="more">The first {min(len(journal.tasks), LANES)} lanes and {min(len(journal.events), EVENTS):,} events.</p>'
+    if 2 in draws:
+        yield f"<p>The input stands in {', '.join(f'chunk {chunk}' for chunk in draws[2][:8])}{' ..' if len(draws[2]) > 8 else ''}.</p>"
     yield '<p><button id="play">play</button> <input id="bar" type="range" min="0" style="width:60%"> keys: ← → Home End, blank plays</p><p id="said"></p>'
     yield from lanes(journal, draws)
     yield "<p><b>▾</b> a fork: a side waits. <b>●</b> a side is stolen, and becomes a task. <b>▴</b> the task goes on with a side that nobody stole."
@@ -244,8 +247,16 @@ def event_words(event, draws):
         "finish": "has put its answer",
         "join": f"takes the answer of task {event.other}",
     }[event.what]
-    drawn = "".join(f", and draws chunk {chunk}" for chunk in draws.get(event.line, ()))
+    chunks = draws.get(event.line, ())
+    drawn = f", and draws {'chunk' if len(chunks) == 1 else 'chunks'} {listed(map(str, chunks))}" if chunks else ""
     return f"line {event.line}: task {event.task} {told}{drawn}"
+
+
+def in_short(chunks):
+    """The numbers of chunks, those that follow one another as one."""
+    if len(chunks) > 1 and chunks[-1] - chunks[0] == len(chunks) - 1:
+        return f"c{chunks[0]}-{chunks[-1]}"
+    return " ".join(f"c{chunk}" for chunk in chunks)
 
 
 def lanes(journal, draws):
@@ -264,7 +275,7 @@ def lanes(journal, draws):
         yield f'<text x="0" y="{y + 4}">task {task}</text><path d="M{start:.1f} {y}H{end:.1f}" stroke="#bbb"/>'
     for place, event in enumerate(events):
         if event.task < shown:
-            drawn = " ".join(f"c{chunk}" for chunk in draws.get(event.line, ()))
+            drawn = in_short(draws.get(event.line, ()))
             yield f'<g data-n="{place}"><title>{escape(event_words(event, draws))}</title>'
             yield from lane_event(event, left[event.line], own, scale, shown)
             if drawn:
