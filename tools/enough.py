@@ -155,28 +155,33 @@ AVOIDED = 'parameters that accumulate hold none, and plain has no such limit: do
 
 
 def calls_open(runs, depth, chunks, held):
-    """How many calls are open where a run is out of chunks, of which each holds so many: the least depth at which it is not too deep before that."""
+    """How many calls are open where a run is out of chunks, of which each holds so many: the least depth at which it is not too deep before that; none where other
+    calls nest deeper, so that this tells nothing."""
 
     def suffices(some):
         return runs.ended(some, chunks) == CHUNKS
 
     low, high = max(chunks // held - 64, 1), min(chunks // held + 2, depth)
-    if not suffices(high) or low > 1 and suffices(low - 1):
-        low, high = 1, depth
+    if not suffices(high):
+        return None
+    if low >= high or low > 1 and suffices(low - 1):
+        low = 1
     return runs.least(low, high, suffices, 4 * QUICK)
 
 
 def blamed(runs, depth, chunks):
-    """Which functions hold the chunks while they are open, and how many calls are open at the end."""
+    """Which functions hold the chunks while they are open, and how many calls are open at the end. Where these hold less than half of them, others took them."""
     try:
         held = chunks_held(runs.core())
     except Unknown:
         return
     most = sorted({name for count, name in held if count == held[0][0]})
-    if most:
-        count = held[0][0]
-        opened = calls_open(runs, depth, chunks, count)
-        yield f"{' or '.join(f'`{name}`' for name in most[:3])}: {count} chunk{'s' * (count > 1)} for each open call, {opened} calls open"
+    count = held[0][0] if most else 1
+    opened = calls_open(runs, depth, chunks, count) if most else 0
+    if opened is None or 2 * opened * count > chunks:
+        names = " or ".join(f"`{name}`" for name in most[:3])
+        told = f"so at most {chunks // count} can be open" if opened is None else f"{opened} calls open"
+        yield f"{names}: {count} chunk{'s' * (count > 1)} for each open call, {told}"
         yield AVOIDED
 
 
