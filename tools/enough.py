@@ -138,7 +138,7 @@ def enough(runs, workers, forks):
     forked = workers > 1 and forks and (runs.command == "local" or any(line.words == ["par", "fork"] for one in runs.core() for line in lines_of(one.body)))
     if forked:
         found = counted(runs, forks, seconds) if runs.command == "run" else None
-        chunks = min(found or MOST_CHUNKS, MOST_CHUNKS)
+        chunks = max(min(found or MOST_CHUNKS, MOST_CHUNKS), LEAST_CHUNKS)
         if found is None:
             print(f"  a bound for any schedule was not found in that time: {MOST_CHUNKS} chunks are the most that there may be", file=sys.stderr)
         elif found > MOST_CHUNKS:
@@ -146,7 +146,7 @@ def enough(runs, workers, forks):
         status = runs.ended(depth, chunks, "--workers", str(workers), "--fork", str(forks))
         if status:
             raise Stop(status, "gib: chunks")
-    return f"--depth {depth} --chunks {max(chunks, LEAST_CHUNKS)}"
+    return f"--depth {depth} --chunks {chunks}"
 
 
 # -- behind `gib: chunks` ------------------------------------------------------------------------------------------------------------
