@@ -12,6 +12,7 @@ that takes no longer than two runs, or some seconds; else N is the most that the
 """
 
 import os
+import re
 import resource
 import subprocess
 import sys
@@ -78,10 +79,10 @@ class Runs:
 
 
 def is_located(path):
-    """Whether a file is a LoCal text: the source language has no @."""
+    """Whether a file is a LoCal text: a type there has its place."""
     try:
         with open(path, encoding="latin-1") as file:
-            return any("@" in line.split("--")[0] for line in file)
+            return bool(re.search(r":\s*[A-Z]\w*\s*@\s*[a-z]", re.sub(r"--.*", "", file.read())))
     except OSError:
         return False
 

@@ -83,14 +83,16 @@ class Payload:
     """Makes a payload. Of each constructor that is open it keeps where its next number goes, and how long that is."""
 
     def __init__(self):
-        self.out, self.holes = bytearray(), []
+        self.out, self.holes, self.rooms = bytearray(), [], {}
 
     def open(self, made):
         if len(self.out) > LONGEST:
             raise Refused(f"longer than {LONGEST} bytes")
+        if made.name not in self.rooms:
+            self.rooms[made.name] = bytes(sum(SIZES[made.fields[place]] for place in made.scalars))
         self.out.append(made.tag)
         self.holes.append(len(self.out))
-        self.out += bytes(sum(SIZES[made.fields[place]] for place in made.scalars))
+        self.out += self.rooms[made.name]
 
     def scalar(self, value, kind):
         size = SIZES[kind]

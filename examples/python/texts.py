@@ -35,6 +35,8 @@ def due_value(schema, kind):
 
 def number_fault(token):
     """Why a token is no number as a text has it; none where it is one."""
+    if len(token) <= 18 and token.isdecimal() and token.isascii() and token[0] != "0":
+        return None
     if not re.fullmatch(r"-?[0-9]+", token):
         return f"{token} is no Int: a number is due"
     if len(token) > 30 or not LEAST <= int(token) <= GREATEST:
