@@ -1,0 +1,201 @@
+-- | Puts each value where it is needed first, as Haskell evaluates it, and makes functions of what several places go on with.
+module Tidy (tidy, onlyOpened, openings, signatureOf) where
+
+import Control.Monad.State (State, evalState, get, gets, modify, put, runState)
+import Core
+import Data.Functor.Const (Const (..))
+import Data.Functor.Identity (Identity (..))
+import qualified Data.Map as Map
+import Data.Monoid (Sum (..))
+import Data.Set (Set)
+import qualified Data.Set as Set
+import Fault (Place)
+import Syntax (Name, Signature (..), Type (..), int)
+import World
+
+-- | A function, and those that it became besides, with what they declare.
+tidy :: World -> Definition -> (World, [Definition])
+tidy here definition = (world' end, done : reverse (made end))
+  where
+    (done, end) = runState (lifted definition {defBody = body}) (Lifting here [])
+    body = unforced . inlined . flip evalState firstLabel . sink . opened . inlined $ defBody definition
+    -- Those of patterns are below.
+    firstLabel = 1000000000
+
+unforced :: Core -> Core
+unforced core = case core of
+  Force _ body -> unforced body
+  _ -> every unforced core
+
+every :: (Core -> Core) -> Core -> Core
+every go = runIdentity . overParts (Identity . go)
+
+-- -- labels ---------------------------------------------------------------------------------------------------------------------
+
+jumps :: Int -> Core -> Int
+jumps label core = case core of
+  Jump other _ | other == label -> 1
+  _ -> getSum (getConst (overParts (Const . Sum . jumps label) core))
+
+-- | Puts what is gone on with at one place there, and what is short everywhere.
+inlined :: Core -> Core
+inlined core = case core of
+  Label label vars inner body
+    | count == 0 -> rest
+    | count == 1 || size there <= length vars + 6 -> put' rest
+    | otherwise -> Label label vars there rest
+    where
+      there = inlined inner
+      rest = inlined body
+      count = jumps label rest
+      put' part = case part of
+        Jump other taken | other == label -> renamed (Map.fromList (zip vars taken)) there
+        _ -> every put' part
+  _ -> every inlined core
+
+-- | What is known while functions are made: all signatures, and those that were made.
+data Lifting = Lifting {world' :: World, made :: [Definition]}
+
+-- | A function without labels, and what is gone on with as functions of their own.
+lifted :: Definition -> State Lifting Definition
+lifted definition = do
+  body <- liftLabels definition (defBody definition)
+  pure definition {defBody = body}
+
+liftLabels :: Definition -> Core -> State Lifting Core
+liftLabels definition core = case core of
+  Label label vars inner body -> do
+    here <- gets world'
+    let more = Set.toList (unbound inner `Set.difference` Set.fromList vars)
+        unused = [Var "at" (-1) int | null (vars ++ more)]
+        name = unusedName here (defName definition ++ "_otherwise")
+        call taken = Call (placeIn definition inner) name (map TVar (defVars definition)) (if null unused then map Ref (taken ++ more) else [Number 0])
+        function = definition {defName = name, defParameters = vars ++ more ++ unused, defResult = typeOf here Map.empty inner, defBody = inner}
+    modify (\state -> state {world' = withSignature function here})
+    done <- lifted function
+    modify (\state -> state {made = done : made state})
+    liftLabels definition (jumpsAs call label body)
+  _ -> overParts (liftLabels definition) core
+
+-- | An expression with calls where it would go on at a label.
+jumpsAs :: ([Var] -> Core) -> Int -> Core -> Core
+jumpsAs call label core = case core of
+  Jump other taken | other == label -> call taken
+  _ -> every (jumpsAs call label) core
+
+unusedName :: World -> Name -> Name
+unusedName here name = head [other | other <- name : map ((name ++) . show) [2 :: Int ..], other `Map.notMember` declared here]
+
+withSignature :: Definition -> World -> World
+withSignature function here = here {declared = Map.insert (defName function) (signatureOf function) (declared here)}
+
+signatureOf :: Definition -> Signature
+signatureOf function = Signature (defVars function) (map kind (defParameters function)) (defResult function)
+
+placeIn :: Definition -> Core -> Place
+placeIn definition core = case core of
+  Remark place _ -> place
+  _ -> defAt definition
+
+-- -- values ---------------------------------------------------------------------------------------------------------------------
+
+-- | Takes values apart that a case looks at where they are made, and names what they are made of before them.
+opened :: Core -> Core
+opened core = case every opened core of
+  Let place var (Remark _ value) body -> opened (Let place var value body)
+  Let place var (Let inner other value rest) body -> Let inner other value (opened (Let place var rest body))
+  Let place var (Par inner one left other right rest) body -> Par inner one left other right (opened (Let place var rest body))
+  Let place var (Make _ name _ parts) body
+    | not (null parts), onlyOpened var body -> partsNamed place (openings var body) parts (\vars -> madeBy var name vars body)
+  done -> done
+
+-- | The names that cases give to the parts of a variable, the first ones.
+openings :: Var -> Core -> [Var]
+openings var core = case core of
+  Case _ other (arm : _) | other == var -> binders arm
+  _ -> concat (take 1 (filter (not . null) (getConst (overParts (\part -> Const [openings var part]) core))))
+
+-- | Whether a variable is used by cases alone, and by some.
+onlyOpened :: Var -> Core -> Bool
+onlyOpened var core = not (null (openings var core)) && not (asValue core)
+  where
+    asValue part = case part of
+      Ref other -> other == var
+      Jump _ taken -> var `elem` taken
+      Force other _ | other == var -> True
+      _ -> or (getConst (overParts (\inner -> Const [asValue inner]) part))
+
+-- | Names parts that have none.
+partsNamed :: Place -> [Var] -> [Core] -> ([Var] -> Core) -> Core
+partsNamed place vars parts body = go (zip vars parts) []
+  where
+    go ((_, Ref other) : more) done = go more (other : done)
+    go ((var, part) : more) done = Let place var part (go more (var : done))
+    go [] done = body (reverse done)
+
+-- | An expression in which a variable is known to be made by a constructor with these parts.
+madeBy :: Var -> Name -> [Var] -> Core -> Core
+madeBy var name parts core = case core of
+  Case _ other arms
+    | other == var, arm : _ <- filter ((== name) . constructor) arms -> madeBy var name parts (renamed (Map.fromList (zip (binders arm) parts)) (armBody arm))
+  _ -> every (madeBy var name parts) core
+
+-- | A value with its names, and with the names of what it is taken apart into at once.
+data Group = Group {groupVars :: Set Var, before :: Core -> Core, isCheap :: Bool}
+
+-- | Puts each value before what surely needs it, into the ways on which it is used. What nothing uses is never made.
+sink :: Core -> State Int Core
+sink core = do
+  done <- overParts sink core
+  case done of
+    Let _ var value _
+      | (group, body) <- groupOf done ->
+        if isSimple value && isUsed (Set.singleton var) body then pure done else settle group body
+    _ -> pure done
+
+groupOf :: Core -> (Group, Core)
+groupOf core = case core of
+  Let at' var value body -> inside (Group (Set.singleton var) (Let at' var value) (hasNoCall value)) body
+  _ -> (Group Set.empty id True, core)
+  where
+    inside group body = case body of
+      Case at' var [Arm name vars rest]
+        | var `Set.member` groupVars group -> inside group {groupVars = Set.union (Set.fromList vars) (groupVars group), before = before group . Case at' var . (: []) . Arm name vars} rest
+      _ -> (group, body)
+
+hasNoCall :: Core -> Bool
+hasNoCall core = case core of
+  Call {} -> False
+  _ -> and (getConst (overParts (\part -> Const [hasNoCall part]) core))
+
+settle :: Group -> Core -> State Int Core
+settle group core
+  | not (used core) = pure core
+  | isNeeded (groupVars group) core = pure (before group core)
+  | otherwise = case core of
+    If at' test yes no
+      | used test -> splitTest group at' test yes no
+      | otherwise -> If at' test <$> settle group yes <*> settle group no
+    Case at' var arms -> Case at' var <$> mapM (\arm -> (\body -> arm {armBody = body}) <$> settle group (armBody arm)) arms
+    Label label vars inner body
+      | used inner && used body && isCheap group -> Label label vars <$> settle group inner <*> settle group body
+    _
+      | length (filter used (partsOf core)) == 1 -> overParts (\part -> if used part then settle group part else pure part) core
+      | otherwise -> pure (before group core)
+  where
+    used = isUsed (groupVars group)
+    partsOf = getConst . overParts (\part -> Const [part])
+
+-- | A choice whose test needs the value on one of its ways alone: each part of the test becomes a choice of its own.
+splitTest :: Group -> Place -> Core -> Core -> Core -> State Int Core
+splitTest group at' test yes no = case test of
+  If inner first second (Truth False) | not (isUsed (groupVars group) first) -> twice no (\again -> If inner first (If at' second yes again) again)
+  If inner first (Truth True) second | not (isUsed (groupVars group) first) -> twice yes (\again -> If inner first again (If at' second again no))
+  _ -> pure (before group (If at' test yes no))
+  where
+    twice shared whole = case shared of
+      Jump _ _ -> settle group (whole shared)
+      _ -> do
+        label <- get
+        put (label + 1)
+        settle group (Label label [] shared (whole (Jump label [])))
