@@ -318,6 +318,15 @@ say_which() {
   exit
 }
 
+# -- programs in Haskell ---------------------------------------------------------------------------------------------------------
+
+# `from-haskell`, and all commands whose source is a Haskell file.
+haskell() {
+  # shellcheck source=tools/haskell/desk.bash
+  . "$root/tools/haskell/desk.bash"
+  in_haskell "$@"
+}
+
 # -- words -----------------------------------------------------------------------------------------------------------------------
 
 # Takes words apart: `names` (the command first) and their `places` among the words, `options`, the files of `outputs` that options name, and `force`.
@@ -377,6 +386,7 @@ desk() {
     fi
   done
   case ${1:-} in where | pretty) "$@" ;; esac
+  case ${names[0]:-}:${names[1]:-} in from-haskell:* | *:*.hs) haskell "$@" ;; esac
   case ${names[0]:-} in
     eval)
       [ -n "$force" ] || spare_inputs

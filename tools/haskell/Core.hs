@@ -60,6 +60,8 @@ data Core
     Par Place Var Core Var Core Core
   | -- | A value that has to be there, used or not.
     Force Var Core
+  | -- | A value that another worker may make.
+    Spark Var Core
   | -- | What may be gone on with at several places of the second part, by a number, with what it takes.
     Label Int [Var] Core Core
   | Jump Int [Var]
@@ -105,6 +107,7 @@ overParts go core = case core of
   Let place var value body -> Let place var <$> go value <*> go body
   Par place one left other right body -> Par place one <$> go left <*> pure other <*> go right <*> go body
   Force var body -> Force var <$> go body
+  Spark var body -> Spark var <$> go body
   Label label vars inner body -> Label label vars <$> go inner <*> go body
   Remark place body -> Remark place <$> go body
   _ -> pure core
@@ -116,6 +119,7 @@ uses core = Set.union (here core) (getConst (overParts (Const . uses) core))
     here (Ref var) = Set.singleton var
     here (Case _ var _) = Set.singleton var
     here (Force var _) = Set.singleton var
+    here (Spark var _) = Set.singleton var
     here (Jump _ vars) = Set.fromList vars
     here _ = Set.empty
 
@@ -132,6 +136,7 @@ isNeeded vars = go Map.empty
       If _ test yes no -> go labels test || go labels yes && go labels no
       Case _ var arms -> needs var || all (go labels . armBody) arms
       Force var body -> needs var || go labels body
+      Spark var body -> needs var || go labels body
       Jump label taken -> any needs taken || Map.findWithDefault False label labels
       Label label _ inner body -> go (Map.insert label (go labels inner) labels) body
       _ -> or (getConst (overParts (\part -> Const [go labels part]) core))
@@ -169,6 +174,7 @@ renamed new core = case core of
   Jump label vars -> Jump label (map put vars)
   Case place var arms -> Case place (put var) [arm {armBody = renamed new (armBody arm)} | arm <- arms]
   Force var body -> Force (put var) (renamed new body)
+  Spark var body -> Spark (put var) (renamed new body)
   _ -> runIdentity (overParts (Identity . renamed new) core)
   where
     put var = Map.findWithDefault var var new
@@ -180,6 +186,7 @@ size core = getSum (own + getConst (overParts (Const . Sum . size) core))
     own = case core of
       Remark _ _ -> 0
       Force _ _ -> 0
+      Spark _ _ -> 0
       Label {} -> 0
       _ -> 1
 
@@ -197,6 +204,7 @@ typeOf here labels core = case core of
   Let _ _ _ body -> typeOf here labels body
   Par _ _ _ _ _ body -> typeOf here labels body
   Force _ body -> typeOf here labels body
+  Spark _ body -> typeOf here labels body
   Label label _ inner body -> typeOf here (Map.insert label (typeOf here labels inner) labels) body
   Jump label _ -> Map.findWithDefault int label labels
   Remark _ body -> typeOf here labels body

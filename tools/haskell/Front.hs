@@ -24,6 +24,8 @@ type Remarks = Map Place [String]
 data Source = Source
   { program :: Program (),
     remarks :: Remarks,
+    -- | Where its module begins.
+    headAt :: Place,
     -- | The name of its module, and where that stands; none without a head.
     moduleName :: Maybe (Place, String),
     flags :: [String]
@@ -121,6 +123,7 @@ placeOf node = Place (H.srcSpanStartLine range) (H.srcSpanStartColumn range)
 readModule :: H.Module Info -> Front Source
 readModule (H.Module _ heading pragmas imports declarations) = do
   mapM_ checkImport imports
+  begin <- maybe (pure nowhere) (anchored . placeOf) heading
   known <- foldM addSynonym Map.empty (synonymsFirst declarations)
   local (\around -> around {synonyms = known, sparks = any (isSparking . H.importModule) imports}) $ do
     made <- catMaybes <$> mapM readData declarations
@@ -134,6 +137,7 @@ readModule (H.Module _ heading pragmas imports declarations) = do
       Source
         { program = Program made found,
           remarks = Map.empty,
+          headAt = begin,
           moduleName = nameOf <$> heading,
           flags = concatMap flagsOf pragmas
         }

@@ -259,6 +259,7 @@ structure go tables scope core = case core of
         (_, _, rightSide) = bound tables scope other right rest
      in G.Expr place (G.Par names leftSide others rightSide (go tables inner rest))
   Force _ rest -> go tables scope rest
+  Spark _ rest -> go tables scope rest
   Label _ _ _ rest -> go tables scope rest
   _ -> value tables scope core
 

@@ -33,7 +33,7 @@ main = do
   case given of
     ["translate", folder, file, out, places] -> do
       (written, source, made') <- translated folder file
-      let (text, origins) = printed (remarks source) made'
+      let (text, origins) = printed (remarks source) (headAt source) made'
       unless (length (take (longest + 1) text) <= longest) (stop file (Fault (lastPlaceWithin origins) ("the program has more than " ++ show longest ++ " bytes up to here: make two of it")))
       askGhc (folder </> "prelude") written source >>= mapM_ (stop file)
       writeOut out text

@@ -5,7 +5,7 @@ module Match (definitions) where
 
 import Control.Monad (when)
 import Control.Monad.Reader (ReaderT, asks, runReaderT)
-import Control.Monad.State (StateT, evalStateT, get, put)
+import Control.Monad.State (StateT, evalStateT, get, gets, modify, put)
 import Core
 import Data.Char (toLower)
 import Data.List (intercalate, maximumBy)
@@ -13,6 +13,7 @@ import Data.Map (Map)
 import qualified Data.Map as Map
 import Data.Maybe (catMaybes, fromMaybe, isNothing, listToMaybe, mapMaybe)
 import Data.Ord (comparing)
+import Data.Set (Set)
 import qualified Data.Set as Set
 import Fault
 import Infer (boundTypes)
@@ -26,14 +27,19 @@ data Context = Context
     fieldNames :: Map Name [Maybe Name]
   }
 
--- | Counts the variables and labels that are made.
-type Match = StateT Int (ReaderT Context (Either Fault))
+-- | Counts the variables and labels that are made, and keeps what rows that are left at several places become, with its label.
+data Made' = Made' {next :: Int, leftovers :: Map [Leftover] Int, residues :: [Labelled]}
+
+type Match = StateT Made' (ReaderT Context (Either Fault))
+
+-- | A row that is left: where it stands, what it still tests, and what its names stand for.
+type Leftover = (Place, [(Var, Place)], [(Name, Var)])
 
 -- | What the names in scope stand for.
 type Env = Map Name Var
 
 definitions :: World -> Program Type -> Either Fault [Definition]
-definitions known' whole = runReaderT (evalStateT (mapM definition (functions whole)) 0) (Context known' (namesOfFields whole))
+definitions known' whole = runReaderT (evalStateT (mapM definition (functions whole)) (Made' 0 Map.empty [])) (Context known' (namesOfFields whole))
 
 -- | Of each constructor's fields the names that the first patterns give them.
 namesOfFields :: Program a -> Map Name [Maybe Name]
@@ -84,8 +90,8 @@ definition function = do
 
 count :: Match Int
 count = do
-  found <- get
-  found <$ put (found + 1)
+  state <- get
+  next state <$ put state {next = next state + 1}
 
 fresh :: Name -> Type -> Match Var
 fresh name kind' = (\made -> Var name made kind') <$> count
@@ -106,14 +112,18 @@ defaultName kind' = case kind' of
 data MatchOf = MatchOf Name Place [Var]
 
 -- | What is still to be tried: the tests of variables that are left, what its names stand for, and how it ends, with what comes where its guards fail.
-data Candidate = Candidate {left :: [(Var, Pat Type)], env :: Env, canFail :: Bool, finish :: Env -> Match Core -> Match Core}
+data Candidate = Candidate {rowPlace :: Place, own :: Set Name, left :: [(Var, Pat Type)], env :: Env, canFail :: Bool, finish :: Env -> Match Core -> Match Core}
 
 -- | The first of some rows whose patterns fit.
 matchRows :: MatchOf -> Env -> [Var] -> [Row Type] -> Match Core
 matchRows what outer vars several = do
   compiled <- mapM (candidateOf outer vars) several
+  outside <- get
+  put outside {leftovers = Map.empty, residues = []}
   tree <- match what Map.empty (map snd compiled)
-  pure (foldr (\(label, taken, body) -> Label label taken body) tree (concatMap fst compiled))
+  shared' <- gets (reverse . residues)
+  modify (\state -> state {leftovers = leftovers outside, residues = residues outside})
+  pure (foldr (\(label, taken, body) -> Label label taken body) tree (concatMap fst compiled ++ shared'))
 
 type Labelled = (Int, [Var], Core)
 
@@ -121,7 +131,7 @@ candidateOf :: Env -> [Var] -> Row Type -> Match ([Labelled], Candidate)
 candidateOf outer vars row = do
   labelled <- mapM (labelledOf outer (concatMap boundTypes (patterns row) ++ concatMap (boundTypes . target) bindings)) several
   let try inner failed = bound inner bindings (\scope -> foldr (guardedBy scope) failed (zip several labelled))
-  pure (map (\(made, _) -> made) labelled, normal (Candidate (zip vars (patterns row)) outer (all mayFail several) try))
+  pure (map (\(made, _) -> made) labelled, normal (Candidate (rowAt row) (Set.fromList (concatMap names (patterns row))) (zip vars (patterns row)) outer (all mayFail several) try))
   where
     Rhs several bindings = rhs row
     guardedBy scope (guarded, ((label, _, _), taken)) failed = holding scope (tests guarded) (jump label taken) failed
@@ -129,13 +139,13 @@ candidateOf outer vars row = do
 
 -- | A result as what several places may go on with, by the names of its row that it uses.
 labelledOf :: Env -> [(Name, Type)] -> Guarded Type -> Match (Labelled, [Name])
-labelledOf outer own guarded = do
+labelledOf outer ofRow guarded = do
   label <- count
   vars <- mapM (\name -> fresh name (inner Map.! name)) taken
   body <- expression (Map.union (Map.fromList (zip taken vars)) outer) (result guarded)
   pure ((label, vars, Remark (guardedAt guarded) body), taken)
   where
-    inner = Map.fromList (own ++ concat [boundTypes pat | Matches pat _ <- tests guarded])
+    inner = Map.fromList (ofRow ++ concat [boundTypes pat | Matches pat _ <- tests guarded])
     taken = [name | name <- Set.toList (free (result guarded)), name `Map.member` inner]
 
 mayFail :: Guarded a -> Bool
@@ -157,7 +167,9 @@ holding scope several inner failed = case several of
     found <- expression scope expr
     naming (at expr) (nameOf pat) (note expr) found $ \var ->
       match (MatchOf "" (patAt pat) [var]) Map.empty . map normal $
-        [Candidate [(var, pat)] scope True (\more _ -> holding more others inner again), Candidate [] scope False (\_ _ -> again)]
+        [ Candidate (patAt pat) (Set.fromList (names pat)) [(var, pat)] scope True (\more _ -> holding more others inner again),
+          Candidate (patAt pat) Set.empty [] scope False (\_ _ -> again)
+        ]
 
 -- | Gives what may stand at several places a label, where it is more than a jump.
 shared :: Match Core -> (Match Core -> Match Core) -> Match Core
@@ -186,16 +198,30 @@ normal candidate = foldl step candidate {left = []} (left candidate)
 -- | The constructors that variables are known to be made by.
 type Shapes = Map Var (Name, [Var])
 
+-- | Tries candidates in order. What several ways lead to, and what only looks at the values that are matched, stands once.
 match :: MatchOf -> Shapes -> [Candidate] -> Match Core
-match what shapes [] = missing what shapes
-match what shapes (first : others)
+match what@(MatchOf _ _ roots) shapes candidates
+  | Map.null shapes || length candidates < 2 || any (`notElem` roots) seen = matched what shapes candidates
+  | otherwise = gets (Map.lookup key . leftovers) >>= maybe make (\label -> pure (Jump label []))
+  where
+    key = [(rowPlace one, [(var, patAt pat) | (var, pat) <- left one], Map.toList (Map.restrictKeys (env one) (own one))) | one <- candidates]
+    seen = concat [map fst tested ++ map snd found | (one, (_, _, found)) <- zip candidates key, let tested = left one]
+    make = do
+      body <- matched what shapes candidates
+      label <- count
+      modify (\state -> state {leftovers = Map.insert key label (leftovers state), residues = (label, [], body) : residues state})
+      pure (Jump label [])
+
+matched :: MatchOf -> Shapes -> [Candidate] -> Match Core
+matched what shapes [] = missing what shapes
+matched what shapes (first : others)
   | null (left first) =
     -- What comes behind the last guard is looked at only where it can be reached.
     if canFail first
       then finish first (env first) (match what shapes others)
       else finish first (env first) (missing what shapes)
   | otherwise = do
-    made <- get
+    made <- gets next
     when (made > mostMade) (refuse place "too many cases come of these patterns: look at fewer parts in one function")
     case patForm pat of
       Literal wanted -> do
@@ -289,7 +315,7 @@ expression scope expr = case form expr of
   S.Apply _ _ -> refuse place "what is called here is no function's name"
   S.If test yes no -> choice place <$> expression scope test <*> expression scope yes <*> expression scope no
   S.Case subject alternatives -> cases place scope subject alternatives
-  S.Let bindings body -> bound scope (hinted bindings body) (`expression` body)
+  S.Let bindings body -> bound scope bindings (`expression` body)
   S.Choose choices -> matchRows (MatchOf "" place []) scope [] [Row place [] choices]
   S.Typed inner _ -> expression scope inner
   where
@@ -335,6 +361,7 @@ primitive place kind' name given found = case (name, found) of
   ("par", [a, b]) -> both a b
   (".||.", [a, b]) -> both a b
   (_, [a, b]) | name `elem` ["seq", "pseq"] -> naming place Nothing (head given) a (\var -> pure (Force var b))
+  (_, [Ref var, b]) | name == spark -> pure (Spark var b)
   (_, [_, b]) | name == spark -> pure b
   _ -> refuse place ("no counterpart for " ++ name)
   where
@@ -419,7 +446,7 @@ forced pat var body = case patForm pat of
 
 -- | What stands behind a pattern that always fits.
 opened :: Env -> Pat Type -> Var -> (Env -> Match Core) -> Match Core
-opened scope pat var inner = match (MatchOf "" (patAt pat) [var]) Map.empty [normal (Candidate [(var, pat)] scope False (\more _ -> inner more))]
+opened scope pat var inner = match (MatchOf "" (patAt pat) [var]) Map.empty [normal (Candidate (patAt pat) (Set.fromList (names pat)) [(var, pat)] scope False (\more _ -> inner more))]
 
 -- | Values that are bound by a constructor which is written, one by one.
 apart :: Binding Type -> Maybe [Binding Type]
@@ -476,27 +503,3 @@ allBound scope several inner = case several of
     Par (at (value one)) first leftSide second rightSide
       <$> opened scope (target one) first (\more -> opened more pat second inner)
   [] -> inner scope
-
--- | Bindings, where the body's @par@ and @pseq@ say that some are worked on at the same time: these stand last, as spawned ones.
-hinted :: [Binding Type] -> Expr Type -> [Binding Type]
-hinted bindings body
-  | null sparks || null awaited = bindings
-  | otherwise = others ++ map spawn' sparks ++ awaited
-  where
-    (sparked, waited) = hints body
-    isOf wanted binding = maybe False (`elem` wanted) (nameOf (target binding))
-    sparks = filter (isOf sparked) bindings
-    awaited = filter (isOf (filter (`notElem` sparked) waited)) bindings
-    moved = concatMap (names . target) (sparks ++ awaited)
-    others = [binding | binding <- bindings, not (any (`elem` moved) (names (target binding)))]
-    spawn' binding = binding {value = (value binding) {form = S.Apply ((value binding) {form = S.Named "spawn" []}) [value binding]}}
-
--- | The names that a body begins with, in front of @par@ and of @pseq@.
-hints :: Expr Type -> ([Name], [Name])
-hints body = case form body of
-  S.Apply function [first, rest]
-    | S.Named name _ <- form function,
-      S.Named var _ <- form first,
-      (sparked, waited) <- hints rest ->
-      if name == spark then (var : sparked, waited) else if name `elem` ["pseq", "seq"] then (sparked, var : waited) else ([], [])
-  _ -> ([], [])

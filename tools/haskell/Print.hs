@@ -19,26 +19,30 @@ type Layout = Doc Place
 type Printer = State (Map Place [String])
 
 -- | The text, by declarations, and where its parts come from.
-printed :: Map Place [String] -> Program -> (String, [Origin])
-printed remarks program = (concat texts, concat origins)
+-- | The comments at the head of a module come first.
+printed :: Map Place [String] -> Place -> Program -> (String, [Origin])
+printed remarks headPlace program = (concat texts, concat origins)
   where
     layouts = evalState declarations remarks
     (_, (texts, origins)) = unzip <$> mapAccumL next 0 layouts
-    next at' layout = (at' + length text', (text', [part {start = start part + at'} | part <- found]))
+    next at' layout = (at' + length text', (text', [part {start = start part + at' + length gap} | part <- found]))
       where
-        (text', found) = rendered layout
+        -- An empty line stands between two.
+        gap = if at' == 0 then "" else "\n"
+        (shown, found) = rendered layout
+        text' = gap ++ shown ++ "\n"
     declarations = do
+      heading <- commentOf headPlace
       types <- mapM dataOf (datas program)
       bodies <- mapM functionOf (functions program)
       end <- commentOf (Place maxBound 1)
-      pure (separated (types ++ bodies) ++ [end | not (isEmpty end)])
-    separated = zipWith (\count layout -> if count == (0 :: Int) then layout else text "" $+$ layout) [0 ..]
+      pure (filter (not . isEmpty) ([heading] ++ types ++ bodies ++ [end]))
 
 -- | A layout's text and its parts.
 rendered :: Layout -> (String, [Origin])
 rendered layout = (concatMap textOf pieces, origins 0 [] pieces)
   where
-    pieces = fullRenderAnn PageMode 120 1.2 (:) [] (layout $+$ empty)
+    pieces = fullRenderAnn PageMode 116 1.1 (:) [] layout
     textOf (NoAnnot (Chr letter) _) = [letter]
     textOf (NoAnnot (Str found) _) = found
     textOf (NoAnnot (PStr found) _) = found
@@ -111,10 +115,10 @@ expr found = case form found of
     Call name kinds arguments -> applied name kinds arguments
     Make name kinds arguments -> applied name kinds arguments
     Parts parts -> parens . sep . punctuate comma <$> mapM expr parts
-    If test yes no -> choice <$> expr test <*> expr yes <*> expr no
+    If test yes no -> sep <$> choices "if" test yes no
     Case name arms -> do
       several <- mapM arm arms
-      pure (sep [text "case" <+> text name <+> text "of {", nest 2 (sep (punctuate (text " ;") several)), text "}"])
+      pure (sep ([text "case" <+> text name <+> text "of {"] ++ map (nest 2) (punctuate (text " ;") several) ++ [text "}"]))
     Let names value rest -> (\named inner -> sep [named <+> text "in", inner]) <$> binding "let " names value <*> expr rest
     Par one left other right rest -> do
       leftSide <- binding "let par " one left
@@ -123,7 +127,13 @@ expr found = case form found of
       pure (sep [sep [leftSide, nest 4 (rightSide <+> text "in")], inner])
     _ -> simple found
   where
-    choice test yes no = sep [hang (text "if" <+> test <+> text "then") 2 yes, text "else" <+> no]
+    choices word test yes no = do
+      asked <- expr test
+      chosen <- expr yes
+      others <- case form no of
+        If test' yes' no' -> choices "else if" test' yes' no'
+        _ -> (\other -> [hang (text "else") 2 other]) <$> expr no
+      pure (hang (text word <+> asked <+> text "then") 2 chosen : others)
     arm (name, names, inner) = hang (hsep (map text (name : names)) <+> text "->") 2 <$> expr inner
     binding word names value = hang (text word P.<> bound names <+> text "=") 2 <$> expr value
     bound [name] = text name

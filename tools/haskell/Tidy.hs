@@ -18,14 +18,57 @@ tidy :: World -> Definition -> (World, [Definition])
 tidy here definition = (world' end, done : reverse (made end))
   where
     (done, end) = runState (lifted definition {defBody = body}) (Lifting here [])
-    body = unforced . inlined . flip evalState firstLabel . sink . opened . inlined $ defBody definition
+    body = unforced . paired . inlined . flip evalState firstLabel . sink . opened . inlined $ defBody definition
     -- Those of patterns are below.
     firstLabel = 1000000000
 
 unforced :: Core -> Core
 unforced core = case core of
   Force _ body -> unforced body
+  Spark _ body -> unforced body
   _ -> every unforced core
+
+-- | Makes pairs of values that are named together, where a hint says that another worker may make the one.
+paired :: Core -> Core
+paired core = case letsOf core of
+  ([], _) -> every paired core
+  (lets, rest)
+    | (one, place, value) : _ <- filter isSparked lets,
+      (other, _, value') : _ <- filter (\(var, _, found) -> var /= one && isHinted var && not (isUsed (Set.singleton one) found)) lets,
+      not (isUsed (Set.singleton other) value),
+      (early, late) <- apartFrom (Set.fromList [one, other]) [found | found@(var, _, _) <- lets, var `notElem` [one, other]],
+      not (any (\(var, _, _) -> isUsed (Set.singleton var) value || isUsed (Set.singleton var) value') late) ->
+      foldr named (Par place one (paired value) other (paired value') (paired (foldr named rest late))) early
+    | otherwise -> foldr named (every paired rest) lets
+    where
+      (sparked, forced) = hintsOf rest
+      isSparked (var, _, _) = var `elem` sparked
+      isHinted var = var `elem` sparked ++ forced
+  where
+    named (var, place, value) = Let place var value
+
+-- | The values that are named in front of an expression.
+letsOf :: Core -> ([(Var, Place, Core)], Core)
+letsOf core = case core of
+  Let place var value body -> let (lets, rest) = letsOf body in ((var, place, value) : lets, rest)
+  Remark _ body | (lets@(_ : _), rest) <- letsOf body -> (lets, rest)
+  _ -> ([], core)
+
+-- | The values that an expression hints at, and those that it waits for.
+hintsOf :: Core -> ([Var], [Var])
+hintsOf core = case core of
+  Spark var body -> let (sparked, forced) = hintsOf body in (var : sparked, forced)
+  Force var body -> let (sparked, forced) = hintsOf body in (sparked, var : forced)
+  Remark _ body -> hintsOf body
+  _ -> ([], [])
+
+-- | Those that use none of some variables, and those that do, themselves or by others.
+apartFrom :: Set Var -> [(Var, Place, Core)] -> ([(Var, Place, Core)], [(Var, Place, Core)])
+apartFrom vars lets = case lets of
+  [] -> ([], [])
+  found@(var, _, value) : others
+    | isUsed vars value -> (found :) <$> apartFrom (Set.insert var vars) others
+    | otherwise -> let (early, late) = apartFrom vars others in (found : early, late)
 
 every :: (Core -> Core) -> Core -> Core
 every go = runIdentity . overParts (Identity . go)
@@ -123,6 +166,7 @@ onlyOpened var core = not (null (openings var core)) && not (asValue core)
       Ref other -> other == var
       Jump _ taken -> var `elem` taken
       Force other _ | other == var -> True
+      Spark other _ | other == var -> True
       _ -> or (getConst (overParts (\inner -> Const [asValue inner]) part))
 
 -- | Names parts that have none.

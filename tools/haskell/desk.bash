@@ -1,0 +1,97 @@
+# What the script `gib` does with programs in Haskell: it translates them, and tells faults of the Gib text at their places in the Haskell file.
+# `tools/desk.bash` reads this file where it is needed, and calls `in_haskell`.
+
+# shellcheck disable=SC2154  # `gib` and tools/desk.bash set root, names, places and options
+translator=$root/tools/haskell/from-haskell
+
+# `from-haskell FILE.hs [-o OUT.gib]`, or another command whose source is a Haskell file, with these words.
+in_haskell() {
+  local status
+  translation_room=$(mktemp -d) || exit 70
+  if [ "${names[0]}" = from-haskell ]; then
+    translate_alone
+  else
+    call_translated "$@"
+  fi
+  status=$?
+  rm -rf "$translation_room"
+  exit $status
+}
+
+# Prints the Gib text of a file, or writes it to the file behind -o.
+translate_alone() {
+  local out=""
+  case ${#names[@]}:${#options[@]}:${options[0]:-} in
+    2:0:) ;;
+    2:2:-o) out=${options[1]} ;;
+    *) misused from-haskell ;;
+  esac
+  "$translator" translate "${names[1]}" "$translation_room/made.gib" "$translation_room/places" || return
+  if [ -z "$out" ]; then
+    cat "$translation_room/made.gib"
+  elif [ "$out" -ef "${names[1]}" ]; then
+    stop 2 "$out is read and would be written: take another name"
+  elif ! cp "$translation_room/made.gib" "$out" 2> /dev/null; then
+    stop 7 "cannot write $out"
+  fi
+}
+
+# Calls the script again, with the translation in the place of the source.
+call_translated() {
+  local source=${names[1]} words=("$@") told status input=${names[2]:-} made
+  made=$translation_room/$(basename "$source" .hs).gib
+  "$translator" translate "$source" "$made" "$translation_room/places" || return
+  words[places[1]]=$made
+  # What comes on standard input may be needed once more.
+  if [ "${names[0]}" = eval ] && [ "${input:--}" = - ]; then
+    input=$translation_room/given
+    cat > "$input"
+    if [ -n "${names[2]:-}" ]; then words[places[2]]=$input; else words+=("$input"); fi
+  fi
+  told=$(GIB_EXPLAIN=$(is_read && echo 1) "$root/gib" "${words[@]}" 2>&1 >&3)
+  status=$?
+  [ -z "$told" ] || retold "$told" "$source" "$made" "$input" >&2
+  return $status
+} 3>&1
+
+# What was said of the Gib text, as of the Haskell file.
+retold() {
+  local told=$1 source=$2 made=$3 input=$4 first place
+  first=${told%%$'\n'*}
+  if [[ $first =~ ^(gib: source: .*)\ at\ ([0-9]+)$ ]]; then
+    echo "${BASH_REMATCH[1]} at $source:$(origin_of "${BASH_REMATCH[2]}")"
+    return
+  elif [[ $first = "gib: depth" || $first = "gib: division by zero" ]]; then
+    place=$(stopped_at "$source" "$made" "$input" "$first")
+    first+=${place:+ at $source:$place}
+  fi
+  printf '%s%s\n' "$first" "${told:$((${#told} < ${#first} ? ${#told} : $(head -n 1 <<< "$told" | wc -c) - 1))}" | sed "s|$made|$source|g; s|$translation_room/given|-|g"
+}
+
+# The line and the column in the source that the least part round a place of the Gib text comes from.
+origin_of() {
+  awk -v place="$1" '
+    $1 <= place && place < $1 + $2 && (!least || $2 <= least) { least = $2; found = $3 ":" $4 }
+    $1 <= place && !least { before = $3 ":" $4 }
+    END { print (found ? found : before ? before : "1:1") }' "$translation_room/places"
+}
+
+# Where a run stops, as the line and the column in the source: it happens once more, in the translator.
+stopped_at() {
+  local source=$1 made=$2 input=$3 line=$4 depth=10000 word last="" found
+  for word in "${options[@]}"; do
+    case $last$word in
+      --depth=*) depth=${word#*=} ;;
+      --depth*) [ -z "$last" ] || depth=$word ;;
+    esac
+    if [ "$word" = --depth ]; then last=$word; else last=""; fi
+  done
+  if [ "${names[0]}" = eval ]; then
+    found=$(timeout 60 "$translator" fault "$source" "$depth" < "$input" 2> /dev/null)
+  else
+    found=$("$root/gib" show "$made" "$input" 2> /dev/null | timeout 60 "$translator" fault "$source" "$depth" 2> /dev/null)
+  fi
+  case $line:$found in
+    *depth:depth\ * | *zero:division\ *) echo "${found#* }" ;;
+  esac
+}
