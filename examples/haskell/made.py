@@ -203,7 +203,7 @@ class Made:
             # What fails all guards comes to the next equation.
             closed = last or self.chance.random() < 0.5
             if divisor:
-                bindings = [*bindings, f"{divisor[1]} = {self.chance.choice(NUMBERS)} `quot` {divisor[0]}".replace("= -", "= negate ")]
+                bindings = [*bindings, f"{divisor[1]} = ({self.chance.choice(NUMBERS)}) `quot` {divisor[0]}"]
             for count, test in enumerate(tests + ["otherwise"] * closed):
                 for var, used in zip(scope, state):
                     var.used = used
@@ -305,12 +305,13 @@ class Made:
         subject = self.type(1)
         text = self.expr(subject, scope, fuel - 1, function)
         pat, bound = self.irrefutable(subject)
-        form = self.chance.choice(("(let {} = {} in {})", "(let {{ {} = {} }} in {})"))
+        bindings = [f"{pat} = {text}"]
         if self.chance.random() < 0.2:
             other = Variable(self.name(), INT)
-            form = "(let {{ {} = spawn ({}); " + other.name + " = " + self.expr(INT, scope, fuel - 1, function) + "; _ = sync }} in {})"
+            bindings = [f"{pat} = spawn ({text})", f"{other.name} = {self.expr(INT, scope, fuel - 1, function)}", "_ = sync"]
             bound = [*bound, other]
-        return form.format(pat, text, self.expr(kind, scope + bound, fuel - 1, function))
+        inner = self.expr(kind, scope + bound, fuel - 1, function)
+        return f"(let {{ {'; '.join(bindings)} }} in {inner})"
 
     def number_expr(self, scope, fuel, function):
         roll = self.chance.random()

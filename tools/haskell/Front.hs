@@ -90,7 +90,7 @@ oneLine = unwords . words
 
 -- | Gives each comment to a place: one behind code to what began last, one on its own line to what begins next.
 remarksAt :: [Place] -> [H.Comment] -> Remarks
-remarksAt anchors comments = Map.fromListWith (flip (++)) (map give (sortOn start comments))
+remarksAt anchors comments = Map.fromListWith (++) (map give (reverse (sortOn start comments)))
   where
     places = Map.fromList [(place, ()) | place <- anchors]
     start (H.Comment _ span' _) = Place (H.srcSpanStartLine span') (H.srcSpanStartColumn span')

@@ -1,13 +1,14 @@
 -- | Translates a program in a subset of Haskell to Gib. The script `gib` calls it with these words:
 --
 -- > translate FOLDER FILE OUT PLACES   writes the program to OUT, and to PLACES which place of FILE each part of it comes from
+-- > write FOLDER FILE OUT PLACES       does so without asking GHC whether it takes FILE too
 -- > fault FOLDER FILE DEPTH            prints where a run stops, with so many calls open at a time, on the text of a value on standard input
 --
 -- FOLDER has the library. Faults of FILE are one line each on standard error, with the place, and the status is 1.
 module Main (main) where
 
 import Control.Exception (IOException, try)
-import Control.Monad (unless)
+import Control.Monad (unless, when)
 import qualified Data.Set as Set
 import Fault
 import Front
@@ -31,11 +32,11 @@ main = do
   hSetEncoding stderr char8
   given <- getArgs
   case given of
-    ["translate", folder, file, out, places] -> do
+    [word, folder, file, out, places] | word `elem` ["translate", "write"] -> do
       (written, source, made') <- translated folder file
       let (text, origins) = printed (remarks source) (headAt source) made'
       unless (length (take (longest + 1) text) <= longest) (stop file (Fault (lastPlaceWithin origins) ("the program has more than " ++ show longest ++ " bytes up to here: make two of it")))
-      askGhc (folder </> "prelude") written source >>= mapM_ (stop file)
+      when (word == "translate") (askGhc (folder </> "prelude") written source >>= mapM_ (stop file))
       writeOut out text
       writeOut places (unlines [unwords (map show [start part, extent part, line (origin part), column (origin part)]) | part <- origins])
     ["fault", folder, file, depth] -> do
@@ -45,7 +46,7 @@ main = do
         Just (Depth place) -> putStrLn ("depth " ++ shown place)
         Just (Division place) -> putStrLn ("division " ++ shown place)
         Nothing -> pure ()
-    _ -> hPutStrLn stderr "usage: from-haskell translate FOLDER FILE OUT PLACES | fault FOLDER FILE DEPTH" >> exitWith (ExitFailure 2)
+    _ -> hPutStrLn stderr "usage: from-haskell translate|write FOLDER FILE OUT PLACES | fault FOLDER FILE DEPTH" >> exitWith (ExitFailure 2)
   where
     longest = 1048576
     shown place = show (line place) ++ ":" ++ show (column place)
