@@ -3,6 +3,7 @@ first argument alone, and others that stand before it; and no tree is used twice
 """
 
 import random
+import re
 
 INT, BOOL = ("Int",), ("Bool",)
 NUMBERS = (0, 1, 2, 3, 5, 7, 10, -1, -2, -9, 100, 4611686018427387904, 9223372036854775807, -9223372036854775808)
@@ -318,7 +319,7 @@ class Made:
         if fuel <= 0 or roll < 0.2:
             number = self.chance.choice(NUMBERS)
             return f"({number})" if number < 0 else str(number)
-        sides = [self.atom(INT, scope, fuel - 1, function) for _ in range(2)]
+        sides = self.anchored([self.atom(INT, scope, fuel - 1, function) for _ in range(2)])
         if roll < 0.6:
             return f" {self.chance.choice('+-*')} ".join(sides)
         if roll < 0.75:
@@ -327,17 +328,24 @@ class Made:
         if roll < 0.85:
             return f"{self.chance.choice(('max', 'min'))} {sides[0]} {sides[1]}"
         if roll < 0.9:
-            return f"{self.chance.choice(('abs', 'negate', 'signum'))} {sides[0]}"
+            return f"{self.chance.choice(('abs', 'negate', 'signum'))} ({sides[0]} :: Int)"
         return f"{sides[0]} {self.chance.choice('+-*')} {sides[1]} {self.chance.choice('+-*')} {self.atom(INT, scope, 0, function)}"
+
+    def anchored(self, sides):
+        """Two numbers, one of which says that they are Int: Haskell takes others for Integers."""
+        if any(re.fullmatch(r"[vwdx][0-9]+'?", side) for side in sides):
+            return sides
+        return [f"({sides[0]} :: Int)", sides[1]]
 
     def truth(self, scope, fuel, function):
         roll = self.chance.random()
         if fuel <= 0 or roll < 0.15:
             return self.chance.choice(("True", "False"))
         if roll < 0.65:
-            return f" {self.chance.choice(('<', '<=', '>', '>=', '==', '/='))} ".join(self.atom(INT, scope, fuel - 1, function) for _ in range(2))
+            sides = self.anchored([self.atom(INT, scope, fuel - 1, function) for _ in range(2)])
+            return f" {self.chance.choice(('<', '<=', '>', '>=', '==', '/='))} ".join(sides)
         if roll < 0.75:
-            return f"{self.chance.choice(('even', 'odd'))} {self.atom(INT, scope, fuel - 1, function)}"
+            return f"{self.chance.choice(('even', 'odd'))} ({self.atom(INT, scope, fuel - 1, function)} :: Int)"
         if roll < 0.85:
             return f"not {self.atom(BOOL, scope, fuel - 1, function)}"
         return f" {self.chance.choice(('&&', '||'))} ".join(self.atom(BOOL, scope, fuel - 1, function) for _ in range(2))

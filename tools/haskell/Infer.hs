@@ -8,6 +8,8 @@ import Control.Monad.Reader (ReaderT, asks, runReaderT)
 import Control.Monad.State (StateT, gets, modify, runStateT)
 import Data.IntMap (IntMap)
 import qualified Data.IntMap as IntMap
+import Data.IntSet (IntSet)
+import qualified Data.IntSet as IntSet
 import Data.Map (Map)
 import qualified Data.Map as Map
 import qualified Data.Set as Set
@@ -16,7 +18,9 @@ import Syntax
 import World
 
 -- | What is known of types so far, and the values that are compared, whose types have to be Int or Bool in the end.
-data Solver = Solver {next :: Int, solved :: IntMap Type, compared :: [(Place, Type)]}
+-- Some unknown types are those of numbers. Haskell takes numbers of which nothing says the type for Integers, which do not wrap around: where one is
+-- computed, it is of such a type, and has to be known in the end.
+data Solver = Solver {next :: Int, solved :: IntMap Type, compared, computed :: [(Place, Type)], numeric :: IntSet}
 
 type Infer = StateT Solver (ReaderT World (Either Fault))
 
@@ -31,18 +35,27 @@ infer here whole = do
 inferFunction :: World -> Function () -> Either Fault (Function Type)
 inferFunction here function = do
   let known' = signature function
-  (found, end) <- flip runReaderT here . flip runStateT (Solver 0 IntMap.empty []) $ do
+  (found, end) <- flip runReaderT here . flip runStateT (Solver 0 IntMap.empty [] [] IntSet.empty) $ do
     mapM_ (checkType (funAt function) (sigVars known')) (sigResult known' : parameters known')
     mapM (checkRow Map.empty (parameters known') (sigResult known')) (rows function)
   forM_ (reverse (compared end)) $ \(place, kind) ->
     unless (settled (solved end) kind `elem` [int, bool]) $
       refuse place ("values of type " ++ showType (settled (solved end) kind) ++ " cannot be compared: == and /= stand between two Int or two Bool; write a function")
+  forM_ (reverse (computed end)) $ \(place, kind) ->
+    when (isOpen (solved end) kind) $
+      refuse place "nothing says that these numbers are Int, and Haskell takes Integers then, which do not wrap around: write (.. :: Int) round one of them"
   pure function {rows = map (fmap (settled (solved end))) found}
+
+-- | Whether nothing is known of a type.
+isOpen :: IntMap Type -> Type -> Bool
+isOpen found kind = case kind of
+  TMeta unsolved -> maybe True (isOpen found) (IntMap.lookup unsolved found)
+  _ -> False
 
 -- | A type with all that is known in it; what nothing says may be any type, and is Int.
 settled :: IntMap Type -> Type -> Type
 settled found kind = case kind of
-  TMeta number -> maybe int (settled found) (IntMap.lookup number found)
+  TMeta unsolved -> maybe int (settled found) (IntMap.lookup unsolved found)
   TCon name given -> TCon name (map (settled found) given)
   TVar _ -> kind
 
@@ -50,13 +63,21 @@ settled found kind = case kind of
 
 fresh :: Infer Type
 fresh = do
-  number <- gets next
-  modify (\solver -> solver {next = number + 1})
-  pure (TMeta number)
+  made <- gets next
+  modify (\solver -> solver {next = made + 1})
+  pure (TMeta made)
+
+-- | A type of numbers that is not known yet.
+freshNumber :: Infer Type
+freshNumber = do
+  made <- fresh
+  case made of
+    TMeta unsolved -> made <$ modify (\solver -> solver {numeric = IntSet.insert unsolved (numeric solver)})
+    _ -> pure made
 
 -- | What is known of a type at its outside.
 known1 :: Type -> Infer Type
-known1 kind@(TMeta number) = gets (IntMap.lookup number . solved) >>= maybe (pure kind) known1
+known1 kind@(TMeta unsolved) = gets (IntMap.lookup unsolved . solved) >>= maybe (pure kind) known1
 known1 kind = pure kind
 
 -- | A type with all that is known in it so far.
@@ -81,29 +102,32 @@ agree left right = do
   one <- known1 left
   other <- known1 right
   case (one, other) of
-    (TMeta number, TMeta same) | number == same -> pure True
-    (TMeta number, _) -> solve number other
-    (_, TMeta number) -> solve number one
+    (TMeta unsolved, TMeta same) | unsolved == same -> pure True
+    (TMeta unsolved, _) -> solve unsolved other
+    (_, TMeta unsolved) -> solve unsolved one
     (TVar name, TVar same) -> pure (name == same)
     (TCon name given, TCon same others)
       | name == same && length given == length others -> and <$> zipWithM agree given others
     _ -> pure False
 
 solve :: Int -> Type -> Infer Bool
-solve number kind = do
+solve unsolved kind = do
   whole <- current kind
-  if number `elem` metas whole
+  isNumber <- gets (IntSet.member unsolved . numeric)
+  if unsolved `elem` metas whole || isNumber && not (canBeNumber whole)
     then pure False
-    else True <$ modify (\solver -> solver {solved = IntMap.insert number kind (solved solver)})
+    else True <$ modify (\solver -> solver {solved = IntMap.insert unsolved kind (solved solver), numeric = if isNumber then foldr IntSet.insert (numeric solver) (metas whole) else numeric solver})
   where
     metas (TMeta inner) = [inner]
     metas (TCon _ given) = concatMap metas given
     metas (TVar _) = []
+    canBeNumber (TMeta _) = True
+    canBeNumber found = found == int
 
 -- | A signature with new types for its variables, and these.
 instantiated :: [Name] -> [Type] -> Infer ([Type], [Type])
 instantiated vars kinds = do
-  given <- mapM (const fresh) vars
+  given <- mapM (\var -> if var == number then freshNumber else fresh) vars
   pure (given, map (filled (Map.fromList (zip vars given))) kinds)
 
 -- | The names in a type are declared.
@@ -202,7 +226,9 @@ checkPat due pat = case patForm pat of
   Wild -> pure (made Wild)
   Bind name -> pure (made (Bind name))
   As name inner -> made . As name <$> checkPat due inner
-  Literal number -> made (Literal number) <$ unify place due int
+  Literal found -> do
+    kind <- freshNumber
+    made (Literal found) <$ unify place due kind
   TypedPat inner kind -> unify place due kind >> checkPat due inner
   Strict inner -> made . Strict <$> checkPat due inner
   Made name inner -> do
@@ -248,7 +274,9 @@ ordered bindings = case break ready bindings of
 checkExpr :: Locals -> Type -> Expr () -> Infer (Expr Type)
 checkExpr locals due expr = case form expr of
   Named name _ -> checkCall locals due expr (Expr place () (Named name [])) []
-  Number number -> made (Number number) <$ unify place due int
+  Number found -> do
+    kind <- freshNumber
+    made (Number found) <$ unify place due kind
   Apply function arguments -> checkCall locals due expr function arguments
   If test yes no -> (\t y n -> made (If t y n)) <$> checkExpr locals bool test <*> checkExpr locals due yes <*> checkExpr locals due no
   Case subject alternatives -> do
@@ -277,7 +305,9 @@ checkCall locals due expr function arguments = case form function of
     | otherwise -> do
       here <- asks id
       case (Map.lookup name (declared here), knownOf here name, Map.lookup name primitives) of
-        (Just found, _, _) -> applied name "argument" found
+        (Just found, _, _)
+          | name `Set.member` borrowed here && name `Map.member` onNumbers -> applied name "argument" (anyNumber found)
+          | otherwise -> applied name "argument" found
         (_, Just found, _) -> applied name "field" (Signature (ownerVars found) (ownFields found) (TCon (owner found) (map TVar (ownerVars found))))
         (_, _, Just found) -> applied name "argument" found
         _ -> refuse (at function) (unknown name)
@@ -288,10 +318,25 @@ checkCall locals due expr function arguments = case form function of
       when (length (parameters found) /= length arguments) (refuse place (countFault name thing (length (parameters found)) (length arguments)))
       (given, kinds) <- instantiated (sigVars found) (sigResult found : parameters found)
       unify place due (head kinds)
+      let numbers = [kind | (var, kind) <- zip (sigVars found) given, var == number]
+      unless (isExact name) (modify (\solver -> solver {computed = map ((,) place) numbers ++ computed solver}))
       when (name `elem` ["==", "/="]) (modify (\solver -> solver {compared = (place, kinds !! 1) : compared solver}))
       inner <- zipWithM (checkExpr locals) (tail kinds) arguments
-      let called = Expr (at function) due (Named name given)
+      let called = Expr (at function) due (Named name [kind | (var, kind) <- zip (sigVars found) given, var /= number])
       pure (if null arguments then called {at = place} else Expr place due (Apply called inner))
+
+-- | A function on numbers, of any type of them.
+anyNumber :: Signature -> Signature
+anyNumber found = Signature (sigVars found ++ [number]) (map put (parameters found)) (put (sigResult found))
+  where
+    put kind = case kind of
+      TCon "Int" [] -> TVar number
+      TCon name given -> TCon name (map put given)
+      _ -> kind
+
+-- | Whether what a function computes of two numbers is the same for an Int and for an Integer.
+isExact :: Name -> Bool
+isExact name = name `elem` ["<", "<=", ">", ">="] || Map.findWithDefault False name onNumbers
 
 -- | A name that is not there, and what would do.
 unknown :: Name -> String

@@ -85,7 +85,7 @@ translate :: Program () -> Program () -> Either Fault Gib.Program
 translate library written = do
   entry <- entryOf written
   let whole = withLibrary library written
-      here = world whole
+      here = world written whole
   checkDatas here (datas written)
   typed <- infer here whole
   found <- definitions here typed

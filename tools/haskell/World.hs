@@ -8,6 +8,8 @@ module World
     primitives,
     spark,
     ofLibrary,
+    number,
+    onNumbers,
     filled,
     showType,
     counted,
@@ -17,6 +19,8 @@ where
 import Data.List (intercalate)
 import Data.Map (Map)
 import qualified Data.Map as Map
+import Data.Set (Set)
+import qualified Data.Set as Set
 import Fault (nowhere)
 import Syntax
 
@@ -24,15 +28,18 @@ import Syntax
 data Known = Known {owner :: Name, ownerVars :: [Name], ownFields :: [Type]}
 
 data World = World
-  { types :: Map Name Data,
+  { -- | The functions that the library has, and the program not.
+    borrowed :: Set Name,
+    types :: Map Name Data,
     known :: Map Name Known,
     declared :: Map Name Signature
   }
 
-world :: Program a -> World
-world program' =
+world :: Program a -> Program a -> World
+world written program' =
   World
-    { types = Map.fromList [(dataName one, one) | one <- everyData],
+    { borrowed = Set.fromList (map funName (functions program')) `Set.difference` Set.fromList (map funName (functions written)),
+      types = Map.fromList [(dataName one, one) | one <- everyData],
       known = Map.fromList [(conName made, Known (dataName one) (dataVars one) (fields made)) | one <- everyData, made <- constructors one],
       declared = Map.fromList [(funName function, signature function) | function <- functions program']
     }
@@ -74,14 +81,14 @@ ofLibrary = (++ "`")
 primitives :: Map Name Signature
 primitives =
   Map.fromList $
-    [(name, Signature [] [int, int] int) | name <- ["+", "-", "*", "quot", "rem"]]
-      ++ [(name, Signature [] [int, int] bool) | name <- ["<", "<=", ">", ">="]]
+    [(name, Signature [number] [n, n] n) | name <- ["+", "-", "*", "quot", "rem"]]
+      ++ [(name, Signature [number] [n, n] bool) | name <- ["<", "<=", ">", ">="]]
       ++ [(name, Signature ["a"] [a, a] bool) | name <- ["==", "/="]]
       ++ [(name, Signature [] [bool, bool] bool) | name <- ["&&", "||"]]
       ++ [(name, Signature ["a", "b"] [a, b] (tuple [a, b])) | name <- ["par", ".||."]]
       ++ [(name, Signature ["a", "b"] [a, b] b) | name <- ["seq", "pseq", spark]]
       ++ [ ("not", Signature [] [bool] bool),
-           ("negate", Signature [] [int] int),
+           ("negate", Signature [number] [n] n),
            ("otherwise", Signature [] [] bool),
            ("spawn", Signature ["a"] [a] a),
            ("sync", Signature [] [] (tuple []))
@@ -89,6 +96,19 @@ primitives =
   where
     a = TVar "a"
     b = TVar "b"
+    n = TVar number
+
+-- | The type variable that stands for a type of numbers, of which there is one here; Haskell has more.
+number :: Name
+number = "number`"
+
+-- | The library's functions on numbers of any type: what they take and give has it in place of Int. Each is what it is for Int alone where it is
+-- exact for the numbers of an Int.
+onNumbers :: Map Name Bool
+onNumbers =
+  Map.fromList $
+    map (\name -> (name, True)) ["max", "min", "even", "odd", "compare"]
+      ++ map (\name -> (name, False)) ["abs", "signum", "subtract", "div", "mod", "quotRem", "divMod", "gcd", "sum", "product"]
 
 -- | A type with what stands for its variables.
 filled :: Map Name Type -> Type -> Type
@@ -112,4 +132,4 @@ showType kind = case kind of
 
 counted :: Int -> String -> String
 counted 1 thing = "1 " ++ thing
-counted number thing = show number ++ " " ++ thing ++ "s"
+counted several thing = show several ++ " " ++ thing ++ "s"
