@@ -181,7 +181,7 @@ class Made:
             kind = self.type(1)
             text = self.expr(kind, scope, 2, function)
             var = Variable(self.name("w"), kind)
-            lines.append(f"{var.name} = {text}")
+            lines.append(f"{var.name} = {text} :: {shown(kind)}")
             scope.append(var)
         self.chance.shuffle(lines)
         return lines
@@ -293,7 +293,7 @@ class Made:
             ends.append([var.used for var in scope])
         for place, var in enumerate(scope):
             var.used = any(end[place] for end in ends)
-        return f"(case {text} of {{ {'; '.join(arms)} }})"
+        return f"(case {text} :: {shown(subject)} of {{ {'; '.join(arms)} }})"
 
     def irrefutable(self, kind):
         if kind[0] == ",":
@@ -306,10 +306,10 @@ class Made:
         subject = self.type(1)
         text = self.expr(subject, scope, fuel - 1, function)
         pat, bound = self.irrefutable(subject)
-        bindings = [f"{pat} = {text}"]
+        bindings = [f"{pat} = {text} :: {shown(subject)}"]
         if self.chance.random() < 0.2:
             other = Variable(self.name(), INT)
-            bindings = [f"{pat} = spawn ({text})", f"{other.name} = {self.expr(INT, scope, fuel - 1, function)}", "_ = sync"]
+            bindings = [f"{pat} = spawn ({text} :: {shown(subject)})", f"{other.name} = {self.expr(INT, scope, fuel - 1, function)} :: Int", "_ = sync"]
             bound = [*bound, other]
         inner = self.expr(kind, scope + bound, fuel - 1, function)
         return f"(let {{ {'; '.join(bindings)} }} in {inner})"

@@ -256,7 +256,8 @@ constructorsOf kind' = case kind' of
 -- | Variables for a constructor's fields, by what patterns call them here or elsewhere.
 fieldVars :: Name -> [Type] -> [[Pat Type]] -> Match [Var]
 fieldVars name kinds found = do
-  elsewhere <- asks (Map.findWithDefault [] name . fieldNames)
+  -- What a tuple has is something else each time.
+  elsewhere <- asks (if tupleSize name == Nothing then Map.findWithDefault [] name . fieldNames else const [])
   mapM (\(place, kind') -> fresh (chosen place elsewhere kind') kind') (zip [0 ..] kinds)
   where
     chosen place elsewhere kind' = fromMaybe (defaultName kind') (listToMaybe (catMaybes (map (nameOf . (!! place)) found ++ take 1 (drop place elsewhere))))
@@ -323,7 +324,21 @@ expression scope expr = case form expr of
 
 -- | A function, constructor or operation with its arguments.
 applied :: Place -> Env -> Type -> Name -> [Type] -> [Expr Type] -> Match Core
-applied place scope kind' name given arguments = do
+applied place scope kind' name given [whole] | name `elem` ["fst", "snd"] = do
+  isLibrary <- asks (Set.member name . borrowed . here)
+  if isLibrary then partOf place scope name given whole else calledOrMade place scope kind' name given [whole]
+applied place scope kind' name given arguments = calledOrMade place scope kind' name given arguments
+
+-- | The first or the second part of a pair.
+partOf :: Place -> Env -> Name -> [Type] -> Expr Type -> Match Core
+partOf place scope name given whole = do
+  found <- expression scope whole
+  naming (at whole) Nothing (note whole) found $ \pair -> do
+    parts <- mapM (\part -> fresh (defaultName part) part) given
+    pure (Case place pair [Arm (tupleName 2) parts (Ref (if name == "fst" then head parts else last parts))])
+
+calledOrMade :: Place -> Env -> Type -> Name -> [Type] -> [Expr Type] -> Match Core
+calledOrMade place scope kind' name given arguments = do
   isDeclared <- asks (Map.member name . declared . here)
   isMade <- asks (\context -> not (isNothing (knownOf (here context) name)))
   if isDeclared
