@@ -71,7 +71,7 @@ image_few laid m place bytes bounded is ty v image =
 
 -- The image of the memory that a run leaves, where one is asked for.
 pub image_made : {names : TextsView} (b : Bool) (p : ProgramTree) (o : Options) (input : List ℕ) (laid : LaidOut) (m : Memory) (place : Root) (s : StandsMeant p names o.depth input laid m.cells place)
-    → IsBounded m → laid ≡ layouts_of o.skips p → m.limit ≡ o.chunks → (file : Option (List ℕ)) → IsImageFile b laid (output_type p) m place s.result file
+    → IsBounded m → laid ≡ layouts_of o.skips p → m.limit ≤ o.chunks → (file : Option (List ℕ)) → IsImageFile b laid (output_type p) m place s.result file
     → MakesImage b p names o.skips o.depth o.chunks input file
 image_made false p o input laid m place s bounded same limit file h = h
 image_made true p o input laid m place s bounded same limit None h = let other : None ≡ Some (image_of m place) = h.0 in absurd cc
@@ -84,12 +84,12 @@ image_made true p o input laid m place s bounded same limit (Some bytes) h =
       is_input = s.is_input;
       means = s.means;
       image = subst (λ (l : LaidOut). IsImageOf l (output_type p) bytes s.result) same image;
-      few = subst (λ (n : ℕ). chunk_count bytes ≤ n) limit (image_few laid m place bytes bounded is (output_type p) s.result image);
+      few = let drawn = image_few laid m place bytes bounded is (output_type p) s.result image in omega (arith, drawn, limit);
     }
 
 -- A text, and an image where one is asked for, end a run.
 pub shown_runs : (p : ProgramTree) (names : TextsView) (o : Options) (input : List ℕ) (laid : LaidOut) (m : Memory) (place : Root) (s : StandsMeant p names o.depth input laid m.cells place)
-    → IsBounded m → laid ≡ layouts_of o.skips p → m.limit ≡ o.chunks → (b : Bool) → o.image ≡ b → (file : Option (List ℕ)) (e : KeptEnd) → IsShownWith b laid m place p names s.result file e → EndsBy file e (Runs p names o input)
+    → IsBounded m → laid ≡ layouts_of o.skips p → m.limit ≤ o.chunks → (b : Bool) → o.image ≡ b → (file : Option (List ℕ)) (e : KeptEnd) → IsShownWith b laid m place p names s.result file e → EndsBy file e (Runs p names o input)
 shown_runs p names o input laid m place s bounded same limit b asked file (ends.Prints text) h =
     let M : Bool → Type 0 = λ x. MakesImage x p names o.skips o.depth o.chunks input file in (
       subst M (sym asked) (image_made b p o input laid m place s bounded same limit file h.0),

@@ -1,6 +1,6 @@
 -- What a run makes whose result is packed.
 use Rattle.gib_base.specs.Texts.{TextsView}
-use Rattle.std.proofs.Common.{◌≡◌, ◌∙◌, ◌≤◌, ◌<◌, refl, ap, sym, subst, subst₂, ℕ, List, length, Option, Some, None, Bool, true, false, Result, Ok, Err, IfOk, IfErr}
+use Rattle.std.proofs.Common.{◌≡◌, ◌∙◌, ◌≤◌, ◌<◌, refl, ap, sym, subst, subst₂, arith, ℕ, List, length, Option, Some, None, Bool, true, false, Result, Ok, Err, IfOk, IfErr}
 use Rattle.gib_types.specs.Table.{Table}
 use Rattle.gib_value.specs.Text.{AreHeld}
 use Rattle.gib_file.specs.Framed.{File2}
@@ -71,17 +71,20 @@ held_again old new again held = subst₂ (λ (t : Table) (ns : TextsView). AreHe
 
 -- ---- How a run ends whose result is packed
 
-module _ (p : ProgramTree) (o : Options) (input : List ℕ) (old new : Valued) (again : StandsAgain old new) (laid : old.ran.lowered.code.laid ≡ layouts_of o.skips p) (limit : (sole_memory old.ran.memory).limit ≡ o.chunks) (packs : o.packs ≡ true)
+module _ (p : ProgramTree) (o : Options) (input : List ℕ) (old new : Valued) (again : StandsAgain old new) (laid : old.ran.lowered.code.laid ≡ layouts_of o.skips p) (limit : (sole_memory old.ran.memory).limit ≤ o.chunks) (packs : o.packs ≡ true)
     (s : StandsMeant p old.names o.depth input old.ran.lowered.code.laid (cells_of old.ran.memory) old.ran.root) where
   laid_again : new.ran.lowered.code.laid ≡ layouts_of o.skips p
   laid_again = ap (λ (l : LoweredParts). l.code.laid) again.lowered ∙ laid
+
+  limit_again : (sole_memory new.ran.memory).limit ≤ o.chunks
+  limit_again = let same = again.limit in omega (arith, same, limit)
 
   with_file : (bytes : List ℕ) → File2 (table_of_program p) old.names.long (output_type p) s.result bytes → length bytes ≤ 16777216 → (file packed : Option (List ℕ)) (e : KeptEnd) →
       IsShownWith o.image new.ran.lowered.code.laid (sole_memory new.ran.memory) new.ran.root p old.names s.result file e → packed ≡ Some bytes → EndsByBoth file packed e (RunsBoth p old.names o input)
   with_file bytes is_file few file packed (ends.Prints text) h made =
       let P : Bool → Type 0 = λ b. PacksResult b p old.names o.depth input packed (Prints text.items) in (
         shown_runs p old.names o input new.ran.lowered.code.laid (sole_memory new.ran.memory) new.ran.root (stands_later {names = old.names} p o.depth input old new again s)
-            (sole_bounded new.ran.memory) laid_again (again.limit ∙ limit) o.image refl file (ends.Prints text) h,
+            (sole_bounded new.ran.memory) laid_again limit_again o.image refl file (ends.Prints text) h,
         subst P (sym packs) (bytes, made, record { value = s.value; result = s.result; is_input = s.is_input; means = s.means; file = is_file; few = few }),
       )
   with_file bytes is_file few file packed (ends.Value value) h made = absurd h
@@ -93,7 +96,7 @@ module _ (p : ProgramTree) (o : Options) (input : List ℕ) (old new : Valued) (
       let E : KeptEnd → Type 0 = λ x. EndsByBoth file packed x (RunsBoth p old.names o input) in
       let P : Bool → Type 0 = λ b. PacksResult b p old.names o.depth input packed (NoValue Long) in
       let image = image_made {names = old.names} o.image p o input new.ran.lowered.code.laid (sole_memory new.ran.memory) new.ran.root (stands_later {names = old.names} p o.depth input old new again s)
-      (sole_bounded new.ran.memory) laid_again (again.limit ∙ limit) file h in
+      (sole_bounded new.ran.memory) laid_again limit_again file h in
       let there : E (ends.NoValue Long) = (
         (image, record { value = s.value; result = s.result; is_input = s.is_input; means = s.means; long = long }, packs),
         subst P (sym packs) none,

@@ -1,6 +1,6 @@
 -- That what a run makes comes from the region memory that it left.
 use Rattle.gib_base.specs.Texts.{TextsView}
-use Rattle.std.proofs.Common.{◌≡◌, ◌∙◌, refl, ap, ℕ, List, Option, Some, None, Bool, Result, Ok, Err, IfOk, sym, subst, subst₂}
+use Rattle.std.proofs.Common.{◌≡◌, ◌∙◌, ◌≤◌, arith, refl, ap, ℕ, List, Option, Some, None, Bool, Result, Ok, Err, IfOk, sym, subst, subst₂}
 use Rattle.std.specs.Prelude.{⊤}
 use Rattle.gib_types.specs.Layout.{LaidOut}
 use Rattle.gib_mem.specs.Memory.{Memory, IsBounded}
@@ -45,7 +45,7 @@ stands_left p names o input value left =
 
 -- What a run leaves that stands by the layouts of its code.
 pub is_left : (p : ProgramTree) (names : TextsView) (o : Options) (input : List ℕ) (value : Valued) → value.ran.lowered.code ≡ lower_program (core_after o.skips 4 p)
-    → (sole_memory value.ran.memory).limit ≡ o.chunks → StandsMeant p names o.depth input value.ran.lowered.code.laid (cells_of value.ran.memory) value.ran.root → IsLeft p names o input value
+    → (sole_memory value.ran.memory).limit ≤ o.chunks → StandsMeant p names o.depth input value.ran.lowered.code.laid (cells_of value.ran.memory) value.ran.root → IsLeft p names o input value
 is_left p names o input value code limit s =
     let m = sole_memory value.ran.memory in
     let laid = value.ran.lowered.code.laid in
@@ -61,7 +61,7 @@ is_left p names o input value code limit s =
 -- It is left with the value that comes back from packing.
 pub left_again : (p : ProgramTree) (o : Options) (input : List ℕ) (old new : Valued) → StandsAgain old new → IsLeft p old.names o input old → IsLeft p new.names o input new
 left_again p o input old new again left =
-    is_left p new.names o input new (ap (λ (l : LoweredParts). l.code) again.lowered ∙ left.code) (again.limit ∙ left.remains.limit)
+    is_left p new.names o input new (ap (λ (l : LoweredParts). l.code) again.lowered ∙ left.code) (let same = again.limit in let most = left.remains.limit in omega (arith, same, most))
     (stands_named p o.depth input old new again (stands_left p old.names o input old left))
 
 -- ---- What is made of such a memory

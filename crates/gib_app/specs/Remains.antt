@@ -1,6 +1,6 @@
 -- What a run leaves in region memory, and that what it makes comes from there.
 use Rattle.gib_base.specs.Texts.{TextsView}
-use Rattle.std.specs.Prelude.{◌≡◌, ⊤, ℕ, List, Option}
+use Rattle.std.specs.Prelude.{◌≡◌, ◌≤◌, ⊤, ℕ, List, Option}
 use Rattle.gib_arena.specs.Sole.{sole_memory}
 use Rattle.gib_lower.specs.Lowering.{lower_program}
 use Rattle.gib_mem.specs.Memory.{Memory, IsBounded}
@@ -17,12 +17,12 @@ use Rattle.gib_app.specs.MachineRun.{StandsMeant}
 use Rattle.gib_app.specs.Replaying.{IsImageFile}
 use Rattle.gib_app.specs.Running.{text_line}
 
--- In a memory of as many chunks as are asked for, the value that the program means on the input stands for the root, with heads that lie as
+-- In a memory of no more chunks than are asked for, the value that the program means on the input stands for the root, with heads that lie as
 -- those of the program's core.
 pub record Remains (p : ProgramTree) (names : TextsView) (options : Options) (input : List ℕ) (memory : Memory) (place : Root) : Type 0 where
   pub stands : StandsMeant p names options.depth input (layouts_of options.skips p) memory.cells place
   pub bounded : IsBounded memory
-  pub limit : memory.limit ≡ options.chunks
+  pub limit : memory.limit ≤ options.chunks
 
 -- That memory as the code of the program's core left it, with its root.
 pub record IsLeft (p : ProgramTree) (names : TextsView) (options : Options) (input : List ℕ) (value : Valued) : Type 0 where

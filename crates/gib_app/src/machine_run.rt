@@ -40,7 +40,7 @@ use gib_edge::outside::{Gate, Sink};
 use gib_file::{Survey, one_file};
 use gib_load::{LoadFault, load};
 use gib_lower::lower;
-use gib_mem::Mem;
+use gib_mem::{CHUNK, Mem};
 use gib_packed::Root;
 use gib_pool::{Config, Loaded, run_by};
 use gib_print::{PrintFault, print_at};
@@ -188,7 +188,60 @@ struct Rooted {
     root: Root,
 }
 
-/// Runs the code on the value of a survey, in a memory of its own.
+/// Runs the code on the value of a survey, in a memory of its own with so many chunks.
+fn run_within<R: Threads + Wait + Sync, G: Gate + Sync>(
+    alloc: Global,
+    runtime: Runtime<'_, R, G>,
+    lowered: &Lowered,
+    survey: Survey<'_>,
+    chunks: u32,
+    options: Options,
+) -> Result<Rooted, Stop<'static>>
+    requires table { survey.table ≡ lowered.now.code.laid.table }
+    requires ty { survey.ty ≡ (core_of lowered.now.core).main.parameter }
+    ensures limit { IfOk result (λ left. (⟦<SoleMem as Mem>⟧.view left.memory).limit ≡ chunks) }
+    ensures root { IfOk result (λ left. (v : Datum) → Packed survey.entry.table survey.entry.ty v survey.entry.bytes
+        → IsRootOf lowered.now.code.laid (⟦<SoleMem as Mem>⟧.view left.memory).cells (core_of lowered.now.core).main.result (core_run (core_of lowered.now.core) options.depth v) left.root) }
+    ensures halts { IfErr result (λ why. (v : Datum) → Packed survey.entry.table survey.entry.ty v survey.entry.bytes
+        → Halts (core_run (core_of lowered.now.core) options.depth v) chunks (run_cost (core_of lowered.now.core) options.depth (run_forks options) v) why) }
+{
+    let memory = match SoleMem::make(alloc, chunks) {
+        Ok(memory) => memory,
+        Err(_) => return Err(Stop::Memory),
+    };
+    let (end, memory) = run_loaded(alloc, runtime, lowered, survey, memory, options);
+    match end {
+        Ok(root) => Ok(Rooted { memory, root }),
+        Err(stop) => Err(stop),
+    }
+}
+
+/// The chunks with which a run on a payload begins: enough for most runs, and few enough that a short one is not kept waiting for them.
+const FIRST_CHUNKS: u64 = 1_024;
+
+/// How many times as many chunks the next run of the code has.
+const GROWTH: u64 = 8;
+
+/// The first limit of the chunks of a run: they have room for eight times the payload. There may be so many at most.
+fn first_limit(payload: usize, most: u32) -> u32
+    ensures { result ≤ most }
+{
+    let ample = payload as u64 / (CHUNK / GROWTH);
+    ample.max(FIRST_CHUNKS).min(most as u64) as u32
+}
+
+/// The limit that comes behind one that was too low.
+fn next_limit(limit: u32, most: u32) -> u32
+    requires { limit < most }
+    ensures more { limit < result }
+    ensures most { result ≤ most }
+{
+    let wider = (limit as u64).max(1) * GROWTH;
+    wider.min(most as u64) as u32
+}
+
+/// Runs the code on the value of a survey, in a memory of its own. All its chunks are written once before the run, so it begins with few of them, and
+/// begins anew with more where these were not enough. Only a run with all of them tells that there are too few.
 fn run_on<R: Threads + Wait + Sync, G: Gate + Sync>(
     alloc: Global,
     runtime: Runtime<'_, R, G>,
@@ -198,21 +251,29 @@ fn run_on<R: Threads + Wait + Sync, G: Gate + Sync>(
 ) -> Result<Rooted, Stop<'static>>
     requires table { survey.table ≡ lowered.now.code.laid.table }
     requires ty { survey.ty ≡ (core_of lowered.now.core).main.parameter }
-    ensures limit { IfOk result (λ left. (⟦<SoleMem as Mem>⟧.view left.memory).limit ≡ options.chunks) }
+    ensures limit { IfOk result (λ left. (⟦<SoleMem as Mem>⟧.view left.memory).limit ≤ options.chunks) }
     ensures root { IfOk result (λ left. (v : Datum) → Packed survey.entry.table survey.entry.ty v survey.entry.bytes
         → IsRootOf lowered.now.code.laid (⟦<SoleMem as Mem>⟧.view left.memory).cells (core_of lowered.now.core).main.result (core_run (core_of lowered.now.core) options.depth v) left.root) }
     ensures halts { IfErr result (λ why. (v : Datum) → Packed survey.entry.table survey.entry.ty v survey.entry.bytes
         → Halts (core_run (core_of lowered.now.core) options.depth v) options.chunks (run_cost (core_of lowered.now.core) options.depth (run_forks options) v) why) }
 {
-    let memory = match SoleMem::make(alloc, options.chunks) {
-        Ok(memory) => memory,
-        Err(_) => return Err(Stop::Memory),
-    };
-    let (end, memory) = run_loaded(alloc, runtime, lowered, survey, memory, options);
-    match end {
-        Ok(root) => Ok(Rooted { memory, root }),
-        Err(stop) => Err(stop),
+    let mut limit = first_limit(survey.payload().len(), options.chunks);
+    'limits: while limit < options.chunks {
+        let Runtime { threads, gate } = runtime;
+        let found = run_within(
+            alloc,
+            Runtime { threads, gate },
+            lowered,
+            survey.again(),
+            limit,
+            options,
+        );
+        match found {
+            Err(Stop::NoValue(Reason::Full)) => limit = next_limit(limit, options.chunks),
+            end => return end,
+        }
     }
+    run_within(alloc, runtime, lowered, survey, options.chunks, options)
 }
 
 /// Runs the code on the value of a survey. The code is handed back with what is left.
@@ -226,7 +287,7 @@ fn run_survey<R: Threads + Wait + Sync, G: Gate + Sync>(
     requires table { survey.table ≡ lowered.code.laid.table }
     requires ty { survey.ty ≡ (core_of lowered.core).main.parameter }
     ensures same { IfOk result (λ ran. ran.lowered ≡ lowered) }
-    ensures limit { IfOk result (λ ran. (⟦<SoleMem as Mem>⟧.view ran.memory).limit ≡ options.chunks) }
+    ensures limit { IfOk result (λ ran. (⟦<SoleMem as Mem>⟧.view ran.memory).limit ≤ options.chunks) }
     ensures root { IfOk result (λ ran. (v : Datum) → Packed survey.entry.table survey.entry.ty v survey.entry.bytes
         → IsRootOf lowered.code.laid (⟦<SoleMem as Mem>⟧.view ran.memory).cells (core_of lowered.core).main.result (core_run (core_of lowered.core) options.depth v) ran.root) }
     ensures halts { IfErr result (λ why. (v : Datum) → Packed survey.entry.table survey.entry.ty v survey.entry.bytes
@@ -259,9 +320,9 @@ pub fn run_packed<R: Threads + Wait + Sync, G: Gate + Sync>(
 ) -> Result<Ran<SoleMem>, Stop<'static>>
     requires short { length file.now ≤ FILE_BYTES }
     ensures stands { IfOk result (λ ran. StandsMeant (program_of typed.now) names.now options.depth file.now ran.lowered.code.laid (⟦<SoleMem as Mem>⟧.view ran.memory).cells ran.root) }
-    // It is the code of the program's core that ran, in a memory of so many chunks.
+    // It is the code of the program's core that ran, in a memory of no more chunks.
     ensures code { IfOk result (λ ran. ran.lowered.code ≡ lower_program (core_after options.skips 4 (program_of typed.now))) }
-    ensures limit { IfOk result (λ ran. (⟦<SoleMem as Mem>⟧.view ran.memory).limit ≡ options.chunks) }
+    ensures limit { IfOk result (λ ran. (⟦<SoleMem as Mem>⟧.view ran.memory).limit ≤ options.chunks) }
     // The heads lie as those of the program's core.
     ensures laid { IfOk result (λ ran. ran.lowered.code.laid ≡ layouts_of options.skips (program_of typed.now)) }
     ensures stop { IfErr result (IsMachineStop (program_of typed.now) names.now options.skips options.depth (run_forks options) options.chunks file.now) }

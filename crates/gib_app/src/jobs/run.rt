@@ -41,7 +41,7 @@ fn finish(alloc: Global, value: Valued, image: bool) -> Result<Made, Stop<'stati
     requires names { AreHeld value.ran.lowered.code.laid.table value.names.short }
     requires stands { (p : ProgramTree) × (depth : ℕ) × (input : List ℕ) × StandsMeant p value.names depth input value.ran.lowered.code.laid (⟦<SoleMem as Mem>⟧.view value.ran.memory).cells value.ran.root }
     requires few { (⟦<SoleMem as Mem>⟧.view value.ran.memory).limit ≤ 65536 }
-    ensures made { (p : ProgramTree) (options : OptionValues) (input : List ℕ) → value.ran.lowered.code.laid ≡ layouts_of options.skips p → options.image ≡ image → (⟦<SoleMem as Mem>⟧.view value.ran.memory).limit ≡ options.chunks
+    ensures made { (p : ProgramTree) (options : OptionValues) (input : List ℕ) → value.ran.lowered.code.laid ≡ layouts_of options.skips p → options.image ≡ image → (⟦<SoleMem as Mem>⟧.view value.ran.memory).limit ≤ options.chunks
         → (s : StandsMeant p value.names options.depth input value.ran.lowered.code.laid (⟦<SoleMem as Mem>⟧.view value.ran.memory).cells value.ran.root)
         → IfOk result (λ made. EndsBy (file_of made) made.end (Runs p value.names options input)) }
     // It comes from the memory that the run left.
@@ -119,7 +119,7 @@ fn finish_packed<R: Threads + Sync>(
     requires stands { (p : ProgramTree) × (depth : ℕ) × (input : List ℕ) × (ty ≡ output_type p) × StandsMeant p value.names depth input value.ran.lowered.code.laid (⟦<SoleMem as Mem>⟧.view value.ran.memory).cells value.ran.root }
     requires packs { options.packs ≡ true }
     requires few { (⟦<SoleMem as Mem>⟧.view value.ran.memory).limit ≤ 65536 }
-    ensures made { (p : ProgramTree) (input : List ℕ) → ty ≡ output_type p → value.ran.lowered.code.laid ≡ layouts_of options.skips p → (⟦<SoleMem as Mem>⟧.view value.ran.memory).limit ≡ options.chunks
+    ensures made { (p : ProgramTree) (input : List ℕ) → ty ≡ output_type p → value.ran.lowered.code.laid ≡ layouts_of options.skips p → (⟦<SoleMem as Mem>⟧.view value.ran.memory).limit ≤ options.chunks
         → (s : StandsMeant p value.names options.depth input value.ran.lowered.code.laid (⟦<SoleMem as Mem>⟧.view value.ran.memory).cells value.ran.root)
         → IfOk result (λ finished. EndsByBoth (file_of finished.made) (packed_of finished) finished.made.end (RunsBoth p value.names options input)) }
     // It comes from the memory that the run left.
@@ -148,7 +148,7 @@ fn finish_run<R: Threads + Sync>(
     requires names { AreHeld value.ran.lowered.code.laid.table value.names.short }
     requires stands { (p : ProgramTree) × (depth : ℕ) × (input : List ℕ) × (ty ≡ output_type p) × StandsMeant p value.names depth input value.ran.lowered.code.laid (⟦<SoleMem as Mem>⟧.view value.ran.memory).cells value.ran.root }
     requires few { (⟦<SoleMem as Mem>⟧.view value.ran.memory).limit ≤ 65536 }
-    ensures made { (p : ProgramTree) (input : List ℕ) → ty ≡ output_type p → value.ran.lowered.code.laid ≡ layouts_of options.skips p → (⟦<SoleMem as Mem>⟧.view value.ran.memory).limit ≡ options.chunks
+    ensures made { (p : ProgramTree) (input : List ℕ) → ty ≡ output_type p → value.ran.lowered.code.laid ≡ layouts_of options.skips p → (⟦<SoleMem as Mem>⟧.view value.ran.memory).limit ≤ options.chunks
         → (s : StandsMeant p value.names options.depth input value.ran.lowered.code.laid (⟦<SoleMem as Mem>⟧.view value.ran.memory).cells value.ran.root)
         → IfOk result (λ finished. EndsByBoth (file_of finished.made) (packed_of finished) finished.made.end (RunsBoth p value.names options input)) }
     // It comes from the memory that the run left.
