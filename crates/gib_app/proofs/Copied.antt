@@ -35,7 +35,7 @@ use Rattle.gib_mono.proofs.Theorem.{set_made, copied_typed, copied_fine, copied_
 use Rattle.gib_mono.proofs.Whole.{IsSet}
 use Rattle.gib_app.specs.GenericText.{generic_text, row_text}
 use Rattle.gib_app.specs.Headline.{copy_with}
-use Rattle.gib_app.specs.Running.{IsCopy, IsProgram, IsInput, sourced}
+use Rattle.gib_app.specs.Running.{IsCopy, IsProgram, IsInput, sourced, text_line}
 use Rattle.gib_app.specs.Causes.{OnProgram}
 use Rattle.gib_app.specs.Stops.{IsReady}
 use Rattle.gib_app.proofs.Held.{named_below, rows_are_words}
@@ -113,6 +113,15 @@ module _ (source : List ℕ) (l : Lexed) (g : GenericProgramTree) (found : List 
 
 pub spelled_of : (source : List ℕ) (t : TextsView) (p : ProgramTree) (is : IsProgram source t p) → IsSpelled source is.lexed is.generic is.copy.found
 spelled_of source t p is = record { spelled = is.spelled; typed = is.typed; within = is.copy.within }
+
+pub text_of_copy : (source : List ℕ) (t : TextsView) (p : ProgramTree) (is : IsProgram source t p) (v : Datum) (ty : Ty) → HasType (table_of_program p) v ty
+    → text_line p t v ≡ generic_text (rows_of is.generic.datas) is.lexed.names (shown (base_of (rows_of is.generic.datas) is.copy.found) v) ++ 10 ∷ []
+text_of_copy source t p is v ty h =
+    let c = copy_with is.generic is.lexed is.copy.found in
+    let H : ProgramTree → Type 0 = λ q. HasType (table_of_program q) v ty in
+    ap (λ (q : ProgramTree). text_line q t v) is.copy.is
+    ∙ ap (λ (s : TextsView). text_line c s v) is.copy.shown
+    ∙ ap (λ (line : List ℕ). line ++ 10 ∷ []) (text_is source is.lexed is.generic is.copy.found (spelled_of source t p is) v ty (subst H is.copy.is h))
 
 pub record OnCopy (source : List ℕ) (P : ProgramTree → TextsView → Type 0) : Type 0 where
   pub lexed : Lexed

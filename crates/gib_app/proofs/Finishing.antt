@@ -21,9 +21,11 @@ use Rattle.gib_app.specs.Jobs.{DoesAll}
 use Rattle.gib_app.specs.Kept.{EndsByBoth, file_of, packed_of}
 use Rattle.gib_app.specs.Located.{IsWritten}
 use Rattle.gib_app.specs.MachineRun.{RunsFor}
-use Rattle.gib_app.specs.Performing.{IsDone}
+use Rattle.gib_app.specs.Performing.{IsDone, IsOfRun}
 use Rattle.gib_app.specs.Plan.{Plan}
 use Rattle.gib_app.specs.Readings.{HasRead}
+use Rattle.gib_app.specs.Remains.{ComesOfRun}
+use Rattle.gib_app.specs.Rows.{row}
 use Rattle.gib_app.specs.Running.{Program, IsProgram, IsProgramIn, sourced}
 use Rattle.gib_app.specs.Stops.{IsInputsStop, IsMakeStop, IsReady}
 use Rattle.gib_app.proofs.Making.{in_dialect, inputs_stop, on_both}
@@ -93,6 +95,13 @@ module _ (before : ShelfView) (r : Plan) (dl : Dialect) (e : dialect_of r.job �
       let f = h on.holds.program on.holds.names own_stands in
       on_both before.kept r r.source on.holds.program on.holds.names f.given (λ q ns given. EndsByBoth (file_of finished.made) (packed_of finished) finished.made.end (DoesAll r.job r.options q ns given)) refl own_source
       (held_before before.kept mid.kept (inputs_of r) f.given same f.given_held) f.done
+
+  pub all_comes : (mid : ShelfView) → ((name : List ℕ) → mid.kept name ≡ before.kept name) → (finished : Finished)
+      → ((p : Program) (names : TextsView) → StandsFor (dialect_of r.job) left p names → IsFinished mid.kept r p names finished) → IsOfRun before.kept r (file_of finished.made) finished.made.end
+  all_comes mid same finished h =
+      let f = h on.holds.program on.holds.names own_stands in
+      on_both before.kept r r.source on.holds.program on.holds.names f.given (λ q ns given. ComesOfRun (row r.job) q ns r.options given.second (file_of finished.made) finished.made.end) refl own_source
+      (held_before before.kept mid.kept (inputs_of r) f.given same f.given_held) f.comes
 
   pub all_stops : (mid now : ShelfView) → HasRead before mid (read_calls r.source 1048576) → (stop : Stop)
       → ((p : Program) (names : TextsView) → StandsFor (dialect_of r.job) left p names → IsInputsStop mid now r p names stop) → IsMakeStop before now r stop

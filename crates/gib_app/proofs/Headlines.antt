@@ -35,7 +35,7 @@ use Rattle.gib_app.specs.Plan.{Document, Write, Plan, Files, bytes_in, Contents}
 use Rattle.gib_app.specs.Writes.{at_reading, AreMade, IsNamedIn, writes_of}
 use Rattle.gib_app.specs.Formats.{inputs_of, Accepts}
 use Rattle.gib_app.specs.Words.{asked}
-use Rattle.gib_app.specs.Running.{Program, sourced, IsInput, IsOutput, IsRunImage, IsPackedResult, IsLongResult, MeansNone, FillsUp, text_line}
+use Rattle.gib_app.specs.Running.{Program, sourced, IsProgram, IsInput, IsOutput, IsRunImage, IsPackedResult, IsLongResult, MeansNone, FillsUp, text_line}
 use Rattle.gib_app.specs.Jobs.{Prints, MakesImage, PacksResult, run_forks}
 use Rattle.gib_app.specs.Causes.{OnProgram, OnBoth, EndsWithout, AsksProgram, IsStored, IsUnread}
 use Rattle.gib_app.specs.Ending.{IsEnding, HasText, DueOfFiles, DueWithout, TakesAll}
@@ -186,6 +186,20 @@ none_of source input depth meant on =
 of_none : (source input : List ℕ) (depth : ℕ) (meant : Reason) → HasNoResult source input depth meant → OnTree source (λ p names. MeansNone p names depth input meant)
 of_none source input depth meant h =
     from_given h.given (λ p names. MeansNone p names depth input meant) (record { value = h.given.value; is_input = input_in h.given; means = stopped h.given depth meant h.means })
+
+-- the same of a given copy
+
+pub copy_result : (source input output : List ℕ) (depth : ℕ) (names : TextsView) (p : ProgramTree) → IsProgram source names p → IsOutput p names depth input output → IsResult source input depth output
+copy_result source input output depth names p is h = result_of source input depth output (record { texts = names; program = sourced p; is_program = (is, refl); holds = h })
+
+pub result_copy : (source input output : List ℕ) (depth : ℕ) → IsResult source input depth output → (names : TextsView) × (p : ProgramTree) × IsProgram source names p × IsOutput p names depth input output
+result_copy source input output depth h = let on = output_of source input depth output h in (on.texts, on.program.tree, on.is_program.0, on.holds)
+
+pub copy_none : (source input : List ℕ) (depth : ℕ) (meant : Reason) (names : TextsView) (p : ProgramTree) → IsProgram source names p → MeansNone p names depth input meant → HasNoResult source input depth meant
+copy_none source input depth meant names p is h = none_of source input depth meant (record { texts = names; program = sourced p; is_program = (is, refl); holds = h })
+
+pub none_copy : (source input : List ℕ) (depth : ℕ) (meant : Reason) → HasNoResult source input depth meant → (names : TextsView) × (p : ProgramTree) × IsProgram source names p × MeansNone p names depth input meant
+none_copy source input depth meant h = let on = of_none source input depth meant h in (on.texts, on.program.tree, on.is_program.0, on.holds)
 
 any_done : (tells : Bool) (words : List (List ℕ)) (before now : ShelfView) (out out_now : SinkView) (source input : List ℕ) (options : Options) (front said : List ℕ) →
     AnyRun words before out source input options front → IsEnding tells words before now out out_now status.Done said → (output : List ℕ) × IsResult source input options.depth output × (out_now.taken ≡ Some (front ++ output))

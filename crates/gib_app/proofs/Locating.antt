@@ -19,12 +19,14 @@ use Rattle.gib_app.specs.Jobs.{DoesAll, DoesBy, End, PacksResult, RunsLocated, p
 use Rattle.gib_app.specs.Kept.{EndsBy, EndsByBoth, file_of, packed_of}
 use Rattle.gib_app.specs.Plan.{Contents, Files, Plan}
 use Rattle.gib_app.specs.Readings.{HasRead}
+use Rattle.gib_app.specs.Remains.{ComesOfCore, ComesOfRun}
 use Rattle.gib_app.specs.Running.{Program, IsProgramIn}
 use Rattle.gib_app.specs.Stops.{FailsTo, IsRunStop, IsRefusal}
 use Rattle.gib_app.proofs.AfterReads.{inputs_read, none_read}
 use Rattle.gib_app.proofs.Doing.{AcceptsBy, RefusesBy}
 use Rattle.gib_app.proofs.Making.{inputs_given, only_first}
 use Rattle.gib_app.proofs.PackedRuns.{finished_alone, stopped_alone}
+use Rattle.gib_app.proofs.Remaining.{comes_alone}
 
 -- The job that takes a source with its places written out.
 
@@ -84,6 +86,12 @@ module _ (job : Job) (is : row job ≡ Evaluates ForPlaces) (o : Options) (p : P
   pub located_made : (made : Result Made Stop) (r : Result Finished Stop) → IfOk r (λ finished. (made ≡ Ok finished.made) × (finished.packed ≡ None)) → IfOk made (λ m. EndsBy (file_of m) m.end (RunsLocated p names o given.second))
       → IfOk r (λ finished. EndsByBoth (file_of finished.made) (packed_of finished) finished.made.end (DoesAll job o p names given))
   located_made made r alone h = finished_alone made r (RunsLocated p names o given.second) (DoesAll job o p names given) alone does_located h
+
+  pub located_comes : (made : Result Made Stop) (r : Result Finished Stop) → IfOk r (λ finished. (made ≡ Ok finished.made) × (finished.packed ≡ None))
+      → IfOk made (λ m. ComesOfCore p names o given.second m.end) → IfOk r (λ finished. ComesOfRun (row job) p names o given.second (file_of finished.made) finished.made.end)
+  located_comes made r alone h =
+      let P : Row → Type 0 = λ x. IfOk r (λ finished. ComesOfRun x p names o given.second (file_of finished.made) finished.made.end) in
+      subst P (sym is) (comes_alone (λ file end. ComesOfCore p names o given.second end) made r alone h)
 
   fails_located : (stop : Stop) → IsRunStop p.tree names given.second stop → FailsTo job o p names given stop
   fails_located stop h = let P : Row → Type 0 = λ r. IsRefusal (λ fault. RefusesBy (format_by r) o p names given fault × (AcceptsBy (format_by r) o p names given → ⊥)) stop in subst P (sym is) h

@@ -18,6 +18,8 @@ use Rattle.gib_app.specs.declared.made.Made.{Made}
 use Rattle.gib_app.specs.declared.made.Reason.{Reason}
 use Rattle.gib_app.specs.declared.made.Reason.TheVariants as reason
 use Rattle.gib_app.specs.declared.made.Valued.{Valued}
+use Rattle.gib_app.specs.declared.plan.Job.{Job}
+use Rattle.gib_app.specs.declared.plan.Job.TheVariants.{Run, Plain, Check, Core, Code, Pack, Show, Gen, Trace, Replay, Local}
 use Rattle.gib_app.specs.declared.plan.Options.{Options}
 use Rattle.gib_app.specs.declared.stop.Stop.{Stop}
 use Rattle.gib_app.specs.Cores.{core_after, layouts_of}
@@ -25,7 +27,9 @@ use Rattle.gib_app.specs.Imaging.{IsShownWith}
 use Rattle.gib_app.specs.Jobs.{End, Prints, NoValue, run_forks}
 use Rattle.gib_app.specs.Kept.{EndsBy, StandsAgain, file_of, packed_of}
 use Rattle.gib_app.specs.MachineRun.{StandsMeant, LacksValue, cells_of}
-use Rattle.gib_app.specs.Remains.{Remains, IsLeft, ComesOfMemory}
+use Rattle.gib_app.specs.Remains.{Remains, IsLeft, ComesOfMemory, ComesOfRun, SumsMemory}
+use Rattle.gib_app.specs.Rows.{row}
+use Rattle.gib_app.specs.Running.{Program}
 use Rattle.gib_app.specs.Replaying.{IsImageFile}
 use Rattle.gib_app.specs.Stops.{reason_of}
 use Rattle.gib_app.proofs.Imaged.{stands_again}
@@ -121,6 +125,33 @@ pub comes_alone : (Q : Option (List ℕ) → KeptEnd → Type 0) (made : Result 
     → IfOk made (λ m. Q (file_of m) m.end) → IfOk r (λ finished. Q (file_of finished.made) finished.made.end)
 comes_alone Q made (Ok finished) is h = let M : Result Made Stop → Type 0 = λ m. IfOk m (λ x. Q (file_of x) x.end) in subst M is.0 h
 comes_alone Q made (Err stop) is h = tt {0}
+
+-- Of a job that makes no value in region memory nothing is said.
+of_none : (r : Result Finished Stop) → IfOk r (λ finished. ⊤)
+of_none (Ok finished) = tt {0}
+of_none (Err stop) = tt {0}
+
+-- A job beside `run`, whose source leaves the places to the passes.
+pub comes_beside : (job : Job) (p : Program) (names : TextsView) (o : Options) (input : List ℕ) (made : Result Made Stop) (r : Result Finished Stop)
+    → (job ≡ Run → ⊥) → (job ≡ Local → ⊥) → IfOk r (λ finished. (made ≡ Ok finished.made) × (finished.packed ≡ None)) → (job ≡ Gen → IfOk made (λ m. SumsMemory p.tree names o input m.end))
+    → IfOk r (λ finished. ComesOfRun (row job) p names o input (file_of finished.made) finished.made.end)
+comes_beside Run p names o input made r other here is h = absurd (other refl)
+comes_beside Plain p names o input made r other here is h = of_none r
+comes_beside Check p names o input made r other here is h = of_none r
+comes_beside Core p names o input made r other here is h = of_none r
+comes_beside Code p names o input made r other here is h = of_none r
+comes_beside Pack p names o input made r other here is h = of_none r
+comes_beside Show p names o input made r other here is h = of_none r
+comes_beside Gen p names o input made r other here is h = comes_alone (λ file end. SumsMemory p.tree names o input end) made r is (h refl)
+comes_beside Trace p names o input made r other here is h = of_none r
+comes_beside Replay p names o input made r other here is h = of_none r
+comes_beside Local p names o input made r other here is h = absurd (here refl)
+
+-- Where there is no value, what holds of each such end holds.
+pub valueless_comes : (Q : KeptEnd → Type 0) (s : Stop) (r : Result Made Stop) → ((why : Reason) → Q (ends.NoValue why))
+    → IfOk r (λ made. (why : Reason) × (reason_of s ≡ Some why) × (made.file ≡ None) × (made.end ≡ ends.NoValue why)) → IfOk r (λ made. Q made.end)
+valueless_comes Q s (Ok made) give of = subst Q (sym of.3) (give of.0)
+valueless_comes Q s (Err other) give of = tt {0}
 
 -- Without a value nothing comes from there, where not for the length of its packed file.
 abbrev NotLong : Option (List ℕ) → End → Type 0

@@ -19,6 +19,8 @@ use Rattle.gib_app.specs.Kept.{EndsByBoth, file_of, packed_of}
 use Rattle.gib_app.specs.Located.{IsLocatedStop}
 use Rattle.gib_app.specs.MachineRun.{RunsFor}
 use Rattle.gib_app.specs.Plan.{Contents, Files, Plan}
+use Rattle.gib_app.specs.Remains.{ComesOfRun}
+use Rattle.gib_app.specs.Rows.{row}
 use Rattle.gib_app.specs.Running.{Program, IsProgramIn, sourced}
 use Rattle.gib_app.specs.Stops.{IsCompileStop, IsReady}
 
@@ -54,8 +56,9 @@ abbrev pub IsTakingStop : Dialect → List ℕ → Stop → Type 0
 IsTakingStop Source source = IsCompileStop source
 IsTakingStop Located source = IsLocatedStop source
 
--- The job of a plan was done, for this program, with the bytes of its inputs.
+-- The job of a plan was done, for this program, with the bytes of its inputs; where it ran in region memory, what it made comes from there.
 pub record IsFinished (kept : Files) (plan : Plan) (p : Program) (names : TextsView) (finished : Finished) : Type 0 where
   pub given : Contents
   pub given_held : AreGiven kept (inputs_of plan) given
   pub done : EndsByBoth (file_of finished.made) (packed_of finished) finished.made.end (DoesAll plan.job plan.options p names given)
+  pub comes : ComesOfRun (row plan.job) p names plan.options given.second (file_of finished.made) finished.made.end

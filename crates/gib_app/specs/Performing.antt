@@ -14,6 +14,8 @@ use Rattle.gib_app.specs.Jobs.{DoesAll}
 use Rattle.gib_app.specs.Kept.{EndsByBoth}
 use Rattle.gib_app.specs.Causes.{OnBoth, AsksProgram, EndsWithout, IsPrintedInPart}
 use Rattle.gib_app.specs.Ending.{StaysAfter, IsBetween}
+use Rattle.gib_app.specs.Remains.{ComesOfRun}
+use Rattle.gib_app.specs.Rows.{row}
 use Rattle.gib_app.specs.Stops.{IsStop}
 use Rattle.gib_app.specs.Stopping.{answer_for}
 
@@ -21,7 +23,11 @@ use Rattle.gib_app.specs.Stopping.{answer_for}
 abbrev pub IsDone : Files → Plan → (file packed : Option (List ℕ)) → KeptEnd → Type 0
 IsDone kept plan file packed end = OnBoth kept plan (λ p names given. EndsByBoth file packed end (DoesAll plan.job plan.options p names given))
 
--- The same, and the files are written.
+-- Where the job ran in region memory, what it made comes from there.
+abbrev pub IsOfRun : Files → Plan → (file : Option (List ℕ)) → KeptEnd → Type 0
+IsOfRun kept plan file end = OnBoth kept plan (λ p names given. ComesOfRun (row plan.job) p names plan.options given.second file end)
+
+-- The job was done, and its files are written.
 pub record IsPerformed (tells : Bool) (before now : Files) (plan : Plan) (end : KeptEnd) : Type 0 where
   pub file : Option (List ℕ)
   pub packed : Option (List ℕ)

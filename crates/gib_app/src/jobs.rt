@@ -6,6 +6,7 @@ ghost use Rattle.gib_app.specs.Formats.{most_of};
 ghost use Rattle.gib_app.specs.Jobs.{Does, DoesAll, Replays, packs_of};
 ghost use Rattle.gib_app.specs.Kept.{EndsBy, EndsByBoth, contents_of, file_of, packed_of};
 ghost use Rattle.gib_app.specs.Ranges.{AreInRange};
+ghost use Rattle.gib_app.specs.Remains.{ComesOfRun, SumsMemory};
 ghost use Rattle.gib_app.specs.Rows.{row};
 ghost use Rattle.gib_app.specs.Running.{sourced};
 ghost use Rattle.gib_app.specs.Stops.{IsReady, IsReplayStop, FailsTo};
@@ -76,6 +77,7 @@ fn do_beside<R: Threads + Wait + Sync, G: Gate + Sync>(
     requires range { AreInRange job options }
     ensures made { IfOk result (λ made. EndsBy (file_of made) made.end (Does job options (sourced (program_of compiled.now.typed)) compiled.now.names (contents_of given.entry))) }
     ensures stop { IfErr result (FailsTo job options (sourced (program_of compiled.now.typed)) compiled.now.names (contents_of given.entry)) }
+    ensures region { job ≡ Job.Gen → IfOk result (λ made. SumsMemory (program_of compiled.now.typed) compiled.now.names options given.entry.second.now made.end) }
     ensures alone { packs_of (row job) options ≡ false }
 {
     match job {
@@ -123,6 +125,8 @@ pub fn do_job<R: Threads + Wait + Sync, G: Gate + Sync>(
     requires short { IfSome given.journal (λ j. length j.now ≤ 16777216) }
     requires range { AreInRange job options }
     ensures made { IfOk result (λ finished. EndsByBoth (file_of finished.made) (packed_of finished) finished.made.end (DoesAll job options (sourced (program_of compiled.typed)) compiled.names (contents_of given.entry))) }
+    // Where it ran in region memory, what it made comes from there.
+    ensures region { IfOk result (λ finished. ComesOfRun (row job) (sourced (program_of compiled.typed)) compiled.names options given.entry.second.now (file_of finished.made) finished.made.end) }
     ensures stop { IfErr result (FailsTo job options (sourced (program_of compiled.typed)) compiled.names (contents_of given.entry)) }
 {
     match job {

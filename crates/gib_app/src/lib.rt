@@ -33,6 +33,7 @@ pub mod replaying;
 pub mod runtime;
 pub mod sample;
 pub mod source_fault;
+pub mod source_law;
 pub mod status;
 pub mod stop;
 pub mod top;

@@ -360,6 +360,9 @@ pub fn run_located<R: Threads + Wait + Sync, G: Gate + Sync>(
     requires numbered { AreNumbered (core_of core) }
     ensures stands { (p : ProgramTree) → RunsFor (core_of core) p names.now
         → IfOk result (λ ran. StandsMeant p names.now options.depth file.now ran.lowered.code.laid (⟦<SoleMem as Mem>⟧.view ran.memory).cells ran.root) }
+    // It is the code of this very core that ran, in a memory of no more chunks.
+    ensures code { IfOk result (λ ran. ran.lowered.code ≡ lower_program (core_of core)) }
+    ensures limit { IfOk result (λ ran. (⟦<SoleMem as Mem>⟧.view ran.memory).limit ≤ options.chunks) }
     ensures stop { (p : ProgramTree) → RunsFor (core_of core) p names.now
         → IfErr result (IsMachineStopBy (core_of core) p names.now options.depth (run_forks options) options.chunks file.now) }
 {

@@ -15,7 +15,7 @@ ghost use Rattle.gib_app.specs.FromSource.{StandsFor, IsTaken, IsTakingStop, IsF
 ghost use Rattle.gib_app.specs.MachineRun.{RunsFor};
 ghost use Rattle.gib_app.specs.Running.{Program, sourced};
 ghost use Rattle.gib_app.specs.Stops.{IsReady, IsSourceStop, IsInputStop, IsFurtherStop, IsInputsStop, IsMakeStop};
-ghost use Rattle.gib_app.specs.Performing.{IsDone};
+ghost use Rattle.gib_app.specs.Performing.{IsDone, IsOfRun};
 ghost use Rattle.gib_app.specs.Ranges.{AreInRange};
 
 use crate::compile::{Compiled, compile};
@@ -318,6 +318,8 @@ pub fn make<'a, R: Threads + Wait + Sync, S: Shelf, G: Gate + Sync>(
 ) -> Result<Finished, Stop<'a>>
     requires range { AreInRange plan.job plan.options }
     ensures made { IfOk result (λ finished. IsDone (S.view shelf.old).kept (plan_of plan.entry) (file_of finished.made) (packed_of finished) finished.made.end) }
+    // Where the job ran in region memory, what it made comes from there.
+    ensures region { IfOk result (λ finished. IsOfRun (S.view shelf.old).kept (plan_of plan.entry) (file_of finished.made) finished.made.end) }
     ensures stop { IfErr result (IsMakeStop (S.view shelf.old) (S.view shelf.new) (plan_of plan.entry)) }
     ensures read { OnOk result (HasRead (S.view shelf.old) (S.view shelf.new) (reads_of (plan_of plan.entry))) }
     ensures stopped { IfErr result (HasStopped (S.view shelf.old) (S.view shelf.new) (reads_of (plan_of plan.entry))) }

@@ -6,6 +6,7 @@ ghost use Rattle.gib_core.specs.Parts.{core_of};
 ghost use Rattle.gib_app.specs.Jobs.{RunsLocated};
 ghost use Rattle.gib_app.specs.Kept.{EndsBy, file_of};
 ghost use Rattle.gib_app.specs.MachineRun.{RunsFor};
+ghost use Rattle.gib_app.specs.Remains.{ComesOfCore};
 ghost use Rattle.gib_app.specs.Running.{Program};
 ghost use Rattle.gib_app.specs.Stops.{IsRunStop};
 
@@ -38,6 +39,9 @@ pub fn local<R: Threads + Wait + Sync, G: Gate + Sync>(
     requires numbered { AreNumbered (core_of located.core) }
     ensures made { (p : Program) → p.located ≡ Some (core_of located.core) → RunsFor (core_of located.core) p.tree located.names
         → IfOk result (λ made. EndsBy (file_of made) made.end (RunsLocated p located.names options input.now)) }
+    // The value is printed from the region memory that the code of this very core left, in no more chunks than are asked for.
+    ensures region { (p : Program) → p.located ≡ Some (core_of located.core) → RunsFor (core_of located.core) p.tree located.names
+        → IfOk result (λ made. ComesOfCore p located.names options input.now made.end) }
     ensures stop { (p : Program) → p.located ≡ Some (core_of located.core) → RunsFor (core_of located.core) p.tree located.names
         → IfErr result (IsRunStop p.tree located.names input.now) }
 {

@@ -8,6 +8,7 @@ ghost use Rattle.gib_syntax.specs.Parts.{program_of};
 ghost use Rattle.gib_app.specs.Jobs.{Sums};
 ghost use Rattle.gib_app.specs.Kept.{EndsBy, file_of};
 ghost use Rattle.gib_app.specs.MachineRun.{StandsMeant};
+ghost use Rattle.gib_app.specs.Remains.{IsLeft, SumsMemory};
 ghost use Rattle.gib_app.specs.Stops.{IsRunStop};
 
 use crate::compile::Compiled;
@@ -53,6 +54,9 @@ fn line_made(alloc: Global, mut ran: Ran<SoleMem>, options: Options) -> Result<M
     requires stands { (p : ProgramTree) × (names : TextsView) × (input : List ℕ) × StandsMeant p names options.depth input ran.lowered.code.laid (⟦<SoleMem as Mem>⟧.view ran.memory).cells ran.root }
     ensures made { (p : ProgramTree) (names : TextsView) (input : List ℕ) (s : StandsMeant p names options.depth input ran.lowered.code.laid (⟦<SoleMem as Mem>⟧.view ran.memory).cells ran.root)
         → IfOk result (λ made. EndsBy (file_of made) made.end (Sums p names options input)) }
+    // It is about the value in the memory that the run left.
+    ensures region { (p : ProgramTree) (names : TextsView) (input : List ℕ) → IsLeft p names options input (record { ran = ran; names = names })
+        → IfOk result (λ made. SumsMemory p names options input made.end) }
     ensures memory { IfErr result (λ stop. stop ≡ Stop.Memory) }
 {
     match line_of(alloc, &mut ran, options) {
@@ -78,6 +82,8 @@ pub fn made_run<R: Threads + Wait + Sync, G: Gate + Sync>(
 ) -> Result<Made, Stop<'static>>
     requires short { length input.now ≤ FILE_BYTES }
     ensures made { IfOk result (λ made. EndsBy (file_of made) made.end (Sums (program_of compiled.now.typed) compiled.now.names options input.now)) }
+    // It is about the value in the region memory that the run left.
+    ensures region { IfOk result (λ made. SumsMemory (program_of compiled.now.typed) compiled.now.names options input.now made.end) }
     ensures stop { IfErr result (IsRunStop (program_of compiled.now.typed) compiled.now.names input.now) }
 {
     match run_packed(

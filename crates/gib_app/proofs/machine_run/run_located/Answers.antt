@@ -1,4 +1,4 @@
-use Rattle.std.proofs.Common.{◌∙◌, refl, sym, ap}
+use Rattle.std.proofs.Common.{◌∙◌, refl, sym, ap, arith}
 use Rattle.gib_core.specs.Parts.{Parts, core_of}
 use Rattle.gib_code.specs.Program.{CodeTree}
 use Rattle.gib_arena.specs.Sole.{sole_memory}
@@ -56,3 +56,6 @@ returns-clause-stop g c = λ p runs.
     (located_file core p names runs c.types-types.result.now c.main-ty.result.parameter file s
     (c.types-types.ensures ∙ ap (λ (x : Parts). x.table) same) (ap (λ m. m.parameter) c.main-ty.ensures.value ∙ ap (λ (x : Parts). x.main.parameter) same) c.in-Ok-survey_typed.ensures.file) packed.0 packed.1)
     c.in-Err-run_on.stop (c.in-Err-run_on.ensures.halts packed.0 packed.1)
+
+pub returns-in-Ok-run_on-clause-limit : goal.returns-in-Ok-run_on-clause-limit
+returns-in-Ok-run_on-clause-limit g c = let same = c.in-Ok-run_on.ensures.limit in omega (arith, same)

@@ -4,9 +4,10 @@ use Rattle.gib_app.specs.Formats.{inputs_of}
 use Rattle.gib_app.specs.Jobs.{RunsLocated}
 use Rattle.gib_app.specs.Kept.{plan_of, EndsBy, file_of}
 use Rattle.gib_app.specs.Plan.{Contents}
+use Rattle.gib_app.specs.Remains.{ComesOfCore}
 use Rattle.gib_app.specs.Stops.{IsRunStop}
 use Rattle.gib_app.proofs.AfterReads.{first_stopped, stopped_behind}
-use Rattle.gib_app.proofs.Locating.{err_here, is_local, local_most, located_made, located_stop, ok_here, one_given, one_input_read}
+use Rattle.gib_app.proofs.Locating.{err_here, is_local, local_most, located_comes, located_made, located_stop, ok_here, one_given, one_input_read}
 use Rattle.gib_app.proofs.Making.{first_stops, inputs_refused}
 use Rattle.gib_app.proofs.make.finish_core.Goals as goal
 
@@ -39,10 +40,13 @@ returns-in-Ok-unpacked-clause-made g c = λ p located runs.
     let is = is_local c.args.plan.job c.requires.dialect in
     let M : List ℕ → Type 0 = λ bytes. IfOk c.local.result (λ made. EndsBy (file_of made) made.end (RunsLocated p names c.args.plan.options bytes)) in
     let made = located_made r.job is r.options p names given c.local.result c.unpacked.result c.unpacked.ensures.made (subst M c.deref.ensures.value (c.local.ensures.made p located runs)) in
+    let C : List ℕ → Type 0 = λ bytes. IfOk c.local.result (λ made. ComesOfCore p names c.args.plan.options bytes made.end) in
+    let comes = located_comes r.job is r.options p names given c.local.result c.unpacked.result c.unpacked.ensures.made (subst C c.deref.ensures.value (c.local.ensures.region p located runs)) in
     record {
       given = given;
       given_held = one_given r is before.kept c.in-Ok.second.items c.in-Ok.ensures.bytes;
       done = ok_here c.unpacked.result c.in-Ok-unpacked.finished _ c.in-Ok-unpacked.is made;
+      comes = ok_here c.unpacked.result c.in-Ok-unpacked.finished _ c.in-Ok-unpacked.is comes;
     }
 
 pub returns-in-Ok-unpacked-clause-read : goal.returns-in-Ok-unpacked-clause-read

@@ -8,6 +8,8 @@ use Rattle.gib_app.specs.Formats.{inputs_of}
 use Rattle.gib_app.specs.Jobs.{DoesAll}
 use Rattle.gib_app.specs.Kept.{plan_of, EndsByBoth, file_of, packed_of}
 use Rattle.gib_app.specs.Plan.{Contents}
+use Rattle.gib_app.specs.Remains.{ComesOfRun}
+use Rattle.gib_app.specs.Rows.{row}
 use Rattle.gib_app.specs.Stops.{FailsTo}
 use Rattle.gib_app.proofs.AfterReads.{stopped_behind}
 use Rattle.gib_app.proofs.Locating.{not_local}
@@ -20,11 +22,16 @@ pub returns-in-Ok-do_job-clause-made : goal.returns-in-Ok-do_job-clause-made
 returns-in-Ok-do_job-clause-made g c =
     let r = plan_of c.args.plan in
     let done' : Finished = c.in-Ok-do_job.finished in
-    let P : Contents → Type 0 = λ given. EndsByBoth (file_of done'.made) (packed_of done') done'.made.end (DoesAll r.job r.options (sourced (program_of c.args.compiled.typed)) c.args.compiled.names given) in
+    let p = sourced (program_of c.args.compiled.typed) in
+    let names = c.args.compiled.names in
+    let P : Contents → Type 0 = λ given.
+    EndsByBoth (file_of done'.made) (packed_of done') done'.made.end (DoesAll r.job r.options p names given) × ComesOfRun (row r.job) p names r.options given.second (file_of done'.made) done'.made.end in
+    let all = subst P c.given.ensures.contents (c.in-Ok-do_job.ensures.made, c.in-Ok-do_job.ensures.region) in
     record {
       given = record { second = c.in-Ok.inputs.second.items; further = option_to_list (option_map (λ bytes. bytes.items) c.in-Ok.inputs.journal) };
       given_held = c.in-Ok.ensures.bytes;
-      done = subst P c.given.ensures.contents c.in-Ok-do_job.ensures.made;
+      done = all.0;
+      comes = all.1;
     }
 
 pub returns-clause-stop : goal.returns-clause-stop

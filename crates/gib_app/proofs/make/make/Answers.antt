@@ -4,7 +4,7 @@ use Rattle.gib_app.specs.Formats.{inputs_of}
 use Rattle.gib_app.specs.Kept.{plan_of}
 use Rattle.gib_app.proofs.AfterReads.{both_read, stopped_in_front, stopped_next}
 use Rattle.gib_app.proofs.Making.{source_stop, stop_in}
-use Rattle.gib_app.proofs.Finishing.{taken_stands, all_done, all_stops}
+use Rattle.gib_app.proofs.Finishing.{taken_stands, all_comes, all_done, all_stops}
 use Rattle.gib_app.proofs.make.make.Goals as goal
 
 -- src/make.rt
@@ -32,6 +32,11 @@ finish-requires-clause-stands g c κs within =
 pub returns-in-Ok-finish-clause-made : goal.returns-in-Ok-finish-clause-made
 returns-in-Ok-finish-clause-made g c =
     all_done (g.S.Shelf.view c.args.shelf.now) (plan_of c.args.plan) c.dialect.result (sym c.dialect.ensures) c.in-Ok.taken c.in-Ok.ensures.taken
+    (g.S.Shelf.view c.take_source.new.shelf) c.in-Ok.ensures.read.same c.in-Ok-finish.finished c.in-Ok-finish.ensures.made
+
+pub returns-in-Ok-finish-clause-region : goal.returns-in-Ok-finish-clause-region
+returns-in-Ok-finish-clause-region g c =
+    all_comes (g.S.Shelf.view c.args.shelf.now) (plan_of c.args.plan) c.dialect.result (sym c.dialect.ensures) c.in-Ok.taken c.in-Ok.ensures.taken
     (g.S.Shelf.view c.take_source.new.shelf) c.in-Ok.ensures.read.same c.in-Ok-finish.finished c.in-Ok-finish.ensures.made
 
 pub returns-in-Ok-finish-clause-read : goal.returns-in-Ok-finish-clause-read
