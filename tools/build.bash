@@ -6,7 +6,7 @@ lock() {
   mkdir -p "$root/out" 2> /dev/null
   { exec 9>> "$file"; } 2> /dev/null || stop 70 "$root/out cannot be written, so nothing can be built there"
   command -v flock > /dev/null || return 0
-  flock -n 9 || { echo "gib: another call is building $1: waiting for it" >&2 && flock 9; }
+  flock -n 9 || { echo "gib: another call is building ${1%.prove}: waiting for it" >&2 && flock 9; }
 }
 unlock() { exec 9>&-; }
 

@@ -21,9 +21,10 @@ part() {
   return "$status"
 }
 
-# Runs all of them, up to the first that fails. Answers its status.
+# Runs all of them, up to the first that fails. Answers its status. The programs are named, which GIB_PROVED=1 would refuse.
 all_parts() {
   local name
+  unset GIB_PROVED
   for name in "${parts[@]}"; do
     part "$name" || return
   done
