@@ -322,6 +322,7 @@ say_which() {
 
 # `from-haskell`, and all commands whose source is a Haskell file.
 haskell() {
+  [ -f "$root/tools/haskell/desk.bash" ] || stop 70 "the translator is not here: gib from-haskell in a checkout of Gib translates a program"
   # shellcheck source=tools/haskell/desk.bash
   . "$root/tools/haskell/desk.bash"
   in_haskell "$@"

@@ -7,7 +7,7 @@ type Point = (Int, Int)
 
 data Tree
   = Empty
-  | At Point Tree Tree
+  | At Int Int Tree Tree
 
 -- | A rectangle by its least and greatest coordinates, a point that a neighbour is sought for, and all points.
 data Query = Query Point Point Point [Point]
@@ -20,19 +20,22 @@ other :: Axis -> Axis
 other AlongX = AlongY
 other AlongY = AlongX
 
-coordinate :: Axis -> Point -> Int
-coordinate AlongX (x, _) = x
-coordinate AlongY (_, y) = y
+along :: Axis -> Int -> Int -> Int
+along AlongX x _ = x
+along AlongY _ y = y
 
-insert :: Axis -> Point -> Tree -> Tree
-insert _ point Empty = At point Empty Empty
-insert axis point (At here less more)
-  | coordinate axis point < coordinate axis here = At here (insert (other axis) point less) more
-  | otherwise = At here less (insert (other axis) point more)
+coordinate :: Axis -> Point -> Int
+coordinate axis (x, y) = along axis x y
+
+insert :: Axis -> Int -> Int -> Tree -> Tree
+insert _ x y Empty = At x y Empty Empty
+insert axis x y (At a b less more)
+  | along axis x y < along axis a b = At a b (insert (other axis) x y less) more
+  | otherwise = At a b less (insert (other axis) x y more)
 
 insertAll :: [Point] -> Tree -> Tree
 insertAll [] tree = tree
-insertAll (point : points) tree = insertAll points (insert AlongX point tree)
+insertAll ((x, y) : points) tree = insertAll points (insert AlongX x y tree)
 
 inside :: Point -> Point -> Point -> Bool
 inside (left, low) (right, high) (x, y) = left <= x && x <= right && low <= y && y <= high
@@ -40,10 +43,10 @@ inside (left, low) (right, high) (x, y) = left <= x && x <= right && low <= y &&
 -- | How many points lie in a rectangle. A side of a node that cannot have any is not walked.
 countIn :: Axis -> Point -> Point -> Tree -> Int
 countIn _ _ _ Empty = 0
-countIn axis least greatest (At here less more) = own + a + b
+countIn axis least greatest (At x y less more) = own + a + b
   where
-    own = if inside least greatest here then 1 else 0
-    middle = coordinate axis here
+    own = if inside least greatest (x, y) then 1 else 0
+    middle = along axis x y
     (a, b) =
       par
         (if coordinate axis least < middle then countIn (other axis) least greatest less else 0)
@@ -61,12 +64,12 @@ nearer point here (Just best)
 -- | The nearest point of those in the tree and the best one so far.
 nearest :: Axis -> Point -> Tree -> Maybe Point -> Maybe Point
 nearest _ _ Empty best = best
-nearest axis point (At here less more) best
+nearest axis point (At x y less more) best
   | gap < 0 = across axis point gap more (nearest (other axis) point less closer)
   | otherwise = across axis point gap less (nearest (other axis) point more closer)
   where
-    gap = coordinate axis point - coordinate axis here
-    closer = nearer point here best
+    gap = coordinate axis point - along axis x y
+    closer = nearer point (x, y) best
 
 -- | Looks on the far side of a node too, where a nearer point may lie.
 across :: Axis -> Point -> Int -> Tree -> Maybe Point -> Maybe Point

@@ -138,8 +138,8 @@ namedApart make found = foldl add (Map.fromList [(name, name) | name <- kept]) [
 -- | What a variable is called, or what its parts are.
 data Called = One Name | Several [Name]
 
--- | The variables in scope, and their names.
-data Scope = Scope {called :: Map Var Called, taken :: Set Name, typeVars :: TypeVariables}
+-- | The variables in scope, and their names; and those that are known to be constructors without fields.
+data Scope = Scope {called :: Map Var Called, constants :: Map Var Name, taken :: Set Name, typeVars :: TypeVariables}
 
 -- | Scope with one more variable.
 bind :: Scope -> Var -> (Scope, Name)
@@ -173,7 +173,7 @@ functionOf tables definition parts name =
     }
   where
     vars = namedApart plain (defVars definition)
-    (scope, names) = bindAll (Scope Map.empty Set.empty vars) (defParameters definition)
+    (scope, names) = bindAll (Scope Map.empty Map.empty Set.empty vars) (defParameters definition)
 
 -- | The entry as main, or main that calls it.
 mainOf :: Tables -> Bool -> Definition -> Either Fault G.Function
@@ -191,6 +191,8 @@ mainOf tables isCalled definition = do
 -- | An expression that gives one value.
 value :: Tables -> Scope -> Core -> G.Expr
 value tables scope core = case core of
+  -- It is written again, since what is handed on from one value to the next is found by one step more each time.
+  Ref var | Just name <- Map.lookup var (constants scope), TCon _ given <- kind var -> go (Make nowhere name given [])
   Ref var -> G.Expr nowhere (G.Variable (nameOf scope var))
   Number number' -> numeral number'
   Truth truth -> G.Expr nowhere (G.Truth truth)
@@ -293,5 +295,5 @@ cased go tables scope place var arms = case (Map.lookup var (called scope), arms
   _ -> G.Expr place (G.Case (nameOf scope var) (map arm arms))
   where
     arm (Arm name vars rest) =
-      let (inner, names) = bindAll scope vars
+      let (inner, names) = bindAll (if null vars then scope {constants = Map.insert var name (constants scope)} else scope) vars
        in (madeNames tables Map.! name, names, go tables inner rest)

@@ -36,12 +36,19 @@ translate_alone() {
   fi
 }
 
-# Calls the script again, with the translation in the place of the source.
+# Calls the script again, with translations in the place of sources: the first file of a command, and the third of `convert`.
 call_translated() {
-  local source=${names[1]} words=("$@") told status input=${names[2]:-} made
-  made=$translation_room/$(basename "$source" .hs).gib
-  "$translator" translate "$source" "$made" "$translation_room/places" || return
-  words[places[1]]=$made
+  local words=("$@") place told status input=${names[2]:-}
+  sources=() made=()
+  [ -n "$force" ] || spare_inputs
+  for place in 1 3; do
+    if [[ ${names[place]:-} = *.hs ]] && { [ $place -eq 1 ] || [ "${names[0]}" = convert ]; }; then
+      mkdir "$translation_room/$place"
+      sources+=("${names[place]}") made+=("$translation_room/$place/$(basename "${names[place]}" .hs).gib")
+      "$translator" translate "${sources[-1]}" "${made[-1]}" "${made[-1]}.places" || return
+      words[places[place]]=${made[-1]}
+    fi
+  done
   # What comes on standard input may be needed once more.
   if [ "${names[0]}" = eval ] && [ "${input:--}" = - ]; then
     input=$translation_room/given
@@ -50,22 +57,27 @@ call_translated() {
   fi
   told=$(GIB_EXPLAIN=$(is_read && echo 1) "$root/gib" "${words[@]}" 2>&1 >&3)
   status=$?
-  [ -z "$told" ] || retold "$told" "$source" "$made" "$input" >&2
+  [ -z "$told" ] || retold "$told" "$input" >&2
   return $status
 } 3>&1
 
-# What was said of the Gib text, as of the Haskell file.
+# What was said of Gib texts, as of the Haskell files.
 retold() {
-  local told=$1 source=$2 made=$3 input=$4 first place
-  first=${told%%$'\n'*}
+  local told=$1 input=$2 first rest place number
+  first=${told%%$'\n'*} rest=${told#"${told%%$'\n'*}"}
   if [[ $first =~ ^(gib: source: .*)\ at\ ([0-9]+)$ ]]; then
-    echo "${BASH_REMATCH[1]} at $source:$(origin_of "${BASH_REMATCH[2]}")"
+    # What is explained there is about the Gib text.
+    echo "${BASH_REMATCH[1]} at ${sources[0]}:$(origin_of "${BASH_REMATCH[2]}")"
     return
   elif [[ $first = "gib: depth" || $first = "gib: division by zero" ]]; then
-    place=$(stopped_at "$source" "$made" "$input" "$first")
-    first+=${place:+ at $source:$place}
+    place=$(stopped_at "$input" "$first")
+    first+=${place:+ at ${sources[0]}:$place}
   fi
-  printf '%s%s\n' "$first" "${told:$((${#told} < ${#first} ? ${#told} : $(head -n 1 <<< "$told" | wc -c) - 1))}" | sed "s|$made|$source|g; s|$translation_room/given|-|g"
+  told=$first$rest
+  for number in "${!made[@]}"; do
+    told=${told//"${made[number]}"/"${sources[number]}"}
+  done
+  printf '%s\n' "${told//"$translation_room/given"/-}"
 }
 
 # The line and the column in the source that the least part round a place of the Gib text comes from.
@@ -73,12 +85,12 @@ origin_of() {
   awk -v place="$1" '
     $1 <= place && place < $1 + $2 && (!least || $2 <= least) { least = $2; found = $3 ":" $4 }
     $1 <= place && !least { before = $3 ":" $4 }
-    END { print (found ? found : before ? before : "1:1") }' "$translation_room/places"
+    END { print (found ? found : before ? before : "1:1") }' "${made[0]}.places"
 }
 
 # Where a run stops, as the line and the column in the source: it happens once more, in the translator.
 stopped_at() {
-  local source=$1 made=$2 input=$3 line=$4 depth=10000 word last="" found
+  local input=$1 line=$2 depth=10000 word last="" found
   for word in "${options[@]}"; do
     case $last$word in
       --depth=*) depth=${word#*=} ;;
@@ -87,9 +99,9 @@ stopped_at() {
     if [ "$word" = --depth ]; then last=$word; else last=""; fi
   done
   if [ "${names[0]}" = eval ]; then
-    found=$(timeout 60 "$translator" fault "$source" "$depth" < "$input" 2> /dev/null)
+    found=$(timeout 60 "$translator" fault "${sources[0]}" "$depth" < "$input" 2> /dev/null)
   else
-    found=$("$root/gib" show "$made" "$input" 2> /dev/null | timeout 60 "$translator" fault "$source" "$depth" 2> /dev/null)
+    found=$("$root/gib" show "${made[0]}" "$input" 2> /dev/null | timeout 60 "$translator" fault "${sources[0]}" "$depth" 2> /dev/null)
   fi
   case $line:$found in
     *depth:depth\ * | *zero:division\ *) echo "${found#* }" ;;
