@@ -270,7 +270,7 @@ bound :: Tables -> Scope -> Var -> Core -> Core -> (Scope, [Name], G.Expr)
 bound tables scope var found rest = case partsIn (kind var) of
   Just parts
     | onlyOpened var rest && givesParts tables found ->
-      let (inner, names) = bindParts scope var (openings var rest)
+      let (inner, names) = bindParts scope var (openings (tupleName (length parts)) var rest)
        in (inner, names, parted parts tables scope found)
   _ ->
     let (inner, name) = bind scope var

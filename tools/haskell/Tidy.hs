@@ -149,18 +149,24 @@ opened core = case every opened core of
   Let place var (Let inner other value rest) body -> Let inner other value (opened (Let place var rest body))
   Let place var (Par inner one left other right rest) body -> Par inner one left other right (opened (Let place var rest body))
   Let place var (Make _ name _ parts) body
-    | not (null parts), onlyOpened var body -> partsNamed place (openings var body) parts (\vars -> madeBy var name vars body)
+    | not (null parts), onlyOpened var body -> partsNamed place (openings name var body) parts (\vars -> madeBy var name vars body)
   done -> done
 
--- | The names that cases give to the parts of a variable, the first ones.
-openings :: Var -> Core -> [Var]
-openings var core = case core of
-  Case _ other (arm : _) | other == var -> binders arm
-  _ -> concat (take 1 (filter (not . null) (getConst (overParts (\part -> Const [openings var part]) core))))
+-- | The names that cases give to the parts of a variable that is made by a constructor, the first ones.
+openings :: Name -> Var -> Core -> [Var]
+openings name var core = case core of
+  Case _ other arms | other == var, arm : _ <- filter ((== name) . constructor) arms -> binders arm
+  _ -> concat (take 1 (filter (not . null) (getConst (overParts (\part -> Const [openings name var part]) core))))
+
+-- | Whether a case looks at a variable.
+isOpened :: Var -> Core -> Bool
+isOpened var core = case core of
+  Case _ other _ | other == var -> True
+  _ -> or (getConst (overParts (\part -> Const [isOpened var part]) core))
 
 -- | Whether a variable is used by cases alone, and by some.
 onlyOpened :: Var -> Core -> Bool
-onlyOpened var core = not (null (openings var core)) && not (asValue core)
+onlyOpened var core = isOpened var core && not (asValue core)
   where
     asValue part = case part of
       Ref other -> other == var
