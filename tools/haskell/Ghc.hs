@@ -21,8 +21,9 @@ askGhc prelude text source = findExecutable "ghc" >>= maybe (pure Nothing) ask
         hSetEncoding handle utf8
         hPutStr handle (asModule source text)
         hClose handle
-        (status, _, told) <- readProcessWithExitCode ghc (["-fno-code", "-v0", "-w", "-i" ++ prelude, "-XBangPatterns", "-XScopedTypeVariables"] ++ flags source ++ [file]) ""
+        (status, _, told) <- readProcessWithExitCode ghc (words' ++ flags source ++ [file]) ""
         pure (if status == ExitSuccess then Nothing else Just (faultIn told))
+    words' = ["-fno-code", "-v0", "-w", "-i" ++ prelude, "-XBangPatterns", "-XScopedTypeVariables"]
 
 -- | A source as a module that has no program of GHC's in it, which would have to be one of IO. Its lines are those of the source.
 asModule :: Source -> String -> String

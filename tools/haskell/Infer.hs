@@ -39,8 +39,9 @@ inferFunction here function = do
     mapM_ (checkType (funAt function) (sigVars known')) (sigResult known' : parameters known')
     mapM (checkRow Map.empty (parameters known') (sigResult known')) (rows function)
   forM_ (reverse (compared end)) $ \(place, kind) ->
-    unless (settled (solved end) kind `elem` [int, bool]) $
-      refuse place ("values of type " ++ showType (settled (solved end) kind) ++ " cannot be compared: == and /= stand between two Int or two Bool; write a function")
+    let found' = settled (solved end) kind
+     in unless (found' `elem` [int, bool]) . refuse place $
+          "values of type " ++ showType found' ++ " cannot be compared: == and /= stand between two Int or two Bool; write a function"
   forM_ (reverse (computed end)) $ \(place, kind) ->
     when (isOpen (solved end) kind) $
       refuse place "nothing says that these numbers are Int, and Haskell takes Integers then, which do not wrap around: write (.. :: Int) round one of them"
@@ -116,7 +117,10 @@ solve unsolved kind = do
   isNumber <- gets (IntSet.member unsolved . numeric)
   if unsolved `elem` metas whole || isNumber && not (canBeNumber whole)
     then pure False
-    else True <$ modify (\solver -> solver {solved = IntMap.insert unsolved kind (solved solver), numeric = if isNumber then foldr IntSet.insert (numeric solver) (metas whole) else numeric solver})
+    else do
+      modify (\solver -> solver {solved = IntMap.insert unsolved kind (solved solver)})
+      when isNumber (modify (\solver -> solver {numeric = foldr IntSet.insert (numeric solver) (metas whole)}))
+      pure True
   where
     metas (TMeta inner) = [inner]
     metas (TCon _ given) = concatMap metas given

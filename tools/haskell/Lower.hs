@@ -1,7 +1,7 @@
 -- | From cores to a program of Gib: names that it may have, tuples as results of several parts, and as data where they are kept.
 module Lower (lower) where
 
-import Control.Monad (forM_, when)
+import Control.Monad (forM_, unless, when)
 import Core
 import Data.Char (isAsciiLower, isAsciiUpper, isDigit)
 import Data.List (mapAccumL, stripPrefix)
@@ -68,7 +68,8 @@ usedDatas here written definitions = [one | name <- ordered, name `notElem` ["In
       | Set.size more == Set.size names = names
       | otherwise = close more
       where
-        more = Set.union names (Set.fromList [name | Just one <- map (dataOf here) (Set.toList names), made <- constructors one, name <- concatMap typesIn (fields made)])
+        more = Set.union names (Set.fromList (concatMap typesIn (concatMap fieldsIn (Set.toList names))))
+        fieldsIn name = concat [concatMap fields (constructors one) | Just one <- [dataOf here name]]
     inDefinition definition = concatMap typesIn (defResult definition : map kind (defParameters definition)) ++ inCore (defBody definition)
     inCore core = own core ++ concatMap inCore (fst (overParts (\part -> ([part], part)) core))
     own core = case core of
@@ -178,8 +179,10 @@ functionOf tables definition parts name =
 -- | The entry as main, or main that calls it.
 mainOf :: Tables -> Bool -> Definition -> Either Fault G.Function
 mainOf tables isCalled definition = do
-  when (length (defParameters definition) /= 1) (refuse (defAt definition) (defName definition ++ " has to have one parameter, the program's input: let it be a tuple, or a type with all that comes in"))
-  when (not (null (defVars definition))) (refuse (defAt definition) (defName definition ++ " has type variables: say which types it takes and gives"))
+  when (length (defParameters definition) /= 1) . refuse (defAt definition) $
+    defName definition ++ " has to have one parameter, the program's input: let it be a tuple, or a type with all that comes in"
+  unless (null (defVars definition)) . refuse (defAt definition) $
+    defName definition ++ " has type variables: say which types it takes and gives"
   pure (functionOf tables definition {defBody = body'} Nothing "main")
   where
     body'
@@ -208,10 +211,11 @@ value tables scope core = case core of
     kept place parts = G.Expr place (G.Let names (parted parts tables scope core) (G.Expr place made))
       where
         (inner, names) = bindAll scope (zipWith (\count part -> Var [count] (-1 - fromEnum count) part) ['a' ..] parts)
-        made = G.Make (madeNames tables Map.! tupleName (length parts)) (map (kindOf tables (typeVars inner)) parts) [G.Expr place (G.Variable name) | name <- names]
+        made = G.Make (madeNames tables Map.! tupleName (length parts)) (map (kindOf tables (typeVars inner)) parts) (map (G.Expr place . G.Variable) names)
 
 callOf :: Tables -> Scope -> Name -> [Type] -> [Core] -> G.Form
-callOf tables scope name given arguments = G.Call (functionNames tables Map.! name) (map (kindOf tables (typeVars scope)) given) (map (value tables scope) arguments)
+callOf tables scope name given arguments =
+  G.Call (functionNames tables Map.! name) (map (kindOf tables (typeVars scope)) given) (map (value tables scope) arguments)
 
 -- | A number; Gib writes no negative ones.
 numeral :: Integer -> G.Expr
@@ -242,8 +246,9 @@ parted parts tables scope core = case core of
     takenApart place named = named name (G.Expr place (apart name inner))
       where
         (inner, name) = bind scope (Var "parts" (-1) (TCon (tupleName (length parts)) parts))
-    apart name inner = G.Case name [(madeNames tables Map.! tupleName (length parts), names, G.Expr nowhere (G.Parts [G.Expr nowhere (G.Variable part) | part <- names]))]
+    apart name inner = G.Case name [(madeNames tables Map.! tupleName (length parts), names, made)]
       where
+        made = G.Expr nowhere (G.Parts (map (G.Expr nowhere . G.Variable) names))
         (_, names) = bindAll inner (zipWith (\count part -> Var [count] (-2 - fromEnum count) part) ['a' ..] parts)
 
 -- | What stands round values and parts alike.

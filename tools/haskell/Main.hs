@@ -9,6 +9,7 @@ module Main (main) where
 
 import Control.Exception (IOException, try)
 import Control.Monad (unless, when)
+import Data.List (mapAccumL)
 import qualified Data.Set as Set
 import Fault
 import Front
@@ -35,7 +36,8 @@ main = do
     [word, folder, file, out, places] | word `elem` ["translate", "write"] -> do
       (written, source, made') <- translated folder file
       let (text, origins) = printed (remarks source) (headAt source) made'
-      unless (length (take (longest + 1) text) <= longest) (stop file (Fault (lastPlaceWithin origins) ("the program has more than " ++ show longest ++ " bytes up to here: make two of it")))
+      unless (length (take (longest + 1) text) <= longest) . stop file . Fault (lastPlaceWithin origins) $
+        "the program has more than " ++ show longest ++ " bytes up to here: make two of it"
       when (word == "translate") (askGhc (folder </> "prelude") written source >>= mapM_ (stop file))
       writeOut out text
       writeOut places (unlines [unwords (map show [start part, extent part, line (origin part), column (origin part)]) | part <- origins])
@@ -62,7 +64,8 @@ stop file (Fault place message) = do
 readText :: FilePath -> IO String
 readText file = do
   loose <- mkTextEncoding "UTF-8//ROUNDTRIP"
-  found <- try (openFile file ReadMode >>= \handle -> hSetEncoding handle loose >> hGetContents handle >>= \text -> length text `seq` pure text) :: IO (Either IOException String)
+  let contents handle = hSetEncoding handle loose >> hGetContents handle >>= \text -> length text `seq` pure text
+  found <- try (withFile file ReadMode contents) :: IO (Either IOException String)
   either (const (hPutStrLn stderr ("gib: cannot read " ++ file) >> exitWith (ExitFailure 6))) pure found
 
 writeOut :: FilePath -> String -> IO ()
@@ -89,7 +92,7 @@ translate library written = do
   checkDatas here (datas written)
   typed <- infer here whole
   found <- definitions here typed
-  let (known', tidied) = foldl (\(before, done) definition -> let (after, several) = tidy before definition in (after, done ++ [several])) (here, []) found
+  let (known', tidied) = mapAccumL tidy here found
   lower known' (map dataName (datas written)) entry (concat tidied)
 
 -- | The function that takes the program's input.
@@ -100,10 +103,12 @@ entryOf written = case filter (`elem` map funName (functions written)) ["gibbon_
 
 -- | A program with what it uses of the library and does not declare.
 withLibrary :: Program () -> Program () -> Program ()
-withLibrary library written = Program (datas written ++ filter isMissingType (datas library)) (functions written ++ filter ((`Set.member` reached) . funName) missing)
+withLibrary library written =
+  Program (datas written ++ filter isMissingType (datas library)) (functions written ++ filter ((`Set.member` reached) . funName) missing)
   where
     declaredHere = Set.fromList (map funName (functions written))
-    isMissingType one = dataName one `notElem` map dataName (datas written) && all ((`notElem` [conName made' | other <- datas written, made' <- constructors other]) . conName) (constructors one)
+    isMissingType one = dataName one `notElem` map dataName (datas written) && all ((`notElem` ownConstructors) . conName) (constructors one)
+    ownConstructors = [conName made' | other <- datas written, made' <- constructors other]
     missing = filter ((`Set.notMember` declaredHere) . funName) (functions library)
     usesOf function = Set.unions (map freeRow (rows function))
     reached = close (Set.unions (map usesOf (functions written)))

@@ -112,7 +112,14 @@ defaultName kind' = case kind' of
 data MatchOf = MatchOf Name Place [Var]
 
 -- | What is still to be tried: the tests of variables that are left, what its names stand for, and how it ends, with what comes where its guards fail.
-data Candidate = Candidate {rowPlace :: Place, own :: Set Name, left :: [(Var, Pat Type)], env :: Env, canFail :: Bool, finish :: Env -> Match Core -> Match Core}
+data Candidate = Candidate
+  { rowPlace :: Place,
+    own :: Set Name,
+    left :: [(Var, Pat Type)],
+    env :: Env,
+    canFail :: Bool,
+    finish :: Env -> Match Core -> Match Core
+  }
 
 -- | The first of some rows whose patterns fit.
 matchRows :: MatchOf -> Env -> [Var] -> [Row Type] -> Match Core
@@ -131,7 +138,8 @@ candidateOf :: Env -> [Var] -> Row Type -> Match ([Labelled], Candidate)
 candidateOf outer vars row = do
   labelled <- mapM (labelledOf outer (concatMap boundTypes (patterns row) ++ concatMap (boundTypes . target) bindings)) several
   let try inner failed = bound inner bindings (\scope -> foldr (guardedBy scope) failed (zip several labelled))
-  pure (map (\(made, _) -> made) labelled, normal (Candidate (rowAt row) (Set.fromList (concatMap names (patterns row))) (zip vars (patterns row)) outer (all mayFail several) try))
+  let ofRow = Set.fromList (concatMap names (patterns row))
+  pure (map fst labelled, normal (Candidate (rowAt row) ofRow (zip vars (patterns row)) outer (all mayFail several) try))
   where
     Rhs several bindings = rhs row
     guardedBy scope (guarded, ((label, _, _), taken)) failed = holding scope (tests guarded) (jump label taken) failed
@@ -238,7 +246,7 @@ matched what shapes (first : others)
     (var, pat) = maximumBy (comparing (\(tested, _) -> length (filter (any ((== tested) . fst) . left) others))) (reverse (left first))
     place = patAt pat
     arm (name, kinds) = do
-      vars <- fieldVars name kinds [inner | candidate <- candidates, (tested, found) <- left candidate, tested == var, Made same inner <- [patForm found], same == name]
+      vars <- fieldVars name kinds [inner | one <- candidates, (tested, found) <- left one, tested == var, Made same inner <- [patForm found], same == name]
       Arm name vars <$> match what (Map.insert var (name, vars) shapes) (mapMaybe (withConstructor var name vars) candidates)
 
 -- | So many variables and labels make a program that is too large whatever it does.
@@ -402,7 +410,11 @@ cases place scope subject alternatives = case form subject of
       Just several <- mapM (columns size') alternatives ->
       namingAll scope parts (map (\column' -> listToMaybe (mapMaybe (nameOf . (!! column') . patterns) several)) [0 .. size' - 1]) $ \vars ->
         matchRows (MatchOf "" place vars) scope vars several
-    | S.Named name _ <- form function, name `elem` ["par", ".||."], [one, other] <- parts, [row] <- alternatives, [pat] <- patterns row, Made _ [p, q] <- patForm pat ->
+    | S.Named name _ <- form function,
+      name `elem` ["par", ".||."],
+      [one, other] <- parts,
+      [row] <- alternatives,
+      [Pat _ _ (Made _ [p, q])] <- patterns row ->
       bothBound place scope (p, one) (q, other) (\inner -> matchRows (MatchOf "" place []) inner [] [row {patterns = []}])
   _ -> do
     found <- expression scope subject
@@ -461,7 +473,9 @@ forced pat var body = case patForm pat of
 
 -- | What stands behind a pattern that always fits.
 opened :: Env -> Pat Type -> Var -> (Env -> Match Core) -> Match Core
-opened scope pat var inner = match (MatchOf "" (patAt pat) [var]) Map.empty [normal (Candidate (patAt pat) (Set.fromList (names pat)) [(var, pat)] scope False (\more _ -> inner more))]
+opened scope pat var inner = match (MatchOf "" (patAt pat) [var]) Map.empty [normal candidate]
+  where
+    candidate = Candidate (patAt pat) (Set.fromList (names pat)) [(var, pat)] scope False (\more _ -> inner more)
 
 -- | Values that are bound by a constructor which is written, one by one.
 apart :: Binding Type -> Maybe [Binding Type]

@@ -103,7 +103,8 @@ functionOf function = do
       result' = case results function of
         [one] -> kind one
         several -> parens (hsep (punctuate comma (map kind several)))
-  pure (heading $+$ from (functionAt function) (sep [hang (name <+> types) 4 (fsep (given ++ [text ":" <+> result' <+> text "="])), nest 2 (inner <+> text ";")]))
+      declared = hang (name <+> types) 4 (fsep (given ++ [text ":" <+> result' <+> text "="]))
+  pure (heading $+$ from (functionAt function) (sep [declared, nest 2 (inner <+> text ";")]))
 
 -- -- expressions ----------------------------------------------------------------------------------------------------------------
 

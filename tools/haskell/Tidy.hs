@@ -210,7 +210,8 @@ groupOf core = case core of
   where
     inside group body = case body of
       Case at' var [Arm name vars rest]
-        | var `Set.member` groupVars group -> inside group {groupVars = Set.union (Set.fromList vars) (groupVars group), before = before group . Case at' var . (: []) . Arm name vars} rest
+        | var `Set.member` groupVars group ->
+          inside group {groupVars = Set.union (Set.fromList vars) (groupVars group), before = before group . Case at' var . (: []) . Arm name vars} rest
       _ -> (group, body)
 
 hasNoCall :: Core -> Bool
