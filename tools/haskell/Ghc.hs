@@ -18,11 +18,12 @@ askGhc prelude text source = findExecutable "ghc" >>= maybe (pure Nothing) ask
     ask ghc = do
       folder <- getTemporaryDirectory
       bracket (openTempFile folder "source.hs") (removeFile . fst) $ \(file, handle) -> do
-        hSetEncoding handle utf8
+        -- As the file was read.
+        mkTextEncoding "UTF-8//ROUNDTRIP" >>= hSetEncoding handle
         hPutStr handle (asModule source text)
         hClose handle
         (status, _, told) <- readProcessWithExitCode ghc (words' ++ flags source ++ [file]) ""
-        pure (if status == ExitSuccess then Nothing else Just (faultIn told))
+        pure (if status == ExitSuccess then Nothing else Just (faultIn file told))
     words' = ["-fno-code", "-v0", "-w", "-i" ++ prelude, "-XBangPatterns", "-XScopedTypeVariables"]
 
 -- | A source as a module that has no program of GHC's in it, which would have to be one of IO. Its lines are those of the source.
@@ -36,19 +37,19 @@ asModule source text = heading ++ "{-# LINE 1 \"source.hs\" #-}\n" ++ renamed
           put line' = let (before, after) = splitAt (column place - 1) line' in before ++ "Program" ++ drop (length "Main") after
       _ -> text
 
--- | The first fault in what GHC prints.
-faultIn :: String -> Fault
-faultIn told = case dropWhile (not . (mark `isPrefixOf`)) (lines told) of
+-- | The first fault in what GHC prints of a file.
+faultIn :: FilePath -> String -> Fault
+faultIn file told = case dropWhile (not . (mark `isPrefixOf`)) (lines told) of
   first : others
     | (row, ':' : rest) <- span isDigit (drop (length mark) first),
       (column', ':' : message) <- span isDigit rest ->
-      Fault (Place (read row) (read column')) (shortened (unwords (words (unwords (message : takeWhile isMore others)))))
-  _ -> Fault (Place 1 1) ("GHC refuses it: " ++ shortened (unwords (words told)))
+      Fault (Place (read row) (read column')) (shortened (message : takeWhile isMore others))
+  _ -> Fault (Place 1 1) (shortened ["error:", told])
   where
     mark = "source.hs:"
     isMore line' = not (all isSpace line') && not ("|" `isPrefixOf` dropWhile (\letter -> isSpace letter || isDigit letter) line')
 
-shortened :: String -> String
-shortened text = "GHC refuses it:" ++ drop (length "error:") (short (dropWhile isSpace text))
-  where
+    -- On one line, and not too long.
+    shortened parts = "GHC refuses it:" ++ drop (length "error:") (short (unwords (map own (words (unwords parts)))))
     short whole = if length whole > 300 then take 300 whole ++ " .." else whole
+    own word = if file `isPrefixOf` word then "source.hs" ++ drop (length file) word else word

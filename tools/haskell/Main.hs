@@ -30,7 +30,7 @@ import World
 
 main :: IO ()
 main = do
-  hSetEncoding stderr char8
+  mkTextEncoding "UTF-8//ROUNDTRIP" >>= hSetEncoding stderr
   given <- getArgs
   case given of
     [word, folder, file, out, places] | word `elem` ["translate", "write"] -> do
