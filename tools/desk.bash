@@ -245,11 +245,20 @@ each_once() {
   awk '$1 == "offsets" && !done { done = 1; line = $1; for (i = 2; i <= NF; i++) if (!($i in had)) { had[$i]; line = line " " $i }; $0 = line } { print }'
 }
 
+# Puts the text of a source to descriptor 3, and says what the program says.
+put_located() {
+  local status
+  { "$located_program" "$1" 2>&4; } 4>&1 > >(each_once 2> /dev/null >&3)
+  status=$?
+  wait $! || { echo "gib: cannot write" && return 7; }
+  return $status
+}
+
 # `located SRC`: prints the LoCal text of the core of a source. A program of its own makes it.
 locate() {
   local told status
   [[ ${#names[@]} = 2 && ${#options[@]} = 0 ]] || misused located
-  told=$("$located_program" "${names[1]}" 2>&1 > >(each_once 2> /dev/null >&3); status=$?; wait $! || { echo "gib: cannot write" && exit 7; }; exit $status)
+  told=$(put_located "${names[1]}")
   status=$?
   [ -z "$told" ] || printf '%s\n' "$told" >&2
   [ $status -eq 0 ] || ! is_read || explain $status "$told" check "${names[1]}" >&2

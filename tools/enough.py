@@ -3,12 +3,13 @@
 `--depth D --chunks N`.
 enough.py --behind COMMAND SRC INP WORDS .. -- PROGRAM ..: says behind `gib: chunks` what takes the chunks, and what suffices; WORDS are the run's options.
 
-Both are found by the program itself: it runs until it is not too deep, and what it then drew is the length of its image. Then less depth is tried, as long as one
-more run takes. So N is what one worker draws, which is the same each time, and D the least that suffices, or where the run is long one that is less than twice it.
+Both are found by the program itself: it runs until it is not too deep, and what it then drew is the length of its image. Then less depth is tried, as long
+as one more run takes. So N is what one worker draws, which is the same each time, and D the least that suffices, or where the run is long one that is less
+than twice it.
 
 With more workers and a program that forks N is one that suffices whatever the threads do, by the bound that is proved: status 4 comes only where
-32 * N <= 32 * (o + 3) + w, with o regions that are begun, and w items that are written or stand in the input. They are counted in Python (counting.py), as long as
-that takes no longer than two runs, or some seconds; else N is the most that there may be.
+32 * N <= 32 * (o + 3) + w, with o regions that are begun, and w items that are written or stand in the input. They are counted in Python (counting.py), as
+long as that takes no longer than two runs, or some seconds; else N is the most that there may be.
 """
 
 import os
@@ -88,8 +89,8 @@ def is_located(path):
 
 
 def first_run(runs, image):
-    """A depth that is too little, one that suffices, a number of chunks that does, and the seconds that the run with these takes. Too little is mostly seen soon;
-    where it is not, the most is taken at once."""
+    """A depth that is too little, one that suffices, a number of chunks that does, and the seconds that the run with these takes. Too little is mostly
+    seen soon; where it is not, the most is taken at once."""
     low, depth, chunks, begun = 0, 16, 1024, spent()
     while True:
         before = spent()
@@ -156,8 +157,8 @@ AVOIDED = 'parameters that accumulate hold none, and plain has no such limit: do
 
 
 def calls_open(runs, depth, chunks, held):
-    """How many calls are open where a run is out of chunks, of which each holds so many: the least depth at which it is not too deep before that; none where other
-    calls nest deeper, so that this tells nothing."""
+    """How many calls are open where a run is out of chunks, of which each holds so many: the least depth at which it is not too deep before that; none where
+    other calls nest deeper, so that this tells nothing."""
 
     def suffices(some):
         return runs.ended(some, chunks) == CHUNKS
@@ -171,7 +172,7 @@ def calls_open(runs, depth, chunks, held):
 
 
 def blamed(runs, depth, chunks):
-    """Which functions hold the chunks while they are open, and how many calls are open at the end. Where these hold less than half of them, others took them."""
+    """Which functions hold the chunks while they are open, and how many calls are open at the end. Where these hold less than half, others took them."""
     try:
         held = chunks_held(runs.core())
     except Unknown:

@@ -131,7 +131,10 @@ HINTS = [
     (lambda at: at.text == "|" and "|" in (at.before.text, at.after.text), "there is no ||: a || b is (if a then True else b)"),
     (lambda at: at.text == "|" and (";" in at.due or at.due == {"Con"}), "arms are set apart by ';', and none stands in front of the first one"),
     (lambda at: at.text == "," and at.due == {")"}, "each operation has parentheses of its own: ((a + b), (c - d))"),
-    (lambda at: at.text == "," and ")" in at.due and at.due & ({"var"} | set(OPERATIONS)), "fields and arguments stand side by side, without commas: Node l r, f x y"),
+    (
+        lambda at: at.text == "," and ")" in at.due and at.due & {"var", *OPERATIONS},
+        "fields and arguments stand side by side, without commas: Node l r, f x y",
+    ),
     (lambda at: at.text == "," and "var" in at.due, "parts stand in parentheses: (a, b)"),
     (lambda at: at.text == "->" and at.before.kind in TYPES and ")" in at.due, "no function is a value: a type is Int, Bool, Tree or (List Int)"),
     (lambda at: at.before.text == "(" and at.due == {"Con"} and at.after.text == "->", "no function is a value: a type is Int, Bool, Tree or (List Int)"),

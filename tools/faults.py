@@ -1,5 +1,5 @@
-"""All that the names, counts and types of a source break, each with a note for the hand. Nothing here decides: the first fault that is shown is the one that the
-program has found, and only what is noted of others is found here.
+"""All that the names, counts and types of a source break, each with a note for the hand. Nothing here decides: the first fault that is shown is the one
+that the program has found, and only what is noted of others is found here.
 """
 
 import difflib

@@ -11,6 +11,11 @@ CHUNKS, ARROWS, TREE, LANES, EVENTS = 64, 300, 2000, 64, 20_000
 WIDTH, BAR, GAP, LABEL = 1040, 26, 34, 70
 COLOURS = {"in": "#7fb0dd", "both": "#8fc48a", "out": "#f0b35a", "work": "#b9b3ad", "free": "#f4f2ee"}
 
+TIP = (
+    '<defs><marker id="tip" viewBox="0 0 8 8" refX="7" refY="4" markerWidth="7" markerHeight="7" orient="auto">'
+    '<path d="M0 0L8 4L0 8z" fill="#555"/></marker></defs>'
+)
+
 STYLE = """body { font: 15px/1.45 sans-serif; margin: 2em auto; max-width: 1160px; color: #222; background: #fff }
 svg { display: block; width: 100%; height: auto } svg text { font: 12px sans-serif; fill: #222 }
 h1 { font-size: 1.4em } h2 { font-size: 1.1em; margin-top: 1.6em }
@@ -79,7 +84,7 @@ def bars(image, shown, items):
         return LABEL + (at % CHUNK) * scale, 30 + rows[at // CHUNK] * (BAR + GAP)
 
     yield f'<svg viewBox="0 0 {WIDTH} {40 + len(shown) * (BAR + GAP)}" role="img" aria-label="chunks">'
-    yield '<defs><marker id="tip" viewBox="0 0 8 8" refX="7" refY="4" markerWidth="7" markerHeight="7" orient="auto"><path d="M0 0L8 4L0 8z" fill="#555"/></marker></defs>'
+    yield TIP
     for chunk in shown:
         yield f'<text x="0" y="{place(CHUNK * chunk)[1] + 17:.0f}">chunk {chunk}</text>'
         yield from bar(image, items[chunk], place, scale)
@@ -268,7 +273,7 @@ def lanes(journal, draws):
     scale = max(WIDTH - LABEL - own * len(events) - 10, 10) / steps
     left = {event.line: LABEL + place * own + event.clock * scale for place, event in enumerate(events)}
     yield f'<svg viewBox="0 0 {WIDTH} {20 + shown * LANE}" role="img" aria-label="tasks">'
-    yield '<defs><marker id="tip" viewBox="0 0 8 8" refX="7" refY="4" markerWidth="7" markerHeight="7" orient="auto"><path d="M0 0L8 4L0 8z" fill="#555"/></marker></defs>'
+    yield TIP
     for task in range(shown):
         lane, y = journal.tasks[task], MIDDLE + task * LANE
         start, end = left.get(lane.first, WIDTH), left.get(lane.last, WIDTH)
@@ -303,7 +308,8 @@ def lane_event(event, x, own, scale, shown):
 
 
 def trace_events(journal, draws=()):
-    """A journal as Perfetto and Chrome's tracing take it: a thread for each task, a microsecond for each step and each other event, arrows for steals and joins."""
+    """A journal as Perfetto and Chrome's tracing take it: a thread for each task, a microsecond for each step and each other event, arrows for steals and
+    joins."""
     draws, events = dict(draws), []
     for lane in journal.tasks:
         events.append({"ph": "M", "name": "thread_name", "pid": 0, "tid": lane.number, "args": {"name": f"task {lane.number}"}})
