@@ -3,9 +3,9 @@
 `--depth D --chunks N`.
 enough.py --behind COMMAND SRC INP WORDS .. -- PROGRAM ..: says behind `gib: chunks` what takes the chunks, and what suffices; WORDS are the run's options.
 
-Both are found by the program itself: it runs until it is not too deep, and what it then drew is the length of its image. Then less depth is tried, as long
-as one more run takes. So N is what one worker draws, which is the same each time, and D the least that suffices, or where the run is long one that is less
-than twice it.
+Both are found by the program itself: it runs until it is not too deep, and what it then drew is the length of its image. Then less depth is tried, until all
+of it has taken as long as two runs. So N is what one worker draws, which is the same each time, and D the least that suffices, or where the run is long one
+that suffices too.
 
 With more workers and a program that forks N is one that suffices whatever the threads do, by the bound that is proved: status 4 comes only where
 32 * N <= 32 * (o + 3) + w, with o regions that are begun, and w items that are written or stand in the input. They are counted in Python (counting.py), as
@@ -69,10 +69,9 @@ class Runs:
         told = subprocess.run([*self.program, "core", *skips, "--", self.source], stdout=subprocess.PIPE, stderr=subprocess.PIPE, text=True)
         return functions_of(told.stdout)
 
-    def least(self, low, high, suffices, seconds):
-        """The least number from `low` on that suffices, where `high` does: as near as can be found in the time."""
-        until = spent() + seconds
-        while low < high and spent() < until:
+    def least(self, low, high, suffices, until, cost=0):
+        """The least number from `low` on that suffices, where `high` does: as near as can be found up to a time, where a try takes so long."""
+        while low < high and spent() + cost < until:
             middle = (low + high) // 2
             low, high = (low, middle) if suffices(middle) else (middle + 1, high)
         self.is_exact = low == high
@@ -105,19 +104,22 @@ def first_run(runs, image):
         if status == CHUNKS:
             chunks = min(4 * chunks, MOST_CHUNKS) if is_quick else MOST_CHUNKS
         else:
-            low, depth = depth, min(2 * depth, DEEPEST) if is_quick else DEEPEST
+            low, depth = depth, min((2 if is_quick else 16) * depth, DEEPEST)
 
 
 def alone(runs):
     """Depth and chunks that suffice for one worker, and the seconds that a run takes."""
+    begun = spent()
     with tempfile.TemporaryDirectory(prefix="gib-enough-") as room:
         image = os.path.join(room, "image")
         low, high, chunks, seconds = first_run(runs, ["--image", image] if runs.command == "run" else [])
         if runs.command == "run":
             chunks = max((os.path.getsize(image) - IMAGE_HEAD) // CHUNK, LEAST_CHUNKS)
         else:
-            chunks = runs.least(LEAST_CHUNKS, chunks, lambda some: runs.ended(high, some) == 0, max(seconds, QUICK))
-    return runs.least(low, high, lambda depth: runs.ended(depth, chunks) == 0, max(seconds, QUICK)), chunks, seconds
+            chunks = runs.least(LEAST_CHUNKS, chunks, lambda some: runs.ended(high, some) == 0, spent() + max(seconds, QUICK))
+    # All of it takes no longer than two runs, or a moment.
+    until, cost = begun + max(2 * seconds, 2 * QUICK), seconds if seconds > QUICK else 0
+    return runs.least(low, high, lambda depth: runs.ended(depth, chunks) == 0, until, cost), chunks, seconds
 
 
 def counted(runs, forks, seconds):
@@ -168,7 +170,7 @@ def calls_open(runs, depth, chunks, held):
         return None
     if low >= high or low > 1 and suffices(low - 1):
         low = 1
-    return runs.least(low, high, suffices, 4 * QUICK)
+    return runs.least(low, high, suffices, spent() + 4 * QUICK)
 
 
 def blamed(runs, depth, chunks):
