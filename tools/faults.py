@@ -116,12 +116,16 @@ class Program:
         self.say("unknown name", name.place, f"there is no {sort} {name.text}{more}")
 
     def wanted(self, due, found, part, where):
-        if due and found and due.text != found.text:
+        # Of another number of types behind a name is told where that stands.
+        is_same = due and found and due.name.text == found.name.text and len(due.given) != len(found.given)
+        if due and found and due.text != found.text and not is_same:
             here = f"a value of type {found.text}" if found.name.kind == "var" else f"{article(found.text)} {found.text}"
             self.say("wrong type", part.place, f"{here} stands here, and {due.text} is due: {where}")
 
     def all_wanted(self, due, found, part, where):
-        """Types that are due, and those of what stands there, of one value or of parts."""
+        """Types that are due, and those of what stands there, of one value or of parts; nothing where these are not known."""
+        if [None] in (due, found):
+            return
         if len(due) != len(found):
             self.say("wrong type", part.place, f"{standing(due)} due, and {standing(found)} here: {where}")
         for kind, other in zip(due, found):
@@ -209,7 +213,7 @@ class Program:
             verb = "takes" if thing == "argument" else "has"
             self.say("wrong count", name.place, f"{name.text} {verb} {count_note(kinds, thing, len(given))}")
         found = [self.infer(argument, scope) for argument in given]
-        for place, (kind, due, part) in enumerate(zip(found, kinds, given), 1):
+        for place, (kind, due, part) in enumerate(zip(found, kinds, given) if len(kinds) == len(given) else (), 1):
             self.wanted(due.filled(known), kind, part, f"{thing} {place} of {name.text}")
 
     def infer_let(self, part, scope, due, names, value, body):
@@ -222,6 +226,8 @@ class Program:
     def taken(self, scope, names, value):
         """The types of what the names of a binding take."""
         found = self.infer_all(value, scope, 1 if len(names) == 1 else ANY)
+        if len(names) > 1 and found == [None]:
+            return []
         if len(names) > 1 and len(found) == 1:
             self.say("wrong type", value.place, f"{len(names)} names take a part each, and this is one value")
         elif len(names) > 1 and len(found) != len(names):
@@ -247,7 +253,8 @@ class Program:
         elif kind and kind.name.kind == "var":
             self.say("wrong type", name.place, f"nothing is known of a value of type {owner}: a case is on one of a data type")
         data = self.types.get(owner, Data([], []))
-        self.arms(part.place, owner, data.made, [con for con, _, _ in arms])
+        if owner in self.types:
+            self.arms(part.place, owner, data.made, [con for con, _, _ in arms])
         known, found = dict(zip(data.variables, kind.given if kind else ())), None
         for con, names, body in arms:
             _, fields = self.constructors.get(con.text, (None, []))
@@ -255,7 +262,8 @@ class Program:
                 self.unknown("constructor", con, self.constructors)
             elif len(fields) != len(names):
                 self.say("wrong count", con.place, f"{con.text} has {count_note(fields, 'field', len(names))}")
-            types_here = self.infer_all(body, self.bind_all(scope, names, [field.filled(known) for field in fields]), due)
+            kinds = [field.filled(known) for field in fields] if len(fields) == len(names) else []
+            types_here = self.infer_all(body, self.bind_all(scope, names, kinds), due)
             if found:
                 self.all_wanted(found, types_here, body, "all arms of a case have one type")
             found = found or types_here
