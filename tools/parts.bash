@@ -4,8 +4,9 @@
 # Each tries the programs that GIB and GIB_LOCATED name, or reads pages and sources; its last line is 'N passed, M failed'.
 parts=(examples/check examples/starve examples/transcripts docs/believed docs/cited docs/house tools/edits/due)
 
-printed=$(mktemp) || exit 1
-trap 'rm -f "$printed"' EXIT
+kept=$(mktemp -d) || exit 1
+trap 'rm -rf "$kept"' EXIT
+printed=$kept/printed
 passed=0 failed=0
 
 # Runs a part and adds its last line to the counts. Answers its status.
@@ -21,10 +22,20 @@ part() {
   return "$status"
 }
 
+# Prints another name for a program whose own has blanks: GIB may be several words.
+plain_name() {
+  if [[ $1 = *[[:space:]]* && -e $1 ]]; then
+    ln -sf "$1" "$kept/${1##*/}" && echo "$kept/${1##*/}"
+  else
+    echo "$1"
+  fi
+}
+
 # Runs all of them, up to the first that fails. Answers its status. The programs are named, which GIB_PROVED=1 would refuse.
 all_parts() {
   local name
   unset GIB_PROVED
+  GIB=$(plain_name "$GIB") GIB_LOCATED=$(plain_name "$GIB_LOCATED")
   for name in "${parts[@]}"; do
     part "$name" || return
   done
