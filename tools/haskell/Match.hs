@@ -8,7 +8,7 @@ import Control.Monad.Reader (ReaderT, asks, runReaderT)
 import Control.Monad.State (StateT, evalStateT, get, gets, modify, put)
 import Core
 import Data.Char (toLower)
-import Data.List (intercalate, maximumBy)
+import Data.List (intercalate, maximumBy, partition)
 import Data.Map (Map)
 import qualified Data.Map as Map
 import Data.Maybe (catMaybes, fromMaybe, isNothing, listToMaybe, mapMaybe)
@@ -24,7 +24,9 @@ import World
 data Context = Context
   { here :: World,
     -- | The names that patterns of the program give to a constructor's fields.
-    fieldNames :: Map Name [Maybe Name]
+    fieldNames :: Map Name [Maybe Name],
+    -- | Whether values behind a @where@ are made by each result that needs them.
+    isLate :: Bool
   }
 
 -- | Counts the variables and labels that are made, and keeps what rows that are left at several places become, with its label.
@@ -38,8 +40,13 @@ type Leftover = (Place, [(Var, Place)], [(Name, Var)])
 -- | What the names in scope stand for.
 type Env = Map Name Var
 
-definitions :: World -> Program Type -> Either Fault [Definition]
-definitions known' whole = runReaderT (evalStateT (mapM definition (functions whole)) (Made' 0 Map.empty [])) (Context known' (namesOfFields whole))
+-- | All functions in two ways: as one reads them, with each value behind a @where@ once, and with those values in each result that needs them and that no
+-- test looks at.
+definitions :: World -> Program Type -> Either Fault [(Definition, Definition)]
+definitions known' whole = zip <$> by False <*> by True
+  where
+    by late = runReaderT (evalStateT (mapM definition (functions whole)) (Made' 0 Map.empty [])) (Context known' fieldNames' late)
+    fieldNames' = namesOfFields whole
 
 -- | Of each constructor's fields the names that the first patterns give them.
 namesOfFields :: Program a -> Map Name [Maybe Name]
@@ -136,25 +143,56 @@ type Labelled = (Int, [Var], Core)
 
 candidateOf :: Env -> [Var] -> Row Type -> Match ([Labelled], Candidate)
 candidateOf outer vars row = do
-  labelled <- mapM (labelledOf outer (concatMap boundTypes (patterns row) ++ concatMap (boundTypes . target) bindings)) several
-  let try inner failed = bound inner bindings (\scope -> foldr (guardedBy scope) failed (zip several labelled))
-  let ofRow = Set.fromList (concatMap names (patterns row))
-  pure (map fst labelled, normal (Candidate (rowAt row) ofRow (zip vars (patterns row)) outer (all mayFail several) try))
+  apart' <- asks isLate
+  let isEarly binding = isStrict binding || any (`Set.member` used) (names (target binding))
+      (early, late) = if apart' then partition isEarly bindings else (bindings, [])
+  labelled <- mapM (labelledOf outer (concatMap boundTypes (patterns row ++ map target early)) late) several
+  let try inner failed = bound inner early (\scope -> foldr (guardedBy scope) failed (zip several labelled))
+      ofRow = Set.fromList (concatMap names (patterns row))
+  pure (map (\(made, _, _) -> made) labelled, normal (Candidate (rowAt row) ofRow (zip vars (patterns row)) outer (all mayFail several) try))
   where
     Rhs several bindings = rhs row
-    guardedBy scope (guarded, ((label, _, _), taken)) failed = holding scope (tests guarded) (jump label taken) failed
-    jump label taken scope = pure (Jump label (map (scope Map.!) taken))
+    -- Values that the tests use, and those that are made before them, are handed on; the others are made where the results need them.
+    used = neededBy bindings (Set.unions (map freeTests several))
+    isStrict binding = case patForm (target binding) of
+      Strict _ -> True
+      _ -> False
+    guardedBy scope (guarded, ((label, _, _), ofThis, ofTests)) failed = holding scope (tests guarded) (jump scope label ofThis ofTests) failed
+    jump scope label ofThis ofTests end = pure (Jump label (map (scope Map.!) ofThis ++ map (end Map.!) ofTests))
 
--- | A result as what several places may go on with, by the names of its row that it uses.
-labelledOf :: Env -> [(Name, Type)] -> Guarded Type -> Match (Labelled, [Name])
-labelledOf outer ofRow guarded = do
-  label <- count
-  vars <- mapM (\name -> fresh name (inner Map.! name)) taken
-  body <- expression (Map.union (Map.fromList (zip taken vars)) outer) (result guarded)
-  pure ((label, vars, Remark (guardedAt guarded) body), taken)
+-- | The names that are used, and those that the bindings of them use.
+neededBy :: [Binding Type] -> Set Name -> Set Name
+neededBy bindings used
+  | more == used = used
+  | otherwise = neededBy bindings more
   where
-    inner = Map.fromList (ofRow ++ concat [boundTypes pat | Matches pat _ <- tests guarded])
-    taken = [name | name <- Set.toList (free (result guarded)), name `Map.member` inner]
+    more = Set.unions (used : [free (value binding) | binding <- bindings, any (`Set.member` used) (names (target binding))])
+
+-- | The names that a guard's tests use.
+freeTests :: Guarded Type -> Set Name
+freeTests guarded = Set.unions (map used (tests guarded))
+  where
+    used (Holds expr) = free expr
+    used (Matches _ expr) = free expr
+
+-- | A result as what several places may go on with, by the names of its row and of its tests that it uses; it makes values that it needs alone.
+labelledOf :: Env -> [(Name, Type)] -> [Binding Type] -> Guarded Type -> Match (Labelled, [Name], [Name])
+labelledOf outer ofRow late guarded = do
+  label <- count
+  rowVars <- mapM (\name -> fresh name (inRow Map.! name)) ofThis
+  testVars <- mapM (\name -> fresh name (inTests Map.! name)) ofTests
+  let scope = Map.union (Map.fromList (zip ofThis rowVars)) outer
+      again = Map.union (Map.fromList (zip ofTests testVars))
+  body <- bound scope needed (\inner -> expression (again inner) (result guarded))
+  pure ((label, rowVars ++ testVars, Remark (guardedAt guarded) body), ofThis, ofTests)
+  where
+    inRow = Map.fromList ofRow
+    inTests = Map.fromList (concat [boundTypes pat | Matches pat _ <- tests guarded])
+    (fromTests, others) = Set.partition (`Map.member` inTests) (free (result guarded))
+    used = neededBy late others
+    needed = filter (any (`Set.member` used) . names . target) late
+    ofThis = [name | name <- Set.toList used, name `Map.member` inRow]
+    ofTests = Set.toList fromTests
 
 mayFail :: Guarded a -> Bool
 mayFail guarded = not (all certain (tests guarded))

@@ -13,9 +13,15 @@ import Fault (Place)
 import Syntax (Name, Signature (..), Type (..), int)
 import World
 
--- | A function, and those that it became besides, with what they declare.
-tidy :: World -> Definition -> (World, [Definition])
-tidy here definition = (world' end, done : reverse (made end))
+-- | A function, and those that it became besides, with what they declare. It is there in two ways: where what several places go on with becomes a function,
+-- a value that is handed on to it would be made before the call, used or not, and the second way is taken, in which that function makes it.
+tidy :: World -> (Definition, Definition) -> (World, [Definition])
+tidy here (definition, other) = case tidied here definition of
+  (after, [alone]) -> (after, [alone])
+  _ -> tidied here other
+
+tidied :: World -> Definition -> (World, [Definition])
+tidied here definition = (world' end, done : reverse (made end))
   where
     (done, end) = runState (lifted definition {defBody = body}) (Lifting here [])
     body = unforced . paired . inlined . flip evalState firstLabel . sink . opened . inlined $ defBody definition
@@ -201,11 +207,14 @@ sink core = do
     Let _ var value _
       | (group, body) <- groupOf done ->
         if isSimple value && isUsed (Set.singleton var) body then pure done else settle group body
+    Par {} | (group, body) <- groupOf done -> settle group body
     _ -> pure done
 
 groupOf :: Core -> (Group, Core)
 groupOf core = case core of
   Let at' var value body -> inside (Group (Set.singleton var) (Let at' var value) (hasNoCall value)) body
+  Par at' one left other right body ->
+    inside (Group (Set.fromList [one, other]) (Par at' one left other right) (hasNoCall left && hasNoCall right)) body
   _ -> (Group Set.empty id True, core)
   where
     inside group body = case body of
