@@ -246,16 +246,12 @@ settle group core
     used = isUsed (groupVars group)
     partsOf = getConst . overParts (\part -> Const [part])
 
--- | A choice whose test needs the value on one of its ways alone: each part of the test becomes a choice of its own.
+-- | A choice whose test needs the value on one of its ways alone: the test's own choice comes first.
 splitTest :: Group -> Place -> Core -> Core -> Core -> State Int Core
 splitTest group at' test yes no = case test of
-  If inner first second (Truth False) | not (isUsed (groupVars group) first) -> twice no (\again -> If inner first (If at' second yes again) again)
-  If inner first (Truth True) second | not (isUsed (groupVars group) first) -> twice yes (\again -> If inner first again (If at' second again no))
+  If inner first one other | not (isUsed (groupVars group) first) -> do
+    label <- get
+    put (label + 2)
+    let asked answer = choice at' answer (Jump label []) (Jump (label + 1) [])
+    settle group (inlined (Label label [] yes (Label (label + 1) [] no (If inner first (asked one) (asked other)))))
   _ -> pure (before group (If at' test yes no))
-  where
-    twice shared whole = case shared of
-      Jump _ _ -> settle group (whole shared)
-      _ -> do
-        label <- get
-        put (label + 1)
-        settle group (Label label [] shared (whole (Jump label [])))
