@@ -67,7 +67,9 @@ retold() {
   first=${told%%$'\n'*} rest=${told#"${told%%$'\n'*}"}
   if [[ $first =~ ^(gib: source: .*)\ at\ ([0-9]+)$ ]]; then
     # What is explained there is about the Gib text.
-    echo "${BASH_REMATCH[1]} at ${sources[0]}:$(origin_of "${BASH_REMATCH[2]}")"
+    first="${BASH_REMATCH[1]} at ${sources[0]}:$(origin_of "${BASH_REMATCH[2]}")"
+    [[ $first != *"over a limit"* ]] || first+=": a function has at most 200 variables, with all names of its arms, and 2,000 expressions; make two of it"
+    echo "$first"
     return
   elif [[ $first = "gib: depth" || $first = "gib: division by zero" ]]; then
     place=$(stopped_at "$input" "$first")
