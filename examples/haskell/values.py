@@ -31,7 +31,7 @@ class Maker:
 
     def __init__(self, types, chance, number):
         self.types, self.chance, self.number = types, chance, number
-        self.least = {}
+        self.least, self.known, self.made = {}, {}, {}
 
     def size(self, kind, above=()):
         """The fewest constructors that a value of a type has, none where it has no end on this way."""
@@ -69,7 +69,9 @@ class Maker:
         return "".join(out)
 
     def constructor(self, kind, count, out, work):
-        name, fields = self.chosen(self.types.constructors(kind), count)
+        if kind.text not in self.made:
+            self.made[kind.text] = self.measured(kind)
+        name, fields = self.chosen(self.made[kind.text], count)
         if not fields:
             out.append(name)
             return
@@ -80,13 +82,17 @@ class Maker:
             work.append((fields[place], parts[place], f"{name}.{place}"))
             work.append(" ")
 
+    def measured(self, kind):
+        """The constructors of a type, each with its least size, and whether its values may have any size."""
+        several = self.types.constructors(kind)
+        return [(name, fields, self.size_of(fields, ()) or 1, any(self.grows(field) for field in fields)) for name, fields in several]
+
     def chosen(self, several, count):
-        """A constructor: one that can be large where much is to come, else one that ends soon."""
-        fitting = [(name, fields) for name, fields in several if (self.size_of(fields, ()) or 1) <= max(count, 1)]
-        if not fitting:
-            fitting = [min(several, key=lambda made: self.size_of(made[1], ()) or 1)]
-        large = [made for made in fitting if any(self.grows(field) for field in made[1])]
-        return self.chance.choice(large if large and count > 1 else [made for made in fitting if made not in large] or fitting)
+        """A constructor and its fields: one that can be large where much is to come, else one that ends soon."""
+        fitting = [made for made in several if made[2] <= max(count, 1)] or [min(several, key=lambda made: made[2])]
+        large = [made for made in fitting if made[3]]
+        small = [made for made in fitting if not made[3]]
+        return self.chance.choice(large if large and count > 1 else small or fitting)[:2]
 
     def grows(self, kind, seen=()):
         """Whether values of a type may have any size."""
@@ -94,7 +100,12 @@ class Maker:
             return False
         if kind.text in seen:
             return True
-        return any(self.grows(field, (*seen, kind.text)) for _, fields in self.types.constructors(kind) for field in fields)
+        if kind.text not in self.known or seen:
+            found = any(self.grows(field, (*seen, kind.text)) for _, fields in self.types.constructors(kind) for field in fields)
+            if seen:
+                return found
+            self.known[kind.text] = found
+        return self.known[kind.text]
 
     def shares(self, fields, count):
         """How much of what is to come goes to each field."""
