@@ -4,7 +4,6 @@ import json
 from html import escape
 
 from image import ADDRESS_ANSWER, CHUNK, INDIRECTION, KINDS, Torn
-from texts import listed
 
 # A page shows at most so many chunks, arrows, lines of a tree, lanes and events; it says where there are more.
 CHUNKS, ARROWS, TREE, LANES, EVENTS = 64, 300, 2000, 64, 20_000
@@ -230,7 +229,7 @@ def journal_body(journal, draws):
     if len(journal.tasks) > LANES or len(journal.events) > EVENTS:
         yield f'<p class="more">The first {min(len(journal.tasks), LANES)} lanes and {min(len(journal.events), EVENTS):,} events.</p>'
     if 2 in draws:
-        yield f"<p>The input stands in {', '.join(f'chunk {chunk}' for chunk in draws[2][:8])}{' ..' if len(draws[2]) > 8 else ''}.</p>"
+        yield f"<p>The input stands in {chunks_told(draws[2])}.</p>"
     yield '<p><button id="play">play</button> <input id="bar" type="range" min="0" style="width:60%"> keys: ← → Home End, blank plays</p><p id="said"></p>'
     yield from lanes(journal, draws)
     yield "<p><b>▾</b> a fork: a side waits. <b>●</b> a side is stolen, and becomes a task. <b>▴</b> the task goes on with a side that nobody stole."
@@ -253,15 +252,24 @@ def event_words(event, draws):
         "join": f"takes the answer of task {event.other}",
     }[event.what]
     chunks = draws.get(event.line, ())
-    drawn = f", and draws {'chunk' if len(chunks) == 1 else 'chunks'} {listed(map(str, chunks))}" if chunks else ""
+    drawn = f", and draws {chunks_told(chunks)}" if chunks else ""
     return f"line {event.line}: task {event.task} {told}{drawn}"
 
 
 def in_short(chunks):
-    """The numbers of chunks, those that follow one another as one."""
-    if len(chunks) > 1 and chunks[-1] - chunks[0] == len(chunks) - 1:
-        return f"c{chunks[0]}-{chunks[-1]}"
-    return " ".join(f"c{chunk}" for chunk in chunks)
+    """Numbers of chunks, those that follow one another as `first-last`."""
+    runs = []
+    for chunk in chunks:
+        if runs and runs[-1][1] == chunk - 1:
+            runs[-1][1] = chunk
+        else:
+            runs.append([chunk, chunk])
+    return " ".join(str(first) if first == last else f"{first}-{last}" for first, last in runs)
+
+
+def chunks_told(chunks):
+    """The chunks that are drawn, with the word in front of their numbers."""
+    return f"chunk{'s' * (len(chunks) > 1)} {in_short(chunks)}"
 
 
 def lanes(journal, draws):
@@ -280,11 +288,11 @@ def lanes(journal, draws):
         yield f'<text x="0" y="{y + 4}">task {task}</text><path d="M{start:.1f} {y}H{end:.1f}" stroke="#bbb"/>'
     for place, event in enumerate(events):
         if event.task < shown:
-            drawn = in_short(draws.get(event.line, ()))
+            drawn = in_short(draws.get(event.line, ()))[:40]
             yield f'<g data-n="{place}"><title>{escape(event_words(event, draws))}</title>'
             yield from lane_event(event, left[event.line], own, scale, shown)
             if drawn:
-                yield f'<text class="drawn" x="{left[event.line]:.1f}" y="{MIDDLE + event.task * LANE - 12}">{drawn}</text>'
+                yield f'<text class="drawn" x="{left[event.line]:.1f}" y="{MIDDLE + event.task * LANE - 12}">c{drawn}</text>'
             yield "</g>"
     yield "</svg>"
 
