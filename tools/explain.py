@@ -17,7 +17,7 @@ import sys
 import tempfile
 from concurrent.futures import ThreadPoolExecutor
 from itertools import zip_longest
-from typing import NamedTuple
+from typing import NamedTuple, Optional
 
 # Whether lines for an editor are asked for, in place of those for a person.
 BY_LINE = os.environ.get("GIB_EXPLAIN") == "line"
@@ -181,7 +181,7 @@ class Told(NamedTuple):
     place: int
     kind: str
     notes: list
-    mark: int | None = None
+    mark: Optional[int] = None
 
 
 def syntax_told(source, place, kind, program):
