@@ -24,7 +24,7 @@ tidied :: World -> Definition -> (World, [Definition])
 tidied here definition = (world' end, done : reverse (made end))
   where
     (done, end) = runState (lifted definition {defBody = body}) (Lifting here [])
-    body = unforced . paired . inlined . flip evalState firstLabel . sink . opened . inlined $ defBody definition
+    body = direct . unforced . paired . inlined . flip evalState firstLabel . sink . opened . inlined $ defBody definition
     -- Those of patterns are below.
     firstLabel = 1000000000
 
@@ -33,6 +33,13 @@ unforced core = case core of
   Force _ body -> unforced body
   Spark _ body -> unforced body
   _ -> every unforced core
+
+-- | What is named and then given is given at once: it can be written where the result belongs.
+direct :: Core -> Core
+direct core = case every direct core of
+  Let _ var value (Ref other) | var == other -> value
+  Let _ var value (Remark at' (Ref other)) | var == other -> Remark at' value
+  done -> done
 
 -- | Makes pairs of values that are named together, where a hint says that another worker may make the one.
 paired :: Core -> Core
