@@ -216,7 +216,7 @@ test_program() {
   for text in "$front"*.txt; do
     due=${text%.txt}.out
     if ! [ -f "$due" ] || has_longer "$front" "$text"; then continue; fi
-    (names=(eval "${names[1]}" "$text") && evaluate) > "$room/made" 2>&1
+    (names=(eval "${names[1]}" "$text") GIB_EXPLAIN="" && evaluate) > "$room/made" 2>&1
     if diff "$due" "$room/made" > "$room/differs"; then
       passed=$((passed + 1))
     else

@@ -76,7 +76,11 @@ class Image:
                 continue
             due = [1]
             while due:
-                at = ends[at] if at in ends else self.visit(at, levels, due, starts)
+                if at in ends:
+                    due[-1] -= 1
+                    at = ends[at]
+                else:
+                    at = self.visit(at, levels, due, starts)
                 while due and not due[-1]:
                     due.pop()
             ends[start] = at
