@@ -1,21 +1,21 @@
 -- Types with one description have the same values.
-use Rattle.std.proofs.Common.{◌≡◌, ℕ, ◌+◌, ◌-◌, ◌<◌, ◌↔◌, true, List, [], ◌∷◌, ◌++◌, length, map, Option, Some, None, refl, sym, ap, subst, ◌∙◌, arith}
-use Rattle.std.specs.Prelude.{codes, slice_get, slice_index, unwrap_or}
-use Rattle.std.proofs.lemmas.Option.{slice_get_within, slice_get-get_or}
+use Rattle.std.proofs.Common.{◌≡◌, ℕ, ◌+◌, ◌-◌, ◌<◌, ◌↔◌, true, List, [], ◌∷◌, ◌++◌, length, map, Some, refl, sym, ap, subst, ◌∙◌, arith}
+use Rattle.std.specs.Prelude.{codes, slice_get}
+use Rattle.std.proofs.lemmas.Option.{slice_get_within}
 use Rattle.gib_types.specs.declared.table.Ty.{Ty}
 use Rattle.gib_types.specs.declared.table.Ty.TheVariants.{Whole, Truth, Tree}
 use Rattle.gib_types.specs.Table.{Table, IsTyBelow, con_at, fields_at, first_at, count_at, constructors_of}
 use Rattle.gib_types.specs.Tree.{Datum, whole, truth, con, Data, none, more, HasType, HaveTypes}
 use Rattle.gib_types.proofs.Owners.{together}
-use Rattle.gib_value.specs.Reading.{IsWord}
 use Rattle.gib_file.specs.Packed.{Packed, packed}
 use Rattle.gib_file.specs.Framed.{File2, Framed2}
 use Rattle.gib_file.specs.Describing.{HasField, this, later, Reaches, itself, field, IsReached, type_text, type_word, Describes}
 use Rattle.gib_file.specs.Named.{AreNamed}
 use Rattle.gib_file.proofs.MarkLemmas.{is_reached_on}
 use Rattle.gib_file.proofs.DescriptionLaws.{one}
-use Rattle.gib_file.proofs.SchemaText.{Con, Line, one_schema}
-use Rattle.gib_file.proofs.SchemaOf.{con_of, line_of, lines_of, lines_are, word_is, lines_ok, fields_below, marked_line, line_marked, con_among, con_numbered}
+use Rattle.gib_file.specs.Told.{ToldCon, ToldType, told_con, told_type, told_types, AreToldAlike}
+use Rattle.gib_file.proofs.SchemaText.{one_schema}
+use Rattle.gib_file.proofs.SchemaOf.{lines_are, word_is, lines_ok, fields_below, marked_line, line_marked, con_among, con_numbered}
 
 -- ---- types that are reached
 
@@ -57,22 +57,6 @@ root_in table Whole = tt
 root_in table Truth = tt
 root_in table (Tree t) = itself
 
--- ---- types of one name are one
-
-held : (o : Option (List ℕ)) → IsWord (unwrap_or o []) → o ≡ Some (unwrap_or o [])
-held None h = absurd h
-held (Some w) h = refl
-
-item_at : (xs : List ℕ) (i : ℕ) → i < length xs → slice_get xs i ≡ Some (slice_index xs i)
-item_at xs i lt = slice_get-get_or xs i 0 lt
-
-one_name : (table : Table) (names : List (List ℕ)) → AreNamed table names → (t u : ℕ) → t < length table.types → u < length table.types → type_text table names t ≡ type_text table names u → t ≡ u
-one_name table names h t u lt lu e =
-    let a = held (slice_get names (slice_index table.types t)) (h.types t lt).word in
-    let b = held (slice_get names (slice_index table.types u)) (h.types u lu).word in
-    let number = h.differ.differ (slice_index table.types t) (slice_index table.types u) (type_text table names t) a (b ∙ ap Some (sym e)) in
-    h.declared.types_differ t u (slice_index table.types t) (item_at table.types t lt) (item_at table.types u lu ∙ ap Some (sym number))
-
 whole_apart : codes "Int" ≡ codes "Bool" → ⊥
 whole_apart e = let no : 3 ≡ 4 = ap length e in omega (arith, no)
 
@@ -82,35 +66,41 @@ first_same x y xs ys e = (cc, cc)
 none_same : (y : List ℕ) (ys : List (List ℕ)) → [] ≡ y ∷ ys → ⊥
 none_same y ys e = cc
 
+-- one description tells of both types alike
+module _ (table other : Table) (names others : List (List ℕ)) (ty of : Ty) where
+  pub same_told : (a b : List ℕ) → AreNamed table names → AreNamed other others → IsTyBelow (length table.types) ty → IsTyBelow (length other.types) of
+      → (d : Describes table names ty a) (e : Describes other others of b) → a ≡ b → AreToldAlike d e
+  same_told a b h k lt lu d e same =
+      one_schema (type_word table names ty) (type_word other others of) (told_types table names 0 d.marks) (told_types other others 0 e.marks)
+      (word_is table names h ty lt) (word_is other others k of lu)
+      (lines_ok table names h 0 d.marks (omega (arith, d.reached.long))) (lines_ok other others k 0 e.marks (omega (arith, e.reached.long)))
+      (ap (λ (l : List ℕ). (codes "main " ++ (type_word table names ty ++ 10 ∷ [])) ++ l) (sym (lines_are table names 0 d.marks)) ∙ sym d.is ∙ same ∙ e.is
+      ∙ ap (λ (l : List ℕ). (codes "main " ++ (type_word other others of ++ 10 ∷ [])) ++ l) (lines_are other others 0 e.marks))
+
 module _ (table other : Table) (names others : List (List ℕ)) (ty of : Ty) (text : List ℕ)
     (h : AreNamed table names) (k : AreNamed other others) (lt : IsTyBelow (length table.types) ty) (lu : IsTyBelow (length other.types) of)
     (d : Describes table names ty text) (e : Describes other others of text) where
-  same : (type_word table names ty ≡ type_word other others of) × (lines_of table names 0 d.marks ≡ lines_of other others 0 e.marks)
-  same =
-      one_schema (type_word table names ty) (type_word other others of) (lines_of table names 0 d.marks) (lines_of other others 0 e.marks)
-      (word_is table names h ty lt) (word_is other others k of lu)
-      (lines_ok table names h 0 d.marks (omega (arith, d.reached.long))) (lines_ok other others k 0 e.marks (omega (arith, e.reached.long)))
-      (ap (λ (l : List ℕ). (codes "main " ++ (type_word table names ty ++ 10 ∷ [])) ++ l) (sym (lines_are table names 0 d.marks)) ∙ sym d.is ∙ e.is
-      ∙ ap (λ (l : List ℕ). (codes "main " ++ (type_word other others of ++ 10 ∷ [])) ++ l) (lines_are other others 0 e.marks))
+  same : AreToldAlike d e
+  same = same_told table other names others ty of text text h k lt lu d e refl
 
   -- the type with the line of a type that is reached
   record HasLine (t : ℕ) : Type 0 where
     type : ℕ
     reached : IsReached other of type
-    is : line_of table names t ≡ line_of other others type
+    is : told_type table names t ≡ told_type other others type
 
   same_line : (t : ℕ) → IsReached table ty t → HasLine t
   same_line t r =
       let within = reached_below table names h ty t lt r in
       let marked = (d.reached.each t within).1 r in
       let place = marked_line table names 0 d.marks t marked in
-      let there : slice_get (lines_of other others 0 e.marks) place.0 ≡ Some (line_of table names (0 + t)) = ap (λ (l : List Line). slice_get l place.0) (sym same.1) ∙ place.1 in
-      let found = line_marked other others 0 e.marks (line_of table names (0 + t)) (place.0, there) in
+      let there : slice_get (told_types other others 0 e.marks) place.0 ≡ Some (told_type table names (0 + t)) = ap (λ (l : List ToldType). slice_get l place.0) (sym same.1) ∙ place.1 in
+      let found = line_marked other others 0 e.marks (told_type table names (0 + t)) (place.0, there) in
       let inside = slice_get_within e.marks found.type true found.marked in
       record {
         type = found.type;
         reached = (e.reached.each found.type (omega (arith, inside, e.reached.long))).0 found.marked;
-        is = ap (line_of table names) (let z : t ≡ 0 + t = omega arith in z) ∙ found.is ∙ ap (line_of other others) (let z : 0 + found.type ≡ found.type = omega arith in z);
+        is = ap (told_type table names) (let z : t ≡ 0 + t = omega arith in z) ∙ found.is ∙ ap (told_type other others) (let z : 0 + found.type ≡ found.type = omega arith in z);
       }
 
   -- a constructor of a type that is reached stands in the other type of the name, with the same fields by name
@@ -118,28 +108,28 @@ module _ (table other : Table) (names others : List (List ℕ)) (ty of : Ty) (te
     own : con_at other u c ≡ Some c
     fields : map (type_word table names) (fields_at table c) ≡ map (type_word other others) (fields_at other c)
 
-  same_con : (t u c : ℕ) → line_of table names t ≡ line_of other others u → con_at table t c ≡ Some c → HasCon u c
+  same_con : (t u c : ℕ) → told_type table names t ≡ told_type other others u → con_at table t c ≡ Some c → HasCon u c
   same_con t u c line own =
       let stands = (together table t c h.declared).0 own in
       let i = c - first_at table t in
       let here = con_among table names (first_at table t) (count_at table t) i (omega (arith, stands.0, stands.1)) in
-      let there : slice_get (map (con_of other others) (constructors_of other u)) i ≡ Some (con_of table names (first_at table t + i)) =
-      ap (λ (l : Line). slice_get l.cons i) (sym line) ∙ here in
-      let found = con_numbered other others (first_at other u) (count_at other u) i (con_of table names (first_at table t + i)) there in
+      let there : slice_get (map (told_con other others) (constructors_of other u)) i ≡ Some (told_con table names (first_at table t + i)) =
+      ap (λ (l : ToldType). slice_get l.cons i) (sym line) ∙ here in
+      let found = con_numbered other others (first_at other u) (count_at other u) i (told_con table names (first_at table t + i)) there in
       let back : first_at table t + i ≡ c = omega (arith, stands.0) in
-      let is : con_of table names c ≡ con_of other others found.con = ap (con_of table names) (sym back) ∙ found.is in
-      let tag : c ≡ found.con = ap (λ (x : Con). x.tag) is in
+      let is : told_con table names c ≡ told_con other others found.con = ap (told_con table names) (sym back) ∙ found.is in
+      let tag : c ≡ found.con = ap (λ (x : ToldCon). x.tag) is in
       record {
         own = subst (λ (x : ℕ). con_at other u x ≡ Some x) (sym tag) ((together other u found.con k.declared).1 (found.from, found.to));
-        fields = ap (λ (x : Con). x.fields) is ∙ ap (λ (x : ℕ). map (type_word other others) (fields_at other x)) (sym tag);
+        fields = ap (λ (x : ToldCon). x.fields) is ∙ ap (λ (x : ℕ). map (type_word other others) (fields_at other x)) (sym tag);
       }
 
   -- a type of the name that is reached has the constructor
   moved_con : (t u c : ℕ) → IsReached table ty t → IsReached other of u → type_text table names t ≡ type_text other others u → con_at table t c ≡ Some c → HasCon u c
   moved_con t u c rt ru name own =
       let line = same_line t rt in
-      let word : type_text other others u ≡ type_text other others line.type = sym name ∙ ap (λ (l : Line). l.name) line.is in
-      let one = one_name other others k u line.type (reached_below other others k of u lu ru) (reached_below other others k of line.type lu line.reached) word in
+      let word : type_text other others u ≡ type_text other others line.type = sym name ∙ ap (λ (l : ToldType). l.name) line.is in
+      let one = k.differ u line.type (reached_below other others k of u lu ru) (reached_below other others k of line.type lu line.reached) word in
       subst (λ (x : ℕ). HasCon x c) (sym one) (same_con t line.type c line.is own)
 
   mutual

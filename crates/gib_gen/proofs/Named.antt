@@ -2,6 +2,7 @@
 use Rattle.std.proofs.Common.{◌≡◌, ◌≢◌, ◌∙◌, refl, ℕ, zero, suc, ◌<◌, ◌≤◌, List, [], ◌∷◌, ◌++◌, length, map, subst, sym, ap, arith, Bool, true, false, if◌then◌else◌, Option, Some, None, length-append}
 use Rattle.std.specs.Prelude.{slice_get, slice_index, unwrap_or, nat_lt, ◌==◌, ◌^◌, fold}
 use Rattle.std.specs.List.{AllByRecursion, list_all, flat_map}
+use Rattle.std.proofs.lemmas.Option.{slice_get-get_or}
 use Rattle.std.specs.Char.{is_ascii_digit, is_ascii_alphabetic}
 use Rattle.gib_base.specs.declared.name.Name.{Name}
 use Rattle.gib_base.specs.declared.token.Token.{Token}
@@ -16,7 +17,7 @@ use Rattle.gib_base.specs.Printing.{IsWritable}
 use Rattle.gib_base.proofs.Held.{AreNames-push}
 use Rattle.gib_lex.proofs.Numbers.{length-fold}
 use Rattle.gib_lex.proofs.Again.{all_writable}
-use Rattle.gib_types.specs.Table.{Row, IsTyBelow, name_of, name_at as con_name_at}
+use Rattle.gib_types.specs.Table.{Table, Row, IsTable, IsTyBelow, name_of, name_at as con_name_at}
 use Rattle.gib_syntax.specs.declared.tree.TypeName.{TypeName}
 use Rattle.gib_syntax.specs.declared.tree.TypeName.TheVariants as ty
 use Rattle.gib_syntax.specs.Tree.{ConstructorTree, DataTree, ProgramTree}
@@ -29,7 +30,9 @@ use Rattle.gib_syntax.specs.GenericFine.{HasGenericConstructor}
 use Rattle.gib_syntax.specs.Typing.{IsTypedProgram}
 use Rattle.gib_check.proofs.RowRules.{table_is}
 use Rattle.gib_value.specs.Reading.{IsWord}
-use Rattle.gib_file.specs.Named.{IsTypeName, AreNamed}
+use Rattle.gib_file.specs.Describing.{type_text}
+use Rattle.gib_file.specs.Named.{IsName, IsTypeName, AreNamed}
+use Rattle.gib_file.proofs.Words.{word_is_name}
 
 -- ---- names that are put in one by one are all different
 
@@ -45,7 +48,7 @@ all_different names (text ∷ texts) h le =
 no_names : AreNames []
 no_names = record { differ = λ i j text e f. absurd (let no : None ≡ Some text = e in cc); few = omega arith }
 
-lexed_names : (text : List ℕ) (l : Lexed) → IsLexed text l → length l.names ≤ 65535 → AreNames l.names
+pub lexed_names : (text : List ℕ) (l : Lexed) → IsLexed text l → length l.names ≤ 65535 → AreNames l.names
 lexed_names text l h le =
     let texts = flat_map name_at (parts_of text 0 h.lengths) in
     subst AreNames (sym h.names) (all_different [] texts no_names (omega (arith, le, ap length h.names)))
@@ -144,7 +147,7 @@ letter_piece Equal b rest e w h = absurd (equal_is_none rest h)
 letter_piece Single b rest e w h = absurd cc
 letter_piece Other b rest e w h = absurd cc
 
-word_of : (text : List ℕ) → is_piece text ≡ true → piece_of text ≡ kinds.Constructor → IsWord text
+pub word_of : (text : List ℕ) → is_piece text ≡ true → piece_of text ≡ kinds.Constructor → IsWord text
 word_of [] w h = absurd cc
 word_of (b ∷ rest) w h = letter_piece (class_of b) b rest refl w h
 
@@ -154,9 +157,12 @@ sign_apart e = cc
 truth_apart : kinds.Sign sign.Bool ≡ kinds.Constructor → ⊥
 truth_apart e = cc
 
-type_name : (text : List ℕ) → is_piece text ≡ true → piece_of text ≡ kinds.Constructor → IsTypeName text
+pub con_name : (text : List ℕ) → is_piece text ≡ true → piece_of text ≡ kinds.Constructor → IsName text
+con_name text w h = word_is_name text (word_of text w h)
+
+pub type_name : (text : List ℕ) → is_piece text ≡ true → piece_of text ≡ kinds.Constructor → IsTypeName text
 type_name text w h = record {
-  word = word_of text w h;
+  named = con_name text w h;
   not_whole = λ e. sign_apart (sym (ap piece_of e) ∙ h);
   not_truth = λ e. truth_apart (sym (ap piece_of e) ∙ h);
 }
@@ -184,7 +190,7 @@ tree_below : (n : ℕ) (o : Option ℕ) → ((j : ℕ) → o ≡ Some j → j < 
 tree_below n None h = tt
 tree_below n (Some j) h = h j refl
 
-written_below : (types : List ℕ) (a : TypeName) → IsTyBelow (length types) (type_of_name types a)
+pub written_below : (types : List ℕ) (a : TypeName) → IsTyBelow (length types) (type_of_name types a)
 written_below types (ty.Whole p) = tt
 written_below types (ty.Truth p) = tt
 written_below types (ty.Declared x) = tree_below (length types) (place_of types (number_of x)) (λ j e. place_below types (number_of x) j e)
@@ -199,17 +205,33 @@ some_constructors : (ds : List DataTree) → AllByRecursion HasGenericConstructo
 some_constructors [] h = tt
 some_constructors (d ∷ ds) h = (plain_some d.constructors h.0, some_constructors ds h.1)
 
+-- ---- types of one name are one
+
+held : (o : Option (List ℕ)) → IsName (unwrap_or o []) → o ≡ Some (unwrap_or o [])
+held None h = absurd h
+held (Some w) h = refl
+
+types_apart : (table : Table) (names : List (List ℕ)) → IsTable table → AreNames names → ((t : ℕ) → t < length table.types → IsTypeName (type_text table names t)) → (t u : ℕ) → t < length table.types → u < length table.types
+    → type_text table names t ≡ type_text table names u → t ≡ u
+types_apart table names declared differ types t u lt lu e =
+    let a = held (slice_get names (slice_index table.types t)) (types t lt).named in
+    let b = held (slice_get names (slice_index table.types u)) (types u lu).named in
+    let number = differ.differ (slice_index table.types t) (slice_index table.types u) (type_text table names t) a (b ∙ ap Some (sym e)) in
+    declared.types_differ t u (slice_index table.types t) (slice_get-get_or table.types t 0 lt) (slice_get-get_or table.types u 0 lu ∙ ap Some (sym number))
+
 pub named : (text : List ℕ) (l : Lexed) (p : ProgramTree) → Spells text l (generic_of p) → IsTypedProgram p → AreNamed (table_of_program p) l.names
 named text l p spells typed =
     let T : Token → Type 0 = IsWritable l.names in
     let P : List Token → Type 0 = AllByRecursion T in
     let spelled : AllByRecursion T (spell_program (generic_of p) []) = subst P spells.derived.spelled (all_writable text l spells.is_lexed) in
     let names = in_datas T p.datas (spell_functions (map generic_function p.functions) (spell_main (generic_main p.main) [])) spelled in
+    let declared = table_is p (record { types_differ = typed.types_differ; constructors_differ = typed.constructors_differ; few = typed.few_constructors; fields = typed.fields }) (some_constructors p.datas spells.derived.fine.datas) in
+    let types : (k : ℕ) → k < length (type_names p) → IsTypeName (type_text (table_of_program p) l.names k) = λ k lt. held_so IsTypeName type_name l.names (slice_index (type_names p) k) (types_at T p.datas names k lt) in
     record {
-      declared = table_is p (record { types_differ = typed.types_differ; constructors_differ = typed.constructors_differ; few = typed.few_constructors; fields = typed.fields }) (some_constructors p.datas spells.derived.fine.datas);
-      differ = lexed_names text l spells.is_lexed spells.few_names;
-      types = λ k lt. held_so IsTypeName type_name l.names (slice_index (type_names p) k) (types_at T p.datas names k lt);
-      constructors = λ k lt. held_so IsWord word_of l.names (con_name_at (table_of_program p) k) (rows_at T (type_names p) 0 p.datas names k lt);
+      declared = declared;
+      types = types;
+      differ = types_apart (table_of_program p) l.names declared (lexed_names text l spells.is_lexed spells.few_names) types;
+      constructors = λ k lt. held_so IsName con_name l.names (con_name_at (table_of_program p) k) (rows_at T (type_names p) 0 p.datas names k lt);
     }
 
 pub input_below : (p : ProgramTree) → IsTypedProgram p → IsTyBelow (length (table_of_program p).types) (input_type p)
