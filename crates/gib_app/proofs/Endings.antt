@@ -23,6 +23,7 @@ use Rattle.gib_syntax.specs.Tree.{ProgramTree}
 use Rattle.gib_syntax.specs.Spelling.{Places, Derives, IsPlacedProgram, places_of}
 use Rattle.gib_syntax.specs.Declarations.{table_of_program, input_type, output_type}
 use Rattle.gib_file.specs.Framed.{File2}
+use Rattle.gib_file.proofs.FileLaws.{file2_length}
 use Rattle.gib_syntax.specs.Meaning.{Outcome, Gives, Stops, run}
 use Rattle.gib_syntax.specs.Meaning.{Reason as Meaning}
 use Rattle.gib_edge.specs.Causes.{Rose, IsAllOf, Appends, AppendsPart, PutsPieces, PutsSomePieces}
@@ -433,9 +434,11 @@ packed_or_long laws p names depth input bytes a b =
     let M : Datum → Type 0 = λ x. run p depth x ≡ Gives a.result in
     let same = one_given (run p depth b.value) a.result b.result (subst M v a.means) b.means in
     let F : Datum → Type 0 = λ x. File2 (table_of_program p) names.long (output_type p) x bytes in
-    let long = b.long bytes (subst F same a.file) in
+    let file = subst F same a.file in
+    let long = b.long file.1.0 file.1.1 in
+    let size = file2_length (table_of_program p) names.long (output_type p) b.result bytes file in
     let few = a.few in
-    omega (arith, long, few)
+    omega (arith, long, size, few)
 
 -- where a text is due with a packed file that is asked for, that file is not too long
 packs_or_long : Laws → (job : Job) (o : Options) (p : Program) (names : TextsView) (given : Contents) (text : List ℕ) (packed file : Option (List ℕ)) → DoesPack job o p names given packed (Prints text) → Does job o p names given file (Without Long) → ⊥

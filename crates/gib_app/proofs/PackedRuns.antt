@@ -2,11 +2,14 @@
 use Rattle.gib_base.specs.Texts.{TextsView}
 use Rattle.std.proofs.Common.{◌≡◌, ◌∙◌, ◌≤◌, ◌<◌, refl, ap, sym, subst, subst₂, arith, ℕ, List, length, Option, Some, None, Bool, true, false, Result, Ok, Err, IfOk, IfErr}
 use Rattle.gib_types.specs.Table.{Table}
+use Rattle.gib_types.specs.Tree.{HasType}
 use Rattle.gib_value.specs.Text.{AreHeld}
 use Rattle.gib_file.specs.Framed.{File2}
+use Rattle.gib_file.proofs.FileLaws.{more_by_parts}
 use Rattle.gib_packed.specs.Stands.{Stands}
 use Rattle.gib_packed.specs.declared.root.Root.{Root}
 use Rattle.gib_packed.proofs.Grow.{Stands-grows}
+use Rattle.gib_packed.proofs.Typed.{Stands-typed}
 use Rattle.gib_arena.specs.Sole.{sole_memory, sole_bounded}
 use Rattle.gib_core.specs.LoweredParts.{LoweredParts}
 use Rattle.gib_syntax.specs.Tree.{ProgramTree}
@@ -97,8 +100,9 @@ module _ (p : ProgramTree) (o : Options) (input : List ℕ) (old new : Valued) (
       let P : Bool → Type 0 = λ b. PacksResult b p old.names o.depth input packed (NoValue Long) in
       let image = image_made {names = old.names} o.image p o input new.ran.lowered.code.laid (sole_memory new.ran.memory) new.ran.root (stands_later {names = old.names} p o.depth input old new again s)
       (sole_bounded new.ran.memory) laid_again limit_again file h in
+      let typed = subst (λ (t : Table). HasType t s.result (output_type p)) s.table (Stands-typed s.stands) in
       let there : E (ends.NoValue Long) = (
-        (image, record { value = s.value; result = s.result; is_input = s.is_input; means = s.means; long = long }, packs),
+        (image, record { value = s.value; result = s.result; is_input = s.is_input; means = s.means; long = more_by_parts (table_of_program p) old.names.long (output_type p) s.result typed long }, packs),
         subst P (sym packs) none,
       ) in
       subst E (sym is) there

@@ -1,8 +1,10 @@
 -- What a call of `run` promises, in the fewest words: a reader may begin here.
-use Rattle.std.specs.Prelude.{◌≡◌, ◌⊎◌, ⊤, ◌≤◌, ◌<◌, Bool, ℕ, List, [], ◌∷◌, ◌++◌, length, Option, None, Some, Ok}
+use Rattle.std.specs.Prelude.{◌≡◌, ◌⊎◌, ⊤, ◌+◌, ◌≤◌, ◌<◌, Bool, ℕ, List, [], ◌∷◌, ◌++◌, length, Option, None, Some, Ok}
 use Rattle.gib_base.specs.Lexed.{Lexed}
 use Rattle.gib_types.specs.Tree.{Datum, HasType}
 use Rattle.gib_file.specs.Framed.{File, File2}
+use Rattle.gib_file.specs.Describing.{Describes}
+use Rattle.gib_file.specs.Packed.{packed}
 use Rattle.gib_syntax.specs.Tree.{ProgramTree}
 use Rattle.gib_syntax.specs.Source.{Spells}
 use Rattle.gib_syntax.specs.Declarations.{table_of_program, input_type, output_type}
@@ -156,15 +158,16 @@ pub record IsResultFile (source input : List ℕ) (depth : ℕ) (bytes : List �
   pub file : File2 (table_of_program (copy_in given)) (long_texts given.lexed.names (entries given.found)) (output_type (copy_in given)) result bytes
   pub few : length bytes ≤ 16777216
 
--- The program means a value on the input within the depth, as which a value of the copy is read whose packed file has more bytes.
+-- The program means a value on the input within the depth, as which a value of the copy is read whose packed file would have more bytes:
+-- the header's 24, the description's, and the payload's.
 pub record HasLongFile (source input : List ℕ) (depth : ℕ) : Type 0 where
   pub given : Given source input
   pub result : Datum
   pub typed : HasType (table_of_program (copy_in given)) result (output_type (copy_in given))
   pub means : meant_in given depth ≡ Gives (read_in given result)
-  pub long : (bytes : List ℕ)
-      → File2 (table_of_program (copy_in given)) (long_texts given.lexed.names (entries given.found)) (output_type (copy_in given)) result bytes
-      → 16777216 < length bytes
+  pub long : (d : List ℕ)
+      → Describes (table_of_program (copy_in given)) (long_texts given.lexed.names (entries given.found)) (output_type (copy_in given)) d
+      → 16777216 < 24 + length d + length (packed result)
 
 -- None of these failed, nor the write of the packed file of the result.
 pub record NoWriteFailed (program packed : Document) (image : Option (List ℕ)) (pack : List ℕ) (before now : ShelfView)

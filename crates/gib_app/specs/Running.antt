@@ -1,11 +1,13 @@
 -- What a source and a packed file are, and what a program means on a file.
 use Rattle.gib_base.specs.Texts.{TextsView, plain_texts}
-use Rattle.std.specs.Prelude.{◌≡◌, ◌⊎◌, Bool, ℕ, ◌≤◌, ◌<◌, List, [], ◌∷◌, ◌++◌, length, Ok, Option, None, Some}
+use Rattle.std.specs.Prelude.{◌≡◌, ◌⊎◌, Bool, ℕ, ◌+◌, ◌≤◌, ◌<◌, List, [], ◌∷◌, ◌++◌, length, Ok, Option, None, Some}
 use Rattle.gib_base.specs.Lexed.{Lexed}
 use Rattle.gib_base.specs.declared.token.Dialect.{Dialect}
 use Rattle.gib_base.specs.declared.token.Dialect.TheVariants.{Source, Located}
 use Rattle.gib_types.specs.Tree.{Datum}
 use Rattle.gib_file.specs.Framed.{File, File2}
+use Rattle.gib_file.specs.Describing.{Describes}
+use Rattle.gib_file.specs.Packed.{packed}
 use Rattle.gib_value.specs.Text.{text}
 use Rattle.gib_syntax.specs.Tree.{ProgramTree}
 use Rattle.gib_syntax.specs.Source.{Spells}
@@ -126,13 +128,14 @@ pub record IsPackedResult (p : ProgramTree) (names : TextsView) (depth : ℕ) (i
   pub file : File2 (table_of_program p) names.long (output_type p) result bytes
   pub few : length bytes ≤ 16777216
 
--- The program means a value on the input within the depth, and its packed file of version 2 is longer.
+-- The program means a value on the input within the depth whose packed file of version 2 would be longer: the header's 24 bytes, the
+-- description's, and the payload's.
 pub record IsLongResult (p : ProgramTree) (names : TextsView) (depth : ℕ) (input : List ℕ) : Type 0 where
   pub value : Datum
   pub result : Datum
   pub is_input : IsInput p names value input
   pub means : run p depth value ≡ Gives result
-  pub long : (bytes : List ℕ) → File2 (table_of_program p) names.long (output_type p) result bytes → 16777216 < length bytes
+  pub long : (d : List ℕ) → Describes (table_of_program p) names.long (output_type p) d → 16777216 < 24 + length d + length (packed result)
 
 -- The program means no value on the input within the depth, for this reason.
 pub record MeansNone (p : ProgramTree) (names : TextsView) (depth : ℕ) (input : List ℕ) (why : Reason) : Type 0 where
