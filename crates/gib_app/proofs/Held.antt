@@ -1,16 +1,10 @@
 -- The names of a program's declarations are held, and those of its constructors are words.
-use Rattle.std.proofs.Common.{◌≡◌, ◌∙◌, refl, ℕ, zero, suc, ◌<◌, List, [], ◌∷◌, ◌++◌, length, map, subst, sym, ap, arith, Bool, true, false, if◌then◌else◌, Some}
-use Rattle.std.specs.Prelude.{slice_get, nat_lt, ◌==◌, ◌^◌}
-use Rattle.std.specs.List.{AllByRecursion, list_all}
-use Rattle.std.specs.Char.{is_ascii_digit, is_ascii_alphabetic}
-use Rattle.gib_base.specs.declared.token.Dialect.TheVariants as dialect
+use Rattle.std.proofs.Common.{◌≡◌, ℕ, zero, suc, ◌<◌, List, [], ◌∷◌, ◌++◌, length, map, subst, sym, ap, arith, Some}
+use Rattle.std.specs.Prelude.{slice_get}
+use Rattle.std.specs.List.{AllByRecursion}
 use Rattle.gib_base.specs.declared.token.Token.{Token}
-use Rattle.gib_base.specs.declared.token.Token.TheVariants as t
-use Rattle.gib_base.specs.declared.token.Sign.TheVariants as sign
 use Rattle.gib_base.specs.declared.token.Piece.TheVariants as kinds
 use Rattle.gib_base.specs.declared.token.Dialect.TheVariants as dialect
-use Rattle.gib_base.specs.Piece.{Class, Blank, Letter, Digit, Dash, Equal, Single, Other, class_of, is_piece, is_name_byte, is_blank, is_sign_byte}
-use Rattle.gib_base.specs.Spelling.{piece_of, piece_in, value_from, dash_piece, equal_piece}
 use Rattle.gib_base.specs.Lexed.{Lexed}
 use Rattle.gib_base.specs.Printing.{IsWritable, IsNameOf}
 use Rattle.gib_lex.proofs.Again.{all_writable}
@@ -20,50 +14,8 @@ use Rattle.gib_syntax.specs.Source.{Spells}
 use Rattle.gib_mono.specs.Naming.{AreNamedBelow}
 use Rattle.gib_mono.specs.Showing.{source_text}
 use Rattle.gib_value.specs.Reading.{IsWord}
+use Rattle.gib_gen.proofs.Named.{word_of}
 use Rattle.gib_app.proofs.SpelledNames.{HasName, HaveNames, IsFunctionNamed, in_program}
-
--- a constructor's name is a word
-
-letter_of : (x y d e q s : Bool) → (if x then Blank else (if y then Letter else (if d then Digit else (if e then Dash else (if q then Equal else (if s then Single else Other)))))) ≡ Letter → y ≡ true
-letter_of true y d e q s h = absurd cc
-letter_of false true d e q s h = refl
-letter_of false false true e q s h = absurd cc
-letter_of false false false true q s h = absurd cc
-letter_of false false false false true s h = absurd cc
-letter_of false false false false false true h = absurd cc
-letter_of false false false false false false h = absurd cc
-
-number_is_none : (b : Bool) (n : ℕ) → (if b then kinds.Number n else kinds.TooBig) ≡ kinds.Constructor → ⊥
-number_is_none true n h = cc
-number_is_none false n h = cc
-
-sign_is_none : (b : Bool) → (if b then kinds.Sign sign.Arrow else kinds.Gap) ≡ kinds.Constructor → ⊥
-sign_is_none true h = cc
-sign_is_none false h = cc
-
-dash_is_none : (rest : List ℕ) → dash_piece rest ≡ kinds.Constructor → ⊥
-dash_is_none [] h = cc
-dash_is_none (b ∷ rest) h = sign_is_none (b == 62) h
-
-equal_is_none : (rest : List ℕ) → equal_piece rest ≡ kinds.Constructor → ⊥
-equal_is_none [] h = cc
-equal_is_none (b ∷ rest) h = cc
-
-abbrev Ends : Class → List ℕ → Type 0
-Ends c rest = Rattle.gib_base.specs.Piece.ends c rest ≡ true
-
-letter_piece : (c : Class) (b : ℕ) (rest : List ℕ) → class_of b ≡ c → Ends c rest → piece_in c b rest ≡ kinds.Constructor → (is_ascii_alphabetic b ≡ true) × (list_all is_name_byte rest ≡ true)
-letter_piece Blank b rest e w h = absurd cc
-letter_piece Letter b rest e w h = (letter_of (is_blank b) (is_ascii_alphabetic b) (is_ascii_digit b) (b == 45) (b == 61) (is_sign_byte b) e, w)
-letter_piece Digit b rest e w h = absurd (number_is_none (nat_lt (value_from 0 (b ∷ rest)) (2 ^ 63)) (value_from 0 (b ∷ rest)) h)
-letter_piece Dash b rest e w h = absurd (dash_is_none rest h)
-letter_piece Equal b rest e w h = absurd (equal_is_none rest h)
-letter_piece Single b rest e w h = absurd cc
-letter_piece Other b rest e w h = absurd cc
-
-word_of : (text : List ℕ) → is_piece text ≡ true → piece_of text ≡ kinds.Constructor → IsWord text
-word_of [] w h = absurd cc
-word_of (b ∷ rest) w h = letter_piece (class_of b) b rest refl w h
 
 -- the names of all declarations are names of the source's
 module _ (names : List (List ℕ)) where
@@ -104,7 +56,7 @@ module _ (names : List (List ℕ)) where
   all_words [] h = tt {0}
   all_words (d ∷ ds) h = rows_words d d.constructors (rows_of ds) h.0.1 (all_words ds h.1)
 
-written : (text : List ℕ) (l : Lexed) (p : GenericProgramTree) → Spells text l p → AllByRecursion (IsWritable l.names) (spell_program p [])
+pub written : (text : List ℕ) (l : Lexed) (p : GenericProgramTree) → Spells text l p → AllByRecursion (IsWritable l.names) (spell_program p [])
 written text l p spells = let P : List Token → Type 0 = AllByRecursion (IsWritable l.names) in subst P spells.derived.spelled (all_writable text l spells.is_lexed)
 
 pub named_below : (text : List ℕ) (l : Lexed) (p : GenericProgramTree) → Spells text l p → AreNamedBelow (length l.names) p

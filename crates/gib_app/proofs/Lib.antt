@@ -44,6 +44,8 @@ mod Repeating
 mod Ranges
 mod Shown
 mod Copied
+mod NamedForms
+mod CopiesNamed
 mod Compiling
 mod Locating
 mod LocatedNames

@@ -1,11 +1,15 @@
-//! The law that carries what jobs promise of the copy of a source over to the source as it is written. The function does nothing: its
-//! contract is the law.
+//! The laws that carry what is promised of the copy of a source over to the source as it is written, and to its files: functions whose
+//! contracts are the laws.
 
-ghost use Rattle.std.specs.Prelude.{◌≡◌, ◌∷◌, [], ◌++◌, ℕ, List};
+ghost use Rattle.std.specs.Prelude.{◌≡◌, ◌↔◌, ◌∷◌, [], ◌++◌, ℕ, List, length};
 ghost use Rattle.gib_base.specs.Texts.{TextsView};
 ghost use Rattle.gib_types.specs.declared.table.Ty.{Ty};
+ghost use Rattle.gib_types.specs.Table.{IsTyBelow};
 ghost use Rattle.gib_types.specs.Tree.{Datum, HasType};
-ghost use Rattle.gib_syntax.specs.Declarations.{table_of_program};
+ghost use Rattle.gib_file.specs.Describing.{Describes};
+ghost use Rattle.gib_file.specs.Framed.{File2};
+ghost use Rattle.gib_file.specs.Named.{AreNamed};
+ghost use Rattle.gib_syntax.specs.Declarations.{table_of_program, input_type, output_type};
 ghost use Rattle.gib_syntax.specs.GenericTree.{rows_of};
 ghost use Rattle.gib_syntax.specs.Meaning.{Reason};
 ghost use Rattle.gib_syntax.specs.Tree.{ProgramTree};
@@ -28,4 +32,18 @@ pub fn what_copies_mean_sources_mean()
     // A value of the copy has the text of the value as which it is read.
     ensures text { (source : List ℕ) (names : TextsView) (p : ProgramTree) (is : IsProgram source names p) (v : Datum) (ty : Ty) → HasType (table_of_program p) v ty
         → text_line p names v ≡ generic_text (rows_of is.generic.datas) is.lexed.names (shown (base_of (rows_of is.generic.datas) is.copy.found) v) ++ 10 ∷ [] }
+{}
+
+/// The table and the texts of a source's copy are as descriptions need them, and so are the types of its input and result. So what is said
+/// of types with one description, and of where files agree (`gib_file`), is said of the copies of all sources: what one program has as its
+/// result another one has as its input, with the same files, where their descriptions are the same.
+pub fn copies_are_named()
+    ensures names { (source : List ℕ) (names : TextsView) (p : ProgramTree) → IsProgram source names p → AreNamed (table_of_program p) names.long }
+    ensures input { (p : ProgramTree) → IsTyBelow (length (table_of_program p).types) (input_type p) }
+    ensures output { (p : ProgramTree) → IsTyBelow (length (table_of_program p).types) (output_type p) }
+    ensures next { (source other : List ℕ) (names others : TextsView) (p q : ProgramTree) (description : List ℕ)
+        → IsProgram source names p → IsProgram other others q
+        → Describes (table_of_program p) names.long (output_type p) description → Describes (table_of_program q) others.long (input_type q) description
+        → (v : Datum) (bytes : List ℕ)
+        → File2 (table_of_program p) names.long (output_type p) v bytes ↔ File2 (table_of_program q) others.long (input_type q) v bytes }
 {}
