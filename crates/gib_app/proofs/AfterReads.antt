@@ -1,12 +1,13 @@
 -- What reads leave, one after another.
 use Rattle.std.proofs.Common.{◌≡◌, ◌∙◌, refl, sym, ap, subst, List, [], ◌∷◌, ◌++◌, Option, Some, None, option_map, option_to_list, arith}
 use Rattle.gib_edge.specs.Views.{Call, ShelfView}
-use Rattle.gib_app.specs.declared.plan.Input.{Input as KeptInput}
+use Rattle.gib_app.specs.declared.inputs.Input.{Input as KeptInput}
 use Rattle.gib_app.specs.declared.stop.Stop.{Stop}
 use Rattle.gib_app.specs.Calls.{read_calls, input_calls}
 use Rattle.gib_app.specs.Causes.{first_of, further_of}
 use Rattle.gib_app.specs.Formats.{Input}
-use Rattle.gib_app.specs.Kept.{document_of, input_of}
+use Rattle.gib_words.specs.Kept.{document_of}
+use Rattle.gib_app.specs.Kept.{input_of}
 use Rattle.gib_app.specs.Readings.{HasRead, HasStopped}
 use Rattle.gib_app.proofs.Calling.{added_none, added_some, added_whole, added_two, added_front, added_part, append_nil}
 

@@ -3,8 +3,8 @@ use Rattle.std.proofs.Common.{◌≡◌, ◌∙◌, refl, ℕ, zero, suc, List, 
 use Rattle.gib_edge.specs.Causes.{HasCause, Appends, AppendsPart}
 use Rattle.std.specs.Option.{option_map_or}
 use Rattle.gib_edge.specs.Views.{Call, WriteOf, SinkView}
-use Rattle.gib_app.specs.Plan.{Plan}
-use Rattle.gib_app.specs.Words.{asked}
+use Rattle.gib_words.specs.Plan.{Plan}
+use Rattle.gib_words.specs.Words.{asked}
 use Rattle.gib_app.specs.Calls.{write_calls, calls_of, calls_asked}
 use Rattle.gib_app.specs.Lines.{IsPut, line}
 

@@ -14,12 +14,12 @@ use Rattle.gib_app.specs.declared.made.End.TheVariants as ends
 use Rattle.gib_app.specs.declared.made.Made.{Made}
 use Rattle.gib_app.specs.declared.made.Reason.{Reason}
 use Rattle.gib_app.specs.declared.made.Reason.TheVariants.{Meant, Full, Long}
-use Rattle.gib_app.specs.declared.plan.Job.{Job}
-use Rattle.gib_app.specs.declared.plan.Options.{Options}
+use Rattle.gib_words.specs.declared.plan.Job.{Job}
+use Rattle.gib_words.specs.declared.plan.Options.{Options}
 use Rattle.gib_app.specs.Rows.{Way, Plainly, ForFiles, ForSummary, ForJournal, ForPlaces, Row, Says, Evaluates, PacksValue, ShowsFile, FollowsJournal, row}
-use Rattle.gib_app.specs.declared.plan.Format.{Format}
+use Rattle.gib_app.specs.declared.inputs.Format.{Format}
 use Rattle.gib_app.specs.Formats.{Accepts, IsAccepted, IsRefused, format_by}
-use Rattle.gib_app.specs.Plan.{Contents}
+use Rattle.gib_words.specs.Plan.{Contents}
 use Rattle.gib_app.specs.Replaying.{Happens, IsShownEnd, IsValueless, LacksChunks, OnJournal, journal_in}
 use Rattle.gib_app.specs.Running.{Program, FillsUp, FillsUpBy, IsInput, IsShownValue}
 use Rattle.gib_app.specs.Jobs.{End, Prints, NoValue, Does, DoesBy, IsSaid, Ran, Replays, Runs, RunsLocated, Sums, Traces, core_of, forks_of, run_forks}

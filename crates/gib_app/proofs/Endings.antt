@@ -36,16 +36,16 @@ use Rattle.gib_app.specs.declared.status.Status.{Status}
 use Rattle.gib_app.specs.declared.status.Status.TheVariants as status
 use Rattle.gib_app.specs.declared.stop.Stop.{Stop}
 use Rattle.gib_app.specs.declared.stop.Stop.TheVariants.{Usage, Source, Unread, Input, NoValue, Memory, Unwritten, Unput}
-use Rattle.gib_app.specs.declared.plan.Job.{Job}
-use Rattle.gib_app.specs.declared.plan.Format.{Format}
-use Rattle.gib_app.specs.declared.plan.Format.TheVariants.{Packed, Packable, Shown, Journaled}
-use Rattle.gib_app.specs.declared.plan.Options.{Options}
+use Rattle.gib_words.specs.declared.plan.Job.{Job}
+use Rattle.gib_app.specs.declared.inputs.Format.{Format}
+use Rattle.gib_app.specs.declared.inputs.Format.TheVariants.{Packed, Packable, Shown, Journaled}
+use Rattle.gib_words.specs.declared.plan.Options.{Options}
 use Rattle.gib_app.specs.declared.made.Reason.{Reason}
 use Rattle.gib_app.specs.declared.made.Reason.TheVariants.{Meant, Full, Long}
 use Rattle.gib_app.specs.Rows.{Way, Plainly, ForFiles, ForSummary, ForJournal, ForPlaces, Row, Says, Evaluates, PacksValue, ShowsFile, FollowsJournal, row}
-use Rattle.gib_app.specs.Plan.{Document, Write, Plan, Files, bytes_in, Contents}
+use Rattle.gib_words.specs.Plan.{Document, Write, Plan, Files, bytes_in, Contents}
 use Rattle.gib_app.specs.Writes.{at_reading, with_write, writes_of, IsStuckIn, IsNamedIn}
-use Rattle.gib_app.specs.Words.{asked}
+use Rattle.gib_words.specs.Words.{asked}
 use Rattle.gib_app.specs.Running.{IsCopy, IsInput, IsProgram, IsLocated, IsProgramIn, IsSourceIn, IsNoProgramIn, Program, IsOutput, IsSummary, IsPackedResult, IsLongResult, MeansNone, IsShownValue}
 use Rattle.gib_app.specs.Replaying.{journal_in}
 use Rattle.gib_app.specs.Packing.{IsPackedBy}

@@ -22,7 +22,7 @@ use Rattle.gib_app.specs.Kept.{EndsByBoth, file_of, packed_of}
 use Rattle.gib_app.specs.Located.{IsWritten}
 use Rattle.gib_app.specs.MachineRun.{RunsFor}
 use Rattle.gib_app.specs.Performing.{IsDone, IsOfRun}
-use Rattle.gib_app.specs.Plan.{Plan}
+use Rattle.gib_words.specs.Plan.{Plan}
 use Rattle.gib_app.specs.Readings.{HasRead}
 use Rattle.gib_app.specs.Remains.{ComesOfRun}
 use Rattle.gib_app.specs.Rows.{row}

@@ -5,7 +5,7 @@ use Rattle.gib_edge.specs.Causes.{Rose, told, IsUntold, Appends, AppendsPart}
 use Rattle.gib_edge.specs.Views.{Held, ShelfView, WriteOf}
 use Rattle.gib_app.specs.declared.stop.Stop.{Stop}
 use Rattle.gib_app.specs.declared.stop.Stop.TheVariants.{Usage, Source, Unread, Input, NoValue, Memory, Unwritten, Unput}
-use Rattle.gib_app.specs.Plan.{Write, Files}
+use Rattle.gib_words.specs.Plan.{Write, Files}
 use Rattle.gib_app.specs.Writes.{with_write, after, AreMade, IsStuckIn, IsNamedIn}
 use Rattle.gib_app.specs.Calls.{first_calls}
 use Rattle.gib_app.specs.Ending.{StaysAfter}

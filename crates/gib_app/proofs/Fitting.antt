@@ -8,13 +8,13 @@ use Rattle.gib_types.specs.Tree.{Datum}
 use Rattle.gib_mem.specs.Memory.{Memory}
 use Rattle.gib_packed.specs.declared.root.Root.{Root}
 use Rattle.gib_syntax.specs.Declarations.{output_type}
-use Rattle.gib_app.specs.declared.plan.Job.{Job}
-use Rattle.gib_app.specs.declared.plan.Job.TheVariants.{Run}
-use Rattle.gib_app.specs.declared.plan.Options.{Options}
+use Rattle.gib_words.specs.declared.plan.Job.{Job}
+use Rattle.gib_words.specs.declared.plan.Job.TheVariants.{Run}
+use Rattle.gib_words.specs.declared.plan.Options.{Options}
 use Rattle.gib_app.specs.Rows.{Plainly, ForFiles, ForSummary, ForJournal, ForPlaces, Says, Evaluates, PacksValue, ShowsFile, FollowsJournal, row, Row as JobRow}
-use Rattle.gib_app.specs.Plan.{Plan, Files, Contents}
+use Rattle.gib_words.specs.Plan.{Plan, Files, Contents}
 use Rattle.gib_app.specs.Writes.{AreWritten}
-use Rattle.gib_app.specs.Words.{asked}
+use Rattle.gib_words.specs.Words.{asked}
 use Rattle.gib_app.specs.Running.{Program}
 use Rattle.gib_app.specs.Cores.{layouts_of}
 use Rattle.gib_app.specs.declared.made.End.{End as KeptEnd}
@@ -26,7 +26,7 @@ use Rattle.gib_app.specs.Jobs.{End, Prints, NoValue, Does, DoesBy, DoesPack, Doe
 use Rattle.gib_app.specs.Replaying.{IsImageFile}
 use Rattle.gib_print.specs.Image.{image_of}
 use Rattle.gib_app.specs.Causes.{IsStored, IsMade}
-use Rattle.gib_app.proofs.Forms.{Fits, MakesFile, asked_fits, none_is_some}
+use Rattle.gib_app.proofs.Targets.{Fits, MakesFile, asked_fits, none_is_some}
 
 -- ---- What was made
 

@@ -29,12 +29,12 @@ use Rattle.gib_edge.specs.Views.{Has, ShelfView, SinkView}
 use Rattle.gib_app.specs.declared.status.Status.{Status}
 use Rattle.gib_app.specs.declared.status.Status.TheVariants as status
 use Rattle.gib_app.specs.declared.made.Reason.TheVariants.{Meant, Full, Long}
-use Rattle.gib_app.specs.declared.plan.Options.{Options}
-use Rattle.gib_app.specs.declared.plan.Job.TheVariants.{Run}
-use Rattle.gib_app.specs.Plan.{Document, Write, Plan, Files, bytes_in, Contents}
+use Rattle.gib_words.specs.declared.plan.Options.{Options}
+use Rattle.gib_words.specs.declared.plan.Job.TheVariants.{Run}
+use Rattle.gib_words.specs.Plan.{Document, Write, Plan, Files, bytes_in, Contents}
 use Rattle.gib_app.specs.Writes.{at_reading, AreMade, IsNamedIn, writes_of}
 use Rattle.gib_app.specs.Formats.{inputs_of, Accepts}
-use Rattle.gib_app.specs.Words.{asked}
+use Rattle.gib_words.specs.Words.{asked}
 use Rattle.gib_app.specs.Running.{Program, sourced, IsProgram, IsInput, IsOutput, IsRunImage, IsPackedResult, IsLongResult, MeansNone, FillsUp, text_line}
 use Rattle.gib_app.specs.Jobs.{Prints, MakesImage, PacksResult, run_forks}
 use Rattle.gib_app.specs.Causes.{OnProgram, OnBoth, EndsWithout, AsksProgram, IsStored, IsUnread}

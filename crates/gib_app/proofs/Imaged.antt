@@ -16,7 +16,7 @@ use Rattle.gib_syntax.specs.Declarations.{output_type}
 use Rattle.gib_app.specs.declared.made.End.{End as KeptEnd}
 use Rattle.gib_app.specs.declared.made.End.TheVariants as ends
 use Rattle.gib_app.specs.declared.made.Valued.{Valued}
-use Rattle.gib_app.specs.declared.plan.Options.{Options}
+use Rattle.gib_words.specs.declared.plan.Options.{Options}
 use Rattle.gib_app.specs.Cores.{layouts_of}
 use Rattle.gib_app.specs.Imaging.{IsShownWith}
 use Rattle.gib_app.specs.Jobs.{RunsLocated, MakesImage, Runs}

@@ -27,14 +27,14 @@ use Rattle.gib_app.specs.declared.input_fault.ImageFault.{ImageFault}
 use Rattle.gib_app.specs.declared.input_fault.ImageFault.TheVariants as image
 use Rattle.gib_app.specs.declared.input_fault.PackedFault.{PackedFault}
 use Rattle.gib_app.specs.declared.input_fault.PackedFault.TheVariants.{Header, Types, Short, Tag, Truth, Trailing}
-use Rattle.gib_app.specs.declared.plan.Format.{Format}
-use Rattle.gib_app.specs.declared.plan.Format.TheVariants as format
-use Rattle.gib_app.specs.declared.plan.Job.{Job}
-use Rattle.gib_app.specs.declared.plan.Options.{Options}
+use Rattle.gib_app.specs.declared.inputs.Format.{Format}
+use Rattle.gib_app.specs.declared.inputs.Format.TheVariants as format
+use Rattle.gib_words.specs.declared.plan.Job.{Job}
+use Rattle.gib_words.specs.declared.plan.Options.{Options}
 use Rattle.gib_app.specs.declared.input_fault.JournalFault.{JournalFault}
 use Rattle.gib_app.specs.declared.input_fault.JournalFault.TheVariants as journal
 use Rattle.gib_app.specs.InputFaults.{IsTypesFault, IsPayloadFault, IsFileFault, IsInputFault, IsImageFault, IsJournalFault, IsReplayFault, IsShowFault, IsPackFault}
-use Rattle.gib_app.specs.Plan.{Contents}
+use Rattle.gib_words.specs.Plan.{Contents}
 use Rattle.gib_app.specs.Replaying.{Happens, IsJournal, IsNotEnabled, IsNotEnded, OnJournal, code_for, journal_in, start_for}
 use Rattle.gib_app.specs.Formats.{format_of, Accepts, Refuses}
 use Rattle.gib_app.specs.Packing.{without_feed, IsPackable, IsPackedBy}

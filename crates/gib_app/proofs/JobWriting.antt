@@ -4,7 +4,7 @@ use Rattle.gib_edge.specs.Causes.{Appends, AppendsPart}
 use Rattle.gib_edge.specs.Views.{Call, ShelfView, WriteOf}
 use Rattle.gib_app.specs.declared.stop.Stop.{Stop}
 use Rattle.gib_app.specs.declared.stop.Stop.TheVariants.{Usage, Source, Unread, Input, NoValue, Memory, Unwritten, Unput}
-use Rattle.gib_app.specs.Plan.{Write, Plan, Files}
+use Rattle.gib_words.specs.Plan.{Write, Plan, Files}
 use Rattle.gib_app.specs.Writes.{AreMade, IsNamedIn, writes_of, job_writes}
 use Rattle.gib_app.specs.Calls.{first_calls, write_calls, job_calls}
 use Rattle.gib_app.specs.Ending.{StaysAfter}

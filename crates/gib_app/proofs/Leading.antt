@@ -34,7 +34,7 @@ use Rattle.gib_locked.specs.declared.journal.Line.{Line}
 use Rattle.gib_locked.specs.declared.settings.Settings.{Settings}
 use Rattle.gib_app.specs.declared.made.Reason.{Reason}
 use Rattle.gib_app.specs.declared.made.Reason.TheVariants as reason
-use Rattle.gib_app.specs.declared.plan.Options.{Options}
+use Rattle.gib_words.specs.declared.plan.Options.{Options}
 use Rattle.gib_app.specs.declared.stop.Stop.{Stop}
 use Rattle.gib_app.specs.Cores.{core_after, layouts_of}
 use Rattle.gib_app.specs.MachineRun.{StandsMeant, IsRootOf}

@@ -13,15 +13,9 @@ mod Decimals
 mod Performing
 mod Endings
 mod SourceLaws
-mod Passing
-mod Numbers
-mod Adding
-mod Taking
-mod Filling
-mod Asking
-mod Entering
 mod Signs
-mod Forms
+mod Settings
+mod Targets
 mod Fitting
 mod Imaged
 mod Summed
@@ -41,7 +35,6 @@ mod Leading
 mod JournalEnds
 mod Loads
 mod Repeating
-mod Ranges
 mod Shown
 mod Copied
 mod NamedForms

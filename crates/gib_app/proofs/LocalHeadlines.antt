@@ -11,13 +11,13 @@ use Rattle.gib_code.specs.declared.answer.Reason.TheVariants as why
 use Rattle.gib_weave.specs.Sound.{means_why}
 use Rattle.gib_edge.specs.Views.{ShelfView, SinkView}
 use Rattle.gib_app.specs.declared.made.Reason.TheVariants.{Meant, Full, Long}
-use Rattle.gib_app.specs.declared.plan.Options.{Options}
+use Rattle.gib_words.specs.declared.plan.Options.{Options}
 use Rattle.gib_app.specs.declared.status.Status.{Status}
 use Rattle.gib_app.specs.declared.status.Status.TheVariants as status
-use Rattle.gib_app.specs.Plan.{Contents, Document, Plan, bytes_in}
+use Rattle.gib_words.specs.Plan.{Contents, Document, Plan, bytes_in}
 use Rattle.gib_app.specs.Writes.{at_reading}
 use Rattle.gib_app.specs.Formats.{dialect_of, inputs_of, Accepts}
-use Rattle.gib_app.specs.Words.{asked}
+use Rattle.gib_words.specs.Words.{asked}
 use Rattle.gib_app.specs.Jobs.{run_forks}
 use Rattle.gib_app.specs.Running.{Program, IsInput, IsLocated, IsNoProgramIn, IsOutput, MeansNone, text_line}
 use Rattle.gib_app.specs.Causes.{OnProgram, OnBoth, OnSource, AsksProgram, EndsWithout, IsUnread}

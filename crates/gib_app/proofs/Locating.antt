@@ -6,9 +6,9 @@ use Rattle.std.specs.Option.{option_map_or}
 use Rattle.gib_edge.specs.Views.{ShelfView}
 use Rattle.gib_app.specs.declared.made.Finished.{Finished}
 use Rattle.gib_app.specs.declared.made.Made.{Made}
-use Rattle.gib_app.specs.declared.plan.Job.{Job}
-use Rattle.gib_app.specs.declared.plan.Job.TheVariants.{Local}
-use Rattle.gib_app.specs.declared.plan.Options.{Options}
+use Rattle.gib_words.specs.declared.plan.Job.{Job}
+use Rattle.gib_words.specs.declared.plan.Job.TheVariants.{Local}
+use Rattle.gib_words.specs.declared.plan.Options.{Options}
 use Rattle.gib_app.specs.declared.stop.Stop.{Stop}
 use Rattle.gib_app.specs.Calls.{input_calls}
 use Rattle.gib_app.specs.Causes.{AreFurther, AreGiven, first_of, further_of, OnSource}
@@ -17,7 +17,7 @@ use Rattle.gib_app.specs.Formats.{Input as PlanInput}
 use Rattle.gib_app.specs.Rows.{Plainly, ForFiles, ForSummary, ForJournal, ForPlaces, Row, Says, Evaluates, PacksValue, ShowsFile, FollowsJournal, row}
 use Rattle.gib_app.specs.Jobs.{DoesAll, DoesBy, End, PacksResult, RunsLocated, packs_of}
 use Rattle.gib_app.specs.Kept.{EndsBy, EndsByBoth, file_of, packed_of}
-use Rattle.gib_app.specs.Plan.{Contents, Files, Plan}
+use Rattle.gib_words.specs.Plan.{Contents, Files, Plan}
 use Rattle.gib_app.specs.Readings.{HasRead}
 use Rattle.gib_app.specs.Remains.{ComesOfCore, ComesOfRun}
 use Rattle.gib_app.specs.Running.{Program, IsProgramIn}

@@ -17,13 +17,14 @@ use Rattle.gib_app.specs.declared.input_fault.InputFault.TheVariants as input
 use Rattle.gib_app.specs.declared.source_fault.SourceFault.TheVariants as source
 use Rattle.gib_app.specs.declared.stop.Stop.{Stop}
 use Rattle.gib_app.specs.declared.stop.Stop.TheVariants.{Source, Input}
-use Rattle.gib_app.specs.declared.plan.Input.{Input as KeptInput}
-use Rattle.gib_app.specs.Kept.{document_of, input_of}
-use Rattle.gib_app.specs.declared.plan.Options.{Options}
-use Rattle.gib_app.specs.declared.plan.Format.{Format}
-use Rattle.gib_app.specs.declared.plan.Format.TheVariants.{Packed, Packable, Shown, Journaled}
+use Rattle.gib_app.specs.declared.inputs.Input.{Input as KeptInput}
+use Rattle.gib_words.specs.Kept.{document_of}
+use Rattle.gib_app.specs.Kept.{input_of}
+use Rattle.gib_words.specs.declared.plan.Options.{Options}
+use Rattle.gib_app.specs.declared.inputs.Format.{Format}
+use Rattle.gib_app.specs.declared.inputs.Format.TheVariants.{Packed, Packable, Shown, Journaled}
 use Rattle.gib_app.specs.Rows.{Row, Says, Evaluates, PacksValue, ShowsFile, FollowsJournal, row}
-use Rattle.gib_app.specs.Plan.{Document, BuiltIn, Named, Plan, Files, Contents}
+use Rattle.gib_words.specs.Plan.{Document, BuiltIn, Named, Plan, Files, Contents}
 use Rattle.gib_app.specs.Running.{Program, IsProgramIn, IsInput, IsSourceIn, IsNoProgram, IsNoProgramIn}
 use Rattle.gib_app.specs.SourceFaults.{IsSourceFaultIn}
 use Rattle.gib_app.specs.InputFaults.{IsInputFault, IsReplayFault}

@@ -20,13 +20,13 @@ use Rattle.gib_app.specs.declared.made.Finished.{Finished}
 use Rattle.gib_app.specs.declared.made.Made.{Made}
 use Rattle.gib_app.specs.declared.made.Reason.TheVariants.{Long}
 use Rattle.gib_app.specs.declared.made.Valued.{Valued}
-use Rattle.gib_app.specs.declared.plan.Options.{Options}
+use Rattle.gib_words.specs.declared.plan.Options.{Options}
 use Rattle.gib_app.specs.declared.stop.Stop.{Stop}
 use Rattle.gib_app.specs.Cores.{layouts_of}
 use Rattle.gib_app.specs.Imaging.{IsShownWith}
-use Rattle.gib_app.specs.declared.plan.Job.{Job}
+use Rattle.gib_words.specs.declared.plan.Job.{Job}
 use Rattle.gib_app.specs.Rows.{row}
-use Rattle.gib_app.specs.Plan.{Contents}
+use Rattle.gib_words.specs.Plan.{Contents}
 use Rattle.gib_app.specs.Jobs.{End, Prints, NoValue, Does, DoesAll, PacksResult, Runs, RunsBoth, packs_of}
 use Rattle.gib_app.specs.Kept.{EndsBy, EndsByBoth, StandsAgain, file_of, packed_of}
 use Rattle.gib_app.specs.MachineRun.{StandsMeant, cells_of}

@@ -15,10 +15,10 @@ use Rattle.gib_app.specs.declared.made.End.TheVariants as ends
 use Rattle.gib_app.specs.declared.made.Reason.{Reason}
 use Rattle.gib_app.specs.declared.made.Valued.{Valued}
 use Rattle.gib_app.specs.Kept.{EndsByBoth, IsTextOf}
-use Rattle.gib_app.specs.Plan.{Write, Plan, Files, Contents}
+use Rattle.gib_words.specs.Plan.{Write, Plan, Files, Contents}
 use Rattle.gib_app.specs.Running.{Program}
 use Rattle.gib_app.specs.Writes.{at_reading, AreMade, job_writes, IsTarget}
-use Rattle.gib_app.specs.Words.{asked}
+use Rattle.gib_words.specs.Words.{asked}
 use Rattle.gib_app.specs.Jobs.{End, Prints, NoValue, DoesAll}
 use Rattle.gib_app.specs.Causes.{Counts, OnBoth, IsMade, EndsWithout, IsPrinted, IsPrintedInPart, IsUnwritten}
 use Rattle.gib_app.specs.Ending.{IsBetween, IsNoTarget, first_asked, StaysAfter, FilesStay, ReadsStay, WritesStay, OutStays}

@@ -18,9 +18,9 @@ use Rattle.gib_app.specs.declared.made.Made.{Made}
 use Rattle.gib_app.specs.declared.made.Reason.{Reason}
 use Rattle.gib_app.specs.declared.made.Reason.TheVariants as reason
 use Rattle.gib_app.specs.declared.made.Valued.{Valued}
-use Rattle.gib_app.specs.declared.plan.Job.{Job}
-use Rattle.gib_app.specs.declared.plan.Job.TheVariants.{Run, Plain, Check, Core, Code, Pack, Show, Gen, Trace, Replay, Local}
-use Rattle.gib_app.specs.declared.plan.Options.{Options}
+use Rattle.gib_words.specs.declared.plan.Job.{Job}
+use Rattle.gib_words.specs.declared.plan.Job.TheVariants.{Run, Plain, Check, Core, Code, Pack, Show, Gen, Trace, Replay, Local}
+use Rattle.gib_words.specs.declared.plan.Options.{Options}
 use Rattle.gib_app.specs.declared.stop.Stop.{Stop}
 use Rattle.gib_app.specs.Cores.{core_after, layouts_of}
 use Rattle.gib_app.specs.Imaging.{IsShownWith}

@@ -7,15 +7,15 @@ use Rattle.gib_code.specs.declared.answer.Reason.TheVariants as why
 use Rattle.gib_edge.specs.Causes.{Rose, told}
 use Rattle.gib_edge.specs.Views.{Held, Has, ShelfView, SinkView}
 use Rattle.gib_app.specs.declared.made.Reason.TheVariants.{Meant}
-use Rattle.gib_app.specs.declared.plan.Job.TheVariants.{Trace}
-use Rattle.gib_app.specs.declared.plan.Options.{Options}
+use Rattle.gib_words.specs.declared.plan.Job.TheVariants.{Trace}
+use Rattle.gib_words.specs.declared.plan.Options.{Options}
 use Rattle.gib_app.specs.declared.status.Status.{Status}
 use Rattle.gib_app.specs.declared.status.Status.TheVariants as status
 use Rattle.gib_app.specs.Rows.{row}
-use Rattle.gib_app.specs.Plan.{Document, Named, Plan, Files, bytes_in, Contents}
+use Rattle.gib_words.specs.Plan.{Document, Named, Plan, Files, bytes_in, Contents}
 use Rattle.gib_app.specs.Writes.{at_reading, AreMade, writes_of}
 use Rattle.gib_app.specs.Formats.{dialect_of, inputs_of}
-use Rattle.gib_app.specs.Words.{asked}
+use Rattle.gib_words.specs.Words.{asked}
 use Rattle.gib_app.specs.Running.{Program}
 use Rattle.gib_app.specs.Jobs.{End, Prints, NoValue, Does}
 use Rattle.gib_app.specs.Causes.{OnProgram, OnBoth, EndsWithout, AsksProgram, IsStored, IsUnread}

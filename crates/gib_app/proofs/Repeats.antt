@@ -9,11 +9,11 @@ use Rattle.gib_syntax.specs.Tree.{ProgramTree}
 use Rattle.gib_syntax.specs.Declarations.{table_of_program, input_type, output_type}
 use Rattle.gib_syntax.specs.Meaning.{Outcome, Gives, Stops, run}
 use Rattle.gib_app.specs.declared.made.Reason.TheVariants.{Meant, Full, Long}
-use Rattle.gib_app.specs.declared.plan.Job.TheVariants.{Replay, Trace}
-use Rattle.gib_app.specs.declared.plan.Options.{Options}
+use Rattle.gib_words.specs.declared.plan.Job.TheVariants.{Replay, Trace}
+use Rattle.gib_words.specs.declared.plan.Options.{Options}
 use Rattle.gib_app.specs.Cores.{layouts_of}
 use Rattle.gib_app.specs.Jobs.{End, Prints, NoValue, Does, without_image}
-use Rattle.gib_app.specs.Plan.{Contents}
+use Rattle.gib_words.specs.Plan.{Contents}
 use Rattle.gib_app.specs.Replaying.{IsEndOf, IsShownEnd, IsTrace, IsValueless, OnJournal, journal_in}
 use Rattle.gib_app.specs.Running.{IsOutput, MeansNone, sourced, text_line}
 use Rattle.gib_app.proofs.Replays.{OneValue, is_stopped, root_there, both_on, some_or_none, shown_or_valueless, shown_or_full, one_valueless, valueless_or_full}

@@ -7,7 +7,7 @@ use Rattle.gib_app.specs.declared.made.End.TheVariants as ends
 use Rattle.gib_app.specs.declared.made.Valued.{Valued}
 use Rattle.gib_app.specs.declared.status.Status.{Status}
 use Rattle.gib_app.specs.declared.stop.Stop.{Stop}
-use Rattle.gib_app.specs.Plan.{Plan, Files}
+use Rattle.gib_words.specs.Plan.{Plan, Files}
 use Rattle.gib_app.specs.Writes.{AreMade, IsNamedIn, IsStuckIn, at_reading, job_writes}
 use Rattle.gib_app.specs.Calls.{first_calls, reads_of, job_calls, calls_of}
 use Rattle.gib_app.specs.Ending.{StaysAfter, MakesBoth, ReadsStay, WritesStay}

@@ -6,7 +6,7 @@ use Rattle.gib_mem.specs.Memory.{Store}
 use Rattle.gib_packed.specs.declared.root.Root.{Root}
 use Rattle.gib_syntax.specs.Tree.{ProgramTree}
 use Rattle.gib_gen.specs.Summary.{summary_line}
-use Rattle.gib_app.specs.declared.plan.Options.{Options}
+use Rattle.gib_words.specs.declared.plan.Options.{Options}
 use Rattle.gib_app.specs.Jobs.{Prints, Sums}
 use Rattle.gib_app.specs.MachineRun.{StandsMeant}
 

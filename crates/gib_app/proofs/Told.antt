@@ -2,7 +2,7 @@
 use Rattle.std.proofs.Common.{◌≡◌, refl, ℕ, List, [], ◌∷◌, subst}
 use Rattle.gib_edge.specs.Causes.{IsAllOf}
 use Rattle.gib_edge.specs.Views.{Held}
-use Rattle.gib_app.specs.Plan.{Document, BuiltIn, Named, Files, bytes_in, Contents}
+use Rattle.gib_words.specs.Plan.{Document, BuiltIn, Named, Files, bytes_in, Contents}
 use Rattle.gib_app.specs.Formats.{Input}
 use Rattle.gib_app.specs.Causes.{Holds, AreFurther, AreGiven}
 

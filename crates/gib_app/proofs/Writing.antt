@@ -9,7 +9,7 @@ use Rattle.gib_code.specs.declared.answer.Reason.TheVariants as why
 use Rattle.gib_app.specs.declared.made.Reason.{Reason}
 use Rattle.gib_app.specs.declared.made.Reason.TheVariants.{Meant, Full, Long}
 use Rattle.gib_app.specs.declared.stop.Stop.TheVariants.{NoValue as Stopped}
-use Rattle.gib_app.specs.Plan.{Write, Files}
+use Rattle.gib_words.specs.Plan.{Write, Files}
 use Rattle.gib_app.specs.Writes.{with_write, after, AreMade, writes_of}
 use Rattle.gib_app.specs.Ending.{StaysAfter}
 use Rattle.gib_app.specs.Stopping.{answer_for}

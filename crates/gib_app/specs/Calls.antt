@@ -2,8 +2,8 @@
 use Rattle.std.specs.Prelude.{ℕ, ◌+◌, List, [], ◌∷◌, ◌++◌, map, Option, Some, None}
 use Rattle.std.specs.Option.{option_map_or}
 use Rattle.gib_edge.specs.Views.{Call, ReadOf, WriteOf}
-use Rattle.gib_app.specs.Plan.{Document, BuiltIn, Named, Write, Plan}
-use Rattle.gib_app.specs.Words.{asked}
+use Rattle.gib_words.specs.Plan.{Document, BuiltIn, Named, Write, Plan}
+use Rattle.gib_words.specs.Words.{asked}
 use Rattle.gib_app.specs.Formats.{Input, inputs_of}
 
 -- The read of a document that may have so many bytes: one more is asked for, so that a longer file is seen.

@@ -6,9 +6,9 @@ use Rattle.gib_edge.specs.Views.{ShelfView, SinkView}
 use Rattle.gib_types.specs.Tree.{Datum}
 use Rattle.gib_base.specs.declared.token.Dialect.{Dialect}
 use Rattle.gib_app.specs.declared.made.Reason.{Reason}
-use Rattle.gib_app.specs.Plan.{Document, BuiltIn, Named, Plan, Files, bytes_in, Contents}
+use Rattle.gib_words.specs.Plan.{Document, BuiltIn, Named, Plan, Files, bytes_in, Contents}
 use Rattle.gib_app.specs.Writes.{at_reading, job_writes, AreWritten, IsStuckIn}
-use Rattle.gib_app.specs.Words.{asked}
+use Rattle.gib_words.specs.Words.{asked}
 use Rattle.gib_app.specs.Running.{Program, IsInput, IsProgramIn, IsSourceIn}
 use Rattle.gib_app.specs.Formats.{Input, inputs_of, dialect_of}
 use Rattle.gib_app.specs.Jobs.{End, Prints, NoValue, Does, DoesPack, DoesAll}

@@ -14,9 +14,9 @@ use Rattle.gib_app.specs.declared.made.Reason.{Reason}
 use Rattle.gib_app.specs.declared.made.Reason.TheVariants as reason
 use Rattle.gib_app.specs.declared.made.Reason.TheVariants.{Meant}
 use Rattle.gib_app.specs.Rows.{Way, Plainly, ForFiles, ForJournal, Row, Evaluates, FollowsJournal, row}
-use Rattle.gib_app.specs.Plan.{Write, Plan, Files, bytes_in, Contents}
+use Rattle.gib_words.specs.Plan.{Write, Plan, Files, bytes_in, Contents}
 use Rattle.gib_app.specs.Writes.{at_reading, AreMade, IsNamedIn, IsTarget}
-use Rattle.gib_app.specs.Words.{asked}
+use Rattle.gib_words.specs.Words.{asked}
 use Rattle.gib_app.specs.Running.{Program, IsInput, IsSourceIn, IsNoProgramIn}
 use Rattle.gib_app.specs.SourceFaults.{IsSourceFaultIn}
 use Rattle.gib_app.specs.Formats.{inputs_of, dialect_of, Accepts, Refuses}

@@ -3,7 +3,7 @@ use Rattle.std.specs.Prelude.{◌≡◌, ◌≤◌, ℕ, List, Bool}
 use Rattle.gib_edge.specs.Causes.{Appends, AppendsPart}
 use Rattle.gib_edge.specs.Views.{ShelfView}
 use Rattle.gib_app.specs.declared.stop.Stop.{Stop}
-use Rattle.gib_app.specs.Plan.{Write}
+use Rattle.gib_words.specs.Plan.{Write}
 use Rattle.gib_app.specs.Writes.{AreMade, IsNamedIn, IsStuckIn}
 use Rattle.gib_app.specs.Calls.{first_calls}
 use Rattle.gib_app.specs.Ending.{StaysAfter, WritesStay}

@@ -6,12 +6,12 @@ use Rattle.gib_types.specs.Tree.{Datum}
 use Rattle.gib_base.specs.declared.token.Dialect.{Dialect}
 use Rattle.gib_base.specs.declared.token.Dialect.TheVariants as dialect
 use Rattle.gib_app.specs.declared.input_fault.InputFault.{InputFault}
-use Rattle.gib_app.specs.declared.plan.Format.{Format}
-use Rattle.gib_app.specs.declared.plan.Format.TheVariants.{Packed, Packable, Shown, Journaled}
-use Rattle.gib_app.specs.declared.plan.Job.{Job}
-use Rattle.gib_app.specs.declared.plan.Options.{Options}
+use Rattle.gib_app.specs.declared.inputs.Format.{Format}
+use Rattle.gib_app.specs.declared.inputs.Format.TheVariants.{Packed, Packable, Shown, Journaled}
+use Rattle.gib_words.specs.declared.plan.Job.{Job}
+use Rattle.gib_words.specs.declared.plan.Options.{Options}
 use Rattle.gib_app.specs.Rows.{ForPlaces, Row, Says, Evaluates, PacksValue, ShowsFile, FollowsJournal, row}
-use Rattle.gib_app.specs.Plan.{Document, Plan, Contents}
+use Rattle.gib_words.specs.Plan.{Document, Plan, Contents}
 use Rattle.gib_app.specs.Running.{Program, IsInput, IsShownValue}
 use Rattle.gib_app.specs.Replaying.{journal_in, OnJournal, Happens}
 use Rattle.gib_app.specs.Packing.{IsPackedBy}

@@ -18,7 +18,7 @@ use Rattle.gib_app.specs.Jobs.{DoesAll}
 use Rattle.gib_app.specs.Kept.{EndsByBoth, file_of, packed_of}
 use Rattle.gib_app.specs.Located.{IsLocatedStop}
 use Rattle.gib_app.specs.MachineRun.{RunsFor}
-use Rattle.gib_app.specs.Plan.{Contents, Files, Plan}
+use Rattle.gib_words.specs.Plan.{Contents, Files, Plan}
 use Rattle.gib_app.specs.Remains.{ComesOfRun}
 use Rattle.gib_app.specs.Rows.{row}
 use Rattle.gib_app.specs.Running.{Program, IsProgramIn, sourced}

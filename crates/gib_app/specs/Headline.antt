@@ -20,12 +20,12 @@ use Rattle.gib_edge.specs.Causes.{Rose}
 use Rattle.gib_edge.specs.Views.{Has, ShelfView, SinkView}
 use Rattle.gib_core.specs.Cost.{run_cost}
 use Rattle.gib_core.specs.Tight.{Tight}
-use Rattle.gib_app.specs.declared.plan.Job.TheVariants.{Run}
-use Rattle.gib_app.specs.declared.plan.Options.{Options}
+use Rattle.gib_words.specs.declared.plan.Job.TheVariants.{Run}
+use Rattle.gib_words.specs.declared.plan.Options.{Options}
 use Rattle.gib_app.specs.declared.status.Status.{Status}
 use Rattle.gib_app.specs.declared.status.Status.TheVariants as status
-use Rattle.gib_app.specs.Plan.{Document, Plan, bytes_in}
-use Rattle.gib_app.specs.Words.{asked}
+use Rattle.gib_words.specs.Plan.{Document, Plan, bytes_in}
+use Rattle.gib_words.specs.Words.{asked}
 use Rattle.gib_print.specs.Image.{IsImageOf, chunk_count}
 use Rattle.gib_app.specs.Cores.{core_after, layouts_of}
 use Rattle.gib_app.specs.Causes.{IsUnread}

@@ -1,60 +1,26 @@
--- What the code keeps of a plan, and of what a job made.
-use Rattle.std.specs.Prelude.{◌≡◌, ℕ, List, [], ◌∷◌, Option, None, Some, option_map, option_to_list}
+-- What the code keeps of an input, and of what a job made.
+use Rattle.std.specs.Prelude.{◌≡◌, ℕ, List, Option, None, option_map, option_to_list}
 use Rattle.gib_value.specs.Text.{AreHeld}
 use Rattle.gib_syntax.specs.Tree.{ProgramTree}
-use Rattle.gib_app.specs.declared.plan.Document.{Document as KeptDocument}
-use Rattle.gib_app.specs.declared.plan.Document.TheVariants as document
-use Rattle.gib_app.specs.declared.plan.Plan.{Plan as KeptPlan}
 use Rattle.gib_app.specs.declared.made.End.{End as KeptEnd}
 use Rattle.gib_app.specs.declared.made.End.TheVariants as ends
 use Rattle.gib_app.specs.declared.jobs.Given.{Given}
 use Rattle.gib_app.specs.declared.made.Finished.{Finished}
 use Rattle.gib_app.specs.declared.made.Made.{Made}
 use Rattle.gib_app.specs.declared.made.Valued.{Valued}
-use Rattle.gib_app.specs.declared.plan.Input.{Input as KeptInput}
+use Rattle.gib_app.specs.declared.inputs.Input.{Input as KeptInput}
 use Rattle.gib_app.specs.Formats.{Input}
-use Rattle.gib_app.specs.declared.plan.MadeNames.{MadeNames}
-use Rattle.gib_app.specs.declared.plan.Options.{Options}
-use Rattle.gib_app.specs.Plan.{Document, BuiltIn, Named, Write, Plan, Contents}
-use Rattle.gib_app.specs.Words.{made_source, made_input, first_writes}
+use Rattle.gib_words.specs.Plan.{Contents}
 use Rattle.gib_app.specs.Jobs.{End, Prints, NoValue}
 use Rattle.gib_mem.specs.Memory.{Grows}
 use Rattle.gib_arena.specs.Sole.{sole_memory}
 use Rattle.gib_app.specs.MachineRun.{StandsMeant, cells_of}
 use Rattle.gib_app.specs.Running.{text_line}
-
--- The document.
-abbrev pub document_of : KeptDocument → Document
-document_of (document.BuiltIn bytes) = BuiltIn bytes.now
-document_of (document.Named name) = Named name.now
-document_of (document.MadeSource number) = BuiltIn (made_source number)
-document_of (document.MadeInput number levels) = BuiltIn (made_input number levels)
-
--- The writes of a source and an input that are made, where they have names.
-abbrev pub first_of : Options → Option MadeNames → List Write
-first_of options None = []
-first_of options (Some names) = first_writes options names.source.now names.input.now
+use Rattle.gib_words.specs.Kept.{document_of}
 
 -- The input.
 abbrev pub input_of : KeptInput → Input
 input_of input = record { document = document_of input.document; most = input.most }
-
--- The inputs that are read: a third file only behind a second one.
-abbrev pub inputs_with : (second third : Option Document) → List Document
-inputs_with None third = []
-inputs_with (Some document) third = document ∷ option_to_list third
-
--- The plan.
-abbrev pub plan_of : KeptPlan → Plan
-plan_of plan = record {
-  first = first_of plan.options plan.first;
-  source = document_of plan.source;
-  inputs = inputs_with (option_map document_of plan.second) (option_map document_of plan.third);
-  target = option_map (λ name. name.now) plan.target;
-  pack = option_map (λ name. name.now) plan.pack;
-  job = plan.job;
-  options = plan.options;
-}
 
 -- The bytes of the inputs.
 abbrev pub contents_of : Given → Contents

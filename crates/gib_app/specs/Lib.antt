@@ -1,7 +1,4 @@
-pub mod Sample
-pub mod Plan
 pub mod Writes
-pub mod Words
 pub mod Running
 pub mod Packing
 pub mod Cores
@@ -32,5 +29,4 @@ pub mod FirstWrites
 pub mod Headline
 pub mod LocalHeadline
 pub mod Repeating
-pub mod Ranges
 pub mod GenericText

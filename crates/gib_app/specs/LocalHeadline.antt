@@ -15,10 +15,10 @@ use Rattle.gib_core.specs.Tight.{Tight}
 use Rattle.gib_core.specs.Tree.{CoreTree}
 use Rattle.gib_local.specs.Counting.{broken_text}
 use Rattle.gib_local.specs.Local.{Local}
-use Rattle.gib_app.specs.declared.plan.Job.TheVariants.{Local as RunLocated}
-use Rattle.gib_app.specs.declared.plan.Options.{Options}
-use Rattle.gib_app.specs.Plan.{Document, Plan, bytes_in}
-use Rattle.gib_app.specs.Words.{asked}
+use Rattle.gib_words.specs.declared.plan.Job.TheVariants.{Local as RunLocated}
+use Rattle.gib_words.specs.declared.plan.Options.{Options}
+use Rattle.gib_words.specs.Plan.{Document, Plan, bytes_in}
+use Rattle.gib_words.specs.Words.{asked}
 use Rattle.gib_app.specs.Causes.{IsUnread}
 
 -- To run the program of one document, which writes its places out, on the packed value of another.

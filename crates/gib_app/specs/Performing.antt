@@ -6,9 +6,9 @@ use Rattle.gib_app.specs.declared.status.Status.{Status}
 use Rattle.gib_app.specs.declared.status.Status.TheVariants as status
 use Rattle.gib_app.specs.declared.stop.Stop.{Stop}
 use Rattle.gib_app.specs.declared.stop.Stop.TheVariants.{Usage, Source, Unread, Input, NoValue, Memory, Unwritten, Unput}
-use Rattle.gib_app.specs.Plan.{Plan, Files}
+use Rattle.gib_words.specs.Plan.{Plan, Files}
 use Rattle.gib_app.specs.Writes.{at_reading, AreMade, AreWritten, IsTarget}
-use Rattle.gib_app.specs.Words.{asked}
+use Rattle.gib_words.specs.Words.{asked}
 use Rattle.gib_app.specs.declared.made.End.{End as KeptEnd}
 use Rattle.gib_app.specs.Jobs.{DoesAll}
 use Rattle.gib_app.specs.Kept.{EndsByBoth}

@@ -2,10 +2,10 @@
 use Rattle.std.specs.Prelude.{◌≡◌, ◌≤◌, ℕ, List, [], ◌∷◌, ◌++◌, length, Option, None, Some}
 use Rattle.gib_edge.specs.Causes.{Rose}
 use Rattle.gib_edge.specs.Views.{Has, ShelfView, SinkView}
-use Rattle.gib_app.specs.declared.plan.Job.TheVariants.{Replay, Trace}
-use Rattle.gib_app.specs.declared.plan.Options.{Options}
-use Rattle.gib_app.specs.Plan.{Document, Named, Plan, bytes_in}
-use Rattle.gib_app.specs.Words.{asked}
+use Rattle.gib_words.specs.declared.plan.Job.TheVariants.{Replay, Trace}
+use Rattle.gib_words.specs.declared.plan.Options.{Options}
+use Rattle.gib_words.specs.Plan.{Document, Named, Plan, bytes_in}
+use Rattle.gib_words.specs.Words.{asked}
 use Rattle.gib_app.specs.Causes.{IsUnread}
 
 -- To trace a run of the program of one document on the packed value of another, and to write its journal under a name.

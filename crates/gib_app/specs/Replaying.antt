@@ -30,9 +30,9 @@ use Rattle.gib_locked.specs.declared.settings.Settings.{Settings}
 use Rattle.gib_locked.specs.JournalText.{journal_text}
 use Rattle.gib_locked.specs.Lines.{are_lines}
 use Rattle.gib_locked.specs.Replays.{IsAnswered, IsLeftOpen, StopsAt}
-use Rattle.gib_app.specs.declared.plan.Options.{Options}
+use Rattle.gib_words.specs.declared.plan.Options.{Options}
 use Rattle.gib_app.specs.Cores.{core_after, layouts_of}
-use Rattle.gib_app.specs.Plan.{Contents}
+use Rattle.gib_words.specs.Plan.{Contents}
 use Rattle.gib_app.specs.Running.{IsInput, text_line}
 
 -- The first of the further inputs, or no bytes where there is none.

@@ -5,9 +5,9 @@ use Rattle.gib_syntax.specs.Tree.{ProgramTree}
 use Rattle.gib_core.specs.CoreText.{core_text}
 use Rattle.gib_code.specs.ListingText.{listing_text}
 use Rattle.gib_lower.specs.Lowering.{lower_program}
-use Rattle.gib_app.specs.declared.plan.Job.{Job}
-use Rattle.gib_app.specs.declared.plan.Job.TheVariants.{Run, Plain, Check, Core, Code, Pack, Show, Gen, Trace, Replay, Local}
-use Rattle.gib_app.specs.declared.plan.Options.{Options}
+use Rattle.gib_words.specs.declared.plan.Job.{Job}
+use Rattle.gib_words.specs.declared.plan.Job.TheVariants.{Run, Plain, Check, Core, Code, Pack, Show, Gen, Trace, Replay, Local}
+use Rattle.gib_words.specs.declared.plan.Options.{Options}
 use Rattle.gib_app.specs.Cores.{core_after}
 
 -- What is printed where all is well and nothing else is to be said.

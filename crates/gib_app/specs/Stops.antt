@@ -16,18 +16,18 @@ use Rattle.gib_app.specs.declared.input_fault.InputFault.{InputFault}
 use Rattle.gib_app.specs.declared.input_fault.InputFault.TheVariants as input
 use Rattle.gib_app.specs.declared.input_fault.PackedFault.{PackedFault}
 use Rattle.gib_app.specs.declared.made.Reason.{Reason}
-use Rattle.gib_app.specs.declared.plan.Job.{Job}
+use Rattle.gib_words.specs.declared.plan.Job.{Job}
 use Rattle.gib_app.specs.declared.source_fault.SourceFault.{SourceFault}
 use Rattle.gib_app.specs.declared.source_fault.SourceFault.TheVariants.{OverLimit}
 use Rattle.gib_base.specs.declared.Span.{Span}
 use Rattle.gib_base.specs.declared.token.Dialect.{Dialect}
 use Rattle.gib_syntax.specs.GenericTree.{GenericProgramTree}
 use Rattle.gib_mono.specs.Walk.{copies_of}
-use Rattle.gib_app.specs.declared.plan.Options.{Options}
+use Rattle.gib_words.specs.declared.plan.Options.{Options}
 use Rattle.gib_app.specs.declared.stop.Stop.{Stop}
 use Rattle.gib_app.specs.declared.stop.Stop.TheVariants.{Usage, Source, Unread, Input, NoValue, Memory, Unwritten, Unput}
 use Rattle.gib_app.specs.Rows.{FollowsJournal, row}
-use Rattle.gib_app.specs.Plan.{Document, Plan, Files, Contents}
+use Rattle.gib_words.specs.Plan.{Document, Plan, Files, Contents}
 use Rattle.gib_app.specs.Writes.{at_reading}
 use Rattle.gib_app.specs.Running.{Program, IsNoProgram, IsNoProgramIn, IsInput, IsShownValue}
 use Rattle.gib_app.specs.Packing.{IsPackedBy}

@@ -2,7 +2,7 @@
 use Rattle.std.specs.Prelude.{◌≡◌, ◌⊎◌, ℕ, List, [], ◌∷◌, ◌++◌, Option, Some, None, Bool, if◌then◌else◌, bytes_eq}
 use Rattle.gib_edge.specs.Causes.{Rose, IsUntold, told}
 use Rattle.gib_edge.specs.Views.{ShelfView}
-use Rattle.gib_app.specs.Plan.{Write, Plan, Files}
+use Rattle.gib_words.specs.Plan.{Write, Plan, Files}
 
 -- What names hold after a write.
 abbrev pub with_write : Bool → Files → Write → Files

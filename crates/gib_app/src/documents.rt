@@ -4,15 +4,15 @@ ghost use Rattle.std.specs.Prelude.{◌≡◌, ◌<◌, ◌≤◌, ◌^◌, ℕ,
 ghost use Rattle.gib_edge.specs.Causes.{Appends, AppendsPart};
 ghost use Rattle.gib_app.specs.Calls.{read_calls};
 ghost use Rattle.gib_app.specs.Ending.{ReadsStay};
-ghost use Rattle.gib_app.specs.Kept.{document_of};
+ghost use Rattle.gib_words.specs.Kept.{document_of};
 ghost use Rattle.gib_app.specs.Causes.{Holds, OnSource};
 ghost use Rattle.gib_app.specs.Stopping.{answer_for};
 ghost use Rattle.gib_app.specs.Stops.{IsReadStop};
 
-use crate::plan::Document;
 use crate::stop::Stop;
 use gib_edge::outside::{Shelf, ShelfFault};
 use gib_gen::make;
+use gib_words::plan::Document;
 use std::alloc::Global;
 
 /// The bytes, where they are at most so many.

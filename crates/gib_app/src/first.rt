@@ -3,14 +3,14 @@
 ghost use Rattle.std.specs.Prelude.{◌≡◌, [], ◌∷◌, IfErr, OnOk};
 ghost use Rattle.gib_app.specs.Ending.{StaysAfter};
 ghost use Rattle.gib_app.specs.FirstWrites.{HasWritten, HasStuck};
-ghost use Rattle.gib_app.specs.Kept.{plan_of};
+ghost use Rattle.gib_words.specs.Kept.{plan_of};
 ghost use Rattle.gib_app.specs.Stopping.{answer_for};
-ghost use Rattle.gib_app.specs.Words.{first_writes};
+ghost use Rattle.gib_words.specs.Words.{first_writes};
 
-use crate::plan::{MadeNames, Options, Plan};
 use crate::stop::Stop;
 use gib_edge::outside::{Shelf, ShelfFault};
 use gib_gen::make;
+use gib_words::plan::{MadeNames, Options, Plan};
 use std::alloc::Global;
 
 /// Writes a file.

@@ -3,7 +3,7 @@
 ghost use Rattle.std.specs.Prelude.{◌≡◌, ◌⊎◌, ◌++◌, ℕ, List, Bool, Some};
 ghost use Rattle.gib_edge.specs.Causes.{told};
 ghost use Rattle.gib_edge.specs.Views.{ShelfView, SinkView};
-ghost use Rattle.gib_app.specs.declared.plan.Options.{Options as OptionValues};
+ghost use Rattle.gib_words.specs.declared.plan.Options.{Options as OptionValues};
 ghost use Rattle.gib_app.specs.declared.status.Status.{Status as Statuses};
 ghost use Rattle.gib_app.specs.Ending.{IsEnding};
 ghost use Rattle.gib_app.specs.Jobs.{run_forks};

@@ -27,7 +27,6 @@ ghost use Rattle.gib_app.specs.MachineRun.{StandsMeant, RunsFor, IsMachineStop, 
 use crate::lowering::lowered;
 use crate::made::Reason;
 use crate::packed::{survey_input, survey_typed};
-use crate::plan::Options;
 use crate::runtime::Runtime;
 use crate::stop::Stop;
 use gib_arena::SoleMem;
@@ -46,6 +45,7 @@ use gib_pool::{Config, Loaded, run_by};
 use gib_print::{PrintFault, print_at};
 use gib_region::Tails;
 use gib_weave::{RunFault, run};
+use gib_words::plan::Options;
 use std::alloc::Global;
 use std::sync::Wait;
 use std::thread::Threads;

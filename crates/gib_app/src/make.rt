@@ -10,23 +10,24 @@ ghost use Rattle.gib_app.specs.Formats.{dialect_of, most_of, inputs_of};
 ghost use Rattle.gib_app.specs.Causes.{AreFurther, AreGiven, OnSource, first_of, further_of};
 ghost use Rattle.gib_app.specs.Calls.{read_calls, input_calls, reads_of};
 ghost use Rattle.gib_app.specs.Readings.{HasRead, HasStopped};
-ghost use Rattle.gib_app.specs.Kept.{contents_of, document_of, plan_of, file_of, packed_of};
+ghost use Rattle.gib_words.specs.Kept.{document_of, plan_of};
+ghost use Rattle.gib_app.specs.Kept.{contents_of, file_of, packed_of};
 ghost use Rattle.gib_app.specs.FromSource.{StandsFor, IsTaken, IsTakingStop, IsFinished};
 ghost use Rattle.gib_app.specs.MachineRun.{RunsFor};
 ghost use Rattle.gib_app.specs.Running.{Program, sourced};
 ghost use Rattle.gib_app.specs.Stops.{IsReady, IsSourceStop, IsInputStop, IsFurtherStop, IsInputsStop, IsMakeStop};
 ghost use Rattle.gib_app.specs.Performing.{IsDone, IsOfRun};
-ghost use Rattle.gib_app.specs.Ranges.{AreInRange};
+ghost use Rattle.gib_words.specs.Ranges.{AreInRange};
 
 use crate::compile::{Compiled, compile};
 use crate::documents::read_document;
 use crate::input_fault::InputFault;
+use crate::inputs::{dialect_of, second_input, third_input};
 use crate::jobs::local::local;
 use crate::jobs::{Given, do_job, unpacked};
 use crate::located::{LocatedCore, locate};
 use crate::made::Finished;
 use crate::packed::survey_input;
-use crate::plan::{Document, Plan};
 use crate::runtime::Runtime;
 use crate::source_fault::SourceFault;
 use crate::stop::Stop;
@@ -35,6 +36,7 @@ use gib_base::limits::SOURCE_BYTES;
 use gib_base::token::Dialect;
 use gib_check::Typed;
 use gib_edge::outside::{Gate, Shelf};
+use gib_words::plan::{Document, Plan};
 use std::alloc::Global;
 use std::sync::Wait;
 use std::thread::Threads;
@@ -109,7 +111,7 @@ fn read_second<'a, S: Shelf>(
     ensures read { OnOk result (HasRead (S.view shelf.old) (S.view shelf.new) (input_calls (first_of (inputs_of (plan_of plan.entry))))) }
     ensures stopped { IfErr result (HasStopped (S.view shelf.old) (S.view shelf.new) (input_calls (first_of (inputs_of (plan_of plan.entry))))) }
 {
-    let Some(input) = plan.second_input() else {
+    let Some(input) = second_input(plan) else {
         return Ok(Vec::new(alloc));
     };
     match read_document(shelf, alloc, input.document, input.most) {
@@ -140,7 +142,7 @@ fn read_third<'a, S: Shelf>(
     ensures read { OnOk result (HasRead (S.view shelf.old) (S.view shelf.new) (input_calls (further_of (inputs_of (plan_of plan.entry))))) }
     ensures stopped { IfErr result (HasStopped (S.view shelf.old) (S.view shelf.new) (input_calls (further_of (inputs_of (plan_of plan.entry))))) }
 {
-    let Some(third) = plan.third_input() else {
+    let Some(third) = third_input(plan) else {
         return Ok(None);
     };
     let survey = match survey_input(alloc, typed, names, second) {
@@ -324,7 +326,7 @@ pub fn make<'a, R: Threads + Wait + Sync, S: Shelf, G: Gate + Sync>(
     ensures read { OnOk result (HasRead (S.view shelf.old) (S.view shelf.new) (reads_of (plan_of plan.entry))) }
     ensures stopped { IfErr result (HasStopped (S.view shelf.old) (S.view shelf.new) (reads_of (plan_of plan.entry))) }
 {
-    let taken = match take_source(alloc, shelf, plan.job.dialect(), plan.source) {
+    let taken = match take_source(alloc, shelf, dialect_of(plan.job), plan.source) {
         Ok(taken) => taken,
         Err(stop) => return Err(stop),
     };

@@ -6,7 +6,7 @@ ghost use Rattle.gib_edge.specs.Views.{ReadOf};
 ghost use Rattle.gib_app.specs.Ending.{ReadsStay, OutStays};
 ghost use Rattle.gib_app.specs.Lines.{IsPut};
 ghost use Rattle.gib_app.specs.Stopping.{answer_of};
-ghost use Rattle.gib_app.specs.Words.{bytes_of};
+ghost use Rattle.gib_words.specs.Words.{bytes_of};
 ghost use Rattle.gib_located.specs.LocatedSource.{HasCoreText, IsFault, IsUnreadSource, IsPrinted, IsCallFault, IsEnd, answer_for_fault, located_calls};
 
 use gib_app::Status;

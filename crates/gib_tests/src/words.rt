@@ -1,10 +1,10 @@
 //! Words of command lines with what they ask for.
 
 use crate::harness::words_of;
-use gib_app::matches::usual;
-use gib_app::plan::{Document, Job, Options, Plan};
-use gib_app::sample::{SAMPLE_INPUT, SAMPLE_SOURCE};
-use gib_app::words::read_words;
+use gib_words::matches::usual;
+use gib_words::plan::{Document, Job, Options, Plan};
+use gib_words::sample::{SAMPLE_INPUT, SAMPLE_SOURCE};
+use gib_words::words::read_words;
 use std::alloc::{AllocError, Global};
 use std::test::Fail;
 

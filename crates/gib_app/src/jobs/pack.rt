@@ -13,7 +13,6 @@ use crate::compile::Compiled;
 use crate::input_fault::InputFault;
 use crate::made::{End, Made};
 use crate::packed::read_packed;
-use crate::plan::Options;
 use crate::printing::ok_answer;
 use crate::stop::Stop;
 use gib_base::Memory;
@@ -21,6 +20,7 @@ use gib_base::limits::FILE_BYTES;
 use gib_file::{one_file, pack as packed_file};
 use gib_value::law::texts_differ;
 use gib_value::{TextFault, Value, read_text};
+use gib_words::plan::Options;
 use std::alloc::Global;
 
 /// The bytes without the line feed at their end, where one stands there.

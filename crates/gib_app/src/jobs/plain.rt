@@ -14,7 +14,6 @@ ghost use Rattle.gib_app.specs.Stops.{IsReady, IsRunStop};
 use crate::compile::Compiled;
 use crate::made::{Made, Reason};
 use crate::packed::read_packed;
-use crate::plan::Options;
 use crate::printing::{no_value, only_prints, value_line};
 use crate::stop::Stop;
 use gib_base::Memory;
@@ -22,6 +21,7 @@ use gib_base::limits::FILE_BYTES;
 use gib_plain::{Outcome, plain as evaluated};
 use gib_syntax::law::results_are_typed;
 use gib_value::Value;
+use gib_words::plan::Options;
 use std::alloc::Global;
 
 /// The text of the value that a program means, with a line feed, or why there is none.

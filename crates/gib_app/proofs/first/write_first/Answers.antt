@@ -1,7 +1,7 @@
 use Rattle.std.proofs.Common.{sym, subst, Option}
-use Rattle.gib_app.specs.declared.plan.MadeNames.{MadeNames}
+use Rattle.gib_words.specs.declared.plan.MadeNames.{MadeNames}
 use Rattle.gib_app.specs.FirstWrites.{HasStuck}
-use Rattle.gib_app.specs.Kept.{first_of}
+use Rattle.gib_words.specs.Kept.{first_of}
 use Rattle.gib_app.proofs.first.write_first.Goals as goal
 
 -- src/first.rt

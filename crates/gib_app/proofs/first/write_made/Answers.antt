@@ -1,6 +1,6 @@
 use Rattle.std.proofs.Common.{◌∙◌, subst, List, [], ◌∷◌, ℕ}
 use Rattle.gib_app.specs.FirstWrites.{HasWritten, HasStuck}
-use Rattle.gib_app.specs.Words.{made_source, made_input}
+use Rattle.gib_words.specs.Words.{made_source, made_input}
 use Rattle.gib_app.proofs.FirstWriting.{then_stuck, first_stuck}
 use Rattle.gib_app.proofs.first.write_made.Goals as goal
 

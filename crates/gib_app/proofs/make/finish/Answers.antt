@@ -3,7 +3,7 @@ use Rattle.gib_base.specs.Texts.{TextsView}
 use Rattle.gib_app.specs.declared.make.Taken.{Taken}
 use Rattle.gib_app.specs.Formats.{dialect_of}
 use Rattle.gib_app.specs.FromSource.{StandsFor}
-use Rattle.gib_app.specs.Kept.{plan_of}
+use Rattle.gib_words.specs.Kept.{plan_of}
 use Rattle.gib_app.specs.Running.{Program}
 use Rattle.gib_app.specs.Stops.{IsInputsStop}
 use Rattle.gib_app.proofs.Finishing.{by_core, by_program}

@@ -2,8 +2,9 @@ use Rattle.std.proofs.Common.{List, ℕ, ◌≤◌, [], length, IfErr, IfOk, sub
 use Rattle.gib_app.specs.Calls.{input_calls}
 use Rattle.gib_app.specs.Formats.{inputs_of}
 use Rattle.gib_app.specs.Jobs.{RunsLocated}
-use Rattle.gib_app.specs.Kept.{plan_of, EndsBy, file_of}
-use Rattle.gib_app.specs.Plan.{Contents}
+use Rattle.gib_words.specs.Kept.{plan_of}
+use Rattle.gib_app.specs.Kept.{EndsBy, file_of}
+use Rattle.gib_words.specs.Plan.{Contents}
 use Rattle.gib_app.specs.Remains.{ComesOfCore}
 use Rattle.gib_app.specs.Stops.{IsRunStop}
 use Rattle.gib_app.proofs.AfterReads.{first_stopped, stopped_behind}

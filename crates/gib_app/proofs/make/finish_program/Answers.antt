@@ -6,8 +6,9 @@ use Rattle.gib_app.specs.declared.made.Finished.{Finished}
 use Rattle.gib_app.specs.Calls.{input_calls}
 use Rattle.gib_app.specs.Formats.{inputs_of}
 use Rattle.gib_app.specs.Jobs.{DoesAll}
-use Rattle.gib_app.specs.Kept.{plan_of, EndsByBoth, file_of, packed_of}
-use Rattle.gib_app.specs.Plan.{Contents}
+use Rattle.gib_words.specs.Kept.{plan_of}
+use Rattle.gib_app.specs.Kept.{EndsByBoth, file_of, packed_of}
+use Rattle.gib_words.specs.Plan.{Contents}
 use Rattle.gib_app.specs.Remains.{ComesOfRun}
 use Rattle.gib_app.specs.Rows.{row}
 use Rattle.gib_app.specs.Stops.{FailsTo}

@@ -1,7 +1,7 @@
 use Rattle.std.proofs.Common.{refl, sym}
 use Rattle.gib_app.specs.Calls.{input_calls, read_calls}
 use Rattle.gib_app.specs.Formats.{inputs_of}
-use Rattle.gib_app.specs.Kept.{plan_of}
+use Rattle.gib_words.specs.Kept.{plan_of}
 use Rattle.gib_app.proofs.AfterReads.{both_read, stopped_in_front, stopped_next}
 use Rattle.gib_app.proofs.Making.{source_stop, stop_in}
 use Rattle.gib_app.proofs.Finishing.{taken_stands, all_comes, all_done, all_stops}

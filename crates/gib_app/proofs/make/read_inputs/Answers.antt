@@ -3,7 +3,7 @@ use Rattle.std.specs.Prelude.{option_map, option_to_list}
 use Rattle.gib_syntax.specs.Parts.{program_of}
 use Rattle.gib_app.specs.Running.{sourced}
 use Rattle.gib_app.specs.Formats.{inputs_of}
-use Rattle.gib_app.specs.Kept.{plan_of}
+use Rattle.gib_words.specs.Kept.{plan_of}
 use Rattle.gib_app.specs.Stops.{IsFurtherStop}
 use Rattle.gib_app.proofs.AfterReads.{first_stopped, further_stopped, inputs_read}
 use Rattle.gib_app.proofs.Making.{first_stops, further_stops, inputs_given}

@@ -1,7 +1,7 @@
 use Rattle.gib_app.specs.Calls.{read_calls}
 use Rattle.gib_app.specs.Causes.{first_of}
 use Rattle.gib_app.specs.Formats.{inputs_of}
-use Rattle.gib_app.specs.Kept.{document_of, plan_of}
+use Rattle.gib_words.specs.Kept.{document_of, plan_of}
 use Rattle.gib_app.proofs.AfterReads.{none_there, one_read, one_stopped, stopped_behind}
 use Rattle.gib_app.proofs.Making.{long_input, found_none}
 use Rattle.gib_app.proofs.make.read_second.Goals as goal

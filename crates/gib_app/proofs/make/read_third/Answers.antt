@@ -3,7 +3,7 @@ use Rattle.gib_app.specs.Running.{sourced}
 use Rattle.gib_app.specs.Calls.{input_calls, read_calls}
 use Rattle.gib_app.specs.Causes.{further_of}
 use Rattle.gib_app.specs.Formats.{inputs_of}
-use Rattle.gib_app.specs.Kept.{document_of, plan_of}
+use Rattle.gib_words.specs.Kept.{document_of, plan_of}
 use Rattle.gib_app.proofs.AfterReads.{none_begun, none_there, one_read, one_stopped, stopped_behind}
 use Rattle.gib_app.proofs.Making.{first_taken, found_none, found_some, further_none, further_one, long_further, read_further_stop, unsurveyed}
 use Rattle.gib_app.proofs.make.read_third.Goals as goal

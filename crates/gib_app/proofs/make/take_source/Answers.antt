@@ -1,7 +1,7 @@
 use Rattle.std.proofs.Common.{List, ℕ, subst}
 use Rattle.gib_app.specs.Calls.{read_calls}
 use Rattle.gib_app.specs.FromSource.{IsTaken, IsTakingStop}
-use Rattle.gib_app.specs.Kept.{document_of}
+use Rattle.gib_words.specs.Kept.{document_of}
 use Rattle.gib_app.proofs.AfterReads.{stopped_behind}
 use Rattle.gib_app.proofs.Making.{found_none, found_some, long_source, taking_source}
 use Rattle.gib_app.proofs.make.take_source.Goals as goal

@@ -1,4 +1,5 @@
-use Rattle.gib_app.proofs.Forms.{in_range, have_settings}
+use Rattle.gib_words.proofs.Forms.{in_range}
+use Rattle.gib_app.proofs.Settings.{have_settings}
 use Rattle.gib_app.proofs.option_law.options_are_in_range.Goals as goal
 
 pub returns-clause-range : goal.returns-clause-range

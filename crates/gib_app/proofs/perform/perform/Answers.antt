@@ -1,11 +1,12 @@
 use Rattle.std.proofs.Common.{rules, inl}
-use Rattle.gib_app.specs.Kept.{plan_of, file_of, packed_of}
+use Rattle.gib_words.specs.Kept.{plan_of}
+use Rattle.gib_app.specs.Kept.{file_of, packed_of}
 use Rattle.gib_app.proofs.Fitting.{are_ordered}
 use Rattle.gib_app.proofs.Making.{make_stop}
 use Rattle.gib_app.proofs.Staging.{stuck_stop, stuck_others, stuck_reads_later, stuck_reads, stuck_once}
 use Rattle.gib_app.proofs.Staging.{kept_others, kept_files, reads_on, reads_stay, writes_on, writes_stay, made_once}
 use Rattle.gib_app.proofs.Staging.{is_performed, value_stays, written_others, written_once, written_later, unwritten_stop, unwritten_others, unwritten_files, unwritten_once, all_reads, all_reads_later, all_writes, all_writes_later, unwritten_counts}
-use Rattle.gib_app.proofs.Forms.{in_range}
+use Rattle.gib_words.proofs.Forms.{in_range}
 use Rattle.gib_app.proofs.perform.perform.Goals as goal
 
 -- ---- The first writes failed

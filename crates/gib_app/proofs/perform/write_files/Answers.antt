@@ -1,5 +1,6 @@
 use Rattle.gib_app.specs.Writes.{writes_of}
-use Rattle.gib_app.specs.Kept.{plan_of, file_of, packed_of}
+use Rattle.gib_words.specs.Kept.{plan_of}
+use Rattle.gib_app.specs.Kept.{file_of, packed_of}
 use Rattle.gib_app.proofs.JobWriting.{second_stuck, one_stuck, stays_or_between}
 use Rattle.gib_app.proofs.perform.write_files.Goals as goal
 

@@ -4,7 +4,7 @@ use Rattle.gib_weave.specs.Running.{word_of}
 use Rattle.gib_weave.specs.Weave.{weave_start}
 use Rattle.gib_app.proofs.JournalEnds.{loaded_stops}
 use Rattle.std.proofs.Common.{arith}
-use Rattle.gib_app.proofs.Ranges.{few_chunks}
+use Rattle.gib_app.proofs.Settings.{few_chunks}
 use Rattle.gib_app.proofs.replaying.replay_survey.Goals as goal
 
 pub returns-in-Err-clause-stop : goal.returns-in-Err-clause-stop

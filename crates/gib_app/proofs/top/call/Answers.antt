@@ -2,9 +2,9 @@ use Rattle.std.proofs.Common.{◌≡◌, List, ℕ, length, Option, Some, None, 
 use Rattle.gib_print.specs.declared.fault.PrintFault.{PrintFault}
 use Rattle.gib_edge.specs.Causes.{Appends, AppendsPart, PutsPieces, PutsSomePieces}
 use Rattle.gib_app.specs.declared.made.End.{End as KeptEnd}
-use Rattle.gib_app.specs.declared.plan.Plan.{Plan as KeptPlan}
-use Rattle.gib_app.specs.Words.{asked, bytes_of}
-use Rattle.gib_app.specs.Kept.{plan_of}
+use Rattle.gib_words.specs.declared.plan.Plan.{Plan as KeptPlan}
+use Rattle.gib_words.specs.Words.{asked, bytes_of}
+use Rattle.gib_words.specs.Kept.{plan_of}
 use Rattle.gib_app.specs.Performing.{IsPerformed}
 use Rattle.gib_app.specs.declared.status.Status.TheVariants as status
 use Rattle.gib_app.proofs.Performing.{files_of, others_stay, unput_files, value_files, valueless_files, without_value, prints, prints_part, prints_value, prints_value_part}

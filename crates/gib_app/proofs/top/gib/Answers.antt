@@ -1,6 +1,6 @@
 use Rattle.std.proofs.Common.{[], refl, sym, subst, arith}
 use Rattle.gib_app.specs.declared.status.Status.TheVariants as status
-use Rattle.gib_app.specs.Words.{bytes_of}
+use Rattle.gib_words.specs.Words.{bytes_of}
 use Rattle.gib_edge.specs.Views.{ShelfView, SinkView}
 use Rattle.gib_app.specs.Lines.{line, said_text}
 use Rattle.gib_app.specs.Ending.{IsEnding, IsDueOrScarce}

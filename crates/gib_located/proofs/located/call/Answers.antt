@@ -1,5 +1,5 @@
 use Rattle.std.proofs.Common.{ℕ, List, subst}
-use Rattle.gib_app.specs.Words.{bytes_of}
+use Rattle.gib_words.specs.Words.{bytes_of}
 use Rattle.gib_located.specs.LocatedSource.{IsFault}
 use Rattle.gib_located.proofs.Faults.{fault_ends}
 use Rattle.gib_located.proofs.Reading.{read_whole}

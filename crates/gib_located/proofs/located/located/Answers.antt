@@ -2,7 +2,7 @@ use Rattle.std.proofs.Common.{[], inl, inr, refl, sym, subst}
 use Rattle.gib_edge.specs.Views.{ShelfView, SinkView}
 use Rattle.gib_app.specs.Lines.{line, said_text}
 use Rattle.gib_app.specs.Stopping.{Answer}
-use Rattle.gib_app.specs.Words.{bytes_of}
+use Rattle.gib_words.specs.Words.{bytes_of}
 use Rattle.gib_located.specs.LocatedSource.{IsEnd}
 use Rattle.gib_located.proofs.Saying.{nothing_put, line_put}
 use Rattle.gib_located.proofs.located.located.Goals as goal

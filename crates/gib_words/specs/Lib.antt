@@ -1,0 +1,5 @@
+pub mod Sample
+pub mod Plan
+pub mod Words
+pub mod Kept
+pub mod Ranges

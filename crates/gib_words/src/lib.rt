@@ -1,0 +1,9 @@
+//! The words of a command line: what they ask for, as a plan of files and a job.
+#![tactic(auto)]
+
+mod commands;
+pub mod matches;
+pub mod plan;
+pub mod sample;
+pub mod word_laws;
+pub mod words;
