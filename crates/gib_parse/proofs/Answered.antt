@@ -7,17 +7,17 @@ use Rattle.gib_base.specs.Lexed.{Lexed}
 use Rattle.gib_syntax.specs.GenericTree.{GenericProgramTree}
 use Rattle.gib_syntax.specs.Spelling.{places_of, Derives, IsPlacedProgram, levels_program}
 use Rattle.gib_syntax.specs.GenericParts.{GenericParts, generic_program_of}
-use Rattle.gib_parse.specs.declared.fault.ParseFault.{ParseFault}
-use Rattle.gib_parse.specs.declared.fault.ParseFault.TheVariants as fault
-use Rattle.gib_parse.specs.declared.stop.Stop.{Stop}
-use Rattle.gib_parse.specs.declared.stop.Stop.TheVariants as stop
+use Rattle.gib_reads.specs.declared.fault.ParseFault.{ParseFault}
+use Rattle.gib_reads.specs.declared.fault.ParseFault.TheVariants as fault
+use Rattle.gib_reads.specs.declared.stop.Stop.{Stop}
+use Rattle.gib_reads.specs.declared.stop.Stop.TheVariants as stop
 use Rattle.gib_parse.specs.Reading.{Fault, At, Nested, Read, whole}
 use Rattle.gib_parse.specs.Parsing.{Fails}
 use Rattle.gib_parse.specs.Answers.{read_of, AnswersRead, AnswersOnly, AnswersFault, fault_of}
 use Rattle.gib_parse.specs.Blaming.{place_of, IsBlamedAt, IsTooDeepAt}
-use Rattle.gib_parse.proofs.Tools.{done, failed}
-use Rattle.gib_parse.proofs.Local.{Refused, Deep}
-use Rattle.gib_parse.proofs.BeginProgram.{whole_begun}
+use Rattle.gib_reads.proofs.Tools.{done, failed}
+use Rattle.gib_reads.proofs.Local.{Refused, Deep}
+use Rattle.gib_parse.proofs.WholeLaws.{whole_begun}
 use Rattle.gib_parse.proofs.OneFault.{one_blamed, one_too_deep, not_both, not_blamed, not_too_deep}
 use Rattle.gib_parse.proofs.Sunk.{whole_begun_with, whole_sinks, whole_floats}
 use Rattle.gib_parse.proofs.Whole.{whole_reads, derived_is_read, placed_is_read, whole_blames, whole_deepens, whole_within}

@@ -14,10 +14,10 @@ use Rattle.gib_syntax.specs.GenericFine.{is_generic_application, is_generic_atom
 use Rattle.gib_syntax.specs.Results.{AreSeveral, AreSides}
 use Rattle.gib_syntax.specs.Spelling.{Places, spell, spell_arguments, spell_further_parts, spell_arms, spell_variables, spell_further_names, spell_names, spell_operator, spell_bit, spell_written, spell_type_arguments}
 use Rattle.gib_parse.specs.Reading.{Nested, Mode, Any, App, Atom, Read, Reader, Parts, then_at, want, before, named, var_at, next_is, many_step, many, is_variable, is_sign, is_literal, literal_at, starts_atom, starts_expression, starts, ArmTree, arms_of, arm_at, next_arm_at, arms_at, arguments_of, arguments_at, next_name_at, several_names_at, one_name_at, names_bound_at, let_of, par_of, bind_at, par_at, let_at, if_at, case_at, side_at, close_at, open_at, next_part_at, tuple_at, close_any_at, open_any_at, type_arguments_at, call, called_at, variable_at, make_at, constant_at, atom_at, app_at, any_at, no_level, parse}
-use Rattle.gib_parse.proofs.Tools.{done, failed}
-use Rattle.gib_parse.proofs.Many.{Shrinks, many_none, many_is}
-use Rattle.gib_parse.proofs.Sound.{IsMode, atom_is_application}
-use Rattle.gib_parse.proofs.Longer.{parse_shrinks, var_shrinks, next_shrinks, next_name_shrinks, next_part_shrinks}
+use Rattle.gib_reads.proofs.Tools.{done, failed}
+use Rattle.gib_reads.proofs.Many.{Shrinks, many_none, many_is, var_shrinks}
+use Rattle.gib_parse.proofs.ExpressionLaws.{IsMode, atom_is_application}
+use Rattle.gib_parse.proofs.WholeLaws.{parse_shrinks, next_shrinks, next_name_shrinks, next_part_shrinks}
 use Rattle.gib_parse.proofs.Settle.{settle, settle_arguments, settle_arms, settle_name, settle_names, settle_further_names, settle_bound, settle_parts, settle_type, settle_written, settled_application}
 use Rattle.gib_parse.proofs.WrittenComes.{goes_on, ends_parts, atom_no_bracket, type_arguments_none, type_arguments_come}
 use Rattle.gib_syntax.specs.Forms.{WrittenType, WrittenTypes, NoType, MoreTypes}

@@ -19,13 +19,12 @@ use Rattle.gib_syntax.specs.Spelling.{Places}
 use Rattle.gib_syntax.specs.GenericArena.{Arena, Grows}
 use Rattle.gib_syntax.specs.GenericParts.{IsFunctionInside, constructor_in, data_in, parameter_in, results_in, function_in}
 use Rattle.gib_syntax.proofs.GenericLayers.{type_run_grows, types_run_grows}
-use Rattle.gib_parse.specs.declared.stop.Stop.{Stop}
+use Rattle.gib_reads.specs.declared.stop.Stop.{Stop}
 use Rattle.gib_parse.specs.Reading.{Read, Any, next_is, is_sign, many, parse, constructor_at, alternative_at, constructors_at, data_at, parameter_at, parameters_at, next_type_at, function_at, main_at, program_at}
 use Rattle.gib_parse.specs.Parsing.{Fails, IsTypeIn, AreResultsIn, IsConstructorIn, IsDataIn, IsParameterIn, AllStand}
-use Rattle.gib_parse.proofs.Tools.{done}
-use Rattle.gib_parse.proofs.ProgramSound.{alternative_shrinks, data_shrinks, parameter_shrinks, function_shrinks}
-use Rattle.gib_parse.proofs.Local.{next_types_shrink}
-use Rattle.gib_parse.proofs.SoFar.{one_and_more, none_yet, first_one, first_fails, all_read, one_fails, shorter}
+use Rattle.gib_reads.proofs.Tools.{done}
+use Rattle.gib_parse.proofs.WholeLaws.{alternative_shrinks, data_shrinks, parameter_shrinks, function_shrinks, next_types_shrink}
+use Rattle.gib_reads.proofs.SoFar.{one_and_more, none_yet, first_one, first_fails, all_read, one_fails, shorter}
 use Rattle.gib_parse.proofs.PartsSoFar.{grows_none, PartsSoFar, parts_more, parts_stand, seen, seen_same, within_more}
 
 -- ---- each stays as the arena grows

@@ -11,17 +11,17 @@ use Rattle.gib_syntax.specs.declared.tree.Ident.{Ident}
 use Rattle.gib_syntax.specs.GenericTree.{GenericExpression, GenericArguments, GenericArms, GenericCall, GenericCase, GenericTuple, GenericNoArgument, GenericArgument, GenericLastArm, GenericNextArm}
 use Rattle.gib_syntax.specs.Spelling.{Places}
 use Rattle.gib_syntax.specs.GenericArena.{Arena, Grows, ArmsBelow, tree_of, arguments_from, arms_from, nothing}
-use Rattle.gib_parse.specs.declared.stop.Stop.{Stop}
-use Rattle.gib_parse.specs.declared.stop.Stop.TheVariants as stop
+use Rattle.gib_reads.specs.declared.stop.Stop.{Stop}
+use Rattle.gib_reads.specs.declared.stop.Stop.TheVariants as stop
 use Rattle.gib_base.specs.declared.Span.{Span}
 use Rattle.gib_parse.specs.Reading.{Parts, var_at, want, case_at, Read, Reader, Any, Atom, then_at, next_is, is_sign, starts_atom, many, parse, ArmTree, arms_of, arguments_of, arm_at, next_arm_at, arms_at, arguments_at, call, called_at, At, before, literal_at, no_level, atom_at, close_at, next_part_at, tuple_at, operation_at, operator_of}
 use Rattle.gib_parse.specs.Parsing.{Fails, AllStand, IsExpressionIn, ReadsArms, arm_tree, arms_tree, call_tree}
 use Rattle.gib_syntax.specs.Forms.{WrittenType, WrittenTypes, NoType, MoreTypes}
 use Rattle.gib_base.specs.declared.token.Token.TheVariants as t
 use Rattle.gib_parse.proofs.Complete.{argument_and_more}
-use Rattle.gib_parse.proofs.Tools.{done, failed}
-use Rattle.gib_parse.proofs.Longer.{parse_shrinks, next_shrinks, next_part_shrinks}
-use Rattle.gib_parse.proofs.SoFar.{one_and_more, none_yet, first_one, first_fails, all_read, one_fails, shorter}
+use Rattle.gib_reads.proofs.Tools.{done, failed}
+use Rattle.gib_parse.proofs.WholeLaws.{parse_shrinks, next_shrinks, next_part_shrinks}
+use Rattle.gib_reads.proofs.SoFar.{one_and_more, none_yet, first_one, first_fails, all_read, one_fails, shorter}
 use Rattle.gib_parse.proofs.PartsSoFar.{grows_none, grows_more, PartsSoFar, parts_more, parts_stand, seen}
 
 -- ---- arguments

@@ -1,27 +1,27 @@
+-- At their old places, what stands with the readers.
 pub mod Tools
-pub mod Written
 pub mod Many
-pub mod Sound
+pub mod SoFar
+-- The readers of the grammar, each with all its laws, and what the whole reader so is.
+pub mod TypeLaws
+pub mod ExpressionLaws
+pub mod LevelLaws
+pub mod ProgramLaws
+pub mod WholeLaws
+-- A given tree: what its tokens are read as, and where they stand.
 pub mod Settle
-pub mod Longer
+pub mod ProgramSettle
 pub mod WrittenComes
 pub mod Come
-pub mod Nested
 pub mod Complete
-pub mod Local
-pub mod ProgramSound
-pub mod ProgramSettle
 pub mod ProgramComplete
-pub mod ProgramLocal
-pub mod Whole
-pub mod Past
-pub mod Begin
-pub mod BeginWritten
-pub mod BeginExpression
-pub mod BeginProgram
+-- Expressions that are nested too deep; the one fault of tokens; the whole.
+pub mod Nested
 pub mod Sunk
 pub mod OneFault
-pub mod SoFar
+pub mod Whole
+pub mod Printed
+-- The functions: loops as far as they have come, open types, calls, bodies.
 pub mod PartsSoFar
 pub mod Opening
 pub mod Calls
@@ -31,4 +31,3 @@ pub mod Several
 pub mod ExpressionLoops
 pub mod DeclarationLoops
 pub mod Answered
-pub mod Printed

@@ -13,8 +13,8 @@ use Rattle.gib_syntax.specs.declared.written.Word.TheVariants as w
 use Rattle.gib_syntax.specs.Forms.{WrittenType, WrittenTypes, WholeAt, TruthAt, VariableAt, DataAt, NoType, count_written}
 use Rattle.gib_syntax.specs.Spelling.{Places}
 use Rattle.gib_syntax.specs.Words.{words_of, words_in, all_types, first_type, stack_of, run_words, type_in, types_in, IsRunIn, IsTypeRun, IsTypesRun}
-use Rattle.gib_parse.specs.declared.stop.Stop.{Stop}
-use Rattle.gib_parse.specs.declared.stop.Stop.TheVariants as stop
+use Rattle.gib_reads.specs.declared.stop.Stop.{Stop}
+use Rattle.gib_reads.specs.declared.stop.Stop.TheVariants as stop
 use Rattle.gib_parse.specs.declared.types.Next.TheVariants as next
 use Rattle.gib_parse.specs.declared.types.OpenType.{OpenType}
 use Rattle.gib_base.specs.declared.name.Name.{Name}
@@ -23,9 +23,9 @@ use Rattle.gib_syntax.proofs.Reading.{read_one, read_all, read_list}
 use Rattle.gib_parse.specs.Reading.{At, Read, Reader, then_at, want, before, named, next_is, many, starts_type, Opened, inside, type_at, bracket_at}
 use Rattle.gib_parse.specs.Parsing.{Fails, Follows, FailsHere, ReadsWords, ReadsAllWords}
 use Rattle.gib_parse.specs.OpenTypes.{TypeState, IsPlaceBelow, AreThere, open_type, counted, unclosed, IsKept, AreKept, InType, AfterToken}
-use Rattle.gib_parse.proofs.Tools.{done, failed}
-use Rattle.gib_parse.proofs.Longer.{type_shrinks}
-use Rattle.gib_parse.proofs.SoFar.{SoFar, none_yet, one_more, all_read, one_fails, shorter}
+use Rattle.gib_reads.proofs.Tools.{done, failed}
+use Rattle.gib_parse.proofs.WholeLaws.{type_shrinks}
+use Rattle.gib_reads.proofs.SoFar.{SoFar, none_yet, one_more, all_read, one_fails, shorter}
 
 -- ---- words of listed types
 

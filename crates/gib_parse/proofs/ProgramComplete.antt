@@ -12,15 +12,12 @@ use Rattle.gib_syntax.specs.GenericFine.{IsGenericFine, IsGenericFineFunction, I
 use Rattle.gib_syntax.specs.Spelling.{Places, spell_variables, spell_type_parameters, spell, spell_type, spell_types, spell_constructor, spell_more, spell_constructors, spell_data, spell_datas, spell_parameter, spell_parameters, spell_further_types, spell_results, spell_body, spell_function, spell_functions, spell_main, spell_program}
 use Rattle.gib_parse.specs.Reading.{Any, Read, then_at, want, names_at, type_parameters_at, type_at, next_is, many, starts_type, is_sign, constructor_at, alternative_at, constructors_at, data_at, parameter_at, parameters_at, next_type_at, further_types_at, one_type_at, results_at, body_at, function_at, main_at, program_at, ends_at, whole_in, parse}
 use Rattle.gib_parse.specs.Nesting.{below, below_functions, below_program}
-use Rattle.gib_parse.proofs.Tools.{done}
-use Rattle.gib_parse.proofs.Longer.{type_shrinks}
+use Rattle.gib_reads.proofs.Tools.{done}
+use Rattle.gib_parse.proofs.WholeLaws.{type_shrinks, next_types_shrink, type_parameters_none, alternative_shrinks, data_shrinks, parameter_shrinks, function_shrinks}
 use Rattle.gib_parse.proofs.Settle.{settle, settle_name, settle_names, settle_type}
 use Rattle.gib_parse.proofs.WrittenComes.{type_comes, type_begins}
-use Rattle.gib_parse.proofs.Local.{next_types_shrink}
-use Rattle.gib_parse.proofs.ProgramLocal.{type_parameters_none}
 use Rattle.gib_parse.proofs.Come.{Comes, Came, then_comes, then_last, comes_at, Steps, many_comes}
 use Rattle.gib_parse.proofs.Complete.{complete, variables_come}
-use Rattle.gib_parse.proofs.ProgramSound.{alternative_shrinks, data_shrinks, parameter_shrinks, function_shrinks}
 use Rattle.gib_parse.proofs.ProgramSettle.{settle_type_parameters, settle_types, settle_constructor, settle_constructors, settle_data, settle_datas, settle_parameter, settle_parameters, settle_further_types, settle_results, settle_function, settle_functions, settle_main, settle_program}
 
 -- ---- data declarations

@@ -8,13 +8,11 @@ use Rattle.gib_syntax.specs.Spelling.{Places, Derives}
 use Rattle.gib_parse.specs.Reading.{At, Nested, Read, whole_in}
 use Rattle.gib_parse.specs.Nesting.{below_program}
 use Rattle.gib_parse.specs.Blaming.{Begun, NoneBefore, BegunWith, Sinks}
-use Rattle.gib_parse.proofs.Tools.{failed}
+use Rattle.gib_reads.proofs.Tools.{failed}
 use Rattle.gib_parse.proofs.Come.{Comes, Came, Sank}
-use Rattle.gib_parse.proofs.Local.{Deep, at_is_nested}
+use Rattle.gib_reads.proofs.Local.{Deep, at_is_nested}
 use Rattle.gib_parse.proofs.ProgramSettle.{settle_program}
-use Rattle.gib_parse.proofs.ProgramLocal.{whole_local}
-use Rattle.gib_parse.proofs.Past.{whole_past, nested_goes_past}
-use Rattle.gib_parse.proofs.BeginProgram.{whole_begun}
+use Rattle.gib_parse.proofs.WholeLaws.{whole_local, whole_past, nested_goes_past, whole_begun}
 use Rattle.gib_parse.proofs.Whole.{whole_reads, derived_comes, whole_within, whole_deep, Splits, split_at}
 
 -- ---- some program begins so

@@ -13,14 +13,13 @@ use Rattle.gib_lex.proofs.Cuts.{one_reading}
 use Rattle.gib_parse.specs.Reading.{At, Nested, Read, whole_in}
 use Rattle.gib_parse.specs.Nesting.{below_program}
 use Rattle.gib_parse.specs.Blaming.{Deepens, IsFirst}
-use Rattle.gib_parse.proofs.Tools.{done, failed}
+use Rattle.gib_reads.proofs.Tools.{done, failed}
 use Rattle.gib_parse.proofs.Nested.{flat_program}
 use Rattle.gib_parse.proofs.Come.{Comes, Came, Sank, comes_at}
-use Rattle.gib_parse.proofs.Local.{Kind, Refused, Deep, fault}
-use Rattle.gib_parse.proofs.ProgramSound.{IsWhole, whole_sound}
+use Rattle.gib_reads.proofs.Local.{Kind, Refused, Deep, fault}
+use Rattle.gib_parse.proofs.WholeLaws.{IsWhole, whole_sound, whole_local}
 use Rattle.gib_parse.proofs.ProgramSettle.{settle_program, program_stays}
 use Rattle.gib_parse.proofs.ProgramComplete.{whole_comes}
-use Rattle.gib_parse.proofs.ProgramLocal.{whole_local}
 
 -- ---- what is read
 

@@ -1,16 +1,13 @@
 -- What parsing answers, by the tokens of a text, their spans and the text's length.
-use Rattle.std.specs.Prelude.{◌≡◌, ℕ, List, [], Result, Ok, Err}
-use Rattle.gib_base.specs.declared.Span.{Span}
+use Rattle.std.specs.Prelude.{◌≡◌, ℕ, [], Result, Ok, Err}
 use Rattle.gib_base.specs.Lexed.{Lexed}
 use Rattle.gib_syntax.specs.GenericTree.{GenericProgramTree}
 use Rattle.gib_syntax.specs.Spelling.{places_of}
 use Rattle.gib_syntax.specs.GenericParts.{GenericParts, generic_program_of}
-use Rattle.gib_parse.specs.declared.fault.ParseFault.{ParseFault}
-use Rattle.gib_parse.specs.declared.fault.ParseFault.TheVariants as fault
-use Rattle.gib_parse.specs.declared.stop.Stop.{Stop}
-use Rattle.gib_parse.specs.declared.stop.Stop.TheVariants as stop
+use Rattle.gib_reads.specs.declared.fault.ParseFault.{ParseFault}
+use Rattle.gib_reads.specs.declared.fault.ParseFault.TheVariants as fault
 use Rattle.gib_parse.specs.Reading.{At, Nested, Read, whole}
-pub use Rattle.gib_parse.specs.Blaming.{place_in, place_of}
+pub use Rattle.gib_reads.specs.Faults.{place_in, place_of, fault_of}
 
 -- What is read of the tokens.
 abbrev pub read_of : Lexed → Read GenericProgramTree
@@ -48,9 +45,3 @@ AnswersFault (Ok p) f = ⊥
 AnswersFault (Err fault.Memory) f = Unit {0}
 AnswersFault (Err (fault.At place)) f = fault.At place ≡ f
 AnswersFault (Err (fault.Nested place)) f = fault.Nested place ≡ f
-
--- The fault of a stop.
-abbrev pub fault_of : List Span → ℕ → Stop → ParseFault
-fault_of spans len stop.Memory = fault.Memory
-fault_of spans len (stop.At left) = fault.At (place_in spans len left)
-fault_of spans len (stop.Nested left) = fault.Nested (place_in spans len left)

@@ -1,20 +1,11 @@
 -- The one token of a list that is blamed, or nested too deep, where no program of 200 levels has these tokens.
 use Rattle.std.specs.Prelude.{◌≡◌, ◌≤◌, ◌<◌, ◌-◌, ℕ, zero, suc, List, [], ◌∷◌, ◌++◌, length, take}
-use Rattle.gib_base.specs.declared.Span.{Span}
 use Rattle.gib_base.specs.declared.token.Token.{Token}
 use Rattle.gib_base.specs.Lexed.{Lexed}
 use Rattle.gib_syntax.specs.GenericTree.{GenericProgramTree}
-use Rattle.gib_syntax.specs.Spelling.{Derives, Blames, levels_program, places_of}
+use Rattle.gib_syntax.specs.Spelling.{Derives, Blames, levels_program}
+pub use Rattle.gib_reads.specs.Faults.{place_in, place_of}
 use Rattle.gib_parse.specs.Nesting.{too_deep}
-
--- The place of the token from which so many are left: its first byte; with none left, the text's length.
-abbrev pub place_in : List Span → ℕ → ℕ → ℕ
-place_in spans len zero = len
-place_in spans len (suc k) = (places_of spans (suc k)).start
-
--- The same by what lexing made of the text.
-abbrev pub place_of : Lexed → ℕ → ℕ
-place_of l left = place_in l.spans l.len left
 
 -- Some program's tokens begin with the tokens before the one from which so many are left.
 abbrev pub Begun : List Token → ℕ → Type 0

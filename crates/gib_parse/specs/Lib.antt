@@ -1,4 +1,3 @@
-pub mod Readers
 pub mod Reading
 pub mod Parsing
 pub mod OpenTypes

@@ -1,5 +1,5 @@
 -- What the parser's functions answer, by the reading functions.
-use Rattle.std.specs.Prelude.{◌≡◌, ◌<◌, ℕ, Bool, true, List, [], ◌∷◌, ◌++◌, length, Result, Ok, Err}
+use Rattle.std.specs.Prelude.{◌≡◌, ◌<◌, ℕ, Bool, true, List, [], ◌∷◌, ◌++◌, length, Ok}
 use Rattle.std.specs.List.{AllByRecursion}
 use Rattle.gib_base.specs.declared.Span.{Span}
 use Rattle.gib_base.specs.declared.token.Sign.TheVariants as s
@@ -23,26 +23,11 @@ use Rattle.gib_syntax.specs.Words.{IsTypeRun, IsTypesRun, words_of, words_in, al
 use Rattle.gib_syntax.specs.GenericTree.{GenericExpression, GenericArguments, GenericArms, GenericVar, GenericCall, GenericNoArgument, GenericArgument, GenericLastArm}
 use Rattle.gib_syntax.specs.GenericArena.{Arena, Grows, ArmsBelow, arms_from, nothing, tree_of}
 use Rattle.gib_syntax.specs.GenericParts.{IsConstructorInside, IsDataInside, IsParameterInside, AreResultsInside}
-use Rattle.gib_parse.specs.declared.stop.Stop.{Stop}
-use Rattle.gib_parse.specs.declared.stop.Stop.TheVariants as stop
+use Rattle.gib_reads.specs.declared.stop.Stop.{Stop}
+pub use Rattle.gib_reads.specs.Answers.{Fails, Gives, with_front}
 use Rattle.gib_parse.specs.declared.expressions.Kind.{Kind}
 use Rattle.gib_parse.specs.declared.expressions.Kind.TheVariants as kind
-use Rattle.gib_parse.specs.Reading.{At, Nested, Read, then_at, next_is, starts_atom, Opened, inside, type_at, Mode, Any, App, Atom, ArmTree}
-
--- A refusal is the one that reading gives, unless memory ran out.
-abbrev pub Fails : {Y : Type 0} → Stop → Read Y → Type 0
-Fails stop.Memory read = Unit {0}
-Fails (stop.At left) read = read ≡ Err (At left)
-Fails (stop.Nested left) read = read ≡ Err (Nested left)
-
--- What a function answers is what reading gives, unless memory ran out.
-abbrev pub Gives : {X Y : Type 0} → (X → Y × List Token) → Result X Stop → Read Y → Type 0
-Gives view (Ok x) read = read ≡ Ok (view x)
-Gives view (Err e) read = Fails e read
-
--- These, and then what is read.
-abbrev pub with_front : {A : Type 0} → List A → Read (List A) → Read (List A)
-with_front front r = then_at r (λ xs ts. Ok (front ++ xs, ts))
+use Rattle.gib_parse.specs.Reading.{Read, next_is, starts_atom, Opened, inside, type_at, Mode, Any, App, Atom, ArmTree}
 
 -- Which expressions may stand at a place.
 abbrev pub mode_of : Kind → Mode

@@ -3,12 +3,11 @@
 
 mod declarations;
 mod expressions;
-pub mod fault;
 pub mod law;
 pub mod parsing;
 pub mod phrases;
-pub mod stop;
 mod types;
 
-pub use fault::ParseFault;
+pub use gib_reads::fault::ParseFault;
+pub use gib_reads::{fault, stop};
 pub use parsing::parse;

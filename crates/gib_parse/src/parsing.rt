@@ -4,39 +4,15 @@ ghost use Rattle.std.specs.Prelude.{◌≡◌, ◌≤◌, ℕ, Err, IfOk, IfErr}
 ghost use Rattle.gib_syntax.specs.GenericTree.{GenericProgramTree};
 ghost use Rattle.gib_syntax.specs.Spelling.{Derives, IsPlacedProgram, places_of, levels_program};
 ghost use Rattle.gib_syntax.specs.GenericParts.{generic_program_of};
-ghost use Rattle.gib_parse.specs.Answers.{fault_of, AnswersRead, AnswersOnly, AnswersFault};
-ghost use Rattle.gib_parse.specs.Blaming.{place_in, IsBlamedAt, IsTooDeepAt};
+ghost use Rattle.gib_parse.specs.Answers.{AnswersRead, AnswersOnly, AnswersFault};
+ghost use Rattle.gib_parse.specs.Blaming.{IsBlamedAt, IsTooDeepAt};
 
 use crate::declarations::whole;
 use crate::fault::ParseFault;
-use crate::phrases::span_at;
-use crate::stop::Stop;
-use gib_base::Span;
 use gib_lex::Tokens;
+pub use gib_reads::fault::fault;
 use gib_syntax::GenericProgram;
 use std::alloc::Global;
-
-/// The place of the token from which so many are left; the text's length with none left.
-fn place(spans: &[Span], len: u32, left: usize) -> u32
-    ensures { result ≡ place_in spans.now len left }
-{
-    if left == 0 {
-        len
-    } else {
-        span_at(spans, left).start
-    }
-}
-
-/// The fault of a stop.
-pub fn fault(stop: Stop, spans: &[Span], len: u32) -> ParseFault
-    ensures { result ≡ fault_of spans.now len stop }
-{
-    match stop {
-        Stop::Memory => ParseFault::Memory,
-        Stop::At(left) => ParseFault::At(place(spans, len, left)),
-        Stop::Nested(left) => ParseFault::Nested(place(spans, len, left)),
-    }
-}
 
 /// The program that the tokens of a text spell.
 pub fn parse(alloc: Global, tokens: &Tokens) -> Result<GenericProgram, ParseFault>

@@ -4,10 +4,10 @@ use Rattle.gib_syntax.specs.GenericTree.{GenericDataTree}
 use Rattle.gib_syntax.specs.GenericFine.{HasGenericConstructor}
 use Rattle.gib_syntax.specs.GenericParts.{data_in, function_in, main_in}
 use Rattle.gib_syntax.specs.Spelling.{places_of}
-use Rattle.gib_parse.proofs.Tools.{done}
+use Rattle.gib_reads.proofs.Tools.{done}
 use Rattle.gib_parse.proofs.PartsSoFar.{grows_more}
 use Rattle.gib_parse.proofs.DeclarationLoops.{datas_stay, datas_stay_inside, functions_stay, functions_stay_inside, program_done}
-use Rattle.gib_parse.proofs.ProgramSound.{read_constructors}
+use Rattle.gib_parse.proofs.WholeLaws.{read_constructors}
 use Rattle.gib_parse.proofs.declarations.program.Goals as goal
 
 pub new-requires : goal.new-requires

@@ -4,8 +4,8 @@ use Rattle.gib_base.specs.declared.token.Sign.TheVariants as s
 use Rattle.gib_syntax.specs.Spelling.{places_of}
 use Rattle.gib_parse.specs.Reading.{is_sign, next_name_at, many}
 use Rattle.gib_parse.specs.Parsing.{with_front}
-use Rattle.gib_parse.proofs.SoFar.{one_more, all_read, one_fails, shorter}
-use Rattle.gib_parse.proofs.Longer.{next_name_shrinks}
+use Rattle.gib_reads.proofs.SoFar.{one_more, all_read, one_fails, shorter}
+use Rattle.gib_parse.proofs.WholeLaws.{next_name_shrinks}
 use Rattle.gib_parse.proofs.phrases.further_names.Goals as goal
 
 pub names-preserved : goal.names-preserved

@@ -16,7 +16,7 @@ pub enum Stop {
 }
 
 impl From<AllocError> for Stop {
-    ghost use Rattle.gib_parse.specs.declared.stop.Stop.TheVariants.{Memory};
+    ghost use Rattle.gib_reads.specs.declared.stop.Stop.TheVariants.{Memory};
 
     ghost from_gives = { λ _ e. e ≡ Memory };
 
@@ -26,7 +26,7 @@ impl From<AllocError> for Stop {
 }
 
 impl<T: Drop> From<AllocFailed<T>> for Stop {
-    ghost use Rattle.gib_parse.specs.declared.stop.Stop.TheVariants.{Memory};
+    ghost use Rattle.gib_reads.specs.declared.stop.Stop.TheVariants.{Memory};
 
     ghost from_gives = { λ _ e. e ≡ Memory };
 

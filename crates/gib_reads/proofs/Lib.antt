@@ -1,0 +1,8 @@
+-- What was read, as facts; things read one after another, whole and as far as a loop has come.
+pub mod Tools
+pub mod Many
+pub mod SoFar
+-- One level more; other tokens behind; and all laws of a reader, in one record.
+pub mod Past
+pub mod Local
+pub mod Laws
