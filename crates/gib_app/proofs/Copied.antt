@@ -56,7 +56,7 @@ held_there [] i text e = absurd cc
 held_there (n ∷ names) zero text e = omega arith
 held_there (n ∷ names) (suc i) text e = let lt = held_there names i text e in omega (arith, lt)
 
-row_holds : (P : GenericRow → Type 0) (rows : List GenericRow) (i : ℕ) (row : GenericRow) → AllByRecursion P rows → slice_get rows i ≡ Some row → P row
+pub row_holds : (P : GenericRow → Type 0) (rows : List GenericRow) (i : ℕ) (row : GenericRow) → AllByRecursion P rows → slice_get rows i ≡ Some row → P row
 row_holds P [] i row h e = absurd cc
 row_holds P (r ∷ rows) zero row h e = subst P (same_Some r row e) h.0
 row_holds P (r ∷ rows) (suc i) row h e = row_holds P rows i row h.1 e

@@ -5,5 +5,5 @@ mod Program
 mod ProgramTyped
 mod Feed
 mod Laws
-mod Named
+pub mod Named
 mod DescribedAlike
