@@ -202,7 +202,7 @@ refined_over ps i e r = refined_end (ap (λ (n : ℕ). drop n ps) e ∙ drop-len
 -- ---- a cut stays as more is known
 
 pub IsPiece-grows : {laid : LaidOut} {s r : Store} {piece : Piece} {bytes : List ℕ} → Grows s r → IsPiece laid s piece bytes → IsPiece laid r piece bytes
-IsPiece-grows g (a_head {h = h} i) = a_head (record { tag = g.kept h.at h.con.0 i.tag; small = i.small; known = i.known; holds = Holds-grows g i.holds; long = i.long })
+IsPiece-grows g (a_head {h = h} i) = a_head (record { tag = g.kept h.at h.con.0 i.tag; small = i.small; known = i.known; holds = Holds-grows g i.holds; long = i.long; small_bytes = i.small_bytes })
 IsPiece-grows g (a_part d) = a_part (Dec-grows g d)
 
 pub Cut-grows : {laid : LaidOut} {s r : Store} {ps : List Piece} {bytes : List ℕ} → Grows s r → Cut laid s ps bytes → Cut laid r ps bytes

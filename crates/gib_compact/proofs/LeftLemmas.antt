@@ -1,17 +1,20 @@
 -- What a walk has left.
-use Rattle.std.proofs.Common.{◌≡◌, ◌≢◌, ℕ, suc, ◌+◌, ◌-◌, ◌<◌, List, [], ◌∷◌, ◌++◌, length, refl, sym, ap, subst, arith, append_assoc}
+use Rattle.std.proofs.Common.{◌≡◌, ◌≢◌, ℕ, zero, suc, ◌+◌, ◌-◌, ◌<◌, ◌≤◌, List, [], ◌∷◌, ◌++◌, length, take, drop, get_or, Bool, true, false, refl, sym, ap, subst, arith, append_assoc}
+use Rattle.std.specs.Int.{w64, to_le_bytes, from_le_bytes, cast_unsigned}
+use Rattle.std.proofs.lemmas.List.{length-take-le, length-drop, take-append-drop}
+use Rattle.std.proofs.lemmas.Nat.{le_bytes_8}
 use Rattle.gib_types.specs.declared.table.Ty.{Ty}
 use Rattle.gib_types.specs.Layout.{LaidOut, is_among, head_size, packed_at, packed_count}
 use Rattle.gib_types.specs.Tree.{Datum, Data}
 use Rattle.gib_mem.specs.Memory.{Store, Holds, byte}
 use Rattle.gib_file.specs.Packed.{tree, trees}
-use Rattle.gib_packed.specs.Scalars.{scalars}
+use Rattle.gib_packed.specs.Scalars.{scalars, number, bit}
 use Rattle.gib_packed.specs.Head.{offset_bytes}
 use Rattle.gib_packed.specs.Decoding.{Dec, redirect, indirect, head, Decs, done, whole_field, truth_field, tree_field}
 use Rattle.gib_packed.specs.Reaching.{Leads, here, on}
 use Rattle.gib_packed.proofs.HoldsLemmas.{Holds-first, Holds-rest, same_byte}
-use Rattle.gib_packed.proofs.HeadLemmas.{Decs-scalars, offsets-length}
-use Rattle.gib_packed.proofs.StoredLemmas.{Holds-behind}
+use Rattle.gib_packed.proofs.HeadLemmas.{Dec-no_scalar, Decs-scalars, offsets-length}
+use Rattle.gib_packed.proofs.StoredLemmas.{Holds-front, Holds-behind}
 use Rattle.gib_packed.proofs.SpanLemmas.{con_within}
 use Rattle.gib_packed.proofs.Typed.{Leads-same}
 use Rattle.gib_compact.specs.declared.walk.Back.{Back}
@@ -61,6 +64,66 @@ fields_left {laid = laid} {s = s} {a = a} {n = n} {bs = bs} {rest = rest} (tree_
     subst (λ (x : ℕ). Left laid s a x bs ((tree v ++ trees vs) ++ rest)) e
     (subst (λ (x : List ℕ). Left laid s a (suc (packed_count ts + n)) bs x) (sym (append_assoc (tree v) (trees vs) rest)) (value d (fields_left ds l)))
 
+-- the scalars of a head are bytes
+abbrev AreSmall : List ℕ → Type 0
+AreSmall bs = (i : ℕ) → get_or bs i 0 < 256
+
+append_small : (xs ys : List ℕ) → AreSmall xs → AreSmall ys → AreSmall (xs ++ ys)
+append_small [] ys a b i = b i
+append_small (x ∷ xs) ys a b zero = a 0
+append_small (x ∷ xs) ys a b (suc i) = append_small xs ys (λ j. a (suc j)) b i
+
+take_small : (n : ℕ) (xs : List ℕ) → AreSmall xs → AreSmall (take n xs)
+take_small zero xs a i = omega arith
+take_small (suc n) [] a i = omega arith
+take_small (suc n) (x ∷ xs) a zero = a 0
+take_small (suc n) (x ∷ xs) a (suc i) = take_small n xs (λ j. a (suc j)) i
+
+drop_small : (n : ℕ) (xs : List ℕ) → AreSmall xs → AreSmall (drop n xs)
+drop_small zero xs a i = a i
+drop_small (suc n) [] a i = omega arith
+drop_small (suc n) (x ∷ xs) a i = drop_small n xs (λ j. a (suc j)) i
+
+-- eight of some bytes that stand one after another
+pub record Eight (s : Store) (a : ℕ) (bs : List ℕ) (i : ℕ) : Type 0 where
+  pub holds : Holds s (a + i) (take 8 (drop i bs))
+  pub long : length (take 8 (drop i bs)) ≡ 8
+  pub is : (n : ℕ) → n ≡ from_le_bytes w64 (take 8 (drop i bs)) → to_le_bytes w64 n ≡ take 8 (drop i bs)
+
+pub eight : {s : Store} (a : ℕ) (bs : List ℕ) (i : ℕ) → i + 8 ≤ length bs → Holds s a bs → ((j : ℕ) → get_or bs j 0 < 256) → Eight s a bs i
+eight {s = s} a bs i le h small =
+    let first = length-take-le i bs (omega (arith, le)) in
+    let at : a + length (take i bs) ≡ a + i = omega (arith, first) in
+    let behind = subst (λ (x : ℕ). Holds s x (drop i bs)) at (Holds-behind a (take i bs) (drop i bs) (subst (Holds s a) (sym (take-append-drop i bs)) h)) in
+    let long = let n = length-drop i bs in length-take-le 8 (drop i bs) (omega (arith, n, le)) in
+    record {
+      holds = Holds-front (a + i) (take 8 (drop i bs)) (drop 8 (drop i bs)) (subst (Holds s (a + i)) (sym (take-append-drop 8 (drop i bs))) behind);
+      long = long;
+      is = λ n e. le_bytes_8 (take 8 (drop i bs)) n long (take_small 8 (drop i bs) (drop_small i bs small)) e;
+    }
+
+eight_small : (n : ℕ) → AreSmall (to_le_bytes w64 n)
+eight_small n zero = omega arith
+eight_small n (suc zero) = omega arith
+eight_small n (suc (suc zero)) = omega arith
+eight_small n (suc (suc (suc zero))) = omega arith
+eight_small n (suc (suc (suc (suc zero)))) = omega arith
+eight_small n (suc (suc (suc (suc (suc zero))))) = omega arith
+eight_small n (suc (suc (suc (suc (suc (suc zero)))))) = omega arith
+eight_small n (suc (suc (suc (suc (suc (suc (suc zero))))))) = omega arith
+eight_small n (suc (suc (suc (suc (suc (suc (suc (suc i)))))))) = omega arith
+
+bit_small : (b : Bool) (i : ℕ) → get_or (bit b ∷ []) i 0 < 256
+bit_small true zero = omega arith
+bit_small false zero = omega arith
+bit_small b (suc i) = omega arith
+
+scalars_small : {laid : LaidOut} {s : Store} {a z : ℕ} {ts : List Ty} {vs : Data} {places : List ℕ} → Decs laid s a ts vs places z → AreSmall (scalars vs)
+scalars_small done = λ i. omega arith
+scalars_small (whole_field {i = z} {vs = vs} f ds) = append_small (number z) (scalars vs) (eight_small (cast_unsigned w64 z)) (scalars_small ds)
+scalars_small (truth_field {b = b} {vs = vs} ds) = append_small (bit b ∷ []) (scalars vs) (bit_small b) (scalars_small ds)
+scalars_small (tree_field {v = v} {vs = vs} d ds) = subst (λ (l : List ℕ). AreSmall (l ++ scalars vs)) (sym (Dec-no_scalar d)) (scalars_small ds)
+
 -- the head of a value, and its fields
 pub record Opened (laid : LaidOut) (s : Store) (h k n : ℕ) (bs : List Back) (rest : List ℕ) : Type 0 where
   pub scalars : List ℕ
@@ -85,6 +148,7 @@ head_opens {laid = laid} {s = s} {h = h} {t = t} {n = n} {bs = bs} {rest = rest}
         known = con_within laid.table t j i;
         holds = subst (λ (x : ℕ). Holds s x (scalars vs)) at (Holds-behind (h + 1) (offset_bytes (is_among laid.with_offsets j) places) (scalars vs) (Holds-rest o));
         long = Decs-scalars ds;
+        small_bytes = scalars_small ds;
       };
       left = fields_left ds l;
       whole = ap (λ (x : List ℕ). j ∷ x) (append_assoc (scalars vs) (trees vs) rest);

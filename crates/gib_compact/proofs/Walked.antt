@@ -1,5 +1,5 @@
 -- A walk as far as it has come.
-use Rattle.std.proofs.Common.{◌≡◌, ℕ, ◌+◌, ◌-◌, ◌≤◌, List, [], ◌∷◌, ◌++◌, length, refl, sym, ap, ◌∙◌, arith, append_assoc, append-nil, length-append}
+use Rattle.std.proofs.Common.{◌≡◌, ℕ, ◌+◌, ◌-◌, ◌<◌, ◌≤◌, List, [], ◌∷◌, ◌++◌, length, refl, sym, ap, ◌∙◌, arith, append_assoc, append-nil, length-append}
 use Rattle.gib_types.specs.Table.{fields_at}
 use Rattle.gib_types.specs.Layout.{LaidOut, scalar_size}
 use Rattle.gib_mem.specs.Memory.{Store}
@@ -68,47 +68,51 @@ counted_end end c = ap length (sym (walked_end end c.walked)) ∙ c.long
 
 -- ---- written
 
--- What was passed was written, and at most so many bytes are left.
-pub record Written (laid : LaidOut) (s : Store) (w : Walk) (left : ℕ) (old new all : List ℕ) : Type 0 where
+-- What was passed was written, and so many bytes of the most are left.
+pub record Written (laid : LaidOut) (s : Store) (w : Walk) (most left : ℕ) (old new all : List ℕ) : Type 0 where
   pub front : List ℕ
   pub out : new ≡ old ++ front
   pub walked : Walked laid s w front all
-  pub few : length walked.rest ≤ left
+  pub count : length front + left ≡ most
 
-pub written_start : {laid : LaidOut} {s : Store} (w : Walk) (old all : List ℕ) (most : ℕ) → IsLeft laid s w all → length all ≤ most → Written laid s w most old old all
-unfolding walked_start
-written_start w old all most l e = record { front = []; out = sym (append-nil old); walked = walked_start w all l; few = e }
+pub written_start : {laid : LaidOut} {s : Store} (w : Walk) (old all : List ℕ) (most : ℕ) → IsLeft laid s w all → Written laid s w most most old old all
+written_start w old all most l = record { front = []; out = sym (append-nil old); walked = walked_start w all l; count = omega arith }
 
-pub written_due : {laid : LaidOut} {s : Store} {old : Walk} {left : ℕ} {before now all : List ℕ} (new : Walk) → ((rest : List ℕ) → IsLeft laid s old rest → IsLeft laid s new rest) → Written laid s old left before now all → Written laid s new left before now all
-unfolding walked_due
-written_due new keep w = record { front = w.front; out = w.out; walked = walked_due new keep w.walked; few = w.few }
+pub written_due : {laid : LaidOut} {s : Store} {old : Walk} {most left : ℕ} {before now all : List ℕ} (new : Walk) → ((rest : List ℕ) → IsLeft laid s old rest → IsLeft laid s new rest) → Written laid s old most left before now all → Written laid s new most left before now all
+written_due new keep w = record { front = w.front; out = w.out; walked = walked_due new keep w.walked; count = w.count }
 
--- the next head, with the scalars that stand there
-pub record Writes (laid : LaidOut) (s : Store) (old new : Walk) (head : Head) (left : ℕ) (before now all : List ℕ) : Type 0 where
+-- the next head, with the scalars that stand there, and how many bytes these are
+pub record Writes (laid : LaidOut) (s : Store) (new : Walk) (head : Head) (most left : ℕ) (before now all : List ℕ) : Type 0 where
   pub scalars : List ℕ
   pub is : IsHead laid s head.at head.con.0 scalars
-  pub few : scalar_size (fields_at laid.table head.con.0) + 1 ≤ left
-  pub goes : (out : List ℕ) → out ≡ now ++ head.con.0 ∷ scalars → Written laid s new (left - (scalar_size (fields_at laid.table head.con.0) + 1)) before out all
+  pub long : left < scalar_size (fields_at laid.table head.con.0) + 1 → most < length all
+  pub goes : (out : List ℕ) → scalar_size (fields_at laid.table head.con.0) + 1 ≤ left → out ≡ now ++ head.con.0 ∷ scalars
+      → Written laid s new most (left - (scalar_size (fields_at laid.table head.con.0) + 1)) before out all
 
-pub written_next : {laid : LaidOut} {s : Store} {old new : Walk} {head : Head} {left : ℕ} {before now all : List ℕ} → ((rest : List ℕ) → IsLeft laid s old rest → Splits laid s head new rest) → Written laid s old left before now all
-    → Writes laid s old new head left before now all
-unfolding walked_next
+pub written_next : {laid : LaidOut} {s : Store} {old new : Walk} {head : Head} {most left : ℕ} {before now all : List ℕ} → ((rest : List ℕ) → IsLeft laid s old rest → Splits laid s head new rest) → Written laid s old most left before now all
+    → Writes laid s new head most left before now all
 written_next {head = head} {before = before} next w =
     let p = next w.walked.rest w.walked.left in
     let bytes = head.con.0 ∷ p.scalars in
-    let e = ap length p.whole in
-    let n = length-append p.scalars p.later in
+    let rest = ap length p.whole in
+    let behind = length-append p.scalars p.later in
+    let all = ap length w.walked.whole in
+    let both = length-append w.front w.walked.rest in
     record {
       scalars = p.scalars;
       is = p.is;
-      few = omega (arith, w.few, e, n, p.is.long);
-      goes = λ out o. record {
+      long = λ lt. omega (arith, lt, w.count, rest, behind, all, both, p.is.long);
+      goes = λ out le o. record {
         front = w.front ++ bytes;
         out = o ∙ ap (λ (x : List ℕ). x ++ bytes) w.out ∙ append_assoc before w.front bytes;
         walked = walked_next next p.is w.walked;
-        few = omega (arith, w.few, e, n, p.is.long);
+        count = let n = length-append w.front bytes in omega (arith, le, w.count, n, p.is.long);
       };
     }
 
-pub written_end : {laid : LaidOut} {s : Store} {w : Walk} {left : ℕ} {before now all : List ℕ} → ((rest : List ℕ) → IsLeft laid s w rest → rest ≡ []) → Written laid s w left before now all → now ≡ before ++ all
-written_end {before = before} end w = w.out ∙ ap (λ (x : List ℕ). before ++ x) (walked_end end w.walked)
+-- all was written
+pub written_end : {laid : LaidOut} {s : Store} {w : Walk} {most left : ℕ} {before now all : List ℕ} → ((rest : List ℕ) → IsLeft laid s w rest → rest ≡ []) → Written laid s w most left before now all → (now ≡ before ++ all) × (length all ≤ most)
+written_end {before = before} end w =
+    let whole = walked_end end w.walked in
+    let n = ap length whole in
+    (w.out ∙ ap (λ (x : List ℕ). before ++ x) whole, omega (arith, n, w.count))

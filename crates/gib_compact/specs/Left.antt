@@ -1,5 +1,5 @@
 -- What of a value is left to pack, as the code keeps it.
-use Rattle.std.specs.Prelude.{◌≡◌, ◌<◌, ℕ, suc, ◌+◌, List, [], ◌∷◌, ◌++◌, length, reverse}
+use Rattle.std.specs.Prelude.{◌≡◌, ◌<◌, ℕ, suc, ◌+◌, List, [], ◌∷◌, ◌++◌, length, reverse, get_or}
 use Rattle.gib_types.specs.Table.{fields_at}
 use Rattle.gib_types.specs.Layout.{LaidOut, layout_at, scalar_size}
 use Rattle.gib_types.specs.Tree.{Datum}
@@ -32,6 +32,7 @@ pub record IsHead (laid : LaidOut) (s : Store) (h k : ℕ) (scalars : List ℕ) 
   pub known : k < length laid.table.rows
   pub holds : Holds s (scalars_at laid h k) scalars
   pub long : length scalars ≡ scalar_size (fields_at laid.table k)
+  pub small_bytes : (i : ℕ) → get_or scalars i 0 < 256
 
 -- The rest begins with the bytes of the head, and what is behind them is left now.
 pub record Splits (laid : LaidOut) (s : Store) (head : Head) (new : Walk) (rest : List ℕ) : Type 0 where

@@ -15,9 +15,10 @@ ghost use Rattle.gib_compact.specs.declared.fault.CompactFault.TheVariants.{Long
 use crate::cut::cut;
 use crate::fault::CompactFault;
 use crate::packing::{Packing, head};
-use crate::parts::alone;
+use crate::parts::{alone, in_front};
 use crate::piece::Piece;
 use crate::share::{count_by, write_by};
+use crate::write::write_at;
 use gib_arena::{ArenaMem, Pass, names_tell};
 use gib_base::Memory;
 use gib_packed::Root;
@@ -98,6 +99,69 @@ fn pieces_by<R: Threads + Sync>(
     }
 }
 
+/// The bytes of the value at an address, by one worker in one walk, where they are no more than there may be.
+fn write_tree(packing: Packing<'_>, pass: Pass, at: u64) -> (Result<Vec<u8>, CompactFault>, Pass)
+    requires own { IsOf packing.arena.now pass }
+    requires value { Decodes packing.layouts.now (cells pass) at }
+    ensures out { (t : ℕ) (v : Datum) (z : ℕ) → Dec packing.entry.layouts.now (cells pass) at t v z → IfOk result.0 (λ payload. (payload.items ≡ tree v) × (length payload.items ≤ packing.entry.most)) }
+    ensures long { (t : ℕ) (v : Datum) (z : ℕ) → Dec packing.entry.layouts.now (cells pass) at t v z → IsErrOf result.0 Long → packing.entry.most < length (tree v) }
+    ensures back { IsBack packing.entry.arena.now pass result.1 }
+{
+    let mut mem = ArenaMem::make(packing.arena, pass);
+    let mut payload = Vec::new(packing.alloc);
+    let wrote = write_at(
+        packing.alloc,
+        &mut mem,
+        packing.layouts,
+        at,
+        packing.most,
+        &mut payload,
+    );
+    let (_arena, pass) = mem.into_pass();
+    names_tell();
+    match wrote {
+        Err(fault) => (Err(fault), pass),
+        Ok(()) => (Ok(payload), pass),
+    }
+}
+
+/// A payload behind its header and a description.
+fn framed(
+    packing: Packing<'_>,
+    description: &[u8],
+    payload: Vec<u8>,
+) -> Result<Vec<Vec<u8>>, Memory>
+    requires { length description.now + length payload.items ≤ 16777192 }
+    ensures { IfOk result (λ parts. gathered parts.items ≡ with_head description.entry.now (length payload.items) payload.items) }
+{
+    let front = head(packing.alloc, description, payload.len() as u64);
+    in_front(front, alone(packing.alloc, Ok(payload)))
+}
+
+/// The file of the value at an address, by one worker, where its payload has no more bytes than there may be.
+fn tree_alone(
+    packing: Packing<'_>,
+    pass: Pass,
+    at: u64,
+    description: &[u8],
+) -> (Result<Vec<Vec<u8>>, CompactFault>, Pass)
+    requires own { IsOf packing.arena.now pass }
+    requires room { length description.now + packing.most ≤ 16777192 }
+    requires value { Decodes packing.layouts.now (cells pass) at }
+    ensures out { (t : ℕ) (v : Datum) (z : ℕ) → Dec packing.entry.layouts.now (cells pass) at t v z → IfOk result.0 (λ parts. (gathered parts.items ≡ with_head description.entry.now (length (tree v)) (tree v)) × (length (tree v) ≤ packing.entry.most)) }
+    ensures long { (t : ℕ) (v : Datum) (z : ℕ) → Dec packing.entry.layouts.now (cells pass) at t v z → IsErrOf result.0 Long → packing.entry.most < length (tree v) }
+    ensures back { IsBack packing.entry.arena.now pass result.1 }
+{
+    let (payload, pass) = write_tree(packing, pass, at);
+    match payload {
+        Err(fault) => (Err(fault), pass),
+        Ok(payload) => match framed(packing, description, payload) {
+            Err(_) => (Err(CompactFault::Memory), pass),
+            Ok(parts) => (Ok(parts), pass),
+        },
+    }
+}
+
 /// The file of the value at an address, by so many workers, where its payload has no more bytes than there may be.
 fn tree_by<R: Threads + Sync>(
     rt: &R,
@@ -115,6 +179,9 @@ fn tree_by<R: Threads + Sync>(
     ensures long { (t : ℕ) (v : Datum) (z : ℕ) → Dec packing.entry.layouts.now (cells pass) at t v z → IsErrOf result.0 Long → packing.entry.most < length (tree v) }
     ensures back { IsBack packing.entry.arena.now pass result.1 }
 {
+    if workers <= 1 {
+        return tree_alone(packing, pass, at, description);
+    }
     let (pieces, pass) = cut_alone(packing, pass, at, PARTS * workers as u64);
     match pieces {
         Err(_) => (Err(CompactFault::Memory), pass),

@@ -10,7 +10,7 @@ use crate::write::{write_at, write_head};
 use gib_base::Memory;
 use gib_mem::Mem;
 use gib_types::Layouts;
-use std::alloc::Global;
+use std::alloc::{AllocError, Global};
 
 /// How many bytes a piece has; None where these are more than so many.
 fn count_one<M: Mem>(
@@ -87,8 +87,10 @@ pub(crate) fn write_one<M: Mem>(
             Ok(())
         }
         Piece::Part(at) => {
-            write_at(alloc, mem, layouts, at, most, out)?;
-            Ok(())
+            match write_at(alloc, mem, layouts, at, most, out) {
+                Ok(()) => Ok(()),
+                Err(_) => Err(AllocError),
+            }
         }
     }
 }

@@ -1,9 +1,48 @@
-use Rattle.std.proofs.Common.{◌+◌, ◌++◌, ◌∷◌, [], ℕ, List, take, get_or, sym, ap, ◌∙◌, arith, append_assoc}
+use Rattle.std.proofs.Common.{◌≡◌, ◌≤◌, ◌+◌, ◌++◌, ◌∷◌, [], ℕ, List, take, drop, get_or, sym, ap, subst, ◌∙◌, arith, append_assoc}
+use Rattle.std.proofs.Math.Seq.{take-add}
 use Rattle.std.proofs.lemmas.List.{take_more}
-use Rattle.gib_mem.specs.Memory.{Memory}
-use Rattle.gib_packed.proofs.HoldsLemmas.{same_byte}
+use Rattle.gib_mem.specs.Memory.{Memory, Holds}
+use Rattle.gib_packed.proofs.HoldsLemmas.{Holds-same, same_byte}
 use Rattle.gib_packed.proofs.HoldsAt.{Holds-at}
+use Rattle.gib_packed.proofs.WalkLemmas.{known_below}
+use Rattle.gib_compact.proofs.LeftLemmas.{eight}
 use Rattle.gib_compact.proofs.write.copy_bytes.Goals as goal
+
+-- the next eight bytes, in the memory as it was
+pub get_word-word-requires : goal.get_word-word-requires
+get_word-word-requires g c =
+    let r = c.requires in
+    let e = eight c.args.at r.0 c.words.i (omega (arith, r.2, c.words-test.true, c.words.invariant.within)) r.1 r.3 in
+    (take 8 (drop c.words.i r.0), subst (λ (m : Memory). Holds m.cells (c.args.at + c.words.i) (take 8 (drop c.words.i r.0))) (sym c.words.invariant.same) e.holds, e.long)
+
+pub words-preserved : goal.words-preserved
+words-preserved g c =
+    let r = c.requires in
+    let i = c.words.i in
+    let lt : i + 8 ≤ c.args.count = omega (arith, c.words-test.true, c.words.invariant.within) in
+    let one = eight c.args.at r.0 i (omega (arith, r.2, lt)) r.1 r.3 in
+    let m = g.M.Mem.view c.args.mem.now in
+    let first = get_or (take 8 (drop i r.0)) 0 0 in
+    let here = Holds-at one.holds 0 (omega (arith, one.long)) in
+    let low = (known_below m (g.met.M.Mem.bounded c.args.mem.now)).below (c.args.at + i + 0) first here in
+    record {
+      same = c.get_word-word.ensures.same ∙ c.words.invariant.same;
+      within = omega (arith, lt);
+      small = λ h. omega (arith, low);
+      out = λ bytes h e.
+          let same : bytes ≡ r.0 = Holds-same h r.1 (e ∙ sym r.2) in
+          let word = c.get_word-word.ensures.value (take 8 (drop i r.0)) (subst (λ (m : Memory). Holds m.cells (c.args.at + i) (take 8 (drop i r.0))) (sym c.words.invariant.same) one.holds) one.long in
+          let items = c.to_le_bytes.ensures ∙ one.is c.get_word-word.result word in
+          c.in_ok-extend_from_slice.ensures.items
+          ∙ ap (λ (x : List ℕ). c.words.out.items ++ x) items
+          ∙ ap (λ (x : List ℕ). x ++ take 8 (drop i r.0)) (c.words.invariant.out bytes h e)
+          ∙ append_assoc c.args.out.now.items (take i bytes) (take 8 (drop i r.0))
+          ∙ ap (λ (x : List ℕ). c.args.out.now.items ++ (take i bytes ++ take 8 (drop i x))) (sym same)
+          ∙ ap (λ (x : List ℕ). c.args.out.now.items ++ x) (sym (take-add i 8 bytes));
+    }
+
+pub bytes-init : goal.bytes-init
+bytes-init g c = let w = c.words.invariant in record { same = w.same; within = w.within; small = w.small; out = w.out }
 
 pub get-requires : goal.get-requires
 get-requires g c =
