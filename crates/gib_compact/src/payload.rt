@@ -103,8 +103,10 @@ fn pieces_by<R: Threads + Sync>(
 fn write_tree(packing: Packing<'_>, pass: Pass, at: u64) -> (Result<Vec<u8>, CompactFault>, Pass)
     requires own { IsOf packing.arena.now pass }
     requires value { Decodes packing.layouts.now (cells pass) at }
-    ensures out { (t : ℕ) (v : Datum) (z : ℕ) → Dec packing.entry.layouts.now (cells pass) at t v z → IfOk result.0 (λ payload. (payload.items ≡ tree v) × (length payload.items ≤ packing.entry.most)) }
-    ensures long { (t : ℕ) (v : Datum) (z : ℕ) → Dec packing.entry.layouts.now (cells pass) at t v z → IsErrOf result.0 Long → packing.entry.most < length (tree v) }
+    ensures out { (t : ℕ) (v : Datum) (z : ℕ) → Dec packing.entry.layouts.now (cells pass) at t v z
+        → IfOk result.0 (λ payload. (payload.items ≡ tree v) × (length payload.items ≤ packing.entry.most)) }
+    ensures long { (t : ℕ) (v : Datum) (z : ℕ) → Dec packing.entry.layouts.now (cells pass) at t v z
+        → IsErrOf result.0 Long → packing.entry.most < length (tree v) }
     ensures back { IsBack packing.entry.arena.now pass result.1 }
 {
     let mut mem = ArenaMem::make(packing.arena, pass);
@@ -148,8 +150,10 @@ fn tree_alone(
     requires own { IsOf packing.arena.now pass }
     requires room { length description.now + packing.most ≤ 16777192 }
     requires value { Decodes packing.layouts.now (cells pass) at }
-    ensures out { (t : ℕ) (v : Datum) (z : ℕ) → Dec packing.entry.layouts.now (cells pass) at t v z → IfOk result.0 (λ parts. (gathered parts.items ≡ with_head description.entry.now (length (tree v)) (tree v)) × (length (tree v) ≤ packing.entry.most)) }
-    ensures long { (t : ℕ) (v : Datum) (z : ℕ) → Dec packing.entry.layouts.now (cells pass) at t v z → IsErrOf result.0 Long → packing.entry.most < length (tree v) }
+    ensures out { (t : ℕ) (v : Datum) (z : ℕ) → Dec packing.entry.layouts.now (cells pass) at t v z
+        → IfOk result.0 (λ parts. (gathered parts.items ≡ with_head description.entry.now (length (tree v)) (tree v)) × (length (tree v) ≤ packing.entry.most)) }
+    ensures long { (t : ℕ) (v : Datum) (z : ℕ) → Dec packing.entry.layouts.now (cells pass) at t v z
+        → IsErrOf result.0 Long → packing.entry.most < length (tree v) }
     ensures back { IsBack packing.entry.arena.now pass result.1 }
 {
     let (payload, pass) = write_tree(packing, pass, at);
@@ -175,8 +179,10 @@ fn tree_by<R: Threads + Sync>(
     requires none_out { (view pass).branch.out ≡ [] }
     requires room { length description.now + packing.most ≤ 16777192 }
     requires value { Decodes packing.layouts.now (cells pass) at }
-    ensures out { (t : ℕ) (v : Datum) (z : ℕ) → Dec packing.entry.layouts.now (cells pass) at t v z → IfOk result.0 (λ parts. (gathered parts.items ≡ with_head description.entry.now (length (tree v)) (tree v)) × (length (tree v) ≤ packing.entry.most)) }
-    ensures long { (t : ℕ) (v : Datum) (z : ℕ) → Dec packing.entry.layouts.now (cells pass) at t v z → IsErrOf result.0 Long → packing.entry.most < length (tree v) }
+    ensures out { (t : ℕ) (v : Datum) (z : ℕ) → Dec packing.entry.layouts.now (cells pass) at t v z
+        → IfOk result.0 (λ parts. (gathered parts.items ≡ with_head description.entry.now (length (tree v)) (tree v)) × (length (tree v) ≤ packing.entry.most)) }
+    ensures long { (t : ℕ) (v : Datum) (z : ℕ) → Dec packing.entry.layouts.now (cells pass) at t v z
+        → IsErrOf result.0 Long → packing.entry.most < length (tree v) }
     ensures back { IsBack packing.entry.arena.now pass result.1 }
 {
     if workers <= 1 {

@@ -37,7 +37,8 @@ fn text_in<M: Mem>(
     requires cells { (M.view mem.old).cells ≡ cells_of survey.now.bytes }
     requires names { AreHeld survey.now.table names.now.short }
     requires layouts { layouts.now ≡ packed_layout survey.now.table }
-    ensures { IfOk result (λ line. (v : Datum) → Packed survey.now.table survey.now.ty v survey.now.bytes → line.items ≡ text survey.now.table names.now.short v ++ 10 ∷ []) }
+    ensures { IfOk result (λ line. (v : Datum) → Packed survey.now.table survey.now.ty v survey.now.bytes
+        → line.items ≡ text survey.now.table names.now.short v ++ 10 ∷ []) }
 {
     let _packed = survey.payload();
     layouts.rules();
@@ -59,7 +60,8 @@ fn text_in<M: Mem>(
 /// Want of memory.
 pub fn packed_text(alloc: Global, survey: &Survey<'_>, names: &Texts) -> Result<Vec<u8>, Memory>
     requires names { AreHeld survey.now.table names.now.short }
-    ensures { IfOk result (λ line. (v : Datum) → Packed survey.now.table survey.now.ty v survey.now.bytes → line.items ≡ text survey.now.table names.now.short v ++ 10 ∷ []) }
+    ensures { IfOk result (λ line. (v : Datum) → Packed survey.now.table survey.now.ty v survey.now.bytes
+        → line.items ≡ text survey.now.table names.now.short v ++ 10 ∷ []) }
 {
     let layouts = Layouts::make(alloc, survey.types(), &[])?;
     let mut mem = match PackedMem::over(survey.payload()) {

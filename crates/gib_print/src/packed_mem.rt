@@ -54,26 +54,32 @@ impl<'a> Mem for PackedMem<'a> {
 
     ghost view = { λ m. read_only m.bytes.now m.chunks };
 
+    /// No chunk: nothing is written.
     fn draw(&mut self) -> Option<u32> {
         None
     }
 
+    /// Is never called: no chunk is drawn.
     fn put(&mut self, at: u64, byte: u8) {
         unreachable!()
     }
 
+    /// The payload's byte.
     fn get(&mut self, at: u64) -> u8 {
         byte_in(self.bytes, at as usize)
     }
 
+    /// The same.
     fn look(&mut self, at: u64) -> u8 {
         byte_in(self.bytes, at as usize)
     }
 
+    /// The number that eight bytes of the payload are.
     fn get_word(&mut self, at: u64) -> u64 {
         word_in(self.bytes, at as usize)
     }
 
+    /// As many as the payload fills.
     fn chunks(&mut self) -> u32 {
         self.chunks
     }
