@@ -56,3 +56,8 @@ pub mod LineNames
 pub mod PutLines
 pub mod DatasBack
 pub mod NamedApart
+mod Formed
+mod KeptNaturals
+mod Offsetting
+mod SingleTexts
+mod TypedCovered

@@ -1,15 +1,15 @@
 -- What the last passes do to the form of a core, and to its text.
-use Rattle.std.proofs.Common.{◌≡◌, ℕ, Bool, true, false, if◌then◌else◌, List, [], ◌∷◌, map, Some, refl, sym, subst}
+use Rattle.std.proofs.Common.{◌≡◌, ℕ, Bool, true, false, if◌then◌else◌, List, [], ◌∷◌, map, Some, refl, ◌∙◌}
 use Rattle.gib_types.specs.Table.{Table}
 use Rattle.gib_syntax.specs.Tree.{DataTree}
 use Rattle.gib_syntax.specs.Results as results
 use Rattle.gib_core.specs.declared.atom.Variable.{Variable}
-use Rattle.gib_core.specs.declared.atom.Access.TheVariants.{Offset, Skip}
+use Rattle.gib_core.specs.declared.atom.Access.TheVariants.{Offset, Skip, End}
 use Rattle.gib_core.specs.declared.atom.AccessMode.{AccessMode}
 use Rattle.gib_core.specs.declared.atom.AccessMode.TheVariants.{Skips, Offsets, Ends}
-use Rattle.gib_core.specs.Tree.{Term, Then, Write, Point, CallTerm, Give, CaseTerm, IfTerm, Tuple, Past, One, Both, Prim, Reach, On, Several, Branches, NoBranch, BranchThen, prepend, FunctionTerm, CoreTree}
+use Rattle.gib_core.specs.Tree.{Term, Then, Write, Point, CallTerm, Give, CaseTerm, IfTerm, Tuple, PartTerms, NoPart, PartThen, Past, One, Both, Prim, Reach, Side, On, Several, Branches, NoBranch, BranchThen, prepend, FunctionTerm, CoreTree}
 use Rattle.gib_core.specs.declared.atom.Ended.{Ended}
-use Rattle.gib_core.specs.Reaching.{Later, uses, uses_any, skips_from, offsets_from, untold_from, reaches, laters, in_par, tells_ends, packed_variables, reach, reach_branches}
+use Rattle.gib_core.specs.Reaching.{Later, uses, uses_any, bind_uses, ends_now, not_now, skips_from, offsets_from, untold_from, reaches, laters, in_par, packed_variables, reach, reach_side, reach_parts, reach_branches}
 use Rattle.gib_core.specs.Walk.{map_branches, as_it_is, with_body}
 use Rattle.gib_core.specs.Marking.{mark_one, mark, mark_core}
 use Rattle.gib_core.specs.Met.{Destination, stands_too, result_place}
@@ -17,89 +17,119 @@ use Rattle.gib_local.specs.Tree.{In, Cased, Chosen, LetIn, Be}
 use Rattle.gib_local.specs.Building.{is_flat}
 use Rattle.gib_local.specs.Printing.{Naming, nowhere, named, type_text, con_text, atom_name, operand, side_mark, side_place, side_number, are_fields, before, open_text, no_text, par_text, arms_text, arms_or, text_of, bind_text, branches_text, function_text, local_of}
 use Rattle.gib_local.specs.HasText.{IsBranch}
-use Rattle.gib_local.specs.HasShape.{IsFilled, HasShape, HasShapes}
+use Rattle.gib_local.specs.HasShape.{IsWrite}
+use Rattle.gib_local.specs.HasForm.{FillsNext, IsFilledSo, HasForm, SideForm, PartsForm, BranchesForm}
 
 -- ---- to reach fields keeps the form
 
-no_laters : (mode : AccessMode) (es : List Ended) (t : Term) (xs : List Variable) → tells_ends mode ≡ false → laters mode es t xs ≡ []
-no_laters Skips es t xs q = refl
-no_laters Offsets es t xs q = refl
-no_laters Ends es t xs q = absurd cc
-
-quiet_par : (mode : AccessMode) → tells_ends mode ≡ false → tells_ends (in_par mode) ≡ false
-quiet_par Skips q = refl
-quiet_par Offsets q = refl
-quiet_par Ends q = refl
-
 module _ (tb : Table) (es : List Ended) where
-  filled_kept : (mode : AccessMode) (f : Bool) (t : Term) → IsFilled f t → IsFilled f (reach mode tb es [] t)
-  filled_kept mode false t h = tt
-  filled_kept mode true (Write g k ss ps) h = tt
-  filled_kept mode true (Then b t) h = absurd h
-  filled_kept mode true (Point x) h = absurd h
-  filled_kept mode true (CallTerm f xs) h = absurd h
-  filled_kept mode true (Give x) h = absurd h
-  filled_kept mode true (CaseTerm x bs) h = absurd h
-  filled_kept mode true (IfTerm x t u) h = absurd h
-  filled_kept mode true (Tuple ts ss ps) h = absurd h
+  ends_form : (used : Variable → Bool) (fs : List Later) (u : Term) → HasForm FillsNext tb u → HasForm FillsNext tb (prepend (ends_now used fs) u)
+  ends_form used [] u h = h
+  ends_form used (f ∷ fs) u h = by (used f.field) (ends_form used fs u h)
+    where
+      by : (b : Bool) → HasForm FillsNext tb (prepend (ends_now used fs) u) → HasForm FillsNext tb (prepend (if b then Reach f.field (End f.before) ∷ ends_now used fs else ends_now used fs) u)
+      by true e = (tt, e)
+      by false e = e
+
+  -- To reach a field is no use of it.
+  ends_use : (used : Variable → Bool) (fs : List Later) (u : Term) (y : Variable) → uses (prepend (ends_now used fs) u) y ≡ uses u y
+  ends_use used [] u y = refl
+  ends_use used (f ∷ fs) u y = by (used f.field) (ends_use used fs u y)
+    where
+      by : (b : Bool) → uses (prepend (ends_now used fs) u) y ≡ uses u y → uses (prepend (if b then Reach f.field (End f.before) ∷ ends_now used fs else ends_now used fs) u) y ≡ uses u y
+      by true e = e
+      by false e = e
+
+  ends_fill : (u : Term) (fs : List Later) → FillsNext u → FillsNext (prepend (ends_now (uses u) fs) u)
+  ends_fill u [] h = h
+  ends_fill u (f ∷ fs) h = by (uses u f.field) refl (ends_fill u fs h)
+    where
+      by : (b : Bool) → uses u f.field ≡ b → FillsNext (prepend (ends_now (uses u) fs) u) → FillsNext (prepend (if b then Reach f.field (End f.before) ∷ ends_now (uses u) fs else ends_now (uses u) fs) u)
+      by true e h = (ends_use (uses u) fs u f.field ∙ e, h)
+      by false e h = h
+
+  filled_kept : (mode : AccessMode) (f : Bool) (fs : List Later) (t : Term) → IsFilledSo IsWrite f t → IsFilledSo FillsNext f (reach mode tb es fs t)
+  filled_kept mode false fs t h = tt
+  filled_kept mode true fs (Write g k ss ps) h = ends_fill (Write g k ss ps) fs tt
+  filled_kept mode true fs (Then b t) h = absurd h
+  filled_kept mode true fs (Point x) h = absurd h
+  filled_kept mode true fs (CallTerm f xs) h = absurd h
+  filled_kept mode true fs (Give x) h = absurd h
+  filled_kept mode true fs (CaseTerm x bs) h = absurd h
+  filled_kept mode true fs (IfTerm x t u) h = absurd h
+  filled_kept mode true fs (Tuple ts ss ps) h = absurd h
 
   branch_kept : (mode : AccessMode) (bs : Branches) → IsBranch bs → IsBranch (reach_branches mode tb es bs)
   branch_kept mode NoBranch h = absurd h
   branch_kept mode (BranchThen k xs t bs) h = tt
 
-  skips_shape : (t u : Term) (z : Variable) (ys : List Variable) → HasShape tb u → HasShape tb (prepend (skips_from t z ys) u)
-  skips_shape t u z [] h = h
-  skips_shape t u z (y ∷ ys) h = go (uses_any t (y ∷ ys)) (skips_shape t u y ys h)
+  skips_form : (t u : Term) (z : Variable) (ys : List Variable) → HasForm FillsNext tb u → HasForm FillsNext tb (prepend (skips_from t z ys) u)
+  skips_form t u z [] h = h
+  skips_form t u z (y ∷ ys) h = by (uses_any t (y ∷ ys)) (skips_form t u y ys h)
     where
-      go : (b : Bool) → HasShape tb (prepend (skips_from t y ys) u) → HasShape tb (prepend (if b then Reach y (Skip z) ∷ skips_from t y ys else []) u)
-      go true e = (tt, e)
-      go false e = h
+      by : (b : Bool) → HasForm FillsNext tb (prepend (skips_from t y ys) u) → HasForm FillsNext tb (prepend (if b then Reach y (Skip z) ∷ skips_from t y ys else []) u)
+      by true e = (tt, e)
+      by false e = h
 
-  offsets_shape : (t u : Term) (ys : List Variable) → HasShape tb u → HasShape tb (prepend (offsets_from t ys) u)
-  offsets_shape t u [] h = h
-  offsets_shape t u (y ∷ ys) h = go (uses t y) (offsets_shape t u ys h)
+  offsets_form : (t u : Term) (ys : List Variable) → HasForm FillsNext tb u → HasForm FillsNext tb (prepend (offsets_from t ys) u)
+  offsets_form t u [] h = h
+  offsets_form t u (y ∷ ys) h = by (uses t y) (offsets_form t u ys h)
     where
-      go : (b : Bool) → HasShape tb (prepend (offsets_from t ys) u) → HasShape tb (prepend (if b then Reach y Offset ∷ offsets_from t ys else offsets_from t ys) u)
-      go true e = (tt, e)
-      go false e = e
+      by : (b : Bool) → HasForm FillsNext tb (prepend (offsets_from t ys) u) → HasForm FillsNext tb (prepend (if b then Reach y Offset ∷ offsets_from t ys else offsets_from t ys) u)
+      by true e = (tt, e)
+      by false e = e
 
-  reaches_shape : (m : AccessMode) (t u : Term) (xs : List Variable) → HasShape tb u → HasShape tb (prepend (reaches m es t xs) u)
-  reaches_shape Skips t u [] h = h
-  reaches_shape Offsets t u [] h = h
-  reaches_shape Ends t u [] h = h
-  reaches_shape Skips t u (z ∷ ys) h = skips_shape t u z ys h
-  reaches_shape Offsets t u (z ∷ ys) h = offsets_shape t u ys h
-  reaches_shape Ends t u (z ∷ ys) h = offsets_shape t u (untold_from es t z ys) h
+  reaches_form : (m : AccessMode) (t u : Term) (xs : List Variable) → HasForm FillsNext tb u → HasForm FillsNext tb (prepend (reaches m es t xs) u)
+  reaches_form Skips t u [] h = h
+  reaches_form Offsets t u [] h = h
+  reaches_form Ends t u [] h = h
+  reaches_form Skips t u (z ∷ ys) h = skips_form t u z ys h
+  reaches_form Offsets t u (z ∷ ys) h = offsets_form t u ys h
+  reaches_form Ends t u (z ∷ ys) h = offsets_form t u (untold_from es t z ys) h
 
   mutual
-    shape_kept : (t : Term) (mode : AccessMode) → tells_ends mode ≡ false → HasShape tb t → HasShape tb (reach mode tb es [] t)
-    shape_kept (Then (Past h k) rest) mode q e = (filled_kept mode (is_flat tb k) rest e.0, shape_kept rest mode q e.1)
-    shape_kept (Then (One (On kind x t u)) rest) mode q e = (shape_kept u mode q e.0, shape_kept rest mode q e.1)
-    shape_kept (Then (Both fork (On i x t u) (On j y s w)) rest) mode q e =
-        ((e.0.0, shape_kept u (in_par mode) (quiet_par mode q) e.0.1, shape_kept w (in_par mode) (quiet_par mode q) e.0.2), shape_kept rest mode q e.1)
-    shape_kept (Then (One (Several ys ts u)) rest) mode q e = absurd e.0
-    shape_kept (Then (Both fork (On i x t u) (Several ys ts w)) rest) mode q e = absurd e.0.2
-    shape_kept (Then (Both fork (Several ys ts u) r) rest) mode q e = absurd e.0.1
-    shape_kept (Then (Prim x f y z) rest) mode q e = (tt, shape_kept rest mode q e.1)
-    shape_kept (Then (Reach y by) rest) mode q e = (tt, shape_kept rest mode q e.1)
-    shape_kept (Write h k ss ps) mode q e = tt
-    shape_kept (Point x) mode q e = tt
-    shape_kept (CallTerm f xs) mode q e = tt
-    shape_kept (Give x) mode q e = tt
-    shape_kept (CaseTerm x bs) mode q e = (branch_kept mode bs e.0, shapes_kept bs mode q e.1)
-    shape_kept (IfTerm x t u) mode q e = (shape_kept t mode q e.0, shape_kept u mode q e.1)
-    shape_kept (Tuple ts ss ps) mode q e = absurd e
+    form_kept : (t : Term) (mode : AccessMode) (fs : List Later) → HasForm IsWrite tb t → HasForm FillsNext tb (reach mode tb es fs t)
+    form_kept (Then (Past h k) rest) mode fs e =
+        let left : List Later = not_now (bind_uses (Past h k)) fs in
+        ends_form (bind_uses (Past h k)) fs (Then (Past h k) (reach mode tb es left rest)) (filled_kept mode (is_flat tb k) left rest e.0, form_kept rest mode left e.1)
+    form_kept (Then (One s) rest) mode fs e =
+        let left : List Later = not_now (bind_uses (One s)) fs in
+        ends_form (bind_uses (One s)) fs (Then (One (reach_side mode tb es s)) (reach mode tb es left rest)) (side_kept s mode e.0, form_kept rest mode left e.1)
+    form_kept (Then (Both fork l r) rest) mode fs e =
+        let left : List Later = not_now (bind_uses (Both fork l r)) fs in
+        let inner : AccessMode = in_par mode in
+        ends_form (bind_uses (Both fork l r)) fs (Then (Both fork (reach_side inner tb es l) (reach_side inner tb es r)) (reach mode tb es left rest))
+        ((e.0.0, side_kept l inner e.0.1, side_kept r inner e.0.2), form_kept rest mode left e.1)
+    form_kept (Then (Prim x f y z) rest) mode fs e =
+        let left : List Later = not_now (bind_uses (Prim x f y z)) fs in
+        ends_form (bind_uses (Prim x f y z)) fs (Then (Prim x f y z) (reach mode tb es left rest)) (tt, form_kept rest mode left e.1)
+    form_kept (Then (Reach y by) rest) mode fs e =
+        let left : List Later = not_now (bind_uses (Reach y by)) fs in
+        ends_form (bind_uses (Reach y by)) fs (Then (Reach y by) (reach mode tb es left rest)) (tt, form_kept rest mode left e.1)
+    form_kept (Write h k ss ps) mode fs e = ends_form (uses (Write h k ss ps)) fs (Write h k ss ps) tt
+    form_kept (Point x) mode fs e = ends_form (uses (Point x)) fs (Point x) tt
+    form_kept (CallTerm f xs) mode fs e = ends_form (uses (CallTerm f xs)) fs (CallTerm f xs) tt
+    form_kept (Give x) mode fs e = ends_form (uses (Give x)) fs (Give x) tt
+    form_kept (CaseTerm x bs) mode fs e = ends_form (uses (CaseTerm x bs)) fs (CaseTerm x (reach_branches mode tb es bs)) (branch_kept mode bs e.0, branches_kept bs mode e.1)
+    form_kept (IfTerm x t u) mode fs e = ends_form (uses (IfTerm x t u)) fs (IfTerm x (reach mode tb es [] t) (reach mode tb es [] u)) (form_kept t mode [] e.0, form_kept u mode [] e.1)
+    form_kept (Tuple ts ss ps) mode fs e = ends_form (uses (Tuple ts ss ps)) fs (Tuple ts ss (reach_parts mode tb es ps)) (parts_kept ps mode e)
 
-    shapes_kept : (bs : Branches) (mode : AccessMode) → tells_ends mode ≡ false → HasShapes tb bs → HasShapes tb (reach_branches mode tb es bs)
-    shapes_kept NoBranch mode q e = tt
-    shapes_kept (BranchThen k xs t bs) mode q e =
-        let ps = packed_variables tb k xs in (
-          subst (λ (fs : List Later). HasShape tb (prepend (reaches mode es t ps) (reach mode tb es fs t))) (sym (no_laters mode es t ps q)) (reaches_shape mode t (reach mode tb es [] t) ps (shape_kept t mode q e.0)),
-          shapes_kept bs mode q e.1,
-        )
+    side_kept : (s : Side) (mode : AccessMode) → SideForm IsWrite tb s → SideForm FillsNext tb (reach_side mode tb es s)
+    side_kept (On kind x t u) mode e = form_kept u mode [] e
+    side_kept (Several xs ts u) mode e = form_kept u mode [] e
 
-pub reach_shape : (mode : AccessMode) (tb : Table) (es : List Ended) (t : Term) → tells_ends mode ≡ false → HasShape tb t → HasShape tb (reach mode tb es [] t)
-reach_shape mode tb es t q h = shape_kept tb es t mode q h
+    parts_kept : (ps : PartTerms) (mode : AccessMode) → PartsForm IsWrite tb ps → PartsForm FillsNext tb (reach_parts mode tb es ps)
+    parts_kept NoPart mode e = tt
+    parts_kept (PartThen u ps) mode e = (form_kept u mode [] e.0, parts_kept ps mode e.1)
+
+    branches_kept : (bs : Branches) (mode : AccessMode) → BranchesForm IsWrite tb bs → BranchesForm FillsNext tb (reach_branches mode tb es bs)
+    branches_kept NoBranch mode e = tt
+    branches_kept (BranchThen k xs t bs) mode e =
+        let ps = packed_variables tb k xs in
+        (reaches_form mode t (reach mode tb es (laters mode es t ps) t) ps (form_kept t mode (laters mode es t ps) e.0), branches_kept bs mode e.1)
+
+pub reach_form : (mode : AccessMode) (tb : Table) (es : List Ended) (t : Term) → HasForm IsWrite tb t → HasForm FillsNext tb (reach mode tb es [] t)
+reach_form mode tb es t h = form_kept tb es t mode [] h
 
 -- ---- marks have no text
 

@@ -14,6 +14,7 @@ pub mod Placed
 pub mod Counting
 pub mod Stepping
 pub mod Covered
+pub mod HasForm
 pub mod ReadingTerms
 pub mod Local
 pub mod LocalFaults

@@ -1,10 +1,11 @@
 //! Laws of LoCal text: functions that do nothing, whose contracts say what holds of every tree.
 
-ghost use Rattle.std.specs.Prelude.{◌≡◌, ◌∷◌, ◌++◌, ◌<◌, ◌≤◌, [], ℕ, false, suc, List, length, Ok, Err, None, Some};
+ghost use Rattle.std.specs.Prelude.{◌≡◌, ◌∷◌, ◌++◌, ◌<◌, ◌≤◌, [], ℕ, suc, List, length, Ok, Err, None, Some};
 ghost use Rattle.gib_core.specs.Tree.{CoreTree, Term as CoreTerm};
 ghost use Rattle.gib_core.specs.Marking.{mark_core};
 ghost use Rattle.gib_core.specs.Met.{Setting, met};
-ghost use Rattle.gib_core.specs.Reaching.{reach, reach_core, tells_ends};
+ghost use Rattle.gib_core.specs.Reaching.{reach, reach_core};
+ghost use Rattle.gib_core.specs.Literals.{AllLiteralsFit};
 ghost use Rattle.gib_core.specs.declared.atom.Ended.{Ended};
 ghost use Rattle.gib_core.specs.declared.atom.AccessMode.{AccessMode as Mode};
 ghost use Rattle.gib_local.specs.Counting.{broken_text, terms};
@@ -15,13 +16,14 @@ ghost use Rattle.gib_local.specs.Building.{Around, Passed, Termed, Program, buil
 ghost use Rattle.gib_syntax.specs.Tree.{DataTree};
 ghost use Rattle.gib_local.specs.Printing.{Naming, Apart, local_of};
 ghost use Rattle.gib_local.specs.HasText.{HasCore, with_ends};
-ghost use Rattle.gib_local.specs.LocatedText.{numbered, given, datas_of, located_tree};
-ghost use Rattle.gib_local.specs.HasShape.{HasShape, AreShaped};
+ghost use Rattle.gib_local.specs.LocatedText.{numbered, given, datas_of, located_tree, located_text};
+ghost use Rattle.gib_local.specs.HasShape.{IsWrite, AreShaped};
+ghost use Rattle.gib_local.specs.HasForm.{FillsNext, HasForm, AreFormed, AreSingle};
 ghost use Rattle.std.specs.List.{AllByRecursion};
 ghost use Rattle.gib_types.specs.Table.{Table, IsTable};
 ghost use Rattle.gib_syntax.specs.Declarations.{table_of_program, input_type, output_type};
 ghost use Rattle.gib_core.specs.TypesNamed.{SignaturesDeclared, AllTypesDeclared};
-ghost use Rattle.gib_core.specs.Ordered.{AreNatural, IsFound};
+ghost use Rattle.gib_core.specs.Ordered.{AreNatural, AreOrdered, IsFound};
 ghost use Rattle.gib_core.specs.Rules.{AreBuilt, first_broken};
 ghost use Rattle.gib_local.specs.Tree.{Line as Term};
 ghost use Rattle.gib_base.specs.declared.token.Token.{Token};
@@ -43,13 +45,16 @@ ghost use Rattle.gib_core.specs.Meaning.{core_run};
 ghost use Rattle.gib_core.specs.Erasing.{erase_core};
 ghost use Rattle.gib_local.specs.Naming.{check_text};
 ghost use Rattle.gib_local.specs.Sample.{text, fields, made, boxed, core, filled};
-ghost use Rattle.gib_syntax.specs.Typing.{Globals};
+ghost use Rattle.gib_syntax.specs.Fine.{IsFineProgram};
+ghost use Rattle.gib_syntax.specs.Typing.{Globals, IsTypedProgram};
 ghost use Rattle.gib_syntax.specs.Tree.{Expression, ProgramTree};
 ghost use Rattle.gib_core.specs.Inferring.{Scope, infer, infer_program};
 ghost use Rattle.gib_local.specs.Covered.{Covered, IsCovered};
 ghost use Rattle.gib_place.specs.Numbering.{place_core};
 
-use gib_core::law::{built_is_ordered, erasing_keeps_the_meaning};
+use gib_core::law::{
+    built_fits, built_is_ordered, erasing_keeps_the_meaning, types_of_a_built_core_are_declared,
+};
 use gib_lex::laws::one_reading_in;
 
 /// Words spell one term at most that stands where they stand, in so many levels, where nothing goes on with an operand or an `@`.
@@ -203,23 +208,74 @@ pub fn terms_are_counted()
     ensures { (p : Program) (t : Term) (h : Around) (v : Passed) (r : Termed) (s : Setting) → build p t h v ≡ Ok r → length (met p.table s r.term) ≡ terms p t }
 {}
 
-/// To reach the fields of arms keeps that a term has a text, where no ends of values are told.
-#[tactic(auto, using(crate::proofs::Shapes::reach_shape))]
+/// To reach the fields of arms keeps the form of a term: a head without packed fields is filled behind fields that it takes at most.
+#[tactic(auto, using(crate::proofs::Shapes::reach_form))]
 pub fn reaching_keeps_the_form()
-    ensures { (mode : Mode) (tb : Table) (es : List Ended) (t : CoreTerm) → tells_ends mode ≡ false → HasShape tb t → HasShape tb (reach mode tb es [] t) }
+    ensures { (mode : Mode) (tb : Table) (es : List Ended) (t : CoreTerm) → HasForm IsWrite tb t → HasForm FillsNext tb (reach mode tb es [] t) }
 {}
 
-/// The line of core terms that an expression becomes has a text's form, where its cases have an arm for the first constructor of
-/// their type, and nothing in it gives or binds several parts.
+/// The arms of typed programs are of declared constructors.
+pub fn typed_is_covered()
+    ensures { (p : ProgramTree) → IsFineProgram p → IsTypedProgram p → IsCovered p }
+{}
+
+/// The line of core terms that an expression becomes has the form, where its arms are of declared constructors.
 #[tactic(auto, using(crate::proofs::Inferred::infer_shape))]
 pub fn inferring_makes_the_form()
-    ensures { (g : Globals) (e : Expression) (sc : Scope) (n : ℕ) → Covered g e → HasShape g.table ((infer g e).line sc n).term }
+    ensures { (g : Globals) → IsTable g.table → (e : Expression) → Covered g e
+        → (sc : Scope) (n : ℕ) → HasForm IsWrite g.table ((infer g e).line sc n).term }
 {}
 
-/// The core that the passes make of a program in which nothing gives or binds several parts has a text's form, where no ends of values are told.
+/// The core that the passes make of a program has the form, however its fields are reached.
 pub fn passes_make_the_form()
-    ensures { (mode : Mode) (p : ProgramTree) → tells_ends mode ≡ false → IsCovered p → AreShaped (reach_core mode (place_core (infer_program p))) }
+    ensures { (mode : Mode) (p : ProgramTree) → IsTable (table_of_program p) → IsCovered p
+        → AreFormed (reach_core mode (place_core (infer_program p))) }
 {}
+
+/// A core of the form that meets the build rules, in which no several parts are bound or given, has a text's form.
+pub fn formed_is_shaped()
+    ensures { (core : CoreTree) → IsTable core.table → AreNumbered core → AllLiteralsFit core → AreBuilt core
+        → AreFormed core → AreSingle core → AreShaped core }
+{
+    built_fits();
+}
+
+/// A core whose variables are used behind where they are bound has no negative literal, and no pass makes one.
+pub fn passes_make_no_negative_literal()
+    ensures none { (core : CoreTree) → AreOrdered core → AreNatural core }
+    ensures kept { (mode : Mode) (core : CoreTree) → AreNatural core → AreNatural (reach_core mode (place_core core)) }
+{}
+
+/// The constructors that store offsets in a core whose fields are reached are found by their names.
+#[tactic(auto, using(crate::proofs::Offsetting::offsets_found))]
+pub fn offsets_are_found()
+    ensures { (mode : Mode) (core : CoreTree) → AreOrdered (reach_core mode core)
+        → AllByRecursion (IsFound (reach_core mode core).table) (reach_core mode core).offsets }
+{}
+
+/// In a core that has a text no several parts are bound or given.
+pub fn printed_core_is_single()
+    ensures { (names : List (List ℕ)) (core : CoreTree) (text : List ℕ) → located_text names core ≡ Some text → AreSingle core }
+{}
+
+/// The tree whose tokens are printed of the core that the passes make of a typed program makes that core, in which ends of values
+/// are told, where it has a text.
+pub fn printed_text_makes_its_core()
+    ensures { (mode : Mode) (p : ProgramTree) → IsTable (table_of_program p) → IsFineProgram p → IsTypedProgram p → AreOrdered (infer_program p)
+        → (core : CoreTree) → core ≡ reach_core mode (place_core (infer_program p))
+        → SignaturesDeclared core → AllLiteralsFit core → AreNumbered core → AreBuilt core
+        → (names : List (List ℕ)) (text : List ℕ) → located_text names core ≡ Some text → build_core (located_tree core) ≡ Ok (with_ends core) }
+{
+    types_of_a_built_core_are_declared();
+    built_is_ordered();
+    typed_is_covered();
+    passes_make_the_form();
+    formed_is_shaped();
+    passes_make_no_negative_literal();
+    offsets_are_found();
+    printed_core_is_single();
+    located_core_is_made();
+}
 
 /// What small texts make.
 #[tactic(auto, using(crate::proofs::Samples::twice, crate::proofs::Samples::crossed, crate::proofs::Samples::elsewhere, crate::proofs::Samples::again, crate::proofs::Samples::named))]

@@ -1,10 +1,13 @@
 -- What is printed of a source, and how a call ends.
-use Rattle.std.specs.Prelude.{◌≡◌, ◌⊎◌, ℕ, false, List, [], ◌∷◌, Option, Some, None, codes}
+use Rattle.std.specs.Prelude.{◌≡◌, ◌⊎◌, ℕ, false, List, [], ◌∷◌, Option, Some, None, Ok, codes}
 use Rattle.gib_base.specs.Texts.{TextsView}
 use Rattle.gib_syntax.specs.Tree.{ProgramTree}
 use Rattle.gib_edge.specs.Views.{Call, ReadOf, Held, ShelfView, SinkView}
 use Rattle.gib_edge.specs.Causes.{IsFrontOf, Appends, AppendsPart, Rose}
-use Rattle.gib_local.specs.LocatedText.{located_text}
+use Rattle.gib_core.specs.Tree.{CoreTree}
+use Rattle.gib_local.specs.Building.{build_core}
+use Rattle.gib_local.specs.HasText.{with_ends}
+use Rattle.gib_local.specs.LocatedText.{located_text, located_tree}
 use Rattle.gib_app.specs.Running.{IsProgram}
 use Rattle.gib_app.specs.Cores.{core_after}
 use Rattle.gib_app.specs.Lines.{line}
@@ -16,12 +19,18 @@ use Rattle.gib_app.specs.declared.stop.Stop.TheVariants.{Usage, Source, Unread, 
 use Rattle.gib_located.specs.declared.located.Fault.{Fault}
 use Rattle.gib_located.specs.declared.located.Fault.TheVariants as f
 
+-- Where a core has a text, the tree whose tokens that text has makes it again, in which ends of values are told.
+abbrev pub IsMadeAgain : CoreTree → Option (List ℕ) → Type 0
+IsMadeAgain core None = Unit {0}
+IsMadeAgain core (Some text) = build_core (located_tree core) ≡ Ok (with_ends core)
+
 -- The source spells a typed program, and this is the text of the core that runs, where it has one.
 pub record HasCoreText (source : List ℕ) (text : Option (List ℕ)) : Type 0 where
   pub names : TextsView
   pub program : ProgramTree
   pub is_program : IsProgram source names program
   pub is_text : located_text names.long (core_after false 3 program) ≡ text
+  pub again : IsMadeAgain (core_after false 3 program) text
 
 -- Why there is no text.
 abbrev pub IsFault : List ℕ → Fault → Type 0

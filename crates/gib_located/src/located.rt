@@ -1,13 +1,19 @@
 //! From the words of a command line to the LoCal text of a source's core.
 
-ghost use Rattle.std.specs.Prelude.{◌≡◌, ◌≤◌, ◌∷◌, [], ℕ, List, Some, OnOk, OnErr, IfOk, IfErr, MatchOption};
+ghost use Rattle.std.specs.Prelude.{◌≡◌, ◌≤◌, ◌∷◌, [], ℕ, false, List, None, Some, OnOk, OnErr, IfOk, IfErr, MatchOption};
+ghost use Rattle.std.specs.Result.{IsErrOf};
 ghost use Rattle.gib_edge.specs.Causes.{Appends, AppendsPart, IsFrontOf};
 ghost use Rattle.gib_edge.specs.Views.{ReadOf};
 ghost use Rattle.gib_app.specs.Ending.{ReadsStay, OutStays};
 ghost use Rattle.gib_app.specs.Lines.{IsPut};
 ghost use Rattle.gib_app.specs.Stopping.{answer_of};
 ghost use Rattle.gib_words.specs.Words.{bytes_of};
-ghost use Rattle.gib_located.specs.LocatedSource.{HasCoreText, IsFault, IsUnreadSource, IsPrinted, IsCallFault, IsEnd, answer_for_fault, located_calls};
+ghost use Rattle.gib_syntax.specs.Fine.{IsFineProgram};
+ghost use Rattle.gib_syntax.specs.Parts.{program_of};
+ghost use Rattle.gib_app.specs.Cores.{core_after};
+ghost use Rattle.gib_local.specs.LocatedText.{located_text};
+ghost use Rattle.gib_located.specs.LocatedSource.{IsMadeAgain, HasCoreText, IsFault, IsUnreadSource, IsPrinted};
+ghost use Rattle.gib_located.specs.LocatedSource.{IsCallFault, IsEnd, answer_for_fault, located_calls};
 
 use gib_app::Status;
 use gib_app::answer::{Answer, Detail, Said, answer_to};
@@ -15,8 +21,12 @@ use gib_app::compile::compile;
 use gib_app::lines::put_line;
 use gib_app::lowering::checked_core;
 use gib_app::stop::Stop;
+use gib_base::Texts;
+use gib_check::Typed;
 use gib_edge::command_line::WordsFault;
 use gib_edge::outside::{Shelf, ShelfFault, Sink, put_all};
+use gib_infer::law::infer_numbers_variables;
+use gib_local::law::printed_text_makes_its_core;
 use gib_local::{PrintFault, print_located};
 use std::alloc::Global;
 
@@ -32,6 +42,29 @@ pub enum Fault<'a> {
     NoText,
 }
 
+/// The text of the core of a program that the grammar has. The tree whose tokens it has makes that core again, in which ends of values are told.
+fn text_of_program(alloc: Global, typed: &Typed, names: &Texts) -> Result<Vec<u8>, PrintFault>
+    requires fine { IsFineProgram (program_of typed.now) }
+    ensures text { IfOk result (λ text. located_text names.now.long (core_after false 3 (program_of typed.now)) ≡ Some text.items) }
+    ensures again { IfOk result (λ text. IsMadeAgain (core_after false 3 (program_of typed.now)) (Some text.items)) }
+    ensures none { IsErrOf result PrintFault.NoText → located_text names.now.long (core_after false 3 (program_of typed.now)) ≡ None }
+{
+    let _typed = typed.program();
+    typed.types().rules();
+    infer_numbers_variables();
+    printed_text_makes_its_core();
+    let Ok(checked) = checked_core(alloc, typed, false) else {
+        return Err(PrintFault::Memory);
+    };
+    let core = checked.into_core();
+    core.types_declared();
+    core.literals_fit();
+    match print_located(alloc, &core, names) {
+        Ok(text) => Ok(text),
+        Err(fault) => Err(fault),
+    }
+}
+
 /// The text of the core of a source.
 fn text_of(alloc: Global, source: &[u8]) -> Result<Vec<u8>, Fault<'static>>
     ensures text { IfOk result (λ text. HasCoreText source.now (Some text.items)) }
@@ -41,11 +74,7 @@ fn text_of(alloc: Global, source: &[u8]) -> Result<Vec<u8>, Fault<'static>>
         Ok(compiled) => compiled,
         Err(stop) => return Err(Fault::Stopped(stop)),
     };
-    let Ok(checked) = checked_core(alloc, &compiled.typed, false) else {
-        return Err(Fault::Stopped(Stop::Memory));
-    };
-    let core = checked.into_core();
-    match print_located(alloc, &core, &compiled.names) {
+    match text_of_program(alloc, &compiled.typed, &compiled.names) {
         Ok(text) => Ok(text),
         Err(PrintFault::NoText) => Err(Fault::NoText),
         Err(PrintFault::Memory) => Err(Fault::Stopped(Stop::Memory)),
