@@ -13,9 +13,9 @@ use Rattle.gib_syntax.specs.declared.tree.TypeName.{TypeName}
 use Rattle.gib_syntax.specs.declared.tree.TypeName.TheVariants as ty
 use Rattle.gib_syntax.specs.declared.tree.Operator.{Operator}
 use Rattle.gib_syntax.specs.Spelling.{Places}
-use Rattle.gib_parse.specs.Reading.{Fault, At, Nested, left_of, Read, Reader, then_at, before, named, want_if, want, same, var_at, con_at, next_is, many, many_at, many_step, is_variable, is_sign, operator_of}
-use Rattle.gib_parse.proofs.Tools.{done, failed, var_holds}
-use Rattle.gib_parse.proofs.Many.{Shrinks}
+use Rattle.gib_reads.specs.Readers.{Fault, At, Nested, left_of, Read, Reader, then_at, before, named, want_if, want, same, var_at, con_at, next_is, many, many_at, many_step, is_variable, is_sign, operator_of}
+use Rattle.gib_reads.proofs.Tools.{done, failed, var_holds}
+use Rattle.gib_reads.proofs.Many.{Shrinks}
 use Rattle.gib_local.specs.Tree.{Line, Binding, LetIn, Be}
 use Rattle.gib_local.specs.Grammar.{type_at, literal_at, operand_at, starts_operand, operands_at, names_at, mark_from, mark_at, option_at, head_at, location_at, way_at, operator_found, operator_at, place_between_at, between_at, bound_from, bound_at, prim_at, side_in_at, let_from, par_at, one_at, let_at, in_at, ArmText, arm_at, next_arm_at, arms_at, region_at, new_place_at, reach_at, give_at, point_at, call_at, make_at, case_at, if_at, line_at, starts_term, no_level, parse}
 use Rattle.gib_local.specs.Refused.{left_behind}

@@ -4,13 +4,13 @@ use Rattle.std.specs.List.{AllByRecursion}
 use Rattle.gib_base.specs.declared.token.Sign.TheVariants as s
 use Rattle.gib_base.specs.declared.token.Token.{Token}
 use Rattle.gib_syntax.specs.Spelling.{Places}
-use Rattle.gib_parse.specs.declared.stop.Stop.{Stop}
-use Rattle.gib_parse.specs.declared.stop.Stop.TheVariants as stop
-use Rattle.gib_parse.specs.Reading.{Read, Reader, then_at, next_is, is_sign, many}
-use Rattle.gib_parse.specs.Parsing.{Fails}
-use Rattle.gib_parse.proofs.Tools.{done}
-use Rattle.gib_parse.proofs.Many.{Shrinks}
-use Rattle.gib_parse.proofs.SoFar.{SoFar, one_more, one_and_more, first_one, first_fails, all_read, one_fails, shorter}
+use Rattle.gib_reads.specs.declared.stop.Stop.{Stop}
+use Rattle.gib_reads.specs.declared.stop.Stop.TheVariants as stop
+use Rattle.gib_reads.specs.Readers.{Read, Reader, then_at, next_is, is_sign, many}
+use Rattle.gib_reads.specs.Answers.{Fails}
+use Rattle.gib_reads.proofs.Tools.{done}
+use Rattle.gib_reads.proofs.Many.{Shrinks}
+use Rattle.gib_reads.proofs.SoFar.{SoFar, one_more, one_and_more, first_one, first_fails, all_read, one_fails, shorter}
 use Rattle.gib_local.specs.declared.lines.LineArm.{LineArm}
 use Rattle.gib_local.specs.declared.lines.LineNode.{LineNode}
 use Rattle.gib_local.specs.declared.lines.LineId.{LineId}

@@ -5,11 +5,11 @@ use Rattle.gib_base.specs.declared.token.Sign.TheVariants as s
 use Rattle.gib_base.specs.declared.token.Token.{Token}
 use Rattle.gib_syntax.specs.declared.tree.Ident.{Ident}
 use Rattle.gib_syntax.specs.Spelling.{Places}
-use Rattle.gib_parse.specs.declared.stop.Stop.{Stop}
-use Rattle.gib_parse.specs.declared.stop.Stop.TheVariants as stop
-use Rattle.gib_parse.specs.Reading.{Read, Reader, then_at, want, var_at, next_is}
-use Rattle.gib_parse.specs.Parsing.{Fails, with_front}
-use Rattle.gib_parse.proofs.Tools.{done}
+use Rattle.gib_reads.specs.declared.stop.Stop.{Stop}
+use Rattle.gib_reads.specs.declared.stop.Stop.TheVariants as stop
+use Rattle.gib_reads.specs.Readers.{Read, Reader, then_at, want, var_at, next_is}
+use Rattle.gib_reads.specs.Answers.{Fails, with_front}
+use Rattle.gib_reads.proofs.Tools.{done}
 use Rattle.gib_local.specs.declared.lines.BindingNode.{BindingNode}
 use Rattle.gib_local.specs.declared.lines.BindingNode.TheVariants as b
 use Rattle.gib_local.specs.declared.lines.LineNode.{LineNode}

@@ -13,12 +13,12 @@ use Rattle.gib_syntax.specs.declared.tree.DataDecl.{DataDecl}
 use Rattle.gib_syntax.specs.Parts.{constructor_tree, data_tree}
 use Rattle.gib_syntax.specs.Tree.{ConstructorTree, DataTree}
 use Rattle.gib_syntax.specs.Spelling.{Places}
-use Rattle.gib_parse.specs.declared.stop.Stop.{Stop}
-use Rattle.gib_parse.specs.Reading.{At, Read, Reader, then_at, before, named, want, var_at, con_at, next_is, is_sign, many}
-use Rattle.gib_parse.specs.Parsing.{Fails}
-use Rattle.gib_parse.proofs.Tools.{done, Holds, holds_ok, holds_err, then_holds, want_holds, con_holds}
-use Rattle.gib_parse.proofs.Many.{Shrinks}
-use Rattle.gib_parse.proofs.SoFar.{SoFar, none_yet, one_more, one_and_more, first_one, first_fails, all_read, one_fails, shorter}
+use Rattle.gib_reads.specs.declared.stop.Stop.{Stop}
+use Rattle.gib_reads.specs.Readers.{At, Read, Reader, then_at, before, named, want, var_at, con_at, next_is, is_sign, many}
+use Rattle.gib_reads.specs.Answers.{Fails}
+use Rattle.gib_reads.proofs.Tools.{done, Holds, holds_ok, holds_err, then_holds, want_holds, con_holds}
+use Rattle.gib_reads.proofs.Many.{Shrinks}
+use Rattle.gib_reads.proofs.SoFar.{SoFar, none_yet, one_more, one_and_more, first_one, first_fails, all_read, one_fails, shorter}
 use Rattle.gib_local.specs.declared.lines.LineNode.{LineNode}
 use Rattle.gib_local.specs.declared.text.FunctionLines.{FunctionLines}
 use Rattle.gib_local.specs.Tree.{FunctionText, MainText, LocalTree}

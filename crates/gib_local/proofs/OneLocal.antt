@@ -5,7 +5,7 @@ use Rattle.gib_base.specs.declared.token.Dialect.{Dialect}
 use Rattle.gib_base.specs.declared.token.Dialect.TheVariants.{Located}
 use Rattle.gib_base.specs.Lexed.{Lexed, IsLexedIn}
 use Rattle.gib_syntax.specs.Spelling.{Places, places_of}
-use Rattle.gib_parse.specs.Reading.{Read}
+use Rattle.gib_reads.specs.Readers.{Read}
 use Rattle.gib_core.specs.Tree.{CoreTree}
 use Rattle.gib_core.specs.Marking.{mark_core}
 use Rattle.gib_core.specs.Rules.{Broken}

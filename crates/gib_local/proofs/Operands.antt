@@ -6,9 +6,9 @@ use Rattle.gib_base.specs.declared.token.Sign.TheVariants as s
 use Rattle.gib_base.specs.declared.token.Token.{Token}
 use Rattle.gib_base.specs.declared.token.Token.TheVariants as t
 use Rattle.gib_syntax.specs.Spelling.{Places}
-use Rattle.gib_parse.specs.Reading.{At, before, named}
-use Rattle.gib_parse.proofs.Tools.{Holds, holds_ok, holds_err}
-use Rattle.gib_parse.proofs.Many.{Shrinks}
+use Rattle.gib_reads.specs.Readers.{At, before, named}
+use Rattle.gib_reads.proofs.Tools.{Holds, holds_ok, holds_err}
+use Rattle.gib_reads.proofs.Many.{Shrinks}
 use Rattle.gib_local.specs.Tree.{Operand, Named, Number, Bit}
 use Rattle.gib_local.specs.Grammar.{literal_at, operand_at}
 

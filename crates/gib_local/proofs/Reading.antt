@@ -11,7 +11,7 @@ use Rattle.gib_syntax.specs.declared.tree.Operator.TheVariants as o
 use Rattle.gib_local.specs.Tree.{Mark, Operand, Named, Number, Bit, Location, Start, Plus, After, Way, ByOffset, BySkip, ByEnd, Line, In, Given, Pointed, Called, Made, Cased, Chosen, Binding, NewRegion, NewPlace, LetIn, ParIn, PrimIn, ReachIn, Bound, Be, Arms, LastArm, NextArm}
 use Rattle.gib_base.specs.declared.token.Token.{Token}
 use Rattle.gib_base.specs.declared.token.Token.TheVariants as t
-use Rattle.gib_parse.specs.Reading.{Read, Reader, before, then_at, named, want, next_is, many, many_at, many_step, is_variable, is_sign, var_at}
+use Rattle.gib_reads.specs.Readers.{Read, Reader, before, then_at, named, want, next_is, many, many_at, many_step, is_variable, is_sign, var_at}
 use Rattle.gib_syntax.specs.Spelling.{Places}
 use Rattle.gib_local.specs.Grammar.{ArmText, starts_operand, arms_of, arm_at, next_arm_at, sign, lower, upper, operand_word, operator_word, type_word, spell_mark, spell_option, spell_operands, spell_names, spell_location, spell_way, spell_between, spell_line, spell_binding, spell_bound, spell_arms, type_at, literal_at, operand_at, operands_at, names_at, mark_at, option_at, location_at, way_at, operator_at, between_at, bound_from, bound_at, let_from, let_at, in_at, arms_at, call_at, parse}
 use Rattle.gib_local.specs.Placed.{IsAt, MarkAt, OptionAt, OperandAt, OperandsAt, NamesAt, TypeAt, LocationAt, WayAt, BetweenAt, ArgumentsAt, Follows, LineAt, BindingAt, BoundAt, ArmsAt}

@@ -10,9 +10,9 @@ use Rattle.gib_syntax.specs.declared.tree.TypeName.{TypeName}
 use Rattle.gib_syntax.specs.declared.tree.TypeName.TheVariants as ty
 use Rattle.gib_syntax.specs.declared.tree.Operator.{Operator}
 use Rattle.gib_syntax.specs.Spelling.{Places}
-use Rattle.gib_parse.specs.Reading.{At, Nested, Read, Reader, then_at, before, named, want, var_at, con_at, next_is, many, many_at, many_step, is_variable, is_sign, operator_of}
-use Rattle.gib_parse.proofs.Tools.{done, Holds, holds_ok, holds_err, then_holds, want_holds, var_holds, con_holds}
-use Rattle.gib_parse.proofs.Many.{Shrinks}
+use Rattle.gib_reads.specs.Readers.{At, Nested, Read, Reader, then_at, before, named, want, var_at, con_at, next_is, many, many_at, many_step, is_variable, is_sign, operator_of}
+use Rattle.gib_reads.proofs.Tools.{done, Holds, holds_ok, holds_err, then_holds, want_holds, var_holds, con_holds}
+use Rattle.gib_reads.proofs.Many.{Shrinks}
 use Rattle.gib_local.specs.Tree.{Mark, Operand, Location, Start, Plus, After, Way, ByOffset, BySkip, ByEnd, Line, In, Given, Pointed, Called, Made, Cased, Chosen, Binding, NewRegion, NewPlace, LetIn, ParIn, PrimIn, ReachIn, Bound, Be, Arms}
 use Rattle.gib_local.specs.Grammar
 use Rattle.gib_local.specs.Grammar.{type_at, operand_at, operands_at, starts_operand, names_at, mark_from, mark_at, option_at, head_at, location_at, way_at, operator_found, operator_at, place_between_at, between_at, bound_from, bound_at, prim_at, side_in_at, let_from, par_at, one_at, let_at, in_at, ArmText, arms_of, arm_at, next_arm_at, arms_at, region_at, new_place_at, reach_at, give_at, point_at, call_at, make_at, case_at, if_at, line_at, starts_term, no_level, parse}

@@ -9,7 +9,7 @@ use Rattle.gib_syntax.specs.declared.tree.Operator.TheVariants as o
 use Rattle.gib_local.specs.Tree.{Mark, Operand, Named, Number, Bit, Location, Start, Plus, After, Way, ByOffset, BySkip, ByEnd, Line, In, Given, Pointed, Called, Made, Cased, Chosen, NewRegion, NewPlace, LetIn, ParIn, PrimIn, ReachIn, Be, Arms, LastArm, NextArm}
 use Rattle.gib_base.specs.declared.token.Token.{Token}
 use Rattle.gib_base.specs.declared.token.Token.TheVariants as t
-use Rattle.gib_parse.specs.Reading.{number_of}
+use Rattle.gib_reads.specs.Readers.{number_of}
 use Rattle.gib_local.specs.Grammar.{sign, lower, operand_word, operator_word, type_word, spell_mark, spell_option, spell_operands, spell_names, spell_location, spell_way, spell_between, spell_line, spell_bound, spell_arms}
 use Rattle.gib_local.specs.Stepping.{One, TypeS, OperandS, OperatorS, OperandsS, NamesS, OptionS, LocationS, WayS, BetweenS, LetS, LetRestS, LetEqualsS, MoreArmsS, TermS, Stack, number, is_operand, a_name, a_con, bound_symbols, advance, or_skip, Goes, Stands, Fails, goes_on, run, HasOperands, ArmsHave}
 

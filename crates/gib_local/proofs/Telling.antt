@@ -7,13 +7,13 @@ use Rattle.gib_syntax.specs.Spelling.{Places, places_of}
 use Rattle.gib_lex.specs.declared.fault.LexFault.{LexFault}
 use Rattle.gib_lex.specs.declared.fault.LexFault.TheVariants as lexing
 use Rattle.gib_lex.specs.Refused.{IsRefusedIn}
-use Rattle.gib_parse.specs.declared.fault.ParseFault.{ParseFault}
-use Rattle.gib_parse.specs.declared.fault.ParseFault.TheVariants as parsing
-use Rattle.gib_parse.specs.declared.stop.Stop.{Stop}
-use Rattle.gib_parse.specs.declared.stop.Stop.TheVariants as stop
-use Rattle.gib_parse.specs.Answers.{fault_of, place_of}
-use Rattle.gib_parse.specs.Parsing.{Fails}
-use Rattle.gib_parse.specs.Reading as reading
+use Rattle.gib_reads.specs.declared.fault.ParseFault.{ParseFault}
+use Rattle.gib_reads.specs.declared.fault.ParseFault.TheVariants as parsing
+use Rattle.gib_reads.specs.declared.stop.Stop.{Stop}
+use Rattle.gib_reads.specs.declared.stop.Stop.TheVariants as stop
+use Rattle.gib_reads.specs.Faults.{fault_of, place_of}
+use Rattle.gib_reads.specs.Answers.{Fails}
+use Rattle.gib_reads.specs.Readers as reading
 use Rattle.gib_core.specs.Parts.{Parts, core_of}
 use Rattle.gib_core.specs.Marking.{mark_core}
 use Rattle.gib_core.specs.Rules.{Broken}

@@ -4,8 +4,8 @@ use Rattle.gib_base.specs.declared.token.Sign.TheVariants as s
 use Rattle.gib_base.specs.declared.token.Token.{Token}
 use Rattle.gib_base.specs.declared.token.Token.TheVariants as t
 use Rattle.gib_syntax.specs.Spelling.{Places}
-use Rattle.gib_parse.specs.Reading.{Fault, At, Nested, left_of, Read, con_at, is_sign}
-use Rattle.gib_parse.proofs.Tools.{done, failed}
+use Rattle.gib_reads.specs.Readers.{Fault, At, Nested, left_of, Read, con_at, is_sign}
+use Rattle.gib_reads.proofs.Tools.{done, failed}
 use Rattle.gib_local.specs.Tree.{LocalTree}
 use Rattle.gib_local.specs.Grammar.{type_at, parse}
 use Rattle.gib_local.specs.Texts.{spell_text, starts_type, is_constructor, constructor_at, alternative_at, constructors_at, data_at, listed_at, offsets_at, parameter_at, parameters_at, body_at, function_at, main_at, text_at, ended, whole_text}

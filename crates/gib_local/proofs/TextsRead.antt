@@ -10,7 +10,7 @@ use Rattle.gib_syntax.specs.declared.tree.TypeName.TheVariants as ty
 use Rattle.gib_syntax.specs.declared.tree.Parameter.{Parameter}
 use Rattle.gib_syntax.specs.Tree.{ConstructorTree, DataTree}
 use Rattle.gib_syntax.specs.Spelling.{Places}
-use Rattle.gib_parse.specs.Reading.{Read, Reader, then_at, named, want, next_is, many, many_at, many_step, var_at, con_at, is_sign}
+use Rattle.gib_reads.specs.Readers.{Read, Reader, then_at, named, want, next_is, many, many_at, many_step, var_at, con_at, is_sign}
 use Rattle.gib_local.specs.Tree.{Mark, Line, FunctionText, MainText, LocalTree}
 use Rattle.gib_local.specs.Grammar.{lower, upper, type_word, spell_option, spell_line, type_at, option_at, parse}
 use Rattle.gib_local.specs.Placed.{IsAt, TypeAt, OptionAt, LineAt, Follows}

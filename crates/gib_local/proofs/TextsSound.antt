@@ -11,9 +11,9 @@ use Rattle.gib_syntax.specs.declared.tree.TypeName.{TypeName}
 use Rattle.gib_syntax.specs.declared.tree.Parameter.{Parameter}
 use Rattle.gib_syntax.specs.Tree.{ConstructorTree, DataTree}
 use Rattle.gib_syntax.specs.Spelling.{Places}
-use Rattle.gib_parse.specs.Reading.{At, Read, Reader, con_at, is_sign, many}
-use Rattle.gib_parse.proofs.Tools.{done, Holds, holds_ok, holds_err, then_holds, want_holds, var_holds, con_holds, IsVar, IsCon}
-use Rattle.gib_parse.proofs.Many.{Chain, many_sound}
+use Rattle.gib_reads.specs.Readers.{At, Read, Reader, con_at, is_sign, many}
+use Rattle.gib_reads.proofs.Tools.{done, Holds, holds_ok, holds_err, then_holds, want_holds, var_holds, con_holds, IsVar, IsCon}
+use Rattle.gib_reads.proofs.Many.{Chain, many_sound}
 use Rattle.gib_local.specs.Tree.{Mark, Line, FunctionText, MainText, LocalTree}
 use Rattle.gib_local.specs.Grammar.{sign, lower, upper, type_word, spell_option, spell_line, type_at}
 use Rattle.gib_local.specs.Placed.{IsAt, TypeAt}

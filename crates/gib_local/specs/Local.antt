@@ -4,8 +4,8 @@ use Rattle.gib_base.specs.declared.token.Dialect.TheVariants.{Located}
 use Rattle.gib_base.specs.declared.token.Token.{Token}
 use Rattle.gib_base.specs.Lexed.{Lexed, IsLexedIn}
 use Rattle.gib_syntax.specs.Spelling.{Places, places_of}
-use Rattle.gib_parse.specs.Reading.{Read}
-use Rattle.gib_parse.specs.Reading as reading
+use Rattle.gib_reads.specs.Readers.{Read}
+use Rattle.gib_reads.specs.Readers as reading
 use Rattle.gib_check.specs.declared.fault.Fault.{Fault}
 use Rattle.gib_check.specs.Faults.{Checked}
 use Rattle.gib_core.specs.Tree.{CoreTree}

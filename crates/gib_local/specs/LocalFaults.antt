@@ -5,8 +5,8 @@ use Rattle.gib_base.specs.declared.token.Dialect.TheVariants.{Located}
 use Rattle.gib_syntax.specs.Spelling.{places_of}
 use Rattle.gib_lex.specs.declared.fault.LexFault.TheVariants as lexing
 use Rattle.gib_lex.specs.Refused.{IsRefusedIn}
-use Rattle.gib_parse.specs.Answers.{place_of}
-use Rattle.gib_parse.specs.Reading as reading
+use Rattle.gib_reads.specs.Faults.{place_of}
+use Rattle.gib_reads.specs.Readers as reading
 use Rattle.gib_check.specs.declared.fault.Fault.{Fault}
 use Rattle.gib_local.specs.declared.fault.LocalFault.{LocalFault}
 use Rattle.gib_local.specs.declared.fault.LocalFault.TheVariants.{Memory, Long, At, Big, Many, Syntax, Nested, Broken, Place, Rule}

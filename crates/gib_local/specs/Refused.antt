@@ -2,7 +2,7 @@
 use Rattle.std.specs.Prelude.{◌≡◌, ℕ, zero, suc, ◌-◌, List, [], ◌++◌, length, take, Ok, Err}
 use Rattle.gib_base.specs.declared.token.Token.{Token}
 use Rattle.gib_syntax.specs.Spelling.{Places}
-use Rattle.gib_parse.specs.Reading.{Read, left_of}
+use Rattle.gib_reads.specs.Readers.{Read, left_of}
 use Rattle.gib_local.specs.Tree.{LocalTree}
 use Rattle.gib_local.specs.Texts.{spell_text}
 use Rattle.gib_local.specs.PlacedTexts.{TextAt}

@@ -8,7 +8,7 @@ use Rattle.gib_syntax.specs.declared.tree.TypeName.{TypeName}
 use Rattle.gib_syntax.specs.declared.tree.Parameter.{Parameter}
 use Rattle.gib_syntax.specs.Tree.{ConstructorTree, DataTree}
 use Rattle.gib_syntax.specs.Spelling.{Places}
-use Rattle.gib_parse.specs.Reading.{At, Read, Reader, then_at, want, var_at, con_at, many, is_sign}
+use Rattle.gib_reads.specs.Readers.{At, Read, Reader, then_at, want, var_at, con_at, many, is_sign}
 use Rattle.gib_local.specs.Tree.{Mark, Line, FunctionText, MainText, LocalTree}
 use Rattle.gib_local.specs.Grammar.{lower, upper, type_word, spell_option, spell_line, type_at, option_at, parse}
 

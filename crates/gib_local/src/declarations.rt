@@ -3,8 +3,8 @@
 ghost use Rattle.std.specs.Prelude.{◌≡◌, [], map, IfOk};
 ghost use Rattle.gib_syntax.specs.Spelling.{places_of};
 ghost use Rattle.gib_syntax.specs.Parts.{constructor_tree, data_tree};
-ghost use Rattle.gib_parse.specs.Reading.{Fault, At, Nested, next_is, is_sign, then_at, con_at, many};
-ghost use Rattle.gib_parse.specs.Parsing.{Fails, Gives};
+ghost use Rattle.gib_reads.specs.Readers.{Fault, At, Nested, next_is, is_sign, then_at, con_at, many};
+ghost use Rattle.gib_reads.specs.Answers.{Fails, Gives};
 ghost use Rattle.gib_local.specs.Grammar.{type_at};
 ghost use Rattle.gib_local.specs.Texts.{starts_type, is_constructor, listed_at, constructor_at, alternative_at, constructors_at, data_at, offsets_at, parameter_at, parameters_at, body_at, function_at, main_at, text_at, whole_text};
 ghost use Rattle.gib_local.specs.LineArena.{tree_of};
@@ -20,8 +20,8 @@ use crate::tree::Mark;
 use gib_base::Span;
 use gib_base::limits::LEVELS;
 use gib_base::token::{Sign, Token};
-use gib_parse::phrases::{begins, constructor, variable, want};
-use gib_parse::stop::Stop;
+use gib_reads::phrases::{begins, constructor, variable, want};
+use gib_reads::stop::Stop;
 use gib_syntax::{ConstructorDecl, DataDecl, Ident, Parameter, TypeName};
 use std::alloc::Global;
 

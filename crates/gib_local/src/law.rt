@@ -29,7 +29,7 @@ ghost use Rattle.gib_local.specs.Tree.{Line as Term};
 ghost use Rattle.gib_base.specs.declared.token.Token.{Token};
 ghost use Rattle.gib_base.specs.declared.token.Token.TheVariants as t;
 ghost use Rattle.gib_base.specs.declared.token.Sign.TheVariants as s;
-ghost use Rattle.gib_parse.specs.Reading.{Read, Fault, At, Nested, left_of};
+ghost use Rattle.gib_reads.specs.Readers.{Read, Fault, At, Nested, left_of};
 ghost use Rattle.gib_local.specs.Refused.{Blames, left_behind};
 ghost use Rattle.gib_syntax.specs.Spelling.{Places, places_of};
 ghost use Rattle.gib_local.specs.Grammar.{sign, spell_line, parse};

@@ -4,9 +4,9 @@ ghost use Rattle.std.specs.Prelude.{◌≡◌, None, IfOk, IfErr};
 ghost use Rattle.gib_base.specs.Lexed.{IsLexedIn, Lexed};
 ghost use Rattle.gib_types.specs.Table.{IsTable};
 ghost use Rattle.gib_syntax.specs.Spelling.{places_of};
-ghost use Rattle.gib_parse.specs.declared.stop.Stop.{Stop as Reason};
-ghost use Rattle.gib_parse.specs.Answers.{fault_of};
-ghost use Rattle.gib_parse.specs.Parsing.{Fails as Stops};
+ghost use Rattle.gib_reads.specs.declared.stop.Stop.{Stop as Reason};
+ghost use Rattle.gib_reads.specs.Faults.{fault_of};
+ghost use Rattle.gib_reads.specs.Answers.{Fails as Stops};
 ghost use Rattle.gib_check.specs.Answers.{IsFaultOf};
 ghost use Rattle.gib_check.specs.Faults.{Checked as CheckedNames};
 ghost use Rattle.gib_loccheck.specs.Judging.{Says};
@@ -43,7 +43,7 @@ use gib_forks::forks;
 use gib_lex::laws::{one_reading_in, one_refusal_in};
 use gib_lex::{LexFault, Tokens, lex_in};
 use gib_loccheck::LocFault;
-use gib_parse::ParseFault;
+use gib_reads::ParseFault;
 use std::alloc::Global;
 
 /// A program whose places are written out: its core, which meets the build rules, with its pars marked that may run at the same time, and

@@ -2,17 +2,17 @@
 
 ghost use Rattle.std.specs.Prelude.{◌≡◌, [], Ok, IfOk, IfErr};
 ghost use Rattle.gib_syntax.specs.Spelling.{places_of};
-ghost use Rattle.gib_parse.specs.declared.stop.Stop.{Stop as Reason};
-ghost use Rattle.gib_parse.specs.Answers.{fault_of};
-ghost use Rattle.gib_parse.specs.Parsing.{Fails};
+ghost use Rattle.gib_reads.specs.declared.stop.Stop.{Stop as Reason};
+ghost use Rattle.gib_reads.specs.Faults.{fault_of};
+ghost use Rattle.gib_reads.specs.Answers.{Fails};
 ghost use Rattle.gib_local.specs.Texts.{whole_text};
 ghost use Rattle.gib_local.specs.TextParts.{text_of};
 
 use crate::declarations::whole;
 use crate::text::LocalText;
 use gib_lex::Tokens;
-use gib_parse::ParseFault;
-use gib_parse::parsing::fault;
+use gib_reads::ParseFault;
+use gib_reads::fault::fault;
 use std::alloc::Global;
 
 /// The text that tokens spell.

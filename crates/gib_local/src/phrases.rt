@@ -2,15 +2,15 @@
 
 ghost use Rattle.std.specs.Prelude.{◌≡◌, ◌^◌, suc, nat_lt, length};
 ghost use Rattle.gib_syntax.specs.Spelling.{places_of};
-ghost use Rattle.gib_parse.specs.Reading.{Fault, At, Nested, next_is, then_at, operator_of};
-ghost use Rattle.gib_parse.specs.Parsing.{Fails, Gives, with_front};
+ghost use Rattle.gib_reads.specs.Readers.{Fault, At, Nested, next_is, then_at, operator_of};
+ghost use Rattle.gib_reads.specs.Answers.{Fails, Gives, with_front};
 ghost use Rattle.gib_local.specs.Grammar.{head_at, place_between_at, operator_found, type_at, operand_at, literal_at, starts_operand, operands_at, mark_from, mark_at, option_at, location_at, way_at, operator_at, between_at};
 
 use crate::tree::{Location, Mark, Operand, Way};
 use gib_base::Span;
 use gib_base::token::{Sign, Token, is_literal};
-use gib_parse::phrases::{constructor, named, span_at, variable, want};
-use gib_parse::stop::Stop;
+use gib_reads::phrases::{constructor, named, span_at, variable, want};
+use gib_reads::stop::Stop;
 use gib_syntax::{Ident, Operator, TypeName};
 use std::alloc::Global;
 

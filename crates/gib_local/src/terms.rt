@@ -2,8 +2,8 @@
 
 ghost use Rattle.std.specs.Prelude.{◌≡◌, ◌<◌, length, Ok, IfOk};
 ghost use Rattle.gib_syntax.specs.Spelling.{places_of};
-ghost use Rattle.gib_parse.specs.Reading.{Fault, At, Nested, next_is, then_at};
-ghost use Rattle.gib_parse.specs.Parsing.{Fails, Gives};
+ghost use Rattle.gib_reads.specs.Readers.{Fault, At, Nested, next_is, then_at};
+ghost use Rattle.gib_reads.specs.Answers.{Fails, Gives};
 ghost use Rattle.gib_local.specs.Tree.{Line, Binding, Bound};
 ghost use Rattle.gib_local.specs.Grammar.{starts_term, no_level, parse, line_at, in_at, region_at, new_place_at, reach_at, let_at, par_at, one_at, let_from, side_in_at, bound_at, bound_from, prim_at, give_at, point_at, call_at, make_at, case_at, if_at, arm_at, next_arm_at, arms_at};
 ghost use Rattle.gib_local.specs.LineArena.{BindingBelow, binding_from, side_from, tree_of};
@@ -16,8 +16,8 @@ use crate::phrases::{
 };
 use gib_base::Span;
 use gib_base::token::{Sign, Token};
-use gib_parse::phrases::{begins, constructor, named, span_at, variable, variables, want};
-use gib_parse::stop::Stop;
+use gib_reads::phrases::{begins, constructor, named, span_at, variable, variables, want};
+use gib_reads::stop::Stop;
 use gib_syntax::{Ident, TypeName};
 use std::alloc::Global;
 

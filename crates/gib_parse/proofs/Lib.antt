@@ -1,7 +1,3 @@
--- At their old places, what stands with the readers.
-pub mod Tools
-pub mod Many
-pub mod SoFar
 -- The readers of the grammar, each with all its laws, and what the whole reader so is.
 pub mod TypeLaws
 pub mod ExpressionLaws

@@ -1,7 +1,7 @@
 use Rattle.std.proofs.Common.{sym, ◌∙◌, map}
 use Rattle.gib_syntax.specs.Parts.{data_tree}
 use Rattle.gib_syntax.specs.Spelling.{places_of}
-use Rattle.gib_parse.proofs.Tools.{done}
+use Rattle.gib_reads.proofs.Tools.{done}
 use Rattle.gib_local.specs.LineArena.{tree_of}
 use Rattle.gib_local.specs.TextParts.{function_text, main_text}
 use Rattle.gib_local.proofs.DeclarationLoops.{functions_stay, functions_stay_inside, text_done}

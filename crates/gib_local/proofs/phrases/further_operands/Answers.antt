@@ -1,10 +1,10 @@
 use Rattle.std.proofs.Common.{sym, ◌∙◌}
 use Rattle.std.proofs.lemmas.Result.{err_from_is_err_and}
 use Rattle.gib_syntax.specs.Spelling.{places_of}
-use Rattle.gib_parse.specs.Reading.{many}
+use Rattle.gib_reads.specs.Readers.{many}
 use Rattle.gib_local.specs.Grammar.{starts_operand, operand_at}
-use Rattle.gib_parse.specs.Parsing.{with_front}
-use Rattle.gib_parse.proofs.SoFar.{one_more, one_fails, all_read}
+use Rattle.gib_reads.specs.Answers.{with_front}
+use Rattle.gib_reads.proofs.SoFar.{one_more, one_fails, all_read}
 use Rattle.gib_local.proofs.Operands.{operand_shrinks}
 use Rattle.gib_local.proofs.phrases.further_operands.Goals as goal
 

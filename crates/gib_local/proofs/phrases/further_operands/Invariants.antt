@@ -1,9 +1,9 @@
 use Rattle.std.proofs.Common.{length}
 use Rattle.gib_syntax.specs.Spelling.{places_of}
-use Rattle.gib_parse.specs.Reading.{many}
+use Rattle.gib_reads.specs.Readers.{many}
 use Rattle.gib_local.specs.Grammar.{starts_operand, operand_at}
-use Rattle.gib_parse.specs.Parsing.{with_front}
-use Rattle.gib_parse.proofs.SoFar.{SoFar}
+use Rattle.gib_reads.specs.Answers.{with_front}
+use Rattle.gib_reads.proofs.SoFar.{SoFar}
 use Rattle.gib_local.proofs.phrases.further_operands.Given as goal
 
 abbrev pub invariant-operands : goal.invariant-operands

@@ -1,8 +1,8 @@
 use Rattle.std.proofs.Common.{List, ap, ◌∙◌, subst}
 use Rattle.gib_syntax.specs.Spelling.{places_of}
-use Rattle.gib_parse.specs.Reading.{Read, many}
-use Rattle.gib_parse.specs.Parsing.{Gives, with_front}
-use Rattle.gib_parse.proofs.SoFar.{front_none}
+use Rattle.gib_reads.specs.Readers.{Read, many}
+use Rattle.gib_reads.specs.Answers.{Gives, with_front}
+use Rattle.gib_reads.proofs.SoFar.{front_none}
 use Rattle.gib_local.specs.Tree.{Operand}
 use Rattle.gib_local.specs.Grammar.{starts_operand, operand_at}
 use Rattle.gib_local.proofs.phrases.operands.Goals as goal

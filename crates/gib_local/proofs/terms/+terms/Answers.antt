@@ -1,7 +1,7 @@
 use Rattle.std.proofs.Common.{rules, ◌≡◌, refl, sym, ap, ◌∙◌, length}
 use Rattle.std.proofs.lemmas.Result.{err_from_is_err_and}
 use Rattle.gib_syntax.specs.Spelling.{places_of}
-use Rattle.gib_parse.proofs.Tools.{done}
+use Rattle.gib_reads.proofs.Tools.{done}
 use Rattle.gib_local.specs.Tree.{Line, In, Cased, Binding}
 use Rattle.gib_local.specs.LineArena.{binding_from, tree_of}
 use Rattle.gib_local.specs.ReadingTerms.{arm_text, arms_text}

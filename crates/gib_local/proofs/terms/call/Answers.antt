@@ -1,8 +1,8 @@
 use Rattle.std.proofs.Common.{◌≡◌, List, [], ◌∷◌, ◌++◌, ap, sym, ◌∙◌, subst}
 use Rattle.std.proofs.lemmas.Result.{err_from_is_err_and}
 use Rattle.gib_syntax.specs.Spelling.{places_of}
-use Rattle.gib_parse.specs.Parsing.{Fails, with_front}
-use Rattle.gib_parse.proofs.Tools.{done}
+use Rattle.gib_reads.specs.Answers.{Fails, with_front}
+use Rattle.gib_reads.proofs.Tools.{done}
 use Rattle.gib_local.specs.Tree.{Line, Operand}
 use Rattle.gib_local.specs.Grammar.{operands_at}
 use Rattle.gib_local.proofs.Calls.{call_done, call_fails, call_mark_fails}
