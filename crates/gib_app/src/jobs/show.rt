@@ -1,58 +1,70 @@
 //! `show`: prints the value of a packed file, or of an image.
 
 ghost use Rattle.std.specs.Prelude.{◌≡◌, ◌≤◌, length, IfOk, IfErr};
+ghost use Rattle.gib_types.specs.Tree.{Datum};
+ghost use Rattle.gib_syntax.specs.Declarations.{table_of_program, input_type};
 ghost use Rattle.gib_syntax.specs.Parts.{program_of};
+ghost use Rattle.gib_app.specs.InputFaults.{HasImageSign};
 ghost use Rattle.gib_app.specs.Jobs.{OnlyPrints};
 ghost use Rattle.gib_app.specs.Kept.{EndsBy, file_of};
-ghost use Rattle.gib_app.specs.Running.{IsShown, IsShownValue};
-ghost use Rattle.gib_app.specs.Stops.{IsReady, IsShowStop};
+ghost use Rattle.gib_app.specs.Running.{IsInput, IsShown, text_line};
+ghost use Rattle.gib_app.specs.Stops.{IsReady, IsPackedStop, IsShowStop};
 
 use crate::compile::Compiled;
 use crate::image_file::{has_image_sign, read_image_of};
 use crate::input_fault::{InputFault, PackedFault};
 use crate::made::Made;
-use crate::packed::{of_packed, read_packed};
+use crate::packed::{of_packed, survey_input};
 use crate::printing::{only_prints, value_line};
 use crate::stop::Stop;
-use gib_base::Texts;
 use gib_base::limits::FILE_BYTES;
-use gib_check::Typed;
 use gib_file::{HeadFault, has_magic, refused_header};
-use gib_value::Value;
+use gib_print::packed_text;
 use std::alloc::Global;
 
-/// The value of a packed file, or of an image: the first four bytes tell which.
-fn read_shown(
+/// The text of the value of an image, with a line feed.
+fn image_line(
     alloc: Global,
-    typed: &Typed,
-    names: &Texts,
+    compiled: &Compiled,
     skips: bool,
     file: &[u8],
-) -> Result<Value, Stop<'static>>
+) -> Result<Vec<u8>, Stop<'static>>
+    requires ready { IsReady (program_of compiled.now.typed) compiled.now.names }
+    requires sign { HasImageSign file.now }
     requires short { length file.now ≤ 268435480 }
-    ensures value { IfOk result (λ v. IsShownValue (program_of typed.now) names.now skips v file.now) }
-    ensures stop { IfErr result (IsShowStop (program_of typed.now) names.now skips file.now) }
+    ensures output { IfOk result (λ output. IsShown (program_of compiled.now.typed) compiled.now.names skips file.now output.items) }
+    ensures stop { IfErr result (IsShowStop (program_of compiled.now.typed) compiled.now.names skips file.now) }
 {
-    if has_image_sign(file) {
-        return match read_image_of(alloc, typed, skips, file) {
-            Ok(value) => Ok(value),
-            Err(stop) => Err(stop),
-        };
-    }
-    refused_header();
-    if !has_magic(file) {
-        return Err(of_packed(PackedFault::Header(HeadFault::Magic)));
-    }
-    if file.len() as u64 > FILE_BYTES {
-        return Err(Stop::Input(InputFault::Long(FILE_BYTES)));
-    }
-    match read_packed(alloc, typed, names, file) {
-        Ok(value) => Ok(value),
-        Err(stop) => Err(stop),
+    let value = match read_image_of(alloc, &compiled.typed, skips, file) {
+        Ok(value) => value,
+        Err(stop) => return Err(stop),
+    };
+    match value_line(alloc, compiled, &value) {
+        Ok(output) => Ok(output),
+        Err(_) => Err(Stop::Memory),
     }
 }
 
-/// The text of the value of a file, with a line feed.
+/// The text of the value of a packed file, with a line feed. It is made from the payload: no value is made of that.
+fn packed_line(alloc: Global, compiled: &Compiled, file: &[u8]) -> Result<Vec<u8>, Stop<'static>>
+    requires ready { IsReady (program_of compiled.now.typed) compiled.now.names }
+    requires short { length file.now ≤ FILE_BYTES }
+    ensures output { IfOk result (λ output. (v : Datum) × IsInput (program_of compiled.now.typed) compiled.now.names v file.now
+        × (output.items ≡ text_line (program_of compiled.now.typed) compiled.now.names v)) }
+    ensures refused { IfErr result (IsPackedStop (table_of_program (program_of compiled.now.typed)) compiled.now.names.long (input_type (program_of compiled.now.typed)) file.now) }
+{
+    let survey = match survey_input(alloc, &compiled.typed, &compiled.names, file) {
+        Ok(survey) => survey,
+        Err(stop) => return Err(stop),
+    };
+    let _packed = survey.payload();
+    match packed_text(alloc, &survey, &compiled.names) {
+        Ok(text) => Ok(text),
+        Err(_) => Err(Stop::Memory),
+    }
+}
+
+/// The text of the value of a file, with a line feed: the first four bytes tell whether it is an image.
 ///
 /// # Errors
 ///
@@ -69,13 +81,19 @@ fn show_file(
     ensures output { IfOk result (λ output. IsShown (program_of compiled.now.typed) compiled.now.names skips file.now output.items) }
     ensures stop { IfErr result (IsShowStop (program_of compiled.now.typed) compiled.now.names skips file.now) }
 {
-    let value = match read_shown(alloc, &compiled.typed, &compiled.names, skips, file) {
-        Ok(value) => value,
-        Err(stop) => return Err(stop),
-    };
-    match value_line(alloc, compiled, &value) {
-        Ok(output) => Ok(output),
-        Err(_) => Err(Stop::Memory),
+    if has_image_sign(file) {
+        return image_line(alloc, compiled, skips, file);
+    }
+    refused_header();
+    if !has_magic(file) {
+        return Err(of_packed(PackedFault::Header(HeadFault::Magic)));
+    }
+    if file.len() as u64 > FILE_BYTES {
+        return Err(Stop::Input(InputFault::Long(FILE_BYTES)));
+    }
+    match packed_line(alloc, compiled, file) {
+        Ok(text) => Ok(text),
+        Err(stop) => Err(stop),
     }
 }
 
