@@ -106,7 +106,7 @@ fn without_packed(alloc: Global, value: Valued, image: bool) -> Result<Finished,
     }
 }
 
-/// What a run makes that leaves a value of this type, whose packed file is asked for. That is counted before the text is made, which
+/// What a run makes that leaves a value of this type, whose packed file is asked for. That is made before the text, which
 /// may then be of any length; and the text is made before anything is written, so that memory cannot run out for it behind a write.
 fn finish_packed<R: Threads + Sync>(
     alloc: Global,
