@@ -1,7 +1,8 @@
 -- What stands in a payload that is read as a memory.
-use Rattle.std.proofs.Common.{◌≡◌, ℕ, zero, suc, ◌+◌, ◌<◌, ◌≤◌, List, [], ◌∷◌, ◌++◌, length, take, drop, get_or, refl, sym, ap, ap₂, subst, ◌∙◌, arith, length-append, Option, Some, None}
+use Rattle.std.proofs.Common.{◌≡◌, ℕ, zero, suc, ◌+◌, ◌<◌, ◌≤◌, ◌-◌, ◌≢◌, List, [], ◌∷◌, ◌++◌, length, take, drop, get_or, refl, sym, ap, ap₂, subst, ◌∙◌, arith, inl, inr, length-append, Option, Some, None}
 use Rattle.std.specs.Prelude.{slice_get, Bool, true, false, ℤ, FitsSigned}
 use Rattle.std.specs.Int.{w64}
+use Rattle.std.proofs.lemmas.Bool.Decides.{eqb_tells}
 use Rattle.std.proofs.lemmas.Option.{slice_get-get_or, slice_get_past}
 use Rattle.gib_types.specs.declared.table.Ty.{Ty}
 use Rattle.gib_types.specs.declared.table.Ty.TheVariants as ty
@@ -9,7 +10,8 @@ use Rattle.gib_types.specs.declared.table.TyId.{TyId}
 use Rattle.gib_types.specs.Table.{Table, con_at, fields_at, IsTable}
 use Rattle.gib_types.specs.Layout.{LaidOut, head_size}
 use Rattle.gib_types.specs.Tree.{Datum, whole, truth, con, Data, none, more, HasType, HaveTypes}
-use Rattle.gib_mem.specs.Memory.{Store, Holds, byte, absent, fresh, IsThere, none as no_byte, more as one_byte}
+use Rattle.gib_mem.specs.Memory.{Cell, Store, Memory, Holds, byte, absent, fresh, set_cell, after_put, look_of, IsThere, AreKnown, none as no_byte, more as one_byte}
+use Rattle.gib_mem.proofs.Puts.{set_same, set_other}
 use Rattle.gib_packed.specs.Decoding.{Dec, head, Decs, done, whole_field, truth_field, tree_field}
 use Rattle.gib_packed.specs.Scalars.{scalars, number, bit}
 use Rattle.gib_packed.proofs.HeadLemmas.{Decs-scalars}
@@ -17,7 +19,7 @@ use Rattle.gib_packed.proofs.HoldsLemmas.{Holds-first, Holds-rest, same_byte}
 use Rattle.gib_packed.proofs.SpanLemmas.{con_within}
 use Rattle.gib_packed.proofs.StoredLemmas.{Holds-front, Holds-behind}
 use Rattle.gib_file.specs.Packed.{tree, trees, Packed}
-use Rattle.gib_print.specs.InPlace.{cell_of, cells_of, packed_layout}
+use Rattle.gib_print.specs.InPlace.{cell_of, cells_of, cells_with, behind_byte, read_only, packed_layout}
 
 -- ---- bytes
 
@@ -99,6 +101,105 @@ eight_within bytes a bs h n = let i = (stands_from bytes a bs h).within (omega (
 
 pub eight_are : (bytes : List ℕ) (a : ℕ) (bs : List ℕ) → Holds (cells_of bytes) a bs → length bs ≡ 8 → take 8 (drop a bytes) ≡ bs
 eight_are bytes a bs h n = subst (λ (k : ℕ). take k (drop a bytes) ≡ bs) n (stands_from bytes a bs h).are
+
+-- ---- the place behind the bytes
+
+at_or_not : {P : Type 0} (q n : ℕ) → (q ≡ n → P) → (q ≢ n → P) → P
+at_or_not q n here other = elim (eqb_tells q n) [
+  | inl same ↦ here same.1
+  | inr apart ↦ other apart.1
+]
+
+-- elsewhere stands what the bytes are
+elsewhere_open : (bytes : List ℕ) (q : ℕ) → q ≢ length bytes → cells_with (Some None) bytes q ≡ cells_of bytes q
+elsewhere_open bytes q ne = set_other (cells_of bytes) (length bytes) fresh q ne
+
+elsewhere_same : (behind : Option (Option ℕ)) (bytes : List ℕ) (q : ℕ) → q ≢ length bytes → cells_with behind bytes q ≡ cells_of bytes q
+elsewhere_same None bytes q ne = refl
+elsewhere_same (Some None) bytes q ne = elsewhere_open bytes q ne
+elsewhere_same (Some (Some b)) bytes q ne = set_other (cells_with (Some None) bytes) (length bytes) (byte b) q ne ∙ elsewhere_open bytes q ne
+
+within_same : (behind : Option (Option ℕ)) (bytes : List ℕ) (q : ℕ) → q < length bytes → cells_with behind bytes q ≡ cells_of bytes q
+within_same behind bytes q lt = elsewhere_same behind bytes q (λ e. absurd (omega (arith, lt, e)))
+
+-- at an address where something is there
+pub there_until : (behind : Option (Option ℕ)) (bytes : List ℕ) (q : ℕ) → IsThere (cells_with behind bytes q) → q ≤ length bytes
+there_until behind bytes q h = at_or_not q (length bytes) (λ e. omega (arith, e)) (λ ne. let i = there_within bytes q (subst IsThere (elsewhere_same behind bytes q ne) h) in omega (arith, i))
+
+-- a known byte is there, and is what is read
+pub byte_there : (c : Cell) (b : ℕ) → c ≡ byte b → IsThere c
+byte_there c b e = subst IsThere (sym e) (tt {0})
+
+pub byte_read : (c : Cell) (b r : ℕ) → c ≡ byte b → r ≡ look_of c → c ≡ byte r
+byte_read c b r e f = e ∙ ap byte (sym (f ∙ ap look_of e))
+
+pub within_read : (behind : Option (Option ℕ)) (bytes : List ℕ) (q : ℕ) → q < length bytes → get_or bytes q 0 ≡ look_of (cells_with behind bytes q)
+within_read behind bytes q lt = sym (ap look_of (within_same behind bytes q lt ∙ is_byte bytes q lt))
+
+pub behind_read : (behind : Option (Option ℕ)) (bytes : List ℕ) (q : ℕ) → length bytes ≤ q → IsThere (cells_with behind bytes q) → behind_byte behind ≡ look_of (cells_with behind bytes q)
+behind_read None bytes q le h = let i = there_within bytes q h in absurd (omega (arith, i, le))
+behind_read (Some None) bytes q le h =
+    let here : q ≡ length bytes = let i = there_until (Some None) bytes q h in omega (arith, i, le) in
+    sym (ap look_of (ap (cells_with (Some None) bytes) here ∙ set_same (cells_of bytes) (length bytes) fresh))
+behind_read (Some (Some b)) bytes q le h =
+    let here : q ≡ length bytes = let i = there_until (Some (Some b)) bytes q h in omega (arith, i, le) in
+    sym (ap look_of (ap (cells_with (Some (Some b)) bytes) here ∙ set_same (cells_with (Some None) bytes) (length bytes) (byte b)))
+
+-- a byte is put there, where it is open
+pub put_behind : (behind : Option (Option ℕ)) (bytes : List ℕ) (chunks at b : ℕ) → cells_with behind bytes at ≡ fresh → read_only (Some (Some b)) bytes chunks ≡ after_put (read_only behind bytes chunks) at b
+put_behind None bytes chunks at b e = absurd (never_fresh bytes at e)
+put_behind (Some None) bytes chunks at b e = at_or_not at (length bytes)
+    (λ here. ap (λ (x : ℕ). after_put (read_only (Some None) bytes chunks) x b) (sym here))
+    (λ ne. absurd (never_fresh bytes at (sym (elsewhere_same (Some None) bytes at ne) ∙ e)))
+put_behind (Some (Some c)) bytes chunks at b e = at_or_not at (length bytes)
+    (λ here. let f : cells_with (Some (Some c)) bytes (length bytes) ≡ byte c = set_same (cells_with (Some None) bytes) (length bytes) (byte c) in absurd (no_byte_fresh c (sym f ∙ ap (cells_with (Some (Some c)) bytes) (sym here) ∙ e)))
+    (λ ne. absurd (never_fresh bytes at (sym (elsewhere_same (Some (Some c)) bytes at ne) ∙ e)))
+  where
+    no_byte_fresh : (c : ℕ) → byte c ≡ fresh → ⊥
+    no_byte_fresh c e = absurd cc
+
+-- bytes that stand before that place are those of the list
+holds_within : (behind : Option (Option ℕ)) (bytes : List ℕ) (a : ℕ) (bs : List ℕ) → a + length bs ≤ length bytes → Holds (cells_with behind bytes) a bs → Holds (cells_of bytes) a bs
+holds_within behind bytes a [] le h = no_byte
+holds_within behind bytes a (b ∷ bs) le h = one_byte (sym (within_same behind bytes a (omega (arith, le))) ∙ Holds-first h) (holds_within behind bytes (a + 1) bs (omega (arith, le)) (Holds-rest h))
+
+-- a list's last item, and those before it
+record LastOf (n : ℕ) (bs : List ℕ) : Type 0 where
+  front : List ℕ
+  last : ℕ
+  long : length front ≡ n
+  is : bs ≡ front ++ last ∷ []
+
+last_of : (n : ℕ) (bs : List ℕ) → length bs ≡ suc n → LastOf n bs
+last_of n [] e = absurd (omega (arith, e))
+last_of zero (b ∷ []) e = record { front = []; last = b; long = refl; is = refl }
+last_of zero (b ∷ c ∷ bs) e = absurd (omega (arith, e))
+last_of (suc n) (b ∷ bs) e = let l = last_of n bs (omega (arith, e)) in record { front = b ∷ l.front; last = l.last; long = omega (arith, l.long); is = ap (λ (xs : List ℕ). b ∷ xs) l.is }
+
+-- eight bytes that are known end there at most
+pub eight_until : (behind : Option (Option ℕ)) (bytes : List ℕ) (a : ℕ) → AreKnown (cells_with behind bytes) a 8 → a + 7 ≤ length bytes
+eight_until behind bytes a k =
+    let l = last_of 7 k.0 k.2 in
+    let h = subst (λ (xs : List ℕ). Holds (cells_with behind bytes) a xs) l.is k.1 in
+    let e = Holds-first (Holds-behind a l.front (l.last ∷ []) h) in
+    let i = there_until behind bytes (a + length l.front) (byte_there _ l.last e) in
+    omega (arith, i, l.long)
+
+-- they are those of the list
+pub eight_before : (behind : Option (Option ℕ)) (bytes : List ℕ) (a : ℕ) (bs : List ℕ) → a + 8 ≤ length bytes → Holds (cells_with behind bytes) a bs → length bs ≡ 8 → take 8 (drop a bytes) ≡ bs
+eight_before behind bytes a bs le h n = eight_are bytes a bs (holds_within behind bytes a bs (omega (arith, le, n)) h) n
+
+-- or the last ones of the list, and the one behind it
+pub eight_over : (behind : Option (Option ℕ)) (bytes : List ℕ) (a : ℕ) (bs : List ℕ) → a + 7 ≡ length bytes → Holds (cells_with behind bytes) a bs → length bs ≡ 8 → take (length bytes - a) (drop a bytes) ++ behind_byte behind ∷ [] ≡ bs
+eight_over behind bytes a bs e held n =
+    let l = last_of 7 bs n in
+    let h = subst (λ (xs : List ℕ). Holds (cells_with behind bytes) a xs) l.is held in
+    let before = holds_within behind bytes a l.front (omega (arith, e, l.long)) (Holds-front a l.front (l.last ∷ []) h) in
+    let long : length l.front ≡ length bytes - a = omega (arith, e, l.long) in
+    let front = subst (λ (k : ℕ). take k (drop a bytes) ≡ l.front) long (stands_from bytes a l.front before).are in
+    let known = Holds-first (Holds-behind a l.front (l.last ∷ []) h) in
+    let last = behind_read behind bytes (a + length l.front) (omega (arith, e, l.long)) (byte_there _ l.last known) ∙ ap look_of known in
+    ap₂ (λ (xs : List ℕ) (b : ℕ). xs ++ b ∷ []) front last ∙ sym l.is
 
 -- ---- values
 

@@ -1,5 +1,5 @@
-use Rattle.gib_print.proofs.InPlaceLemmas.{never_fresh}
+use Rattle.gib_print.proofs.InPlaceLemmas.{put_behind}
 use Rattle.gib_print.proofs.packed_mem.PackedMemMem.put.Goals as goal
 
-pub unreachable-requires : goal.unreachable-requires
-unreachable-requires c = never_fresh c.args.self.now.bytes.now c.args.at c.requires
+pub returns : goal.returns
+returns c = let m = c.args.self.now in put_behind m.behind m.bytes.now m.chunks c.args.at c.args.byte c.requires
