@@ -76,8 +76,8 @@ def functions(text):
         if head.rstrip().endswith("}"):
             end = match.start() + len(head)
         else:
-            closes = re.compile(rf"^{match[1]}(\{{?\}}|fn |pub )", re.MULTILINE).search(text, match.end())
-            end = closes.end() if closes and closes[1].endswith("}") else match.end()
+            closes = re.compile(rf"^(?:{match[1]}(\{{?\}}|fn |pub )|(?!{match[1]}) *\}})", re.MULTILINE).search(text, match.end())
+            end = closes.end() if closes and (closes[1] or "").endswith("}") else match.end()
         number = text.count("\n", 0, match.start())
         found.append(Function("::".join([*around(lines, number, len(match[1])), match[2]]), match.start(), end))
     return found
