@@ -1,8 +1,9 @@
-//! A program that forks, its input, and a gate at which two workers meet.
+//! Programs that fork, their input, a gate at which two workers meet, and one that counts how many are at work.
 
 use gib_edge::outside::{Gate, Point};
-use std::sync::atomic::{AtomicBool, Ordering};
-use std::thread::yield_now;
+use std::sync::atomic::{AtomicBool, AtomicU32, Ordering};
+use std::thread::{sleep, yield_now};
+use std::time::{Clock, Duration};
 
 /// (Node (Leaf 1) (Leaf 2))
 pub const TWO_LEAVES: &[u8] = &[1, 0, 1, 0, 0, 0, 0, 0, 0, 0, 0, 2, 0, 0, 0, 0, 0, 0, 0];
@@ -18,58 +19,168 @@ pub const BOTH: &str =
 pub const TAKEN: &str =
     "gibj 3\ndepth 10000 chunks 1024 fork 4 skips 0\nstep 0 7\nfork 0\nstep 0 11\ntake 0\nstep 0 16\nfinish 0\nend\n";
 
-/// A gate where the first worker waits at a fork until another one answered, and who steals until the first one forked.
+/// Waits until so much has been counted, one look a turn, and for so many turns at most: whether it was.
+fn waits_for(counted: &AtomicU32, count: u32) -> bool {
+    for _ in 0..10_000_000u64 {
+        if counted.load(Ordering::SeqCst) >= count {
+            return true;
+        }
+        yield_now();
+    }
+    false
+}
+
+/// A gate where the first worker waits at a fork until another one answered, and who steals until the first one forked. Each other worker has
+/// to steal, then to fork what it forks, and then to answer.
 #[derive(Drop)]
 pub struct Meeting {
-    forked: AtomicBool,
-    stolen: AtomicBool,
-    answered: AtomicBool,
+    forked: AtomicU32,
+    answered: AtomicU32,
     failed: AtomicBool,
+    /// A bit for each worker that is at a side which it stole.
+    at_sides: AtomicU32,
 }
 
 impl Meeting {
     pub fn new() -> Meeting {
         Meeting {
-            forked: AtomicBool::new(false),
-            stolen: AtomicBool::new(false),
-            answered: AtomicBool::new(false),
+            forked: AtomicU32::new(0),
+            answered: AtomicU32::new(0),
             failed: AtomicBool::new(false),
+            at_sides: AtomicU32::new(0),
         }
     }
 
-    /// Whether both came to each point, and none waited in vain.
+    /// Whether both came to each point, in turn, each side that was stolen was answered, and none waited in vain.
     pub fn is_held(&self) -> bool {
-        self.forked.load(Ordering::SeqCst)
-            && self.stolen.load(Ordering::SeqCst)
-            && self.answered.load(Ordering::SeqCst)
+        self.forked.load(Ordering::SeqCst) > 0
+            && self.answered.load(Ordering::SeqCst) > 0
+            && self.at_sides.load(Ordering::SeqCst) == 0
             && !self.failed.load(Ordering::SeqCst)
     }
 
-    /// Waits until this has come, one look a turn; after so many turns it has failed.
-    fn wait(&self, come: &AtomicBool) {
-        for _ in 0..10_000_000u64 {
-            if come.load(Ordering::SeqCst) {
-                return;
-            }
-            yield_now();
+    /// Where this is not so it has failed.
+    fn wants(&self, is_so: bool) {
+        if !is_so {
+            self.failed.store(true, Ordering::SeqCst);
         }
-        self.failed.store(true, Ordering::SeqCst);
     }
 }
 
 impl Gate for Meeting {
     fn at(&self, worker: u32, point: Point) {
+        let bit = 1u32.wrapping_shl(worker);
         match (worker, point) {
             (0, Point::Forked) => {
-                self.forked.store(true, Ordering::SeqCst);
-                self.wait(&self.answered);
+                self.forked.fetch_add(1, Ordering::SeqCst);
+                self.wants(waits_for(&self.answered, 1));
             }
-            (0, _) | (_, Point::Forked) => {}
+            (0, _) => {}
+            (_, Point::Forked) => self.wants(self.at_sides.load(Ordering::SeqCst) & bit != 0),
             (_, Point::Stolen) => {
-                self.stolen.store(true, Ordering::SeqCst);
-                self.wait(&self.forked);
+                self.wants(self.at_sides.fetch_or(bit, Ordering::SeqCst) & bit == 0);
+                self.wants(waits_for(&self.forked, 1));
             }
-            (_, Point::Answered) => self.answered.store(true, Ordering::SeqCst),
+            (_, Point::Answered) => {
+                self.wants(self.at_sides.fetch_and(!bit, Ordering::SeqCst) & bit != 0);
+                self.answered.fetch_add(1, Ordering::SeqCst);
+            }
+        }
+    }
+}
+
+/// A gate where the first worker, at work all the while, waits at its third fork until three sides were answered. Who steals a side waits until
+/// as many are at sides as should be, and a tenth of a second more, in which one too many comes. It counts how many are at once.
+#[derive(Drop)]
+pub struct Counting<'a, C: Clock> {
+    clock: &'a C,
+    /// How many should be at sides at once.
+    wanted: u32,
+    forked: AtomicU32,
+    stolen: AtomicU32,
+    answered: AtomicU32,
+    at_sides: AtomicU32,
+    most: AtomicU32,
+}
+
+impl<'a, C: Clock> Counting<'a, C> {
+    pub fn new(clock: &'a C, wanted: u32) -> Counting<'a, C> {
+        Counting {
+            clock,
+            wanted,
+            forked: AtomicU32::new(0),
+            stolen: AtomicU32::new(0),
+            answered: AtomicU32::new(0),
+            at_sides: AtomicU32::new(0),
+            most: AtomicU32::new(0),
+        }
+    }
+
+    /// Whether three sides were answered, and just as many workers as should be were at sides at once.
+    pub fn is_held(&self) -> bool {
+        self.answered.load(Ordering::SeqCst) == 3 && self.most.load(Ordering::SeqCst) == self.wanted
+    }
+}
+
+impl<'a, C: Clock> Gate for Counting<'a, C> {
+    fn at(&self, worker: u32, point: Point) {
+        match (worker, point) {
+            (0, Point::Forked) => {
+                if self.forked.fetch_add(1, Ordering::SeqCst) == 2 {
+                    waits_for(&self.answered, 3);
+                }
+            }
+            (_, Point::Stolen) => {
+                let others = self.at_sides.fetch_add(1, Ordering::SeqCst);
+                self.most
+                    .fetch_max(others.wrapping_add(1), Ordering::SeqCst);
+                if self.stolen.fetch_add(1, Ordering::SeqCst) < self.wanted {
+                    waits_for(&self.stolen, self.wanted);
+                    sleep(self.clock, Duration::from_millis(100));
+                }
+            }
+            (_, Point::Answered) => {
+                self.at_sides.fetch_sub(1, Ordering::SeqCst);
+                self.answered.fetch_add(1, Ordering::SeqCst);
+            }
+            (_, Point::Forked) => {}
+        }
+    }
+}
+
+/// A gate where the first worker goes on from a fork once another one stole its side, which waits for a tenth of a second then: so the first
+/// one is at the join, and sleeps, before the side is begun.
+#[derive(Drop)]
+pub struct Sleeping<'a, C: Clock> {
+    clock: &'a C,
+    stolen: AtomicU32,
+}
+
+impl<'a, C: Clock> Sleeping<'a, C> {
+    pub fn new(clock: &'a C) -> Sleeping<'a, C> {
+        Sleeping {
+            clock,
+            stolen: AtomicU32::new(0),
+        }
+    }
+
+    /// Whether a side was stolen.
+    pub fn is_held(&self) -> bool {
+        self.stolen.load(Ordering::SeqCst) > 0
+    }
+}
+
+impl<'a, C: Clock> Gate for Sleeping<'a, C> {
+    fn at(&self, worker: u32, point: Point) {
+        match (worker, point) {
+            (0, Point::Forked) => {
+                waits_for(&self.stolen, 1);
+            }
+            (_, Point::Stolen) => {
+                self.stolen.fetch_add(1, Ordering::SeqCst);
+                sleep(self.clock, Duration::from_millis(100));
+            }
+            (_, Point::Forked) | (_, Point::Answered) => {}
         }
     }
 }

@@ -1,14 +1,16 @@
-//! Two workers at a gate where each waits for the other's point: what they do is what no single thread can. Another worker steals a side and
-//! ends it before the first one begins the other side.
+//! Workers at a gate. Where each of two waits for the other's point, what they do is what no single thread can: another worker steals a side,
+//! and answers it while the first one waits. Where the first one waits at work, as many others are at work at once as may be.
 
-use crate::forking::{ADD_ONE, BOTH, Meeting, TWO_LEAVES};
+use crate::forking::{ADD_ONE, BOTH, Counting, Meeting, Sleeping, TWO_LEAVES};
 use crate::harness::{End, Ended, Fails, call, has_files, is_end};
 use gib_app::Status;
+use gib_edge::outside::Gate;
 use gib_unit_tests::bytes::{packed, push_times};
 use std::alloc::{AllocError, Global};
 use std::sync::Wait;
 use std::test::Fail;
 use std::thread::Threads;
+use std::time::Clock;
 
 const BUILD: &str =
     "data Tree = Leaf Int | Node Tree Tree ; fun build (n : Int) : Tree = if (n < 1) then Leaf n else let par a = build (n - 1) and b = build (n - 1) in Node a b ; main (n : Int) : Tree = build n ;";
@@ -30,8 +32,10 @@ const DIVIDES_LEFT: &str =
 const DIVIDES_RIGHT: &str =
     "fun down (n : Int) : Int = if (n < 1) then 0 else down (n - 1) ; fun div (n : Int) : Int = (1 quot n) ; main (n : Int) : Int = let par a = down 5 and b = div n in (a + b) ;";
 
-/// Runs by two workers that fork at each level, by their depth and their chunks.
+/// Runs by two workers, by the forks that nest, their depth and their chunks.
 const RUN: &str = "run a.gib a.gbp --workers 2 --fork 1 --depth 100 --chunks 128";
+
+const TWO_FORKS: &str = "run a.gib a.gbp --workers 2 --fork 2 --depth 100 --chunks 128";
 
 const FEW_CHUNKS: &str = "run a.gib a.gbp --workers 2 --fork 1 --depth 100 --chunks 16";
 
@@ -98,8 +102,8 @@ type Row<'a> = (
 
 const ROWS: [Row<'static>; 14] = [
     (ADD_ONE, TWO_LEAVES, FEW_CHUNKS, Status::Done, ADDED, None),
-    // Forks inside of forks, each of whose sides is a tree.
-    (BUILD, THREE, RUN, Status::Done, BUILT, None),
+    // Forks inside of forks, each of whose sides is a tree: the side that is stolen forks before it is answered.
+    (BUILD, THREE, TWO_FORKS, Status::Done, BUILT, None),
     // Sides that are numbers, over trees of more than one chunk.
     (COUNT, NINE, RUN, Status::Done, "512\n", None),
     (RIGHT_DOWN, FIVE, TEN_DEEP, Status::Done, "8\n", None),
@@ -146,6 +150,25 @@ fn two_files<'x>(source: &'x str, input: &'x [u8]) -> [(&'x str, &'x [u8]); 2] {
     [("a.gib", source.as_bytes()), ("a.gbp", input)]
 }
 
+/// How a call over a gate ends, on a source and the payload of its input.
+fn called<R: Threads + Wait + Sync, G: Gate + Sync>(
+    rt: &R,
+    alloc: Global,
+    gate: &G,
+    words: &str,
+    given: (&str, &[u8]),
+) -> Result<Ended, AllocError> {
+    let (source, payload) = given;
+    let input = packed(alloc, payload)?;
+    let files = two_files(source, &input);
+    let fails = Fails {
+        shelf: &[],
+        out: &[],
+        err: &[],
+    };
+    call(rt, alloc, gate, words, &files, fails)
+}
+
 /// How a call by two workers ends who come to each other's points; nothing where they do not.
 fn met<R: Threads + Wait + Sync>(
     rt: &R,
@@ -155,14 +178,7 @@ fn met<R: Threads + Wait + Sync>(
     words: &str,
 ) -> Result<Option<Ended>, AllocError> {
     let gate = Meeting::new();
-    let input = packed(alloc, payload)?;
-    let files = two_files(source, &input);
-    let fails = Fails {
-        shelf: &[],
-        out: &[],
-        err: &[],
-    };
-    let ended = call(rt, alloc, &gate, words, &files, fails)?;
+    let ended = called(rt, alloc, &gate, words, (source, payload))?;
     if gate.is_held() {
         Ok(Some(ended))
     } else {
@@ -233,5 +249,71 @@ fn meet_over_an_image<R: Threads + Wait + Sync>(rt: &R, alloc: Global) -> Result
 #[test]
 fn a_side_that_is_stolen_stands_in_a_chunk_of_its_own(rt: HostRuntime) -> Result<(), Fail> {
     assert!(rt; meet_over_an_image(&rt, rt.alloc())?);
+    Ok(())
+}
+
+/// Three forks, each inside of the left side of the one before, whose right sides do not fork.
+const THREE_FORKS: &str =
+    "fun down (n : Int) : Int = if (n < 1) then 0 else (1 + down (n - 1)) ; fun one (n : Int) : Int = let par a = down n and b = down n in (a + b) ; fun two (n : Int) : Int = let par a = one n and b = down n in (a + b) ; fun three (n : Int) : Int = let par a = two n and b = down n in (a + b) ; main (n : Int) : Int = three n ;";
+
+/// A tree whose right side alone has no room in so many chunks.
+const RIGHT_GROWS: &str =
+    "data Tree = Leaf Int | Node Tree Tree ; fun leaf (n : Int) : Tree = Leaf n ; fun grow (n : Int) : Tree = if (n < 1) then Leaf n else Node (grow (n - 1)) (grow (n - 1)) ; main (n : Int) : Tree = let par a = leaf n and b = grow n in Node a b ;";
+
+/// Whether, by these words, so many others are at work at once beside the first worker, and never more.
+fn works<R: Threads + Wait + Clock + Sync>(
+    rt: &R,
+    alloc: Global,
+    words: &str,
+    others: u32,
+) -> Result<bool, AllocError> {
+    let gate = Counting::new(rt, others);
+    let end = End {
+        status: Status::Done,
+        out: "20\n",
+        err: "",
+    };
+    let ended = called(rt, alloc, &gate, words, (THREE_FORKS, FIVE))?;
+    Ok(is_end(&ended, end) && gate.is_held())
+}
+
+#[test]
+fn one_of_two_works_beside_the_first(rt: HostRuntime) -> Result<(), Fail> {
+    assert!(rt; works(&rt, rt.alloc(), "run a.gib a.gbp --workers 2", 1)?);
+    Ok(())
+}
+
+#[test]
+fn two_of_three_work_beside_the_first(rt: HostRuntime) -> Result<(), Fail> {
+    assert!(rt; works(&rt, rt.alloc(), "run a.gib a.gbp --workers 3", 2)?);
+    Ok(())
+}
+
+/// Whether a thief that finds all chunks drawn ends the run, and wakes the first worker, which sleeps.
+fn thief_ends<R: Threads + Wait + Clock + Sync>(
+    rt: &R,
+    alloc: Global,
+    words: &str,
+) -> Result<bool, AllocError> {
+    let gate = Sleeping::new(rt);
+    let end = End {
+        status: Status::Full,
+        out: "",
+        err: CHUNKS,
+    };
+    let ended = called(rt, alloc, &gate, words, (RIGHT_GROWS, THIRTEEN))?;
+    Ok(is_end(&ended, end) && gate.is_held())
+}
+
+#[test]
+fn who_ends_the_run_wakes_the_first(rt: HostRuntime) -> Result<(), Fail> {
+    assert!(rt;
+        thief_ends(
+            &rt,
+            rt.alloc(),
+            "trace a.gib a.gbp a.gbj --workers 2 --chunks 16"
+        )?
+    );
+    assert!(rt; thief_ends(&rt, rt.alloc(), "run a.gib a.gbp --workers 2 --chunks 16")?);
     Ok(())
 }
