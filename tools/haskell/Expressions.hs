@@ -20,7 +20,7 @@ readRhs place choices bindings = Rhs <$> guarded <*> maybe (pure []) readBinding
   where
     guarded = case choices of
       H.UnGuardedRhs _ body -> (\expr -> [Guarded place [] expr]) <$> readExpr body
-      H.GuardedRhss _ several -> mapM readGuarded several
+      H.GuardedRhss _ several -> atMost 200 "guards" several >> mapM readGuarded several
 
 readGuarded :: H.GuardedRhs Info -> Front (Guarded ())
 readGuarded guarded@(H.GuardedRhs _ statements body) = Guarded <$> anchored (placeOf guarded) <*> mapM readTest statements <*> readExpr body
@@ -33,6 +33,7 @@ readTest statement = case statement of
 
 readBindings :: H.Binds Info -> Front [Binding ()]
 readBindings (H.BDecls _ declarations) = do
+  atMost 200 "values that are named" [declaration | declaration@H.PatBind {} <- declarations]
   signatures <- Map.fromList . concat <$> mapM readLocal declarations
   found <- catMaybes <$> mapM (readBinding signatures) declarations
   checkTwice [(name, patAt (target binding)) | binding <- found, name <- names (target binding)]
@@ -135,7 +136,9 @@ readExpr expr = deeper place $ case expr of
   H.InfixApp _ left operator right -> readOperation place left operator right
   H.If _ test yes no -> (\t y n -> made (If t y n)) <$> readExpr test <*> readExpr yes <*> readExpr no
   H.MultiIf _ choices -> (\several -> made (Choose (Rhs several []))) <$> mapM readGuarded choices
-  H.Case _ subject alternatives -> (\s -> made . Case s) <$> readExpr subject <*> mapM readAlternative alternatives
+  H.Case _ subject alternatives -> do
+    atMost 1000 "alternatives" alternatives
+    (\s -> made . Case s) <$> readExpr subject <*> mapM readAlternative alternatives
   H.Let _ bindings body -> (\several -> made . Let several) <$> readBindings bindings <*> readExpr body
   H.Tuple _ H.Boxed parts -> made . call (tupleName (length parts)) <$> mapM readExpr parts
   H.List _ elements -> foldr (\first rest -> made (call ":" [first, rest])) (made (Named "[]" [])) <$> mapM readExpr elements

@@ -38,21 +38,21 @@ readSource :: FilePath -> String -> Either Fault Source
 readSource path text = do
   maybe (Right ()) throwError (badLetter text)
   (parsed, comments) <- parsedText path (filter (/= '\r') text)
-  (found, anchors) <- runReaderT (runStateT (readModule parsed) []) (Around 0 Map.empty False False)
-  pure found {remarks = remarksAt anchors comments}
+  (found, end) <- runReaderT (runStateT (readModule parsed) begun) (Around 0 Map.empty False False)
+  pure found {remarks = remarksAt (lines text) (kept end) comments}
 
 -- | Reads the library, whose places are those of no source.
 readLibrary :: FilePath -> String -> Either Fault (Program ())
 readLibrary path text = do
   (parsed, _) <- parsedText path text
-  (found, _) <- runReaderT (runStateT (readModule (nothing <$ parsed)) []) (Around 0 Map.empty False True)
+  (found, _) <- runReaderT (runStateT (readModule (nothing <$ parsed)) begun) (Around 0 Map.empty False True)
   pure (program found)
   where
     nothing = H.noSrcSpan
 
 parsedText :: FilePath -> String -> Either Fault (H.Module Info, [H.Comment])
 parsedText path text = case H.parseFileContentsWithComments mode text of
-  H.ParseFailed place message -> refuse (Place (H.srcLine place) (H.srcColumn place)) (oneLine message)
+  H.ParseFailed place message -> refuse (Place (H.srcLine place) (H.srcColumn place)) (faultAt place (oneLine message))
   H.ParseOk found -> Right found
   where
     mode =
@@ -62,6 +62,11 @@ parsedText path text = case H.parseFileContentsWithComments mode text of
           H.ignoreLinePragmas = True,
           H.fixities = Just (H.infixl_ 9 [".||."] ++ H.infixr_ 0 ["`par`", "`pseq`"] ++ H.preludeFixities)
         }
+    -- Bytes that are no UTF-8 are read as half letters.
+    faultAt place message
+      | letter : _ <- drop (H.srcColumn place - 1) (concat (take 1 (drop (H.srcLine place - 1) (lines text)))), isHalf letter = "a byte that is no UTF-8"
+      | otherwise = message
+    isHalf letter = letter >= '\xDC80' && letter <= '\xDCFF'
 
 -- | A source is ASCII but for its comments and texts, which need not be: this finds a byte that no Haskell source has.
 badLetter :: String -> Maybe Fault
@@ -78,15 +83,17 @@ oneLine = unwords . words
 
 -- -- comments -------------------------------------------------------------------------------------------------------------------
 
--- | Gives each comment to a place: one behind code to what began last, one on its own line to what begins next.
-remarksAt :: [Place] -> [H.Comment] -> Remarks
-remarksAt anchors comments = Map.fromListWith (++) (map give (reverse (sortOn start comments)))
+-- | Gives each comment in a text of these lines to a place: one behind code to what began last, one on its own line to what begins next.
+remarksAt :: [String] -> [Place] -> [H.Comment] -> Remarks
+remarksAt written anchors comments = Map.fromListWith (++) (map give (reverse (sortOn start comments)))
   where
     places = Map.fromList [(place, ()) | place <- anchors]
+    linesHere = Map.fromList (numbered written)
+    isBehindCode place = any (not . isSpace) (take (column place - 1) (Map.findWithDefault "" (line place) linesHere))
     start (H.Comment _ span' _) = Place (H.srcSpanStartLine span') (H.srcSpanStartColumn span')
     give comment@(H.Comment _ _ text) = (anchor (start comment), remarkLines text)
     anchor place = case (Map.lookupLT place places, Map.lookupGT place places) of
-      (Just (before, ()), _) | line before == line place -> before
+      (Just (before, ()), _) | isBehindCode place -> before
       (_, Just (after, ())) -> after
       (_, Nothing) -> Place maxBound 1
 
@@ -107,10 +114,10 @@ readModule (H.Module _ heading pragmas imports declarations) = do
   begin <- maybe (pure nowhere) (anchored . placeOf) heading
   known <- foldM addSynonym Map.empty (synonymsFirst declarations)
   local (\around -> around {synonyms = known, sparks = any (isSparking . H.importModule) imports}) $ do
-    made <- catMaybes <$> mapM readData declarations
-    signatures <- concat <$> mapM readSignature declarations
+    made <- catMaybes <$> mapM (inOneDeclaration . readData) declarations
+    signatures <- concat <$> mapM (inOneDeclaration . readSignature) declarations
     checkTwice [(name, place) | (name, (place, _)) <- signatures]
-    equations <- concat <$> mapM readEquations declarations
+    equations <- concat <$> mapM (inOneDeclaration . readEquations) declarations
     found <- mapM (readFunction (Map.fromList signatures)) (grouped equations)
     checkTwice [(funName function, placeOfFirst function) | function <- found]
     unwritten signatures found
@@ -220,7 +227,7 @@ type Equation = (Name, Place, Row ())
 
 readEquations :: H.Decl Info -> Front [Equation]
 readEquations declaration = case declaration of
-  H.FunBind _ matches -> mapM readMatch matches
+  H.FunBind _ matches -> atMost 1000 "equations" matches >> mapM readMatch matches
   H.PatBind _ (H.PVar _ name) choices bindings -> do
     place <- anchored here
     text <- named name

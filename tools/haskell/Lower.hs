@@ -1,7 +1,7 @@
 -- | From cores to a program of Gib: names that it may have, tuples as results of several parts, and as data where they are kept.
 module Lower (lower) where
 
-import Control.Monad (forM_, unless, when)
+import Control.Monad (unless, when)
 import Core
 import Data.Char (isAsciiLower, isAsciiUpper, isDigit)
 import Data.List (mapAccumL, stripPrefix)
@@ -22,13 +22,11 @@ data Tables = Tables {typeNames, madeNames, functionNames :: Map Name Name, part
 -- | The program, with its entry as main.
 lower :: World -> [Name] -> Name -> [Definition] -> Either Fault G.Program
 lower here written entry definitions = do
-  forM_ (drop mostFunctions [definition | definition <- definitions, defName definition /= entry]) $ \definition ->
-    refuse (defAt definition) ("a program has at most " ++ show mostFunctions ++ " functions: this is one more")
+  mapM_ Left (tooManyFunctions [defAt definition | definition <- definitions, defName definition /= entry])
   let functions = map (function tables) [definition | definition <- definitions, defName definition /= entry || isCalled]
   main' <- mapM (mainOf tables isCalled) [definition | definition <- definitions, defName definition == entry]
   pure (G.Program (map (dataOf' tables) used) (functions ++ main'))
   where
-    mostFunctions = 1000
     isCalled = any ((entry `Set.member`) . calls . defBody) definitions
     used = usedDatas here written definitions
     tables =

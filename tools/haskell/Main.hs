@@ -66,7 +66,10 @@ readText file = do
   loose <- mkTextEncoding "UTF-8//ROUNDTRIP"
   let contents handle = hSetEncoding handle loose >> hGetContents handle >>= \text -> length text `seq` pure text
   found <- try (withFile file ReadMode contents) :: IO (Either IOException String)
-  either (const (hPutStrLn stderr ("gib: cannot read " ++ file) >> exitWith (ExitFailure 6))) pure found
+  either (const (hPutStrLn stderr ("gib: cannot read " ++ file) >> exitWith (ExitFailure 6))) (pure . unmarked) found
+  where
+    -- GHC reads a mark of the order of bytes over, too.
+    unmarked text = if take 1 text == "\xFEFF" then drop 1 text else text
 
 writeOut :: FilePath -> String -> IO ()
 writeOut file text = do
@@ -87,13 +90,15 @@ translated folder file = do
 translate :: Program () -> Program () -> Either Fault Gib.Program
 translate library written = do
   entry <- entryOf written
+  mapM_ Left (tooManyFunctions [funAt function | function <- functions written, funName function /= entry])
   let whole = withLibrary library written
       here = world written whole
   checkDatas here (datas written)
   typed <- infer here whole
   found <- definitions here typed
   let (known', tidied) = mapAccumL tidy here found
-  lower known' (map dataName (datas written)) entry (concat tidied)
+  made' <- lower known' (map dataName (datas written)) entry (concat tidied)
+  made' <$ mapM_ Left (Gib.tooDeep made')
 
 -- | The function that takes the program's input.
 entryOf :: Program a -> Either Fault Name

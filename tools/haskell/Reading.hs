@@ -6,10 +6,14 @@ module Reading
     Synonyms,
     Around (..),
     Front,
+    Kept (..),
+    begun,
+    inOneDeclaration,
     anchored,
     placeOf,
     checkTwice,
     deeper,
+    atMost,
     headOf,
     named,
     textOf,
@@ -25,7 +29,7 @@ where
 import Control.Monad (when)
 import Control.Monad.Except (throwError)
 import Control.Monad.Reader (ReaderT, asks, local)
-import Control.Monad.State (StateT, modify)
+import Control.Monad.State (StateT, gets, modify)
 import Data.Char (isAscii)
 import Data.Map (Map)
 import qualified Data.Map as Map
@@ -44,12 +48,22 @@ type Synonyms = Map Name ([Name], Type)
 -- values. `isLibrary` says that names with a prime are the library's own.
 data Around = Around {level :: Int, synonyms :: Synonyms, sparks, isLibrary :: Bool}
 
--- | Keeps the places that comments may stand at.
-type Front = StateT [Place] (ReaderT Around (Either Fault))
+-- | What is kept while a file is read: the places that comments may stand at, and how many parts a declaration has so far.
+data Kept = Kept {kept :: [Place], partsSoFar :: !Int}
+
+type Front = StateT Kept (ReaderT Around (Either Fault))
+
+-- | Where nothing is read yet.
+begun :: Kept
+begun = Kept [] 0
+
+-- | Reads one declaration, whose parts are counted.
+inOneDeclaration :: Front a -> Front a
+inOneDeclaration inner = modify (\state -> state {partsSoFar = 0}) >> inner
 
 -- | Keeps a place that comments may stand at.
 anchored :: Place -> Front Place
-anchored place = modify (place :) >> pure place
+anchored place = modify (\state -> state {kept = place : kept state}) >> pure place
 
 placeOf :: H.Annotated ast => ast Info -> Place
 placeOf node = Place (H.srcSpanStartLine range) (H.srcSpanStartColumn range)
@@ -66,11 +80,23 @@ checkTwice found = mapM_ twice (take 1 [(name, place) | (name, places) <- Map.to
 deepest :: Int
 deepest = 200
 
+-- | No declaration of more types, patterns and expressions becomes one that Gib takes.
+mostParts :: Int
+mostParts = 10000
+
+-- | Reads a part: a type, a pattern or an expression.
 deeper :: Place -> Front a -> Front a
 deeper place inner = do
   here <- asks level
+  count <- gets partsSoFar
+  when (count >= mostParts) (refuse place ("a declaration with more than " ++ show mostParts ++ " expressions, patterns and types up to here: make two of it"))
+  modify (\state -> state {partsSoFar = count + 1})
   when (here >= deepest) (refuse place ("nested more than " ++ show deepest ++ " levels deep: give a part a function of its own"))
   local (\around -> around {level = here + 1}) inner
+
+-- | Refuses more of what stands side by side than one function of Gib takes.
+atMost :: H.Annotated ast => Int -> String -> [ast Info] -> Front ()
+atMost most things found = mapM_ (\one -> refuse (placeOf one) ("more than " ++ show most ++ " " ++ things ++ " up to here: make two functions of it")) (take 1 (drop most found))
 
 -- -- names -----------------------------------------------------------------------------------------------------------------------
 

@@ -10,6 +10,7 @@ module World
     ofLibrary,
     number,
     onNumbers,
+    tooManyFunctions,
     filled,
     showType,
     counted,
@@ -19,9 +20,10 @@ where
 import Data.List (intercalate)
 import Data.Map (Map)
 import qualified Data.Map as Map
+import Data.Maybe (listToMaybe)
 import Data.Set (Set)
 import qualified Data.Set as Set
-import Fault (nowhere)
+import Fault (Fault (..), Place, nowhere)
 import Syntax
 
 -- | A constructor, with the type that it belongs to.
@@ -109,6 +111,12 @@ onNumbers =
   Map.fromList $
     map (\name -> (name, True)) ["max", "min", "even", "odd", "compare"]
       ++ map (\name -> (name, False)) ["abs", "signum", "subtract", "div", "mod", "quotRem", "divMod", "gcd", "sum", "product"]
+
+-- | The fault of functions past those that a program may have besides its entry.
+tooManyFunctions :: [Place] -> Maybe Fault
+tooManyFunctions places = listToMaybe [Fault place ("a program has at most " ++ show most ++ " functions: this is one more") | place <- drop most places]
+  where
+    most = 1000 :: Int
 
 -- | A type with what stands for its variables.
 filled :: Map Name Type -> Type -> Type
