@@ -13,7 +13,7 @@ import Fault
 import qualified Language.Haskell.Exts as H
 import Reading
 import Syntax
-import World (ofLibrary, spark)
+import World (noFailing, ofLibrary, spark)
 
 readRhs :: Place -> H.Rhs Info -> Maybe (H.Binds Info) -> Front (Rhs ())
 readRhs place choices bindings = Rhs <$> guarded <*> maybe (pure []) readBindings bindings
@@ -82,7 +82,7 @@ readPat pat = deeper place $ case pat of
   H.PAsPat _ name inner -> (\text -> made . As text) <$> named name <*> readPat inner
   H.PLit _ sign (H.Int _ number _) -> made . Literal <$> inRange place (signed sign number)
   H.PLit _ _ literal -> refuse place (noLiteral literal)
-  H.PTuple _ H.Boxed parts -> made . Made (tupleName (length parts)) <$> mapM readPat parts
+  H.PTuple _ H.Boxed parts -> tupleOf (\text -> made . Made text) readPat parts
   H.PList _ elements -> foldr (\first rest -> made (Made ":" [first, rest])) (made (Made "[]" [])) <$> mapM readPat elements
   H.PApp _ name parts -> (\text -> made . Made text) <$> constructorName name <*> mapM readPat parts
   H.PInfixApp _ left name right -> (\text first second -> made (Made text [first, second])) <$> constructorName name <*> readPat left <*> readPat right
@@ -132,6 +132,7 @@ readExpr expr = deeper place $ case expr of
   H.Lit _ literal -> refuse place (noLiteral literal)
   H.NegApp _ (H.Lit _ (H.Int _ number _)) -> made . Number <$> inRange place (negate number)
   H.NegApp _ inner -> (\operand -> made (call "negate" [operand])) <$> readExpr inner
+  H.App _ (H.Var _ (H.UnQual _ (H.Ident _ "error"))) _ -> refuse place noFailing
   H.App {} -> let (function, arguments) = spine expr in applyTo place <$> readExpr function <*> mapM readExpr arguments
   H.InfixApp _ left operator right -> readOperation place left operator right
   H.If _ test yes no -> (\t y n -> made (If t y n)) <$> readExpr test <*> readExpr yes <*> readExpr no
@@ -140,7 +141,7 @@ readExpr expr = deeper place $ case expr of
     atMost 1000 "alternatives" alternatives
     (\s -> made . Case s) <$> readExpr subject <*> mapM readAlternative alternatives
   H.Let _ bindings body -> (\several -> made . Let several) <$> readBindings bindings <*> readExpr body
-  H.Tuple _ H.Boxed parts -> made . call (tupleName (length parts)) <$> mapM readExpr parts
+  H.Tuple _ H.Boxed parts -> tupleOf (\text -> made . call text) readExpr parts
   H.List _ elements -> foldr (\first rest -> made (call ":" [first, rest])) (made (Named "[]" [])) <$> mapM readExpr elements
   H.ExpTypeSig _ inner kind -> (\value' -> made . Typed value') <$> readExpr inner <*> readType kind
   _ -> refuse place (noForm expr)

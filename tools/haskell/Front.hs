@@ -274,8 +274,9 @@ readFunction signatures (name, place, equations) = case Map.lookup name signatur
   where
     checkCount known row
       | given == due = pure ()
-      | given < due = refuse (rowAt row) ("functions are no values: write all " ++ counted due "parameter" ++ " of " ++ name ++ " in front of the =")
+      | given < due = refuse (rowAt row) ("functions are no values: write " ++ each due ++ " of " ++ name ++ " in front of the =")
       | otherwise = refuse (rowAt row) (name ++ " has " ++ counted due "parameter" ++ " by its signature; here are " ++ show given)
       where
         given = length (patterns row)
         due = length (parameters known)
+    each due = if due == 1 then "the parameter" else "all " ++ counted due "parameter"

@@ -96,7 +96,13 @@ unify place due found = do
   unless agreed $ do
     wanted <- current due
     there <- current found
-    refuse place ("a value of type " ++ showType there ++ " stands here, and " ++ showType wanted ++ " is due")
+    refuse place (standing there ++ " stands here, and " ++ due' wanted ++ " is due")
+  where
+    -- What is unknown and fits no type is one of numbers.
+    standing (TMeta _) = "a number"
+    standing kind = "a value of type " ++ showType kind
+    due' (TMeta _) = "a number"
+    due' kind = showType kind
 
 agree :: Type -> Type -> Infer Bool
 agree left right = do
@@ -345,7 +351,7 @@ isExact name = name `elem` ["<", "<=", ">", ">="] || Map.findWithDefault False n
 -- | A name that is not there, and what would do.
 unknown :: Name -> String
 unknown name
-  | name `elem` ["error", "undefined", "errorWithoutStackTrace"] = "nothing fails on purpose: give a value that tells of it"
+  | name `elem` ["error", "undefined", "errorWithoutStackTrace"] = noFailing
   | name `elem` ["show", "print", "putStrLn", "read", "getLine", "interact"] = "there are no texts and no IO: the program takes one value, and gives one"
   | name `elem` ["map", "filter", "foldr", "foldl", "foldl'", "zipWith", "any", "all", "iterate", "until"] =
     name ++ " takes a function, and functions are no values: write a function that goes along the list"

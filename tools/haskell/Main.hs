@@ -10,6 +10,8 @@ module Main (main) where
 import Control.Exception (IOException, try)
 import Control.Monad (unless, when)
 import Data.List (mapAccumL)
+import qualified Data.Map as Map
+import Data.Maybe (listToMaybe)
 import qualified Data.Set as Set
 import Fault
 import Front
@@ -20,7 +22,7 @@ import Lower
 import Match
 import Print
 import Run
-import Syntax hiding (Function)
+import Syntax
 import System.Environment (getArgs)
 import System.Exit (ExitCode (..), exitWith)
 import System.FilePath ((</>))
@@ -90,6 +92,7 @@ translated folder file = do
 translate :: Program () -> Program () -> Either Fault Gib.Program
 translate library written = do
   entry <- entryOf written
+  mapM_ Left (ofThemselves (functions written))
   mapM_ Left (tooManyFunctions [funAt function | function <- functions written, funName function /= entry])
   let whole = withLibrary library written
       here = world written whole
@@ -105,6 +108,20 @@ entryOf :: Program a -> Either Fault Name
 entryOf written = case filter (`elem` map funName (functions written)) ["gibbon_main", "main"] of
   name : _ -> Right name
   [] -> refuse nowhere "no gibbon_main and no main: one of them takes the program's input as its one parameter, and gives its result"
+
+-- | The fault of values on the top level that are made of themselves, as a list without an end.
+ofThemselves :: [Function ()] -> Maybe Fault
+ofThemselves found = listToMaybe [Fault (funAt one) (funName one ++ madeOfItself) | one <- alone, funName one `Set.member` reached (uses' one)]
+  where
+    madeOfItself = " is a value that is made of itself, which has no end: write a function that makes as much as is asked for"
+    alone = [function | function <- found, null (parameters (signature function))]
+    byName = Map.fromList [(funName function, uses' function) | function <- alone]
+    uses' = Set.unions . map freeRow . rows
+    reached names'
+      | more == names' = names'
+      | otherwise = reached more
+      where
+        more = Set.unions (names' : [Map.findWithDefault Set.empty name byName | name <- Set.toList names'])
 
 -- | A program with what it uses of the library and does not declare.
 withLibrary :: Program () -> Program () -> Program ()

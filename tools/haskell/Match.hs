@@ -386,6 +386,8 @@ partOf place scope name given whole = do
 calledOrMade :: Place -> Env -> Type -> Name -> [Type] -> [Expr Type] -> Match Core
 calledOrMade place scope kind' name given arguments = do
   isDeclared <- asks (Map.member name . declared . here)
+  isBorrowed <- asks (Set.member name . borrowed . here)
+  when (isBorrowed && name `elem` ["div", "mod", "quotRem", "divMod"] && or [True | S.Number 0 <- map form (drop 1 arguments)]) (refuse place noDivision)
   isMade <- asks (\context -> not (isNothing (knownOf (here context) name)))
   if isDeclared
     then Call place name given . (\found -> if null found then [Number 0] else found) <$> mapM (expression scope) arguments
@@ -398,6 +400,9 @@ calledOrMade place scope kind' name given arguments = do
       "True" -> Truth True
       "False" -> Truth False
       _ -> Make place name given found
+
+noDivision :: String
+noDivision = "a division by 0: it has no value"
 
 primitive :: Place -> Type -> Name -> [Type] -> [Core] -> Match Core
 primitive place kind' name given found = case (name, found) of
@@ -427,7 +432,7 @@ primitive place kind' name given found = case (name, found) of
   _ -> refuse place ("no counterpart for " ++ name)
   where
     operate = Operate place
-    divided _ _ (Number 0) = refuse place "a division by 0: it has no value"
+    divided _ _ (Number 0) = refuse place noDivision
     divided operation a b = pure (operate operation a b)
     equal a b
       | given == [bool] = naming place Nothing bool b (\var -> pure (choice place a (Ref var) (opposite place (Ref var))))

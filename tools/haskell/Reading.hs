@@ -14,6 +14,7 @@ module Reading
     checkTwice,
     deeper,
     atMost,
+    tupleOf,
     headOf,
     named,
     textOf,
@@ -98,6 +99,12 @@ deeper place inner = do
 atMost :: H.Annotated ast => Int -> String -> [ast Info] -> Front ()
 atMost most things found = mapM_ (\one -> refuse (placeOf one) ("more than " ++ show most ++ " " ++ things ++ " up to here: make two functions of it")) (take 1 (drop most found))
 
+-- | A tuple of these parts, which are read.
+tupleOf :: H.Annotated ast => (Name -> [a] -> b) -> (ast Info -> Front a) -> [ast Info] -> Front b
+tupleOf make readPart parts = do
+  mapM_ (\part -> refuse (placeOf part) "a tuple has at most 8 parts: put some into a type of their own") (take 1 (drop 8 parts))
+  make (tupleName (length parts)) <$> mapM readPart parts
+
 -- -- names -----------------------------------------------------------------------------------------------------------------------
 
 headOf :: H.DeclHead Info -> Either Fault (Name, [Name])
@@ -155,7 +162,7 @@ readType kind = deeper place $ case kind of
   H.TyParen _ inner -> readType inner
   H.TyBang _ _ _ inner -> readType inner
   H.TyList _ element -> list <$> readType element
-  H.TyTuple _ H.Boxed parts -> tuple <$> mapM readType parts
+  H.TyTuple _ H.Boxed parts -> tupleOf TCon readType parts
   H.TyFun {} -> refuse place "functions are no values: declare the function, and call it by its name"
   H.TyForall {} -> refuse place "a type with variables of its own: only a function's whole type has some"
   _ -> applied kind []

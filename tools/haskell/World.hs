@@ -11,6 +11,7 @@ module World
     number,
     onNumbers,
     tooManyFunctions,
+    noFailing,
     filled,
     showType,
     counted,
@@ -117,6 +118,9 @@ tooManyFunctions :: [Place] -> Maybe Fault
 tooManyFunctions places = listToMaybe [Fault place ("a program has at most " ++ show most ++ " functions: this is one more") | place <- drop most places]
   where
     most = 1000 :: Int
+
+noFailing :: String
+noFailing = "nothing fails on purpose: give a value that tells of it"
 
 -- | A type with what stands for its variables.
 filled :: Map Name Type -> Type -> Type
