@@ -207,9 +207,10 @@ measure() {
   exit
 }
 
-# `test SRC [OPTION ..]`: runs a program on each of its texts that has a result beside it, and tells what differs.
+# `test SRC [OPTION ..]`: runs a program on each of its texts that has a result beside it, and tells what differs. Where the program was translated,
+# `beside` is the name in front of the texts.
 test_program() {
-  local text due front=${names[1]%.gib} passed=0 failed=0 room
+  local text due front=${beside:-${names[1]%.gib}} passed=0 failed=0 room
   [[ ${#names[@]} = 2 ]] || misused test
   is_file "${names[1]}"
   room=$(mktemp -d) || exit 70
@@ -234,8 +235,8 @@ test_program() {
 # Whether a text belongs to a program with a longer name than this one.
 has_longer() {
   local other
-  for other in "$1"?*.gib; do
-    [[ $2 != "${other%.gib}"* ]] || return 0
+  for other in "$1"?*.gib "$1"?*.hs; do
+    [[ ! -f $other || $2 != "${other%.*}"* ]] || return 0
   done
   return 1
 }

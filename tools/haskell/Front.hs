@@ -89,7 +89,8 @@ remarksAt written anchors comments = Map.fromListWith (++) (map give (reverse (s
   where
     places = Map.fromList [(place, ()) | place <- anchors]
     linesHere = Map.fromList (numbered written)
-    isBehindCode place = any (not . isSpace) (take (column place - 1) (Map.findWithDefault "" (line place) linesHere))
+    -- A sign alone begins what stands behind the comment.
+    isBehindCode place = any (`notElem` " \t|=") (take (column place - 1) (Map.findWithDefault "" (line place) linesHere))
     start (H.Comment _ span' _) = Place (H.srcSpanStartLine span') (H.srcSpanStartColumn span')
     give comment@(H.Comment _ _ text) = (anchor (start comment), remarkLines text)
     anchor place = case (Map.lookupLT place places, Map.lookupGT place places) of

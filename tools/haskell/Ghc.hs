@@ -44,7 +44,7 @@ faultIn file told = case dropWhile (not . (mark `isPrefixOf`)) (lines told) of
     | (row, ':' : rest) <- span isDigit (drop (length mark) first),
       (column', ':' : message) <- span isDigit rest ->
       Fault (Place (read row) (read column')) (shortened (message : takeWhile isMore others))
-  _ -> Fault (Place 1 1) (shortened ["error:", told])
+  _ -> Fault (Place 1 1) (shortened ["error:", if all isSpace told then " it ends without a word" else told])
   where
     mark = "source.hs:"
     isMore line' = not (all isSpace line') && not ("|" `isPrefixOf` dropWhile (\letter -> isSpace letter || isDigit letter) line')

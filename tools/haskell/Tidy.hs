@@ -1,5 +1,5 @@
 -- | Puts each value where it is needed first, as Haskell evaluates it, and makes functions of what several places go on with.
-module Tidy (tidy, onlyOpened, openings, signatureOf) where
+module Tidy (tidy, onlyOpened, openings) where
 
 import Control.Monad.State (State, evalState, get, gets, modify, put, runState)
 import Core
@@ -10,15 +10,18 @@ import Data.Monoid (Sum (..))
 import Data.Set (Set)
 import qualified Data.Set as Set
 import Fault (Place)
-import Syntax (Name, Signature (..), Type (..), int)
+import Split (declaredAs, placeIn, split, unusedName)
+import Syntax (Name, Type (..), int)
 import World
 
 -- | A function, and those that it became besides, with what they declare. It is there in two ways: where what several places go on with becomes a function,
 -- a value that is handed on to it would be made before the call, used or not, and the second way is taken, in which that function makes it.
 tidy :: World -> (Definition, Definition) -> (World, [Definition])
 tidy here (definition, other) = case tidied here definition of
-  (after, [alone]) -> (after, [alone])
-  _ -> tidied here other
+  (after, [alone]) -> whole after [alone]
+  _ -> uncurry whole (tidied here other)
+  where
+    whole after found = let (several, end) = runState (mapM split found) after in (end, concat several)
 
 tidied :: World -> Definition -> (World, [Definition])
 tidied here definition = (world' end, done : reverse (made end))
@@ -127,7 +130,7 @@ liftLabels definition core = case core of
         name = unusedName here (defName definition ++ "_otherwise")
         call taken = Call (placeIn definition inner) name (map TVar (defVars definition)) (if null unused then map Ref (taken ++ more) else [Number 0])
         function = definition {defName = name, defParameters = vars ++ more ++ unused, defResult = typeOf here Map.empty inner, defBody = inner}
-    modify (\state -> state {world' = withSignature function here})
+    modify (\state -> state {world' = declaredAs function here})
     done <- lifted function
     modify (\state -> state {made = done : made state})
     liftLabels definition (jumpsAs call label body)
@@ -138,20 +141,6 @@ jumpsAs :: ([Var] -> Core) -> Int -> Core -> Core
 jumpsAs call label core = case core of
   Jump other taken | other == label -> call taken
   _ -> every (jumpsAs call label) core
-
-unusedName :: World -> Name -> Name
-unusedName here name = head [other | other <- name : map ((name ++) . show) [2 :: Int ..], other `Map.notMember` declared here]
-
-withSignature :: Definition -> World -> World
-withSignature function here = here {declared = Map.insert (defName function) (signatureOf function) (declared here)}
-
-signatureOf :: Definition -> Signature
-signatureOf function = Signature (defVars function) (map kind (defParameters function)) (defResult function)
-
-placeIn :: Definition -> Core -> Place
-placeIn definition core = case core of
-  Remark place _ -> place
-  _ -> defAt definition
 
 -- -- values ---------------------------------------------------------------------------------------------------------------------
 

@@ -41,6 +41,7 @@ call_translated() {
   local words=("$@") place told status input=${names[2]:-}
   sources=() made=()
   [ -n "$force" ] || spare_inputs
+  [ "${names[0]}" != local ] || stop 2 "local takes a LoCal text, which gib located ${names[1]} prints"
   for place in 1 3; do
     if [[ ${names[place]:-} = *.hs ]] && { [ $place -eq 1 ] || [ "${names[0]}" = convert ]; }; then
       mkdir "$translation_room/$place"
@@ -49,6 +50,11 @@ call_translated() {
       words[places[place]]=${made[-1]}
     fi
   done
+  if [ "${names[0]}" = test ]; then
+    beside=${names[1]%.hs} names[1]=${made[0]}
+    (ready && test_program)
+    return
+  fi
   # What comes on standard input may be needed once more.
   if [ "${names[0]}" = eval ] && [ "${input:--}" = - ]; then
     input=$translation_room/given
@@ -69,6 +75,7 @@ retold() {
     # What is explained there is about the Gib text.
     first="${BASH_REMATCH[1]} at ${sources[0]}:$(origin_of "${BASH_REMATCH[2]}")"
     [[ $first != *"over a limit"* ]] || first+=": a function has at most 200 variables, with all names of its arms, and 2,000 expressions; make two of it"
+    [[ $first != *"nested too deep"* ]] || first+=": expressions stand in one another on at most 200 levels in the Gib text, and a list of literals takes two for each element; make two functions of it"
     echo "$first"
     return
   elif [[ $first = "gib: depth" || $first = "gib: division by zero" ]]; then
