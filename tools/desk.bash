@@ -14,6 +14,7 @@ is_file() {
 # The words were none that a command takes.
 misused() {
   echo "gib: usage" >&2
+  notes usage "${words[@]}" >&2
   help_on "$1" >&2
   exit 2
 }
@@ -211,7 +212,7 @@ measure() {
 # `beside` is the name in front of the texts.
 test_program() {
   local text due front=${beside:-${names[1]%.gib}} passed=0 failed=0 room
-  [[ ${#names[@]} = 2 ]] || misused test
+  [[ ${#names[@]} = 2 && " ${options[*]} " != *" --image"* && " ${options[*]} " != *" --pack"* ]] || misused test
   is_file "${names[1]}"
   room=$(mktemp -d) || exit 70
   for text in "$front"*.txt; do

@@ -6,6 +6,8 @@
     explain.py rule SRC TERM RULE                 a build rule that the core of a LoCal text breaks
     explain.py text SRC TXT                       a fault in the text of a value
     explain.py packed SRC FILE                    a packed file of other types, or a file that is not packed
+    explain.py unlocated SRC                      a source whose core has no LoCal text
+    explain.py usage WORD ..                      words that no command takes
 
 It decides nothing: where it finds nothing to say, or fails, it prints nothing, with status 1.
 """
@@ -28,9 +30,10 @@ sys.path.insert(0, os.path.join(ROOT, "examples", "python"))
 from description import Schema  # noqa: E402
 from faults import Program, limit_note  # noqa: E402
 from gbp import MAGIC, opened  # noqa: E402
-from located import place_note, rule_note  # noqa: E402
+from located import place_note, rule_note, unlocated_note  # noqa: E402
 from source import OPERATIONS, SIGNS, TYPES, WORDS, Parser, Token, tokens_of  # noqa: E402
 from texts import BadText, TextSource, listed  # noqa: E402
+from usage import usage_note  # noqa: E402
 from values import GREATEST, convey  # noqa: E402
 
 # -- tokens that are due -----------------------------------------------------------------------------------------------------------
@@ -82,13 +85,15 @@ def due_line(due):
 
 
 class Fault(NamedTuple):
-    """A token that cannot stand, those beside it, the operation in front of it in the same parentheses, and what is due in its place."""
+    """A token that cannot stand, those beside it, the operation in front of it in the same parentheses, what is due in its place, and of what it is a
+    part: of the declaration of a type (`data`), of a function's parameter (`fun`) or main's (`main`), or of something else."""
 
     before: Token
     token: Token
     after: Token
     operation: str
     due: set
+    part: str
 
     @property
     def text(self):
@@ -115,6 +120,17 @@ def operation_before(tokens):
     return ""
 
 
+def part_of(tokens):
+    """Of what the end of these tokens is a part: see Fault."""
+    begun = max((at for at, token in enumerate(tokens) if token.kind in ("data", "fun", "main")), default=0)
+    deep, at = 0, len(tokens)
+    while deep <= 0 and at > begun:
+        at -= 1
+        deep += (tokens[at].kind == "(") - (tokens[at].kind == ")")
+    is_parameter = [token.kind for token in tokens[at : at + 3]] == ["(", "var", ":"]
+    return tokens[begun].kind if tokens[begun].kind == "data" or is_parameter else ""
+
+
 DECLARATION_ENDS = "each declaration ends with ';'"
 
 # What somebody who wrote this is told: the first of these that fits. `{0}` is the token, `{1}` two operations, `{2}` what stands in front.
@@ -130,6 +146,9 @@ HINTS = [
     (lambda at: at.text == "|" and at.before.text == "=", "'|' stands between two constructors, and none in front of the first one"),
     (lambda at: at.text == "|" and "|" in (at.before.text, at.after.text), "there is no ||: a || b is (if a then True else b)"),
     (lambda at: at.text == "|" and (";" in at.due or at.due == {"Con"}), "arms are set apart by ';', and none stands in front of the first one"),
+    (lambda at: at.text == "," and at.part == "main", "main has one parameter: a type with both, data Both = Both Int Int"),
+    (lambda at: at.text == "," and at.part == "fun", "each parameter has parentheses of its own: (x : Int) (y : Int)"),
+    (lambda at: at.text == "," and at.part == "data", "fields stand side by side, without commas: Node Tree Tree"),
     (lambda at: at.text == "," and at.due == {")"}, "each operation has parentheses of its own: ((a + b), (c - d))"),
     (
         lambda at: at.text == "," and ")" in at.due and at.due & {"var", *OPERATIONS},
@@ -151,6 +170,10 @@ HINTS = [
     (lambda at: at.text == "," and at.due == {":"}, "each parameter has parentheses of its own: (x : Int) (y : Int)"),
     (lambda at: at.text == ")" and at.due == {","}, "one name or type alone has no parentheses"),
     (lambda at: "," in at.due and at.due <= {",", ")"}, "a comma stands between two"),
+    (
+        lambda at: at.before.text == "(" and at.due == {"Con"} and at.part == "data",
+        "fields stand side by side, each a type: Leaf Int, Node Tree Tree; a type in parentheses has arguments, (List Int)",
+    ),
     (
         lambda at: at.before.text == "(" and at.due == {"Con"},
         "a type in parentheses has arguments, (List Int): parts are what a function gives, and main gives one value",
@@ -192,7 +215,7 @@ def syntax_told(source, place, kind, program):
     notes = [f"{repr(token.text) if token.text else 'the end of the text'} cannot stand here"]
     if place > LONGEST:
         return Told(place, kind, notes)
-    fault = Fault(before, token, after, operation_before(tokens[:at]), due_tokens(program, source[:place]))
+    fault = Fault(before, token, after, operation_before(tokens[:at]), due_tokens(program, source[:place]), part_of(tokens[:at]))
     hint = next((hint for fits, hint in HINTS if fits(fault)), None)
     if hint:
         hint = hint.replace("{0}", fault.text).replace("{1}", fault.second()).replace("{2}", before.text)
@@ -202,15 +225,19 @@ def syntax_told(source, place, kind, program):
 
 SIGNS_OF_TWO = {
     r"!=": "there is no !=: instead of if (a != b) then x else y write if (a == b) then y else x",
-    r"_\s*->": "each constructor has an arm of its own, Nil -> .. ; Cons first rest -> ..: none stands for the others",
 }
+# What `_` stands for elsewhere, by what is in front of it.
+UNNAMED = [
+    (r"\b(let|par|and)\s*(\([^()]*)?$", "a let names each value, by a small letter first: what is not used has a name too, or is left out"),
+    (r"\bof\s*\{\s*$|;\s*$", "each constructor has an arm of its own, Nil -> .. ; Cons first rest -> ..: none stands for the others"),
+    (r"", "each field has a name, which begins with a small letter"),
+]
 CHARACTERS = {
     ">": "there is no >: a > b is (b < a), and a >= b is (if (a < b) then False else True)",
     "/": "there is no /: a / b is (a quot b); a comment is -- to the end of the line",
     "%": "there is no %: a % b is (a rem b)",
     "&": "there is no &&: a && b is (if a then b else False)",
     "!": "there is no !: not a is (if a then False else True)",
-    "_": "each field has a name, which begins with a small letter",
     '"': "there are no strings",
     "'": "a type variable is a name alone, data List a = Nil | Cons a (List a); there are no characters",
     ".": "there are no fractions, and a field is named by a case",
@@ -222,6 +249,10 @@ CHARACTERS = {
 def character_note(source, place):
     front = next((note for sign, note in SIGNS_OF_TWO.items() if re.match(sign, source[place : place + 10])), None)
     letter = source[place : place + 1]
+    if letter == "_":
+        return next(note for before, note in UNNAMED if re.search(before, source[:place][-2000:]))
+    if source[max(place - 1, 0) : place + 1] == "=>":
+        return "there is no =>: an arm is Leaf n -> .., and a >= b is (if (a < b) then False else True)"
     return front or CHARACTERS.get(letter) or ("a source has letters of ASCII alone" if not letter.isascii() else None)
 
 
@@ -242,12 +273,23 @@ def told_of(source, place, kind, program):
 
 UNREAD = ("syntax", "bad character", "number too large", "nested too deep")
 MOST = 8
-BEGUN = re.compile(r"--[^\n]*|\b(data|fun|main)\b")
+BEGUN = re.compile(r"--[^\n]*|\b(data|fun|main)\b|\w+|[^\w\s]")
+
+
+def beginnings(source):
+    """The places at which declarations begin: behind a semicolon, or at the beginning of a line."""
+    found, last = [], ";"
+    for match in BEGUN.finditer(source):
+        if match[1] and (last == ";" or source[match.start() - 1 : match.start()] == "\n"):
+            found.append(match.start())
+        if not match[0].startswith("--"):
+            last = match[0]
+    return found
 
 
 def without(source, place):
     """A source with blanks in the place of the declaration that ends with a place or goes on there, and the word that it begins with."""
-    begun = [match.start() for match in BEGUN.finditer(source) if match[1]]
+    begun = beginnings(source)
     own = max((start for start in begun if start < place), default=0)
     end = min((start for start in begun if start > own), default=len(source))
     return source[:own] + re.sub(r"[^\n]", " ", source[own:end]) + source[end:], source[own : own + 4]
@@ -451,6 +493,11 @@ def notes(words):
         return located_notes(words[1], int(words[2]), words[3])
     if words[0] == "rule":
         return rule_notes(words[1], int(words[2]), words[3])
+    if words[0] == "usage":
+        return [usage_note(words[1:])]
+    if words[0] == "unlocated":
+        with open(words[1], encoding="latin-1") as file:
+            return [unlocated_note(file.read())]
     if words[0] == "source":
         return source_notes(words[1], int(words[2]), words[3], words[4:])
     with open(words[1], encoding="latin-1") as file:

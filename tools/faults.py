@@ -43,6 +43,14 @@ class Signature(NamedTuple):
 ANY = 0
 
 
+def ends_of(part):
+    """The expressions by which a function's body ends, and those round them, by their identity."""
+    yield id(part)
+    several = {"if": lambda: part.parts[1:], "case": lambda: [body for _, _, body in part.parts[1]], "let": lambda: part.parts[-1:], "par": lambda: part.parts[-1:]}
+    for inner in several.get(part.form, tuple)():
+        yield from ends_of(inner)
+
+
 class Program:
     """Finds all that the names, counts and types of declarations break: `notes` has a note for each kind of fault and place, and `marks` the place of what is
     to blame where that is another one. What is `missing` is declared where nobody can read it, and counts as known."""
@@ -141,6 +149,7 @@ class Program:
         scope = {}
         for variable, kind in parameters:
             scope = self.bind(scope, variable, kind)
+        self.gives, self.results, self.ends = name.text, results, set(ends_of(body))
         self.all_wanted(results, self.infer_all(body, scope, len(results)), body, f"it is the result of {name.text}")
 
     def infer(self, part, scope):
@@ -242,8 +251,7 @@ class Program:
     def infer_if(self, part, scope, due, test, yes, no):
         self.wanted(kind_named("Bool"), self.infer(test, scope), test, "the test of an if")
         first = self.infer_all(yes, scope, due)
-        self.all_wanted(first, self.infer_all(no, scope, due), no, "both parts of an if have one type")
-        return first
+        return self.alike(part, (yes, first), (no, self.infer_all(no, scope, due)), "both parts of an if have one type")
 
     def infer_case(self, part, scope, due, name, arms):
         (kind,) = self.infer_var(part, scope, 1, name)
@@ -255,7 +263,7 @@ class Program:
         data = self.types.get(owner, Data([], []))
         if owner in self.types:
             self.arms(part.place, owner, data.made, [con for con, _, _ in arms])
-        known, found = dict(zip(data.variables, kind.given if kind else ())), None
+        known, found, first = dict(zip(data.variables, kind.given if kind else ())), None, None
         for con, names, body in arms:
             _, fields = self.constructors.get(con.text, (None, []))
             if con.text not in self.constructors:
@@ -265,9 +273,21 @@ class Program:
             kinds = [field.filled(known) for field in fields] if len(fields) == len(names) else []
             types_here = self.infer_all(body, self.bind_all(scope, names, kinds), due)
             if found:
-                self.all_wanted(found, types_here, body, "all arms of a case have one type")
-            found = found or types_here
+                found = self.alike(part, (first, found), (body, types_here), "all arms of a case have one type")
+            first, found = first or body, found or types_here
         return found
+
+    def alike(self, part, first, second, where):
+        """Two ways, with the types of what they give, which have to be the same: what they give then. Where both end the function and the second one gives
+        what is declared, the first one is to blame."""
+        (body, found), (other, types_here) = first, second
+        given, due = ([kind and kind.text for kind in kinds] for kinds in (found, self.results))
+        if id(part) not in self.ends or given == due or None in given or [kind and kind.text for kind in types_here] != due:
+            self.all_wanted(found, types_here, other, where)
+            return found
+        self.say("wrong type", other.place, f"{self.gives} gives {', '.join(due)}, as this does; what stands before it gives {', '.join(given)}: {where}")
+        self.marks.setdefault(("wrong type", other.place), body.place)
+        return self.results
 
     def arms(self, place, owner, due, heads):
         """What is wrong with the constructors of arms: some are missing, of another type, or there twice."""

@@ -229,3 +229,30 @@ def rule_note(source, rule, term):
     if rule == "8" and found.form == "reach by offset" and owner not in reader.offsets:
         return found.place, f"{owner} stores no offsets: offsets {' '.join([*reader.offsets, owner])} ; behind the types"
     return found.place, RULES.get(rule)
+
+
+# Words of LoCal texts that sources take for names.
+MORE_WORDS = "offsets letregion letloc reach by offset skip end give point start after".split()
+
+
+def unlocated_note(source):
+    """The first of what a source has and LoCal text has no form for."""
+    datas, functions = Parser(tokens_of(source)).program()
+    found = [(name, "has type variables, and a LoCal text no names for its copies") for name, variables, _ in datas if variables]
+    for name, variables, _, results, body in functions:
+        if variables:
+            found.append((name, "has type variables, and a LoCal text no names for its copies"))
+        if len(results) > 1:
+            found.append((name, f"gives {len(results)} parts, and a LoCal text has no form for parts"))
+        if name.text in MORE_WORDS:
+            found.append((name, "is a word of LoCal text: give the function another name"))
+        if has_parts(body):
+            found.append((name, "binds several parts, and a LoCal text has no form for parts"))
+    for name, note in found[:1]:
+        line = source.count("\n", 0, name.place) + 1
+        return f"line {line}: {name.text} {note}"
+    return None
+
+
+def has_parts(part):
+    return part.form == "tuple" or any(map(has_parts, part.inner()))
