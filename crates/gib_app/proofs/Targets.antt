@@ -8,12 +8,10 @@ use Rattle.clap.specs.Takes.{takes}
 use Rattle.gib_words.specs.declared.plan.Job.{Job}
 use Rattle.gib_words.specs.declared.plan.Job.TheVariants.{Run, Plain, Check, Core, Code, Pack, Show, Trace, Replay, Local}
 use Rattle.gib_words.specs.Words.{Target, NoTarget, AtPlace, ByOption, Form, command_set, file_of, made_requested, planned, requested, file_in, target_in, with_value, word_of, local_form, pack_form, replay_form, show_form, trace_form, asked, made_plan, options_of, pack_in, forms, read_requested}
-use Rattle.gib_words.proofs.Filling.{AllOf}
 use Rattle.gib_words.specs.declared.plan.Options.{Options}
 use Rattle.gib_words.specs.Plan.{Document, Plan}
 use Rattle.gib_app.specs.Rows.{ForFiles, ForJournal, Evaluates, PacksValue, FollowsJournal, row, Row as JobRow}
 use Rattle.gib_app.specs.Jobs.{packs_of}
-use Rattle.gib_words.proofs.Asking.{found_in}
 
 -- A job of this row makes a file where it ends with a text.
 abbrev pub MakesFile : JobRow → Options → Type 0
@@ -92,13 +90,26 @@ always_fits job second third target so makes rows r e =
     let is = plan_parts job second third target None rows r e in
     record { makes = λ name named. subst (λ (j : Job). MakesFile (row j) r.options) (sym is.0) (makes r.options); packs = packs_so job None so rows r is.0 is.1 is.3 }
 
-all_fit : AllOf FormFits forms
+-- That is so of each of these commands.
+abbrev AllFit : List Form → Type 0
+AllFit [] = ⊤
+AllFit (form ∷ rest) = FormFits form × AllFit rest
+
+fitting : (p : Form → Bool) (all : List Form) (form : Form) → AllFit all → find p all ≡ Some form → FormFits form
+fitting p [] form fit e = absurd (true≢false (sym (ap is_some e)))
+fitting p (first ∷ rest) form fit e = go (p first) refl e (fitting p rest form fit.1)
+  where
+    go : (b : Bool) → p first ≡ b → cond b (Some first) (find p rest) ≡ Some form → (find p rest ≡ Some form → FormFits form) → FormFits form
+    go true is found next = let same : first ≡ form = cc in subst FormFits same fit.0
+    go false is found next = next found
+
+all_fit : AllFit forms
 all_fit =
     let input : Option Text = Some (codes "input") in
     let none' : (rows : List Row) → ◌≡◌ {A = Bool} false false = λ rows. refl in
-    let last : AllOf FormFits (trace_form ∷ replay_form ∷ local_form ∷ []) =
+    let last : AllFit (trace_form ∷ replay_form ∷ local_form ∷ []) =
     (always_fits Trace input None (AtPlace (codes "journal")) none' (λ o. tt), (imaged_fits Replay input (Some (codes "journal")) None none' (λ o on. on), (without_target Local input none', tt))) in
-    let texts : AllOf FormFits (pack_form ∷ show_form ∷ trace_form ∷ replay_form ∷ local_form ∷ []) =
+    let texts : AllFit (pack_form ∷ show_form ∷ trace_form ∷ replay_form ∷ local_form ∷ []) =
     (always_fits Pack (Some (codes "text")) None (AtPlace (codes "target")) none' (λ o. tt), (without_target Show (Some (codes "file")) none', last)) in
     (imaged_fits Run input None (Some (codes "pack")) (λ rows. refl) (λ o on. on), (without_target Plain input none', (without_target Check None none', (without_target Core None none', (without_target Code None none', texts)))))
 
@@ -119,7 +130,7 @@ read_fits name rows r e = go (find (λ form. bytes_eq form.name name) forms) ref
   where
     go : (o : Option Form) → find (λ form. bytes_eq form.name name) forms ≡ o → option_and_then (λ (form : Form). planned form.job form.second form.third form.target form.pack rows) o ≡ Some r → Fits r
     go None found is = none_is_some r is
-    go (Some form) found is = (found_in FormFits (λ x. bytes_eq x.name name) forms form all_fit found).0 rows r is
+    go (Some form) found is = fitting (λ x. bytes_eq x.name name) forms form all_fit found rows r is
 
 requested_fits : (name : Text) (rows : List Row) (r : Plan) → requested name rows ≡ Some r → Fits r
 requested_fits name rows r e = go (bytes_eq (codes "gen") name) refl e

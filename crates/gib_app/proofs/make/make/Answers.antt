@@ -16,7 +16,7 @@ returns-in-Err-clause-stop g c =
     let r = plan_of c.args.plan in
     let before = g.S.Shelf.view c.args.shelf.now in
     let now' = g.S.Shelf.view c.take_source.new.shelf in
-    source_stop before now' r r.source refl c.in-Err.stop (stop_in before now' r r.source c.in-Err.stop c.dialect.result (sym c.dialect.ensures) c.in-Err.ensures.stop)
+    source_stop before now' r r.source refl c.in-Err.stop (stop_in before now' r r.source c.in-Err.stop c.dialect_of.result (sym c.dialect_of.ensures) c.in-Err.ensures.stop)
 
 pub returns-in-Err-clause-stopped : goal.returns-in-Err-clause-stopped
 returns-in-Err-clause-stopped g c =
@@ -27,16 +27,16 @@ returns-in-Err-clause-stopped g c =
 
 pub finish-requires-clause-stands : goal.finish-requires-clause-stands
 finish-requires-clause-stands g c κs within =
-    taken_stands (g.S.Shelf.view c.args.shelf.now) (plan_of c.args.plan) c.dialect.result (sym c.dialect.ensures) c.in-Ok.taken c.in-Ok.ensures.taken
+    taken_stands (g.S.Shelf.view c.args.shelf.now) (plan_of c.args.plan) c.dialect_of.result (sym c.dialect_of.ensures) c.in-Ok.taken c.in-Ok.ensures.taken
 
 pub returns-in-Ok-finish-clause-made : goal.returns-in-Ok-finish-clause-made
 returns-in-Ok-finish-clause-made g c =
-    all_done (g.S.Shelf.view c.args.shelf.now) (plan_of c.args.plan) c.dialect.result (sym c.dialect.ensures) c.in-Ok.taken c.in-Ok.ensures.taken
+    all_done (g.S.Shelf.view c.args.shelf.now) (plan_of c.args.plan) c.dialect_of.result (sym c.dialect_of.ensures) c.in-Ok.taken c.in-Ok.ensures.taken
     (g.S.Shelf.view c.take_source.new.shelf) c.in-Ok.ensures.read.same c.in-Ok-finish.finished c.in-Ok-finish.ensures.made
 
 pub returns-in-Ok-finish-clause-region : goal.returns-in-Ok-finish-clause-region
 returns-in-Ok-finish-clause-region g c =
-    all_comes (g.S.Shelf.view c.args.shelf.now) (plan_of c.args.plan) c.dialect.result (sym c.dialect.ensures) c.in-Ok.taken c.in-Ok.ensures.taken
+    all_comes (g.S.Shelf.view c.args.shelf.now) (plan_of c.args.plan) c.dialect_of.result (sym c.dialect_of.ensures) c.in-Ok.taken c.in-Ok.ensures.taken
     (g.S.Shelf.view c.take_source.new.shelf) c.in-Ok.ensures.read.same c.in-Ok-finish.finished c.in-Ok-finish.ensures.made
 
 pub returns-in-Ok-finish-clause-read : goal.returns-in-Ok-finish-clause-read
@@ -47,7 +47,7 @@ returns-in-Ok-finish-clause-read g c =
 
 pub returns-in-Err-finish-clause-stop : goal.returns-in-Err-finish-clause-stop
 returns-in-Err-finish-clause-stop g c =
-    all_stops (g.S.Shelf.view c.args.shelf.now) (plan_of c.args.plan) c.dialect.result (sym c.dialect.ensures) c.in-Ok.taken c.in-Ok.ensures.taken
+    all_stops (g.S.Shelf.view c.args.shelf.now) (plan_of c.args.plan) c.dialect_of.result (sym c.dialect_of.ensures) c.in-Ok.taken c.in-Ok.ensures.taken
     (g.S.Shelf.view c.take_source.new.shelf) (g.S.Shelf.view c.finish.new.shelf) c.in-Ok.ensures.read c.in-Err-finish.stop c.in-Err-finish.ensures.stop
 
 pub returns-in-Err-finish-clause-stopped : goal.returns-in-Err-finish-clause-stopped
