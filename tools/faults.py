@@ -46,8 +46,8 @@ ANY = 0
 def ends_of(part):
     """The expressions by which a function's body ends, and those round them, by their identity."""
     yield id(part)
-    several = {"if": lambda: part.parts[1:], "case": lambda: [body for _, _, body in part.parts[1]], "let": lambda: part.parts[-1:], "par": lambda: part.parts[-1:]}
-    for inner in several.get(part.form, tuple)():
+    several = {"if": part.inner()[1:], "case": part.inner(), "let": part.parts[-1:], "par": part.parts[-1:]}
+    for inner in several.get(part.form, []):
         yield from ends_of(inner)
 
 

@@ -97,7 +97,9 @@ deeper place inner = do
 
 -- | Refuses more of what stands side by side than one function of Gib takes.
 atMost :: H.Annotated ast => Int -> String -> [ast Info] -> Front ()
-atMost most things found = mapM_ (\one -> refuse (placeOf one) ("more than " ++ show most ++ " " ++ things ++ " up to here: make two functions of it")) (take 1 (drop most found))
+atMost most things found = mapM_ tooMany (take 1 (drop most found))
+  where
+    tooMany one = refuse (placeOf one) ("more than " ++ show most ++ " " ++ things ++ " up to here: make two functions of it")
 
 -- | A tuple of these parts, which are read.
 tupleOf :: H.Annotated ast => (Name -> [a] -> b) -> (ast Info -> Front a) -> [ast Info] -> Front b

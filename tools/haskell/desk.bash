@@ -75,7 +75,7 @@ retold() {
     # What is explained there is about the Gib text.
     first="${BASH_REMATCH[1]} at ${sources[0]}:$(origin_of "${BASH_REMATCH[2]}")"
     [[ $first != *"over a limit"* ]] || first+=": a function has at most 200 variables, with all names of its arms, and 2,000 expressions; make two of it"
-    [[ $first != *"nested too deep"* ]] || first+=": expressions stand in one another on at most 200 levels in the Gib text, and a list of literals takes two for each element; make two functions of it"
+    [[ $first != *"nested too deep"* ]] || first+=": in the Gib text expressions stand in one another on at most 200 levels, of which an element of a list takes two"
     echo "$first"
     return
   elif [[ $first = "gib: depth" || $first = "gib: division by zero" ]]; then
