@@ -1,2 +1,3 @@
 pub mod Held
 mod TextsHeld
+mod LongTexts

@@ -18,7 +18,7 @@ origin_held names c text lt is =
 
 copy_holds : (names : List (List ℕ)) (copies : List Copied) (text : List ℕ) → AreOfSource (length names) copies → (i : ℕ) → slice_get (map (short_of names) copies) i ≡ Some text → holds names text ≡ true
 copy_holds names [] text known i e = absurd cc
-copy_holds names (c ∷ copies) text known zero e = holds_at names text c.origin.0 (origin_held names c text known.0 (let f = e in cc))
+copy_holds names (c ∷ copies) text known zero e = holds_at names text c.origin.0 (origin_held names c text known.0.0 (let f = e in cc))
 copy_holds names (c ∷ copies) text known (suc i) e = copy_holds names copies text known.1 i e
 
 both_hold : (all names more : List (List ℕ)) (text : List ℕ) → ((i : ℕ) → slice_get more i ≡ Some text → holds all text ≡ true) → ((i : ℕ) → slice_get names i ≡ Some text → holds all text ≡ true)

@@ -15,7 +15,7 @@ pub use name::{Name, NameFault, Names};
 pub use reversed::Reversed;
 use std::alloc::AllocError;
 pub use text::{push_decimal, push_signed};
-pub use texts::{Copied, Texts};
+pub use texts::{Copied, TextPiece, Texts};
 
 /// Want of memory, the one answer that no contract ties to a cause.
 pub type Memory = AllocError;
