@@ -11,7 +11,7 @@ ghost use Rattle.gib_code.specs.ListingText.{name_text, number_text, slot_text, 
 
 use crate::code::Code;
 use crate::instruction::{Arm, Entry, Instr, Kind, Operand, Operation, Targets};
-use crate::names::{name_text, push_behind_space};
+use crate::names::{push_name, push_name_behind_space};
 use gib_base::{Memory, Name, Texts, push_decimal, push_signed};
 use gib_types::{ConId, TypeTable};
 use std::alloc::Global;
@@ -36,13 +36,13 @@ fn called(functions: &[Entry], function: u32) -> Option<Name>
     }
 }
 
-/// What a function is called.
-fn title(names: &Texts, name: Option<Name>) -> &[u8]
-    ensures { result.now ≡ title names.now.long name }
+/// Writes what a function is called.
+fn push_title(out: &mut Vec<u8>, names: &Texts, name: Option<Name>) -> Result<(), Memory>
+    ensures { OnOk result (out.new.items ≡ out.old.items ++ title names.now.long name) }
 {
     match name {
-        None => b"main",
-        Some(name) => name_text(names, name),
+        None => push_bytes(out, b"main"),
+        Some(name) => push_name(out, names, name),
     }
 }
 
@@ -170,7 +170,7 @@ fn push_constructor(
 ) -> Result<(), Memory>
     ensures { OnOk result (out.new.items ≡ out.old.items ++ constructor_text names.now.long types.now con) }
 {
-    push_behind_space(out, name_text(names, types.name_of(ConId(con))))
+    push_name_behind_space(out, names, types.name_of(ConId(con)))
 }
 
 fn push_function(
@@ -181,7 +181,8 @@ fn push_function(
 ) -> Result<(), Memory>
     ensures { OnOk result (out.new.items ≡ out.old.items ++ function_text names.now.long functions.now function) }
 {
-    push_behind_space(out, title(names, called(functions, function)))
+    out.push(b' ')?;
+    push_title(out, names, called(functions, function))
 }
 
 /// A word, a slot that is set, a slot that is read, and a number.
@@ -444,7 +445,7 @@ fn push_head(
 ) -> Result<(), Memory>
     ensures { OnOk result (out.new.items ≡ out.old.items ++ head_text names.now.long function.now) }
 {
-    push_bytes(out, title(names, function.name))?;
+    push_title(out, names, function.name)?;
     push_number(alloc, out, function.slots)?;
     out.push(b'\n')?;
     Ok(())
