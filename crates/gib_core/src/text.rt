@@ -8,7 +8,7 @@ ghost use Rattle.gib_core.specs.CoreText.{keyword_text, operator_text, indent, v
 use crate::atom::{Atom, Variable};
 use crate::piece::{Keyword, Piece};
 use gib_base::{Memory, Name, Texts, push_decimal, push_signed};
-use gib_code::names::{name_text, push_behind_space};
+use gib_code::names::{push_behind_space, push_name, push_name_behind_space};
 use gib_syntax::Operator;
 use gib_types::{Ty, TyId, TypeTable};
 use std::alloc::Global;
@@ -66,15 +66,16 @@ fn type_name(types: &TypeTable, ty: TyId) -> Name
     }
 }
 
-/// The text of a type.
-fn type_text<'a>(names: &'a Texts, types: &TypeTable, ty: Ty) -> &'a [u8]
-    ensures { result.now ≡ type_text names.now.long types.now ty }
+/// Writes a type.
+fn push_type(out: &mut Vec<u8>, names: &Texts, types: &TypeTable, ty: Ty) -> Result<(), Memory>
+    ensures { OnOk result (out.new.items ≡ out.old.items ++ type_text names.now.long types.now ty) }
 {
     match ty {
-        Ty::Whole => b"Int",
-        Ty::Truth => b"Bool",
-        Ty::Tree(id) => name_text(names, type_name(types, id)),
+        Ty::Whole => out.extend_from_slice(b"Int")?,
+        Ty::Truth => out.extend_from_slice(b"Bool")?,
+        Ty::Tree(id) => push_name(out, names, type_name(types, id))?,
     }
+    Ok(())
 }
 
 /// Writes the spaces of a level.
@@ -120,29 +121,28 @@ fn push_atom(alloc: Global, out: &mut Vec<u8>, atom: Atom) -> Result<(), Memory>
     }
 }
 
-/// Writes a parameter with its type.
-fn push_parameter(
-    alloc: Global,
-    out: &mut Vec<u8>,
-    variable: Variable,
-    ty: &[u8],
-) -> Result<(), Memory>
-    ensures { OnOk result (out.new.items ≡ out.old.items ++ 32 ∷ (variable_text variable ++ 58 ∷ ty.now)) }
+/// Writes a variable between a space and a colon.
+fn push_declared(alloc: Global, out: &mut Vec<u8>, variable: Variable) -> Result<(), Memory>
+    ensures { OnOk result (out.new.items ≡ out.old.items ++ 32 ∷ (variable_text variable ++ 58 ∷ [])) }
 {
     out.push(b' ')?;
     push_variable(alloc, out, variable)?;
     out.push(b':')?;
-    out.extend_from_slice(ty)?;
     Ok(())
 }
 
 /// Writes a type behind what stands before it.
-fn push_type(out: &mut Vec<u8>, before: &[u8], ty: &[u8]) -> Result<(), Memory>
-    ensures { OnOk result (out.new.items ≡ out.old.items ++ (before.now ++ ty.now)) }
+fn push_type_behind(
+    out: &mut Vec<u8>,
+    before: &[u8],
+    names: &Texts,
+    types: &TypeTable,
+    ty: Ty,
+) -> Result<(), Memory>
+    ensures { OnOk result (out.new.items ≡ out.old.items ++ (before.now ++ type_text names.now.long types.now ty)) }
 {
     out.extend_from_slice(before)?;
-    out.extend_from_slice(ty)?;
-    Ok(())
+    push_type(out, names, types, ty)
 }
 
 /// Writes a piece.
@@ -157,9 +157,12 @@ fn push_piece(
 {
     match piece {
         Piece::Line(level, keyword) => push_indented(out, level, keyword_text(keyword)),
-        Piece::Arm(level, con) => push_indented(out, level, name_text(names, types.name_of(con))),
-        Piece::Function(name) => push_behind_space(out, name_text(names, name)),
-        Piece::Constructor(con) => push_behind_space(out, name_text(names, types.name_of(con))),
+        Piece::Arm(level, con) => {
+            push_indent(out, level)?;
+            push_name(out, names, types.name_of(con))
+        }
+        Piece::Function(name) => push_name_behind_space(out, names, name),
+        Piece::Constructor(con) => push_name_behind_space(out, names, types.name_of(con)),
         Piece::Variable(variable) => {
             out.push(b' ')?;
             push_variable(alloc, out, variable)
@@ -169,11 +172,12 @@ fn push_piece(
             push_atom(alloc, out, atom)
         }
         Piece::Parameter(variable, ty) => {
-            push_parameter(alloc, out, variable, type_text(names, types, ty))
+            push_declared(alloc, out, variable)?;
+            push_type(out, names, types, ty)
         }
-        Piece::Result(ty) => push_type(out, b" : ", type_text(names, types, ty)),
-        Piece::FirstPart(ty) => push_type(out, b" : (", type_text(names, types, ty)),
-        Piece::FurtherPart(ty) => push_type(out, b", ", type_text(names, types, ty)),
+        Piece::Result(ty) => push_type_behind(out, b" : ", names, types, ty),
+        Piece::FirstPart(ty) => push_type_behind(out, b" : (", names, types, ty),
+        Piece::FurtherPart(ty) => push_type_behind(out, b", ", names, types, ty),
         Piece::PartsEnd => {
             out.extend_from_slice(b")")?;
             Ok(())
