@@ -27,8 +27,8 @@ pub record IsTypeName (text : List ℕ) : Type 0 where
   pub not_whole : text ≡ codes "Int" → ⊥
   pub not_truth : text ≡ codes "Bool" → ⊥
 
--- What holds of the table and the names of each checked program, and of those of its copy: types have names, each another one, and
--- so have constructors.
+-- What holds of the table and the names of each checked program, and of those of its copy: types have names, each another one;
+-- constructors have names.
 pub record AreNamed (table : Table) (names : List (List ℕ)) : Type 0 where
   pub declared : IsTable table
   pub types : (t : ℕ) → t < length table.types → IsTypeName (type_text table names t)
