@@ -29,7 +29,8 @@ use Rattle.gib_syntax.specs.Fine.{HasConstructor}
 use Rattle.gib_syntax.specs.GenericFine.{HasGenericConstructor}
 use Rattle.gib_syntax.specs.Typing.{IsTypedProgram}
 use Rattle.gib_check.proofs.RowRules.{table_is}
-use Rattle.gib_value.specs.Reading.{IsWord}
+use Rattle.gib_value.specs.Text.{con_text}
+use Rattle.gib_value.specs.Reading.{IsWord, AreWords}
 use Rattle.gib_file.specs.Describing.{type_text}
 use Rattle.gib_file.specs.Named.{IsName, IsTypeName, AreNamed}
 use Rattle.gib_file.proofs.Words.{word_is_name}
@@ -219,19 +220,34 @@ types_apart table names declared differ types t u lt lu e =
     let number = differ.differ (slice_index table.types t) (slice_index table.types u) (type_text table names t) a (b ∙ ap Some (sym e)) in
     declared.types_differ t u (slice_index table.types t) (slice_get-get_or table.types t 0 lt) (slice_get-get_or table.types u 0 lu ∙ ap Some (sym number))
 
+pub all_named : (text : List ℕ) (l : Lexed) (p : ProgramTree) → Spells text l (generic_of p) → AllByRecursion (HaveNames (IsWritable l.names)) p.datas
+all_named text l p spells =
+    let T : Token → Type 0 = IsWritable l.names in
+    let P : List Token → Type 0 = AllByRecursion T in
+    in_datas T p.datas (spell_functions (map generic_function p.functions) (spell_main (generic_main p.main) [])) (subst P spells.derived.spelled (all_writable text l spells.is_lexed))
+
+pub all_differ : (text : List ℕ) (l : Lexed) (p : ProgramTree) → Spells text l (generic_of p) → AreNames l.names
+all_differ text l p spells = lexed_names text l spells.is_lexed spells.few_names
+
+pub types_are_words : (text : List ℕ) (l : Lexed) (p : ProgramTree) → Spells text l (generic_of p) → (t : ℕ) → t < length (table_of_program p).types → IsWord (type_text (table_of_program p) l.names t)
+types_are_words text l p spells t lt =
+    held_so IsWord word_of l.names (slice_index (type_names p) t) (types_at (IsWritable l.names) p.datas (all_named text l p spells) t lt)
+
+pub constructors_are_words : (text : List ℕ) (l : Lexed) (p : ProgramTree) → Spells text l (generic_of p) → AreWords (table_of_program p) l.names
+constructors_are_words text l p spells k lt =
+    held_so IsWord word_of l.names (con_name_at (table_of_program p) k) (rows_at (IsWritable l.names) (type_names p) 0 p.datas (all_named text l p spells) k lt)
+
 pub named : (text : List ℕ) (l : Lexed) (p : ProgramTree) → Spells text l (generic_of p) → IsTypedProgram p → AreNamed (table_of_program p) l.names
 named text l p spells typed =
     let T : Token → Type 0 = IsWritable l.names in
-    let P : List Token → Type 0 = AllByRecursion T in
-    let spelled : AllByRecursion T (spell_program (generic_of p) []) = subst P spells.derived.spelled (all_writable text l spells.is_lexed) in
-    let names = in_datas T p.datas (spell_functions (map generic_function p.functions) (spell_main (generic_main p.main) [])) spelled in
+    let names = all_named text l p spells in
     let declared = table_is p (record { types_differ = typed.types_differ; constructors_differ = typed.constructors_differ; few = typed.few_constructors; fields = typed.fields }) (some_constructors p.datas spells.derived.fine.datas) in
     let types : (k : ℕ) → k < length (type_names p) → IsTypeName (type_text (table_of_program p) l.names k) = λ k lt. held_so IsTypeName type_name l.names (slice_index (type_names p) k) (types_at T p.datas names k lt) in
     record {
       declared = declared;
       types = types;
-      differ = types_apart (table_of_program p) l.names declared (lexed_names text l spells.is_lexed spells.few_names) types;
-      constructors = λ k lt. held_so IsName con_name l.names (con_name_at (table_of_program p) k) (rows_at T (type_names p) 0 p.datas names k lt);
+      differ = types_apart (table_of_program p) l.names declared (all_differ text l p spells) types;
+      constructors = λ k lt. word_is_name (con_text (table_of_program p) l.names k) (constructors_are_words text l p spells k lt);
     }
 
 pub input_below : (p : ProgramTree) → IsTypedProgram p → IsTyBelow (length (table_of_program p).types) (input_type p)

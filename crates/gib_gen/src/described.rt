@@ -1,6 +1,7 @@
 //! The laws of programs whose inputs have one description: functions whose contracts are the laws.
 
-ghost use Rattle.std.specs.Prelude.{◌↔◌, ℕ, List, length};
+ghost use Rattle.std.specs.Prelude.{◌↔◌, ◌<◌, ℕ, List, length};
+ghost use Rattle.gib_base.specs.Names.{AreNames};
 ghost use Rattle.gib_base.specs.Lexed.{Lexed};
 ghost use Rattle.gib_types.specs.Table.{IsTyBelow};
 ghost use Rattle.gib_types.specs.Tree.{Datum};
@@ -11,13 +12,17 @@ ghost use Rattle.gib_syntax.specs.Typing.{IsTypedProgram};
 ghost use Rattle.gib_syntax.specs.Declarations.{table_of_program, input_type, output_type};
 ghost use Rattle.gib_file.specs.Packed.{Packed};
 ghost use Rattle.gib_file.specs.Framed.{File2};
-ghost use Rattle.gib_file.specs.Describing.{Describes};
+ghost use Rattle.gib_value.specs.Reading.{IsWord, AreWords};
+ghost use Rattle.gib_file.specs.Describing.{Describes, type_text};
 ghost use Rattle.gib_file.specs.Named.{AreNamed};
 
 /// The table and the names of a program that is spelled and typed are as descriptions need them, and so are the types of its input
-/// and result.
+/// and result. Its names are different texts, and those of its types and constructors are words.
 pub fn programs_are_named()
     ensures names { (text : List ℕ) (l : Lexed) (p : ProgramTree) → Spells text l (generic_of p) → IsTypedProgram p → AreNamed (table_of_program p) l.names }
+    ensures texts { (text : List ℕ) (l : Lexed) (p : ProgramTree) → Spells text l (generic_of p) → AreNames l.names }
+    ensures types { (text : List ℕ) (l : Lexed) (p : ProgramTree) → Spells text l (generic_of p) → (t : ℕ) → t < length (table_of_program p).types → IsWord (type_text (table_of_program p) l.names t) }
+    ensures constructors { (text : List ℕ) (l : Lexed) (p : ProgramTree) → Spells text l (generic_of p) → AreWords (table_of_program p) l.names }
     ensures input { (p : ProgramTree) → IsTypedProgram p → IsTyBelow (length (table_of_program p).types) (input_type p) }
     ensures output { (p : ProgramTree) → IsTypedProgram p → IsTyBelow (length (table_of_program p).types) (output_type p) }
 {}
