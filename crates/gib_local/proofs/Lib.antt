@@ -1,3 +1,4 @@
+mod NoNames
 mod Holding
 mod Numbered
 mod Samples

@@ -1,6 +1,6 @@
 //! Tokens of LoCal text as bytes.
 
-ghost use Rattle.std.specs.Prelude.{◌≡◌, ◌++◌, None, Some, not, nat_lt, if◌then◌else◌, IfOk, OnOk};
+ghost use Rattle.std.specs.Prelude.{◌≡◌, ◌++◌, None, Some, [], not, nat_lt, slice_get, unwrap_or, if◌then◌else◌, IfOk, OnOk};
 ghost use Rattle.std.specs.Result.{IsErrOf};
 ghost use Rattle.std.specs.List.{list_all};
 ghost use Rattle.gib_base.specs.Piece.{is_name_byte};
@@ -146,17 +146,23 @@ fn is_name(upper: bool, text: &[u8]) -> bool
     }
 }
 
+/// Whether the text of a name is a name; one with types in brackets is none.
+fn is_word_name(names: &Texts, upper: bool, name: Name) -> bool
+    ensures { result ≡ is_name upper (unwrap_or (slice_get names.now.long name.0) []) }
+{
+    match names.without_types(name) {
+        Some(text) => is_name(upper, text),
+        None => false,
+    }
+}
+
 /// Whether the text of a token's name is a name.
 fn is_named(names: &Texts, token: Token) -> bool
     ensures { result ≡ is_named names.now.long token }
 {
     match token {
-        Token::Variable(name) => {
-            name.0 >= FIRST_GIVEN || is_name(false, names.long_or_none(name))
-        }
-        Token::Constructor(name) => {
-            name.0 < FIRST_GIVEN && is_name(true, names.long_or_none(name))
-        }
+        Token::Variable(name) => { name.0 >= FIRST_GIVEN || is_word_name(names, false, name) }
+        Token::Constructor(name) => { name.0 < FIRST_GIVEN && is_word_name(names, true, name) }
         Token::Number(_) => true,
         Token::Sign(_) => true,
     }
@@ -182,8 +188,7 @@ fn push_variable(alloc: Global, out: &mut Vec<u8>, names: &Texts, name: Name) ->
     if name.0 >= FIRST_GIVEN {
         return push_given(alloc, out, name.0 - FIRST_GIVEN);
     }
-    out.extend_from_slice(names.long_or_none(name))?;
-    Ok(())
+    names.push_long(out, name)
 }
 
 /// Writes a token.
@@ -192,10 +197,7 @@ fn push_token(alloc: Global, out: &mut Vec<u8>, names: &Texts, token: Token) -> 
 {
     match token {
         Token::Variable(name) => push_variable(alloc, out, names, name),
-        Token::Constructor(name) => {
-            out.extend_from_slice(names.long_or_none(name))?;
-            Ok(())
-        }
+        Token::Constructor(name) => names.push_long(out, name),
         Token::Number(value) => push_decimal(alloc, out, value),
         Token::Sign(sign) => {
             out.extend_from_slice(sign_text(sign))?;
