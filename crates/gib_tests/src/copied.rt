@@ -15,7 +15,8 @@ fn put(out: &mut Vec<u8>, word: &[u8]) -> Result<(), AllocError> {
 
 /// A name, with its types.
 fn put_name(out: &mut Vec<u8>, texts: &Texts, name: Name) -> Result<(), AllocError> {
-    put(out, texts.long_or_none(name))
+    out.push(b' ')?;
+    texts.push_long(out, name)
 }
 
 /// A type.
