@@ -6,6 +6,7 @@ pub mod Examples
 pub mod Laws
 pub mod Naming
 pub mod Showing
+pub mod Pieces
 pub mod Found
 pub mod Reading
 pub mod Contexts

@@ -2,39 +2,38 @@
 
 ghost use Rattle.std.specs.Prelude.{◌≡◌, ◌<◌, ◌≤◌, ◌++◌, length, map, IfOk, OnOk};
 ghost use Rattle.gib_base.specs.Texts.{short_of, long_of, AreOfSource};
+ghost use Rattle.gib_types.specs.Form.{DataForm};
 ghost use Rattle.gib_types.specs.Types.{forms_of, form_at, forms_at, AreBelow};
 ghost use Rattle.gib_mono.specs.Entries.{item_of, items_of, AreEntriesBelow};
-ghost use Rattle.gib_mono.specs.Showing.{source_text, form_text, long_text, further_text, short_texts, long_texts, short_name, long_name};
+ghost use Rattle.gib_mono.specs.Pieces.{form_pieces, types_pieces, further_pieces};
+ghost use Rattle.gib_mono.specs.Showing.{short_texts, long_texts, short_name, long_name};
 ghost use Rattle.gib_mono.specs.Naming.{AreItemsBelow};
 
 use crate::copy_names::CopyNames;
 use crate::entries::Entry;
-use gib_base::{Copied, Memory, Name, Names, Texts};
+use gib_base::{Copied, Memory, Name, Names, TextPiece, Texts};
 use gib_types::types::{TypeId, TypeNode, Types};
 use std::alloc::Global;
 
 /// Writes a type, with those in it in brackets.
 #[cycle(types)]
-fn push_form(out: &mut Vec<u8>, names: &Names, types: &Types, id: TypeId) -> Result<(), Memory>
+fn push_form(out: &mut Vec<TextPiece>, types: &Types, id: TypeId) -> Result<(), Memory>
     requires { id.0 < length types.now }
-    ensures { OnOk result (out.new.items ≡ out.old.items ++ form_text names.now (form_at (forms_of types.now) id.0)) }
+    ensures { OnOk result (out.new.items ≡ out.old.items ++ form_pieces (form_at (forms_of types.now) id.0)) }
 {
     match types.node(id) {
-        TypeNode::Whole => out.extend_from_slice(b"Int")?,
-        TypeNode::Truth => out.extend_from_slice(b"Bool")?,
+        TypeNode::Whole => out.push(TextPiece::Whole)?,
+        TypeNode::Truth => out.push(TextPiece::Truth)?,
         TypeNode::Variable(_) => {}
-        TypeNode::Data(name, arguments) => {
-            push_applied(out, names, types, id.0 as usize, *name, arguments)?
-        }
+        TypeNode::Data(name, arguments) => push_data(out, types, id.0 as usize, *name, arguments)?,
     }
     Ok(())
 }
 
-/// Writes a name with types, whose numbers are below a number.
+/// Writes a declared type with its arguments, whose numbers are below a number.
 #[cycle(types)]
-fn push_applied(
-    out: &mut Vec<u8>,
-    names: &Names,
+fn push_data(
+    out: &mut Vec<TextPiece>,
     types: &Types,
     below: usize,
     name: u32,
@@ -42,15 +41,30 @@ fn push_applied(
 ) -> Result<(), Memory>
     requires inside { below ≤ length types.now }
     requires below { AreBelow below arguments.now }
-    ensures { OnOk result (out.new.items ≡ out.old.items ++ long_text names.now name (forms_at (forms_of types.now) arguments.now)) }
+    ensures { OnOk result (out.new.items ≡ out.old.items ++ form_pieces (DataForm name (forms_at (forms_of types.now) arguments.now))) }
 {
-    out.extend_from_slice(names.text_or_none(Name(name)))?;
+    out.push(TextPiece::Word(Name(name)))?;
+    push_types(out, types, below, arguments)
+}
+
+/// Writes types, whose numbers are below a number, in brackets, where there are some.
+#[cycle(types)]
+fn push_types(
+    out: &mut Vec<TextPiece>,
+    types: &Types,
+    below: usize,
+    arguments: &[TypeId],
+) -> Result<(), Memory>
+    requires inside { below ≤ length types.now }
+    requires below { AreBelow below arguments.now }
+    ensures { OnOk result (out.new.items ≡ out.old.items ++ types_pieces (forms_at (forms_of types.now) arguments.now)) }
+{
     match arguments {
         [] => Ok(()),
         [first, rest @ ..] => {
-            out.push(b'[')?;
-            push_form(out, names, types, *first)?;
-            push_further(out, names, types, below, rest)
+            out.push(TextPiece::Open)?;
+            push_form(out, types, *first)?;
+            push_further(out, types, below, rest)
         }
     }
 }
@@ -58,44 +72,36 @@ fn push_applied(
 /// Writes types behind the first one, each behind a space, and the closing bracket.
 #[cycle(types)]
 fn push_further(
-    out: &mut Vec<u8>,
-    names: &Names,
+    out: &mut Vec<TextPiece>,
     types: &Types,
     below: usize,
     arguments: &[TypeId],
 ) -> Result<(), Memory>
     requires inside { below ≤ length types.now }
     requires below { AreBelow below arguments.now }
-    ensures { OnOk result (out.new.items ≡ out.old.items ++ further_text names.now (forms_at (forms_of types.now) arguments.now)) }
+    ensures { OnOk result (out.new.items ≡ out.old.items ++ further_pieces (forms_at (forms_of types.now) arguments.now)) }
 {
     let mut rest = arguments;
     'arguments: while let [argument, after @ ..] = rest {
-        out.push(b' ')?;
-        push_form(out, names, types, *argument)?;
+        out.push(TextPiece::Space)?;
+        push_form(out, types, *argument)?;
         rest = after;
     }
-    out.push(b']')?;
+    out.push(TextPiece::Close)?;
     Ok(())
 }
 
 /// What a name with types is called.
-fn called(alloc: Global, names: &Names, types: &Types, entry: &Entry) -> Result<Copied, Memory>
+fn called(alloc: Global, types: &Types, entry: &Entry) -> Result<Copied, Memory>
     requires { AreBelow (length types.now) entry.now.types.items }
     ensures origin { IfOk result (λ c. c.origin.0 ≡ entry.now.name) }
-    ensures long { IfOk result (λ c. c.long.items ≡ long_name names.now (item_of (forms_of types.now) entry.now)) }
+    ensures types { IfOk result (λ c. c.types.items ≡ types_pieces (forms_at (forms_of types.now) entry.now.types.items)) }
 {
-    let mut long = Vec::new(alloc);
-    push_applied(
-        &mut long,
-        names,
-        types,
-        types.len(),
-        entry.name,
-        &entry.types,
-    )?;
+    let mut pieces = Vec::new(alloc);
+    push_types(&mut pieces, types, types.len(), &entry.types)?;
     Ok(Copied {
         origin: Name(entry.name),
-        long,
+        types: pieces,
     })
 }
 
@@ -109,13 +115,13 @@ fn list(
     requires below { AreEntriesBelow (length types.now) entries.now }
     requires held { AreItemsBelow (length names.now) (map (item_of (forms_of types.now)) entries.now) }
     ensures short { IfOk result (λ list. map (short_of names.now) list.items ≡ map (short_name names.now) (map (item_of (forms_of types.now)) entries.now)) }
-    ensures long { IfOk result (λ list. map long_of list.items ≡ map (long_name names.now) (map (item_of (forms_of types.now)) entries.now)) }
+    ensures long { IfOk result (λ list. map (long_of names.now) list.items ≡ map (long_name names.now) (map (item_of (forms_of types.now)) entries.now)) }
     ensures source { IfOk result (λ list. AreOfSource (length names.now) list.items) }
 {
     let mut list = Vec::new(alloc);
     let mut rest = entries;
     'entries: while let [entry, after @ ..] = rest {
-        let copied = called(alloc, names, types, entry)?;
+        let copied = called(alloc, types, entry)?;
         list.push(copied)?;
         rest = after;
     }
