@@ -20,7 +20,7 @@ use Rattle.gib_access.specs.Made.{Way, Walked, ReachesTerm, ReachesBranch, Reach
 use Rattle.gib_core.specs.declared.atom.Ended.{Ended}
 use Rattle.gib_core.proofs.Fronting.{grows_more, branches_below_more}
 use Rattle.gib_access.proofs.Walking.{or-none, marks_then, walked_then}
-use Rattle.gib_core.proofs.Layers.{branches_same_below}
+use Rattle.gib_core.specs.ArenaLaws.{branches_same_below}
 
 any-same : (t : Term) (xs : List Variable) → list_any (uses t) xs ≡ uses_any t xs
 any-same t [] = refl

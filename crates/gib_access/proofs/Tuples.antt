@@ -8,7 +8,7 @@ use Rattle.gib_core.specs.Reaching.{uses, parts_use, offsets_in, part_offsets}
 use Rattle.gib_access.specs.declared.work.Work.{Work}
 use Rattle.gib_access.specs.Made.{Way, ReachesTerm, ReachesParts}
 use Rattle.gib_core.proofs.Fronting.{parts_below_more}
-use Rattle.gib_core.proofs.Layers.{parts_same_below}
+use Rattle.gib_core.specs.ArenaLaws.{parts_same_below}
 use Rattle.gib_access.proofs.Walking.{walked_then}
 use Rattle.gib_access.proofs.Arms.{reverse-push}
 

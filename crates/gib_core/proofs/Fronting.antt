@@ -8,7 +8,8 @@ use Rattle.gib_core.specs.declared.node.Node.TheVariants as n
 use Rattle.gib_core.specs.declared.node.Binding.{Binding}
 use Rattle.gib_core.specs.declared.node.Branch.{Branch}
 use Rattle.gib_core.specs.Arena.{Grows, Makes, IsBindingBelow, IsBranchBelow, IsPartBelow, bind_from, binds_from, parts_from, branches_from, layer, term_of}
-use Rattle.gib_core.proofs.Layers.{binds_same_below, parts_same_below, branches_same_below}
+use Rattle.gib_core.specs.ArenaLaws.{parts_same_below, branches_same_below}
+use Rattle.gib_core.proofs.Layers.{binds_same_below}
 use Rattle.gib_core.proofs.Lining.{binding_below_more}
 
 -- Some of the bindings stand in front already.

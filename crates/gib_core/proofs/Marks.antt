@@ -1,9 +1,8 @@
 -- Marking the pars of terms, one after another.
 use Rattle.std.proofs.Common.{◌≡◌, ℕ, zero, suc, ◌+◌, ◌<◌, ◌≤◌, Bool, true, false, ◌||◌, ◌&&◌, List, [], ◌∷◌, length, get_or, Some, refl, sym, ap, ◌∙◌, subst, arith, ⊎_elim}
-use Rattle.std.specs.Prelude.{slice_get, slice_set, ◌==◌}
+use Rattle.std.specs.Prelude.{slice_get, slice_set}
 use Rattle.std.specs.List.{AllByRecursion}
 use Rattle.std.proofs.str.Laws.{order}
-use Rattle.std.proofs.lemmas.Bool.{eqb-true, eqb-false}
 use Rattle.std.proofs.lemmas.Option.{same_Some, slice_get-get_or}
 use Rattle.std.proofs.lemmas.List.{length-set}
 use Rattle.gib_core.specs.declared.node.Binding.{Binding}
@@ -15,12 +14,13 @@ use Rattle.gib_core.specs.PartTypes.{types_in}
 use Rattle.gib_core.specs.declared.node.Node.{Node}
 use Rattle.gib_core.specs.declared.node.Node.TheVariants as n
 use Rattle.gib_core.specs.Tree.{Term, Then, CaseTerm, IfTerm, Tuple, PartThen, One, Both, On, Several, BranchThen, variables_from}
-use Rattle.gib_core.specs.Arena.{IsBindingBelow, IsBranchBelow, IsPartBelow, PartsBelow, IsArena, Opens, term_in, side_from, bind_from, parts_from, branches_from, layer, term_at, term_of}
+use Rattle.gib_core.specs.Arena.{IsBindingBelow, IsBranchBelow, IsPartBelow, PartsBelow, IsArena, Opens, term_in, side_from, bind_from, parts_from, branches_from, layer, term_of}
 use Rattle.gib_core.specs.Marking.{has_call, side_has_call, bind_has_call, may_fork, mark_one, mark, with_fork, node_with_fork, IsSet}
 use Rattle.gib_core.specs.Walk.{map_bind, map_side, map_parts, map_branches, as_it_is}
 use Rattle.gib_core.specs.declared.node.TermId.{TermId}
-use Rattle.gib_core.proofs.Facts.{Test, holds, fails, test}
-use Rattle.gib_core.proofs.Layers.{layer_same_if, term_of-node}
+use Rattle.gib_nodes.proofs.Layers.{get_set, get_unset}
+use Rattle.gib_core.specs.ArenaLaws.{layer_same_if}
+use Rattle.gib_core.proofs.Layers.{term_of-node, same_terms}
 
 -- A line, up to a binding: so far none contains a call.
 pub record CallSoFar (terms : List Node) (id last : ℕ) (node : Node) : Type 0 where
@@ -33,17 +33,6 @@ pub call_here : (terms : List Node) (id last : ℕ) (binding : Binding) (rest : 
     → bind_has_call (bind_from (term_of terms) binding) ≡ true → true ≡ has_call (term_of terms id)
 call_here terms id last binding rest node h is yes' =
     sym (h.same ∙ ap has_call (h.opens.0 ∙ is (term_of terms)) ∙ ap (λ a. a || has_call (term_of terms rest)) yes')
-
--- Nodes that are the same below a number have the same terms there.
-same_below : (ns ms : List Node) (k : ℕ) → IsArena ns → ((id : ℕ) → id < k → slice_get ms id ≡ slice_get ns id) → (l id : ℕ) → id < k → term_at l ms id ≡ term_at l ns id
-unfolding term_at
-same_below ns ms k arena e zero id lt = refl
-same_below ns ms k arena e (suc l) id lt =
-    ap (layer (term_at l ms)) (e id lt) ∙ layer_same_if (term_at l ms) (term_at l ns) id (slice_get ns id) (arena.below id) (λ a less. same_below ns ms k arena e l a (omega arith))
-
-same_terms : (ns ms : List Node) (k : ℕ) → IsArena ns → ((id : ℕ) → id < k → slice_get ms id ≡ slice_get ns id) → (id : ℕ) → id < k → term_of ms id ≡ term_of ns id
-unfolding term_of
-same_terms ns ms k arena e id lt = same_below ns ms k arena e (suc id) id lt
 
 -- A node's layer over marked parts, with its mark set.
 
@@ -133,18 +122,6 @@ marked_next old now new place next fork h lt set m e =
 
 -- The mark of a node is set.
 
-get_there : (ns : List Node) (place : ℕ) (x : Node) → place < length ns → slice_get (slice_set ns place x) place ≡ Some x
-get_there [] place x lt = absurd (omega arith)
-get_there (y ∷ ns) zero x lt = refl
-get_there (y ∷ ns) (suc place) x lt = get_there ns place x (omega arith)
-
-get_elsewhere : (ns : List Node) (place id : ℕ) (x : Node) → (id ≡ place → ⊥) → slice_get (slice_set ns place x) id ≡ slice_get ns id
-get_elsewhere [] place id x ne = refl
-get_elsewhere (y ∷ ns) zero zero x ne = absurd (ne refl)
-get_elsewhere (y ∷ ns) zero (suc id) x ne = refl
-get_elsewhere (y ∷ ns) (suc place) zero x ne = refl
-get_elsewhere (y ∷ ns) (suc place) (suc id) x ne = get_elsewhere ns place id x (λ e. ne (ap suc e))
-
 fork_below : (x : Binding) (id : ℕ) (fork : Bool) → IsBindingBelow id x → IsBindingBelow id (with_fork fork x)
 fork_below (b.Past h k) id fork h' = h'
 fork_below (b.One s) id fork h' = h'
@@ -152,30 +129,21 @@ fork_below (b.Par old l r) id fork h' = h'
 fork_below (b.Prim x f y z) id fork h' = h'
 fork_below (b.Reach y by) id fork h' = h'
 
-set_part : (ns : List Node) (place : ℕ) (x : Node) → IsArena ns → place < length ns → PartsBelow x place → (id : ℕ) (y : Node) → slice_get (slice_set ns place x) id ≡ Some y → Test (id == place) → PartsBelow y id
-set_part ns place x arena lt below id y e (fails ne) = arena.below id y (sym (get_elsewhere ns place id x (eqb-false id place ne)) ∙ e)
-set_part ns place x arena lt below id y e (holds eq) =
-    let same = eqb-true id place eq in
-    let which : x ≡ y = same_Some x y (sym (get_there ns place x lt) ∙ ap (slice_get (slice_set ns place x)) (sym same) ∙ e) in
-    subst (λ (z : Node). PartsBelow z id) which (subst (PartsBelow x) (sym same) below)
+-- A node with another mark has the same parts.
+pub fork_parts : (node : Node) (place : ℕ) (binding made : Binding) (rest : TermId) (fork : Bool) → PartsBelow node place → node ≡ n.Then binding rest → made ≡ with_fork fork binding → PartsBelow (n.Then made rest) place
+fork_parts node place binding made rest fork below is e =
+    let parts = subst (λ (z : Node). PartsBelow z place) is below in
+    (subst (IsBindingBelow place) (sym e) (fork_below binding place fork parts.0), parts.1)
 
-pub set_arena : (ns : List Node) (place : ℕ) (binding made : Binding) (rest : TermId) (fork : Bool) (d : Node) → IsArena ns → place < length ns → get_or ns place d ≡ n.Then binding rest → made ≡ with_fork fork binding
-    → IsArena (slice_set ns place (n.Then made rest))
-set_arena ns place binding made rest fork d arena lt is e =
-    let below = arena.below place (n.Then binding rest) (slice_get-get_or ns place d lt ∙ ap Some is) in
-    let parts : PartsBelow (n.Then made rest) place = (subst (IsBindingBelow place) (sym e) (fork_below binding place fork below.0), below.1) in
-    record { below = λ id y f. set_part ns place (n.Then made rest) arena lt parts id y f (test (id == place)) }
-
-pub set_view : (ns vs : List Node) (place : ℕ) (binding made : Binding) (rest : TermId) (fork : Bool) (d : Node) → ns ≡ vs → IsArena ns → place < length vs → get_or ns place d ≡ n.Then binding rest → made ≡ with_fork fork binding
-    → IsSet vs (slice_set ns place (n.Then made rest)) place fork
-set_view ns vs place binding made rest fork d e arena lt is m =
+pub set_view : (ns vs new : List Node) (place : ℕ) (binding made : Binding) (rest : TermId) (fork : Bool) → ns ≡ vs → place < length vs → slice_get ns place ≡ Some (n.Then binding rest) → made ≡ with_fork fork binding
+    → new ≡ slice_set ns place (n.Then made rest) → IsArena new → IsSet vs new place fork
+set_view ns vs new place binding made rest fork e lt found m is all =
     let inside : place < length ns = subst (λ (l : List Node). place < length l) (sym e) lt in
-    let new = slice_set ns place (n.Then made rest) in
-    let found = slice_get-get_or ns place d inside ∙ ap Some is in
+    let node = n.Then made rest in
     let P : List Node → Type 0 = λ l. IsSet l new place fork in
     subst P e (record {
-      node = λ x f. get_there ns place (n.Then made rest) inside ∙ ap (λ (w : Binding). Some (n.Then w rest)) m ∙ ap (λ (z : Node). Some (node_with_fork fork z)) (same_Some (n.Then binding rest) x (sym found ∙ f));
-      others = λ id ne. get_elsewhere ns place id (n.Then made rest) ne;
-      long = length-set ns place (n.Then made rest);
-      arena = set_arena ns place binding made rest fork d arena inside is m;
+      node = λ x f. ap (λ (l : List Node). slice_get l place) is ∙ get_set ns place node inside ∙ ap (λ (w : Binding). Some (n.Then w rest)) m ∙ ap (λ (z : Node). Some (node_with_fork fork z)) (same_Some (n.Then binding rest) x (sym found ∙ f));
+      others = λ id ne. ap (λ (l : List Node). slice_get l id) is ∙ get_unset ns place id node ne;
+      long = ap length is ∙ length-set ns place node;
+      arena = all;
     })

@@ -1,6 +1,7 @@
 -- Nodes that name each other by their numbers, seen as terms.
-use Rattle.std.specs.Prelude.{◌≡◌, ℕ, zero, suc, pos, ◌+◌, ◌<◌, ◌≤◌, List, [], ◌∷◌, length, map, Option, Some, None, slice_get}
+use Rattle.std.specs.Prelude.{◌≡◌, ℕ, pos, ◌+◌, ◌<◌, ◌≤◌, List, [], ◌∷◌, length, map, Option, Some, None}
 use Rattle.std.specs.List.{AllByRecursion}
+use Rattle.gib_nodes.specs.Nodes as arena
 use Rattle.gib_core.specs.declared.atom.Atom.TheVariants as a
 use Rattle.gib_core.specs.declared.node.BoundSide.{BoundSide}
 use Rattle.gib_core.specs.declared.node.BoundSide.TheVariants as s
@@ -46,8 +47,8 @@ PartsBelow (n.If x t u) id = (t.0 < id) × (u.0 < id)
 PartsBelow (n.Tuple tys ss ps) id = AllByRecursion (IsPartBelow id) ps.items
 
 -- Each node stands behind its parts.
-pub record IsArena (nodes : List Node) : Type 0 where
-  pub below : (id : ℕ) (node : Node) → slice_get nodes id ≡ Some node → PartsBelow node id
+abbrev pub IsArena : List Node → Type 0
+IsArena nodes = arena.IsArena PartsBelow nodes
 
 -- A side, where numbers have these terms.
 abbrev pub side_from : (ℕ → Term) → BoundSide → Side
@@ -92,14 +93,9 @@ layer f (Some (n.Case x branches)) = CaseTerm x (branches_from f branches.items)
 layer f (Some (n.If x t u)) = IfTerm x (f t.0) (f u.0)
 layer f (Some (n.Tuple tys ss ps)) = Tuple (types_in tys) ss.items (parts_from f ps.items)
 
--- The term of the node of a number, cut after so many levels: below them stands the term of no node.
-unfoldable pub term_at : ℕ → List Node → ℕ → Term
-term_at zero nodes id = nothing
-term_at (suc k) nodes id = layer (term_at k nodes) (slice_get nodes id)
-
 -- The term of the node of a number.
 unfoldable pub term_of : List Node → ℕ → Term
-term_of nodes id = term_at (suc id) nodes id
+term_of nodes id = arena.tree_of nothing layer nodes id
 
 -- What a node tells of the term of its number: its layer over the terms of its parts, which have
 -- smaller numbers.

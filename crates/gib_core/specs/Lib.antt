@@ -3,6 +3,7 @@ pub mod ByVariable
 pub mod Noted
 pub mod PartTypes
 pub mod Arena
+pub mod ArenaLaws
 pub mod Parts
 pub mod Meaning
 pub mod Erasing

@@ -6,9 +6,10 @@ ghost use Rattle.gib_core.specs.Marking.{with_fork};
 use crate::atom::{Access, Atom, Kind, Variable};
 use crate::part_types::PartTypes;
 use gib_base::{Memory, Name};
+use gib_nodes::{Arena, Layered};
 use gib_syntax::Operator;
 use gib_types::{ConId, Ty};
-use std::alloc::{AllocError, Global};
+use std::alloc::Global;
 use std::marker::Model;
 
 /// The number of a term.
@@ -140,22 +141,35 @@ fn with_fork(binding: Binding, fork: bool) -> Binding
     }
 }
 
+impl Layered for Node {
+    ghost use Rattle.gib_core.specs.Tree.{Term};
+    ghost use Rattle.gib_core.specs.Arena.{nothing, layer, PartsBelow};
+    ghost use Rattle.gib_core.specs.ArenaLaws.{layer_same_if};
+
+    ghost Tree = { Term };
+
+    ghost nothing = { nothing };
+
+    ghost layer = { layer };
+
+    ghost below = { PartsBelow };
+
+    ghost parts = { layer_same_if };
+}
+
 /// Terms, each behind its parts.
 #[derive(Drop)]
 pub struct Terms {
-    nodes: Vec<Node>,
+    nodes: Arena<Node>,
 }
 
 impl Model for Terms {
     ghost use Rattle.std.specs.Prelude.{List};
     ghost use Rattle.gib_core.specs.declared.node.Node.{Node as Item};
-    ghost use Rattle.gib_core.specs.Arena.{IsArena};
 
     ghost Value = { List Item };
 
-    ghost view = { λ t. t.nodes.items };
-
-    ghost invariant = { λ t. IsArena t.nodes.items };
+    ghost view = { λ t. t.nodes };
 }
 
 impl Terms {
@@ -170,7 +184,7 @@ impl Terms {
         ensures { result ≡ [] }
     {
         Terms {
-            nodes: Vec::new(alloc),
+            nodes: Arena::new(alloc),
         }
     }
 
@@ -194,14 +208,14 @@ impl Terms {
         requires { place < length self.now }
         ensures { Opens self.now place result.now }
     {
-        &self.nodes[place]
+        self.nodes.node(place)
     }
 
     /// The rule that terms keep.
     pub(crate) fn rules(&self)
         ensures { IsArena self.now }
     {
-        let _nodes = &self.nodes;
+        self.nodes.rules();
     }
 
     /// Sets the mark of the par at a place; any other node stays.
@@ -209,10 +223,12 @@ impl Terms {
         requires { number < length self.old }
         ensures { IsSet self.old self.new number fork }
     {
-        let Node::Then(binding, rest) = &self.nodes[number] else {
+        self.nodes.rules();
+        let Node::Then(binding, rest) = self.nodes.node(number) else {
             return;
         };
-        self.nodes[number] = Node::Then(with_fork(*binding, fork), *rest);
+        let node = Node::Then(with_fork(*binding, fork), *rest);
+        self.nodes.set(number, node);
     }
 
     /// The bindings of the line that begins at a number, in their order, and the number of its end.
@@ -245,10 +261,7 @@ impl Terms {
         ensures made { IfOk result (λ id. Makes self.old self.new id.0 node) }
         ensures same { OnErr result (self.new ≡ self.old) }
     {
-        let Ok(number) = u32::try_from(self.nodes.len()) else {
-            return Err(AllocError);
-        };
-        self.nodes.push(node)?;
+        let number = self.nodes.put(node)?;
         Ok(TermId(number))
     }
 

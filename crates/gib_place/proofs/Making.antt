@@ -29,7 +29,7 @@ use Rattle.gib_place.specs.Filled.{field_of, IsOtherEnd, LaysLine, filling_from,
 use Rattle.gib_place.specs.Made.{MakesTerm, MakesBinding, MakesBindings, MakesSide, MakesEnd, MakesParts, MakesBranch, MakesBranches}
 use Rattle.gib_place.proofs.Found.{with_field, ending_then}
 use Rattle.gib_core.proofs.Fronting.{below_more, parts_below_more, branches_below_more, binds_same, parts_same, branches_same, grows_more, grows_none}
-use Rattle.gib_core.proofs.Layers.{side_same}
+use Rattle.gib_core.specs.ArenaLaws.{side_same}
 use Rattle.gib_core.proofs.Lining.{below_push}
 
 -- What holds of what was made, in each case.

@@ -4,13 +4,12 @@ use Rattle.std.specs.Prelude.{slice_get, MatchOption}
 use Rattle.std.proofs.lemmas.Bool.{eq-eqb}
 use Rattle.std.proofs.lemmas.Bool.Decides.{eqb_tells}
 use Rattle.std.proofs.lemmas.List.{take_more, drop-append-le, length-take-le}
-use Rattle.std.proofs.lemmas.Option.{slice_get_past}
 use Rattle.gib_types.specs.declared.table.Ty.{Ty}
 use Rattle.gib_types.specs.Tree.{Datum}
 use Rattle.gib_syntax.specs.declared.exprs.ExprId.{ExprId}
 use Rattle.gib_syntax.specs.declared.exprs.Node.{Node}
 use Rattle.gib_syntax.specs.Tree.{Expression}
-use Rattle.gib_syntax.specs.Arena.{arguments_from, layer, tree_of, tree_at, nothing}
+use Rattle.gib_syntax.specs.Arena.{arguments_from, layer, tree_of}
 use Rattle.gib_syntax.specs.Meaning.{Environment, value_in}
 use Rattle.gib_value.specs.Heap.{value_of}
 use Rattle.gib_plain.specs.declared.stack.Binding.{Binding}
@@ -53,10 +52,6 @@ found_turn f ts is k r e =
     let same : in_turn ts (expressions_of (arguments_from f is)) ≡ map g (in_turn ts is) = ap (in_turn ts) (args_map f is) ∙ sym (map_turn g ts is) in
     subst (λ es. MatchOption r (drop k es ≡ []) (λ (i : ExprId). drop k es ≡ f i.0 ∷ drop (k + 1) es)) (sym same)
     (subst (λ (o : Option ExprId). MatchOption o (drop k (map g (in_turn ts is)) ≡ []) (λ i. drop k (map g (in_turn ts is)) ≡ g i ∷ drop (k + 1) (map g (in_turn ts is)))) (sym e) (found_here g (in_turn ts is) k))
-
-pub tree-past : (nodes : List Node) (id : ℕ) → length nodes ≤ id → tree_of nodes id ≡ nothing
-unfolding tree_of tree_at
-tree-past nodes id le = ap (λ o. layer (tree_at id nodes) o) (slice_get_past nodes id le)
 
 -- ---- variables
 

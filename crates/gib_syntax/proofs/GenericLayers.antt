@@ -1,4 +1,4 @@
--- A node's tree is its layer over the trees of its parts.
+-- What an arena tells of nodes, as the trees of expressions with the words of their types.
 use Rattle.std.proofs.Common.{◌≡◌, ℕ, zero, suc, ◌-◌, ◌+◌, ◌<◌, ◌≤◌, List, [], ◌∷◌, Option, Some, None, refl, sym, ap, ◌∙◌, subst, arith, ◌++◌, length, take, drop, min, get_or, ⊎_elim, length-append}
 use Rattle.std.proofs.str.Laws.{order}
 use Rattle.std.proofs.lemmas.Option.{same_Some, slice_get_within, slice_get-get_or}
@@ -6,49 +6,17 @@ use Rattle.std.proofs.lemmas.List.{take-append-le, drop-append-le, length-drop, 
 use Rattle.std.proofs.Math.Seq.{drop-append_seam}
 use Rattle.std.proofs.Math.ListN.{drop_of_length-le}
 use Rattle.std.specs.Prelude.{slice_get}
-use Rattle.std.specs.List.{AllByRecursion}
-use Rattle.gib_syntax.specs.declared.exprs.ExprId.{ExprId}
-use Rattle.gib_syntax.specs.declared.exprs.Arm.{Arm}
+use Rattle.gib_nodes.specs.Nodes.{IsPut, tree_at}
+use Rattle.gib_nodes.specs.Nodes as arena
+use Rattle.gib_nodes.proofs.Layers as layers
 use Rattle.gib_syntax.specs.declared.generic.GenericNode.{GenericNode as Node}
 use Rattle.gib_syntax.specs.declared.generic.GenericNode.TheVariants as n
 use Rattle.gib_syntax.specs.declared.written.Word.{Word}
 use Rattle.gib_syntax.specs.declared.written.Run.{Run}
-use Rattle.gib_syntax.specs.GenericTree.{GenericExpression as Expression, GenericArms as Arms, GenericParen, GenericOp, GenericCall, GenericMake, GenericLet, GenericPar, GenericIf, GenericCase, GenericTuple, GenericLetSeveral, GenericParSeveral, GenericArgument, GenericLastArm, GenericNextArm}
+use Rattle.gib_syntax.specs.GenericTree.{GenericExpression as Expression, GenericCall, GenericMake}
 use Rattle.gib_syntax.specs.Words.{run_words, stack_of, all_types, types_in, IsRunIn, IsTypesRun, IsTypeRun}
-use Rattle.gib_syntax.specs.GenericArena.{Arena, empty, IsArmBelow, ArmsBelow, PartsBelow, IsRunWithin, IsArena, arguments_from, arms_from, case_from, layer, tree_at, tree_of, Opens, Grows, Makes}
-
-arguments_same : (f g : ℕ → Expression) (id : ℕ) (is : List ExprId) → AllByRecursion (λ (a : ExprId). a.0 < id) is → ((a : ℕ) → a < id → f a ≡ g a) → arguments_from f is ≡ arguments_from g is
-arguments_same f g id [] h e = refl
-arguments_same f g id (i ∷ is) h e = (λ k. GenericArgument (e i.0 h.0 k) (arguments_same f g id is h.1 e k))
-
-arms_same : (f g : ℕ → Expression) (id : ℕ) (arm : Arm) (arms : List Arm) → arm.body.0 < id → AllByRecursion (IsArmBelow id) arms → ((a : ℕ) → a < id → f a ≡ g a) → arms_from f arm arms ≡ arms_from g arm arms
-arms_same f g id arm [] h hs e = (λ k. GenericLastArm arm.constructor arm.variables.items (e arm.body.0 h k))
-arms_same f g id arm (next ∷ arms) h hs e = (λ k. GenericNextArm arm.constructor arm.variables.items (e arm.body.0 h k) (arms_same f g id next arms hs.0 hs.1 e k))
-
-case_same : (f g : ℕ → Expression) (id : ℕ) (arms : List Arm) (make : Arms → Expression) → ArmsBelow arms id → ((a : ℕ) → a < id → f a ≡ g a) → case_from f arms make ≡ case_from g arms make
-case_same f g id [] make h e = refl
-case_same f g id (arm ∷ arms) make h e = ap make (arms_same f g id arm arms h.0 h.1 e)
-
-layer_same_if : (words : List Word) (f g : ℕ → Expression) (id : ℕ) (o : Option Node) → ((node : Node) → o ≡ Some node → PartsBelow node id) → ((a : ℕ) → a < id → f a ≡ g a) → layer words f o ≡ layer words g o
-layer_same_if words f g id None below e = refl
-layer_same_if words f g id (Some (n.Variable x)) below e = refl
-layer_same_if words f g id (Some (n.Whole p v)) below e = refl
-layer_same_if words f g id (Some (n.Truth p b)) below e = refl
-layer_same_if words f g id (Some (n.Paren p a)) below e = let h = below (n.Paren p a) refl in (λ k. GenericParen p (e a.0 h k))
-layer_same_if words f g id (Some (n.Operation p o a b)) below e = let h = below (n.Operation p o a b) refl in (λ k. GenericOp p o (e a.0 h.0 k) (e b.0 h.1 k))
-layer_same_if words f g id (Some (n.Call x ws v)) below e = ap (GenericCall x (types_in words ws)) (arguments_same f g id v.items (below (n.Call x ws v) refl) e)
-layer_same_if words f g id (Some (n.Make x ws v)) below e = ap (GenericMake x (types_in words ws)) (arguments_same f g id v.items (below (n.Make x ws v) refl) e)
-layer_same_if words f g id (Some (n.Let p x a b)) below e = let h = below (n.Let p x a b) refl in (λ k. GenericLet p x (e a.0 h.0 k) (e b.0 h.1 k))
-layer_same_if words f g id (Some (n.LetPar p x a y b c)) below e =
-    let h = below (n.LetPar p x a y b c) refl in (λ k. GenericPar p x (e a.0 h.0 k) y (e b.0 h.1 k) (e c.0 h.2 k))
-layer_same_if words f g id (Some (n.If p a b c)) below e =
-    let h = below (n.If p a b c) refl in (λ k. GenericIf p (e a.0 h.0 k) (e b.0 h.1 k) (e c.0 h.2 k))
-layer_same_if words f g id (Some (n.Case p x arms)) below e = case_same f g id arms.items (GenericCase p x) (below (n.Case p x arms) refl) e
-layer_same_if words f g id (Some (n.Tuple p xs)) below e = ap (GenericTuple p) (arguments_same f g id xs.items (below (n.Tuple p xs) refl) e)
-layer_same_if words f g id (Some (n.LetSeveral p xs a b)) below e =
-    let h = below (n.LetSeveral p xs a b) refl in (λ k. GenericLetSeveral p xs.items (e a.0 h.0 k) (e b.0 h.1 k))
-layer_same_if words f g id (Some (n.ParSeveral p xs a ys b c)) below e =
-    let h = below (n.ParSeveral p xs a ys b c) refl in (λ k. GenericParSeveral p xs.items (e a.0 h.0 k) ys.items (e b.0 h.1 k) (e c.0 h.2 k))
+use Rattle.gib_syntax.specs.GenericArena.{Arena, PartsBelow, IsRunWithin, IsArena, arguments_from, layer, layer_of, nothing_of, tree_of, Opens, Grows, Makes}
+use Rattle.gib_syntax.specs.GenericLaws.{layer_same_if, layer_of_same_if}
 
 -- A node is the same layer over more words.
 layer_words : (old new : List Word) (f : ℕ → Expression) (node : Node) → ((run : Run) → IsRunIn old run → run_words new run ≡ run_words old run) → IsRunWithin node old → layer new f (Some node) ≡ layer old f (Some node)
@@ -67,30 +35,10 @@ layer_words old new f (n.Tuple p xs) runs h = refl
 layer_words old new f (n.LetSeveral p xs a b) runs h = refl
 layer_words old new f (n.ParSeveral p xs a ys b c) runs h = refl
 
-same_at : (a : Arena) → IsArena a → (k l id : ℕ) → id < k → id < l → tree_at k a id ≡ tree_at l a id
-unfolding tree_at
-same_at a arena zero l id lt lt' = absurd (omega arith)
-same_at a arena (suc k) zero id lt lt' = absurd (omega arith)
-same_at a arena (suc k) (suc l) id lt lt' =
-    layer_same_if a.words (tree_at k a) (tree_at l a) id (slice_get a.nodes id) (arena.below id) (λ b h. same_at a arena k l b (omega arith) (omega arith))
-
-pub tree_of-layer : (a : Arena) (id : ℕ) → IsArena a → tree_of a id ≡ layer a.words (tree_of a) (slice_get a.nodes id)
-unfolding tree_of tree_at
-tree_of-layer a id arena =
-    layer_same_if a.words (tree_at id a) (λ b. tree_at (suc b) a b) id (slice_get a.nodes id) (arena.below id) (λ b h. same_at a arena id (suc b) b h (omega arith))
-
 -- The node of a number tells its tree.
 pub tree_of-node : (a : Arena) (id : ℕ) (node : Node) → IsArena a → slice_get a.nodes id ≡ Some node → tree_of a id ≡ layer a.words (tree_of a) (Some node)
-tree_of-node a id node arena e = tree_of-layer a id arena ∙ ap (layer a.words (tree_of a)) e
-
-slice_get_front : (ns more : List Node) (id : ℕ) → id < length ns → slice_get (ns ++ more) id ≡ slice_get ns id
-slice_get_front [] more id lt = absurd (omega arith)
-slice_get_front (x ∷ ns) more zero lt = refl
-slice_get_front (x ∷ ns) more (suc id) lt = slice_get_front ns more id (omega arith)
-
-slice_get_end : (ns : List Node) (node : Node) → slice_get (ns ++ node ∷ []) (length ns) ≡ Some node
-slice_get_end [] node = refl
-slice_get_end (x ∷ ns) node = slice_get_end ns node
+unfolding tree_of
+tree_of-node a id node all e = ap (λ t. t a.words) (layers.tree_of-node Node (List Word → Expression) PartsBelow nothing_of layer_of layer_of_same_if a.nodes id node (record { below = all.below }) e)
 
 -- Runs of words stay where more words follow.
 pub run_front : (words more : List Word) (run : Run) → IsRunIn words run → run_words (words ++ more) run ≡ run_words words run
@@ -99,69 +47,21 @@ run_front words more run h =
     let len = length-drop run.start words in
     ap (take (run.end - run.start)) first ∙ take-append-le (run.end - run.start) (drop run.start words) more (omega (arith, h.0, h.1, len))
 
--- An arena stands in another: its runs and its nodes are there.
-record StandsIn (a b : Arena) : Type 0 where
-  runs : (run : Run) → IsRunIn a.words run → run_words b.words run ≡ run_words a.words run
-  nodes : (id : ℕ) → id < length a.nodes → slice_get b.nodes id ≡ slice_get a.nodes id
+layer_longer : (old new : List Word) (f : ℕ → Expression) (o : Option Node) → ((run : Run) → IsRunIn old run → run_words new run ≡ run_words old run) → ((node : Node) → o ≡ Some node → IsRunWithin node old) → layer new f o ≡ layer old f o
+layer_longer old new f None runs within = refl
+layer_longer old new f (Some node) runs within = layer_words old new f node runs (within node refl)
 
-layer_front : (a b : Arena) (f : ℕ → Expression) (id : ℕ) (o : Option Node) → StandsIn a b → ((node : Node) → o ≡ Some node → IsRunWithin node a.words) → layer b.words f o ≡ layer a.words f o
-layer_front a b f id None s within = refl
-layer_front a b f id (Some node) s within = layer_words a.words b.words f node s.runs (within node refl)
-
-front_same : (a b : Arena) → IsArena a → StandsIn a b → (k id : ℕ) → id < length a.nodes → tree_at k b id ≡ tree_at k a id
+words_at : (ns : List Node) (old new : List Word) → IsArena (record { words = old; nodes = ns }) → ((run : Run) → IsRunIn old run → run_words new run ≡ run_words old run) → (k id : ℕ) → tree_at nothing_of layer_of k ns id new ≡ tree_at nothing_of layer_of k ns id old
 unfolding tree_at
-front_same a b arena s zero id lt = refl
-front_same a b arena s (suc k) id lt =
-    ap (layer b.words (tree_at k b)) (s.nodes id lt)
-    ∙ layer_front a b (tree_at k b) id (slice_get a.nodes id) s (arena.within id)
-    ∙ layer_same_if a.words (tree_at k b) (tree_at k a) id (slice_get a.nodes id) (arena.below id) (λ c h. front_same a b arena s k c (omega arith))
+words_at ns old new all runs zero id = refl
+words_at ns old new all runs (suc k) id =
+    layer_longer old new (λ b. tree_at nothing_of layer_of k ns b new) (slice_get ns id) runs (all.within id)
+    ∙ layer_same_if old (λ b. tree_at nothing_of layer_of k ns b new) (λ b. tree_at nothing_of layer_of k ns b old) id (slice_get ns id) (all.below id) (λ b lt. words_at ns old new all runs k b)
 
-front_tree : (a b : Arena) → IsArena a → StandsIn a b → (id : ℕ) → id < length a.nodes → tree_of b id ≡ tree_of a id
-unfolding tree_of
-front_tree a b arena s id lt = front_same a b arena s (suc id) id lt
-
--- An arena with one more node.
-abbrev with_node : Arena → Node → Arena
-with_node a node = record { words = a.words; nodes = a.nodes ++ node ∷ [] }
-
-stands_node : (a : Arena) (node : Node) → StandsIn a (with_node a node)
-stands_node a node = record { runs = λ run h. refl; nodes = λ id lt. slice_get_front a.nodes (node ∷ []) id lt }
-
--- What holds of each node by its number, and of one more, holds of all.
-put_each : (P : Node → ℕ → Type 0) (ns : List Node) (node : Node) → ((id : ℕ) (x : Node) → slice_get ns id ≡ Some x → P x id) → P node (length ns) → (id : ℕ) (x : Node) → slice_get (ns ++ node ∷ []) id ≡ Some x → P x id
-put_each P ns node each here id x e =
-    ⊎_elim
-    (λ lt. each id x (sym (slice_get_front ns (node ∷ []) id lt) ∙ e))
-    (λ le.
-    let within = slice_get_within (ns ++ node ∷ []) id x e in
-    let is : length ns ≡ id = omega (arith, length-append ns (node ∷ [])) in
-    let which : node ≡ x = same_Some node x (sym (slice_get_end ns node) ∙ ap (slice_get (ns ++ node ∷ [])) is ∙ e) in
-    subst (λ (y : Node). P y id) which (subst (P node) is here))
-    (order id (length ns))
-
-pub put_arena : (a : Arena) (node : Node) → IsArena a → PartsBelow node (length a.nodes) → IsRunWithin node a.words → IsArena (with_node a node)
-put_arena a node arena below within = record {
-  below = put_each PartsBelow a.nodes node arena.below below;
-  within = put_each (λ x _. IsRunWithin x a.words) a.nodes node arena.within within;
-}
-
-layer_same : (words : List Word) (f g : ℕ → Expression) (id : ℕ) (node : Node) → PartsBelow node id → ((a : ℕ) → a < id → f a ≡ g a) → layer words f (Some node) ≡ layer words g (Some node)
-layer_same words f g id node below e = layer_same_if words f g id (Some node) (λ x eq. subst (λ (y : Node). PartsBelow y id) (same_Some node x eq) below) e
-
-pub put_makes : (a : Arena) (node : Node) → IsArena a → PartsBelow node (length a.nodes) → IsRunWithin node a.words → Makes a (with_node a node) (length a.nodes) node
-put_makes a node arena below within =
-    let new = with_node a node in
-    let new_arena : IsArena new = put_arena a node arena below within in
-    let len = length-append a.nodes (node ∷ []) in
-    let s = stands_node a node in
-    record {
-      grows = record { longer = omega arith; same = λ id lt. front_tree a new arena s id lt; runs = λ run h. (h, refl) };
-      inside = omega arith;
-      tree = tree_of-node new (length a.nodes) node new_arena (slice_get_end a.nodes node) ∙ layer_same a.words (tree_of new) (tree_of a) (length a.nodes) node below (λ b lt. front_tree a new arena s b lt);
-    }
-
-pub empty_arena : IsArena empty
-empty_arena = record { below = λ id node e. absurd cc; within = λ id node e. absurd cc }
+-- Trees stay where more words follow.
+words_tree : (ns : List Node) (old new : List Word) → IsArena (record { words = old; nodes = ns }) → ((run : Run) → IsRunIn old run → run_words new run ≡ run_words old run) → (id : ℕ) → tree_of (record { words = new; nodes = ns }) id ≡ tree_of (record { words = old; nodes = ns }) id
+unfolding tree_of arena.tree_of
+words_tree ns old new all runs id = words_at ns old new all runs (suc id) id
 
 -- More words.
 abbrev with_words : Arena → List Word → Arena
@@ -188,15 +88,14 @@ within_longer words more (n.LetSeveral p xs a b) h = h
 within_longer words more (n.ParSeveral p xs a ys b c) h = h
 
 pub words_arena : (a : Arena) (more : List Word) → IsArena a → IsArena (with_words a more)
-words_arena a more arena = record { below = arena.below; within = λ id node e. within_longer a.words more node (arena.within id node e) }
+words_arena a more all = record { below = all.below; within = λ id node e. within_longer a.words more node (all.within id node e) }
 
 pub words_grow : (a : Arena) (more : List Word) → IsArena a → Grows a (with_words a more)
-words_grow a more arena =
-    let s : StandsIn a (with_words a more) = record { runs = λ run h. run_front a.words more run h; nodes = λ id lt. refl } in
+words_grow a more all =
     let len = length-append a.words more in
     record {
       longer = omega arith;
-      same = λ id lt. front_tree a (with_words a more) arena s id lt;
+      same = λ id lt. words_tree a.nodes a.words (a.words ++ more) all (λ run h. run_front a.words more run h) id;
       runs = λ run h. (run_longer a.words more run h, run_front a.words more run h);
     }
 
@@ -239,32 +138,37 @@ cut_run words start end a b ib ia =
         ap (take k) gone ∙ take_all k [] (omega arith)
 
 -- The same, of what a clause sees.
-pub opens_view : (a v : Arena) (id : ℕ) (node : Node) → a ≡ v → IsArena a → id < length v.nodes → node ≡ get_or a.nodes id node → Opens v id node
-opens_view a v id node e arena lt is =
-    let within : id < length a.nodes = subst (λ (l : Arena). id < length l.nodes) (sym e) lt in
-    let found = slice_get-get_or a.nodes id node within ∙ ap Some (sym is) in
-    let P : Arena → Type 0 = λ l. Opens l id node in
-    subst P e (tree_of-node a id node arena found, arena.below id node found)
+pub opens_view : (a v : Arena) (id : ℕ) (node : Node) → a ≡ v → arena.tree_of nothing_of layer_of a.nodes id ≡ layer_of (arena.tree_of nothing_of layer_of a.nodes) (Some node) → PartsBelow node id → Opens v id node
+unfolding tree_of
+opens_view a v id node e opens below =
+    (subst (λ (l : Arena). arena.tree_of nothing_of layer_of l.nodes id l.words ≡ layer l.words (λ b. arena.tree_of nothing_of layer_of l.nodes b l.words) (Some node)) e (ap (λ t. t a.words) opens), below)
 
-pub put_view : (a v new : Arena) (id : ℕ) (node : Node) → a ≡ v → IsArena a → PartsBelow node (length v.nodes) → IsRunWithin node v.words → id ≡ length a.nodes → new ≡ with_node a node → Makes v new id node
-put_view a v new id node e arena below within is made =
-    let P : Arena → Type 0 = λ l. PartsBelow node (length l.nodes) in
-    let R : Arena → Type 0 = λ l. IsRunWithin node l.words in
+pub put_view : (a v new : Arena) (id : ℕ) (node : Node) → a ≡ v → IsPut nothing_of layer_of a.nodes new.nodes id node → new.words ≡ a.words → Makes v new id node
+unfolding tree_of
+put_view a v new id node e put same =
     let Q : Arena → Type 0 = λ l. Makes l new id node in
-    subst Q e (rw (made, is) (put_makes a node arena (subst P (sym e) below) (subst R (sym e) within)))
+    let longer = ap length put.nodes in
+    let len = length-append a.nodes (node ∷ []) in
+    subst Q e (record {
+      grows = record {
+          longer = omega (arith, longer, len);
+          same = λ b lt. (λ k. put.same b lt k (same k));
+          runs = λ run h. (subst (λ ws. IsRunIn ws run) (sym same) h, ap (λ ws. run_words ws run) same);
+      };
+      inside = omega (arith, put.place, longer, len);
+      tree = (λ k. put.tree k (same k));
+    })
 
 pub grow_view : (a v new : Arena) (more : List Word) → a ≡ v → IsArena a → new ≡ with_words a more → Grows v new
-grow_view a v new more e arena made =
+grow_view a v new more e all made =
     let Q : Arena → Type 0 = λ l. Grows l new in
-    subst Q e (subst (Grows a) (sym made) (words_grow a more arena))
+    subst Q e (subst (Grows a) (sym made) (words_grow a more all))
 
 -- What was read of a node of the arena.
-pub within_view : (a v : Arena) (id : ℕ) (node : Node) → a ≡ v → IsArena a → id < length v.nodes → node ≡ get_or a.nodes id node → IsRunWithin node v.words
-within_view a v id node e arena lt is =
-    let within : id < length a.nodes = subst (λ (l : Arena). id < length l.nodes) (sym e) lt in
-    let found = slice_get-get_or a.nodes id node within ∙ ap Some (sym is) in
+pub within_view : (a v : Arena) (id : ℕ) (node : Node) → a ≡ v → IsArena a → slice_get a.nodes id ≡ Some node → IsRunWithin node v.words
+within_view a v id node e all found =
     let P : Arena → Type 0 = λ l. IsRunWithin node l.words in
-    subst P e (arena.within id node found)
+    subst P e (all.within id node found)
 
 -- Runs of types stay such where the arena grows, with the same types.
 pub types_run_grows : (old new : Arena) (run : Run) → Grows old new → IsTypesRun old.words run → IsTypesRun new.words run
@@ -273,11 +177,14 @@ types_run_grows old new run g h = let r = g.runs run h.0 in (r.0, h.1, r.1 ∙ h
 pub type_run_grows : (old new : Arena) (run : Run) → Grows old new → IsTypeRun old.words run → IsTypeRun new.words run
 type_run_grows old new run g h = let r = g.runs run h.0 in (r.0, h.1, r.1 ∙ h.2)
 
-pub put_keeps : (a v new : Arena) (node : Node) → a ≡ v → IsArena a → PartsBelow node (length v.nodes) → IsRunWithin node v.words → new ≡ with_node a node → IsArena new
-put_keeps a v new node e arena below within made =
+pub put_keeps : (a v new : Arena) (node : Node) → a ≡ v → IsArena a → PartsBelow node (length v.nodes) → IsRunWithin node v.words → new ≡ record { words = a.words; nodes = a.nodes ++ node ∷ [] } → IsArena new
+put_keeps a v new node e all below within made =
     let P : Arena → Type 0 = λ l. PartsBelow node (length l.nodes) in
     let R : Arena → Type 0 = λ l. IsRunWithin node l.words in
-    subst IsArena (sym made) (put_arena a node arena (subst P (sym e) below) (subst R (sym e) within))
+    subst IsArena (sym made) (record {
+      below = layers.put_each PartsBelow a.nodes node all.below (subst P (sym e) below);
+      within = layers.put_each (λ x _. IsRunWithin x a.words) a.nodes node all.within (subst R (sym e) within);
+    })
 
 pub words_keep : (a new : Arena) (more : List Word) → IsArena a → new ≡ with_words a more → IsArena new
-words_keep a new more arena made = subst IsArena (sym made) (words_arena a more arena)
+words_keep a new more all made = subst IsArena (sym made) (words_arena a more all)

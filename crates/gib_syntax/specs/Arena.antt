@@ -1,6 +1,7 @@
 -- Nodes that name each other by their numbers, seen as trees.
-use Rattle.std.specs.Prelude.{◌≡◌, ℕ, zero, suc, ◌<◌, ◌≤◌, ◌^◌, List, [], ◌∷◌, length, Option, Some, None, slice_get}
+use Rattle.std.specs.Prelude.{◌≡◌, ℕ, ◌<◌, ◌≤◌, ◌^◌, List, [], ◌∷◌, length, Option, Some, None}
 use Rattle.std.specs.List.{AllByRecursion}
+use Rattle.gib_nodes.specs.Nodes as arena
 use Rattle.gib_syntax.specs.declared.exprs.ExprId.{ExprId}
 use Rattle.gib_syntax.specs.declared.exprs.Arm.{Arm}
 use Rattle.gib_syntax.specs.declared.exprs.Node.{Node}
@@ -32,10 +33,6 @@ PartsBelow (n.Case p x arms) id = ArmsBelow arms.items id
 PartsBelow (n.Tuple p ts xs) id = AllByRecursion (λ (a : ExprId). a.0 < id) xs.items
 PartsBelow (n.LetSeveral p qs a b) id = (a.0 < id) × (b.0 < id)
 PartsBelow (n.ParSeveral p qs a rs b c) id = (a.0 < id) × (b.0 < id) × (c.0 < id)
-
--- Each node stands behind its parts.
-pub record IsArena (nodes : List Node) : Type 0 where
-  pub below : (id : ℕ) (node : Node) → slice_get nodes id ≡ Some node → PartsBelow node id
 
 -- Arguments as a tree, where their numbers have these trees.
 abbrev pub arguments_from : (ℕ → Expression) → List ExprId → Arguments
@@ -74,14 +71,9 @@ layer f (Some (n.Tuple p ts xs)) = Tuple p ts.items (arguments_from f xs.items)
 layer f (Some (n.LetSeveral p qs a b)) = LetSeveral p qs.items (f a.0) (f b.0)
 layer f (Some (n.ParSeveral p qs a rs b c)) = ParSeveral p qs.items (f a.0) rs.items (f b.0) (f c.0)
 
--- The tree of the node of a number, cut after so many levels: below them stands the tree of no node.
-unfoldable pub tree_at : ℕ → List Node → ℕ → Expression
-tree_at zero nodes id = nothing
-tree_at (suc k) nodes id = layer (tree_at k nodes) (slice_get nodes id)
-
 -- The tree of the node of a number.
 unfoldable pub tree_of : List Node → ℕ → Expression
-tree_of nodes id = tree_at (suc id) nodes id
+tree_of nodes id = arena.tree_of nothing layer nodes id
 
 -- What a node tells of the tree of its number: its layer over the trees of its parts, which have
 -- smaller numbers.

@@ -1,6 +1,7 @@
 -- Nodes that name each other by their numbers, with the words of the types that are written in them, seen as trees.
-use Rattle.std.specs.Prelude.{◌≡◌, ℕ, zero, suc, ◌<◌, ◌≤◌, ◌^◌, List, [], ◌∷◌, length, Option, Some, None, slice_get}
+use Rattle.std.specs.Prelude.{◌≡◌, ℕ, ◌<◌, ◌≤◌, ◌^◌, List, [], ◌∷◌, length, Option, Some, None, slice_get}
 use Rattle.std.specs.List.{AllByRecursion}
+use Rattle.gib_nodes.specs.Nodes as arena
 use Rattle.gib_syntax.specs.declared.exprs.ExprId.{ExprId}
 use Rattle.gib_syntax.specs.declared.exprs.Arm.{Arm}
 use Rattle.gib_syntax.specs.declared.generic.GenericNode.{GenericNode as Node}
@@ -104,14 +105,17 @@ layer words f (Some (n.Tuple p xs)) = GenericTuple p (arguments_from f xs.items)
 layer words f (Some (n.LetSeveral p xs a b)) = GenericLetSeveral p xs.items (f a.0) (f b.0)
 layer words f (Some (n.ParSeveral p xs a ys b c)) = GenericParSeveral p xs.items (f a.0) ys.items (f b.0) (f c.0)
 
--- The tree of the node of a number, cut after so many levels: below them stands the tree of no node.
-unfoldable pub tree_at : ℕ → Arena → ℕ → GenericExpression
-tree_at zero a id = nothing
-tree_at (suc k) a id = layer a.words (tree_at k a) (slice_get a.nodes id)
+-- A node as what it is over any words, where its parts are so.
+abbrev pub layer_of : (ℕ → List Word → GenericExpression) → Option Node → List Word → GenericExpression
+layer_of f o words = layer words (λ id. f id words) o
+
+-- The tree of no node, over any words.
+abbrev pub nothing_of : List Word → GenericExpression
+nothing_of words = nothing
 
 -- The tree of the node of a number.
 unfoldable pub tree_of : Arena → ℕ → GenericExpression
-tree_of a id = tree_at (suc id) a id
+tree_of a id = arena.tree_of nothing_of layer_of a.nodes id a.words
 
 -- What a node tells of the tree of its number: its layer over the trees of its parts, which have
 -- smaller numbers.

@@ -3,6 +3,7 @@ pub mod Tree
 pub mod Spelling
 pub mod Fine
 pub mod Arena
+pub mod ArenaLaws
 pub mod Parts
 pub mod Printing
 pub mod TypeTokens
@@ -19,5 +20,6 @@ pub mod GenericMeaning
 pub mod GenericFine
 pub mod Single
 pub mod GenericArena
+pub mod GenericLaws
 pub mod GenericParts
 pub mod Plain

@@ -4,7 +4,8 @@ ghost use Rattle.std.specs.Prelude.{◌≡◌};
 
 use crate::tree::{Ident, Operator, Parameter, TypeName};
 use gib_base::{Memory, Span};
-use std::alloc::{AllocError, Global};
+use gib_nodes::{Arena, Layered};
+use std::alloc::Global;
 use std::marker::Model;
 
 /// The number of an expression.
@@ -102,22 +103,35 @@ pub enum Node {
     },
 }
 
+impl Layered for Node {
+    ghost use Rattle.gib_syntax.specs.Tree.{Expression};
+    ghost use Rattle.gib_syntax.specs.Arena.{nothing, layer, PartsBelow};
+    ghost use Rattle.gib_syntax.specs.ArenaLaws.{layer_same_if};
+
+    ghost Tree = { Expression };
+
+    ghost nothing = { nothing };
+
+    ghost layer = { layer };
+
+    ghost below = { PartsBelow };
+
+    ghost parts = { layer_same_if };
+}
+
 /// Expressions, each behind its parts.
 #[derive(Drop)]
 pub struct Exprs {
-    nodes: Vec<Node>,
+    nodes: Arena<Node>,
 }
 
 impl Model for Exprs {
     ghost use Rattle.std.specs.Prelude.{List};
     ghost use Rattle.gib_syntax.specs.declared.exprs.Node.{Node as Item};
-    ghost use Rattle.gib_syntax.specs.Arena.{IsArena};
 
     ghost Value = { List Item };
 
-    ghost view = { λ e. e.nodes.items };
-
-    ghost invariant = { λ e. IsArena e.nodes.items };
+    ghost view = { λ e. e.nodes };
 }
 
 impl Exprs {
@@ -129,7 +143,7 @@ impl Exprs {
         ensures { result ≡ [] }
     {
         Exprs {
-            nodes: Vec::new(alloc),
+            nodes: Arena::new(alloc),
         }
     }
 
@@ -145,7 +159,7 @@ impl Exprs {
         requires { id.0 < length self.now }
         ensures { Opens self.now id.0 result.now }
     {
-        &self.nodes[id.0 as usize]
+        self.nodes.node(id.0 as usize)
     }
 
     /// One more expression, whose parts stand here already. Those that stand here stay as they are.
@@ -154,10 +168,7 @@ impl Exprs {
         ensures made { IfOk result (λ id. Makes self.old self.new id.0 node) }
         ensures same { OnErr result (self.new ≡ self.old) }
     {
-        let Ok(number) = u32::try_from(self.nodes.len()) else {
-            return Err(AllocError);
-        };
-        self.nodes.push(node)?;
+        let number = self.nodes.put(node)?;
         Ok(ExprId(number))
     }
 }

@@ -6,6 +6,7 @@ use crate::exprs::{Arm, ExprId};
 use crate::tree::{Ident, Operator};
 use crate::written::{Run, Word};
 use gib_base::{Memory, Span};
+use gib_nodes::{Arena, Layered};
 use std::alloc::{AllocError, Global};
 use std::marker::Model;
 
@@ -72,11 +73,29 @@ pub enum GenericNode {
     },
 }
 
+impl Layered for GenericNode {
+    ghost use Rattle.std.specs.Prelude.{List};
+    ghost use Rattle.gib_syntax.specs.declared.written.Word.{Word as Item};
+    ghost use Rattle.gib_syntax.specs.GenericTree.{GenericExpression};
+    ghost use Rattle.gib_syntax.specs.GenericArena.{nothing_of, layer_of, PartsBelow};
+    ghost use Rattle.gib_syntax.specs.GenericLaws.{layer_of_same_if};
+
+    ghost Tree = { List Item → GenericExpression };
+
+    ghost nothing = { nothing_of };
+
+    ghost layer = { layer_of };
+
+    ghost below = { PartsBelow };
+
+    ghost parts = { layer_of_same_if };
+}
+
 /// Expressions, each behind its parts, with the words of the types that a program has.
 #[derive(Drop)]
 pub struct GenericExprs {
     words: Vec<Word>,
-    nodes: Vec<GenericNode>,
+    nodes: Arena<GenericNode>,
 }
 
 impl Model for GenericExprs {
@@ -84,9 +103,9 @@ impl Model for GenericExprs {
 
     ghost Value = { Arena };
 
-    ghost view = { λ e. record { words = e.words.items; nodes = e.nodes.items } };
+    ghost view = { λ e. record { words = e.words.items; nodes = e.nodes } };
 
-    ghost invariant = { λ e. IsArena (record { words = e.words.items; nodes = e.nodes.items }) };
+    ghost invariant = { λ e. IsArena (record { words = e.words.items; nodes = e.nodes }) };
 }
 
 impl GenericExprs {
@@ -100,7 +119,7 @@ impl GenericExprs {
     {
         GenericExprs {
             words: Vec::new(alloc),
-            nodes: Vec::new(alloc),
+            nodes: Arena::new(alloc),
         }
     }
 
@@ -116,7 +135,7 @@ impl GenericExprs {
         ensures nodes { result.items ≡ self.nodes }
         ensures arena { IsArena self }
     {
-        self.nodes
+        self.nodes.into_nodes()
     }
 
     /// A node whose tree is the one of the number.
@@ -125,7 +144,7 @@ impl GenericExprs {
         ensures opens { Opens self.now id.0 result.now }
         ensures within { IsRunWithin result.now self.now.words }
     {
-        &self.nodes[id.0 as usize]
+        self.nodes.node(id.0 as usize)
     }
 
     /// The words of a run; where it ends past the last word, those that are here.
@@ -144,10 +163,7 @@ impl GenericExprs {
         ensures made { IfOk result (λ id. Makes self.old self.new id.0 node) }
         ensures same { OnErr result (self.new ≡ self.old) }
     {
-        let Ok(number) = u32::try_from(self.nodes.len()) else {
-            return Err(AllocError);
-        };
-        self.nodes.push(node)?;
+        let number = self.nodes.put(node)?;
         Ok(ExprId(number))
     }
 

@@ -5,7 +5,8 @@ use Rattle.gib_syntax.specs.Arena.{tree_of}
 use Rattle.gib_syntax.specs.Parts.{Parts, program_of}
 use Rattle.gib_syntax.specs.Declarations.{table_of_program}
 use Rattle.gib_plain.specs.Running.{IsNext, first_parts}
-use Rattle.gib_plain.proofs.Names.{tree-past, opened}
+use Rattle.gib_syntax.proofs.Layers.{tree-past}
+use Rattle.gib_plain.proofs.Names.{opened}
 use Rattle.gib_plain.proofs.lookup.next_part.Goals as goal
 
 pub returns-then-id-len : goal.returns-then-id-len

@@ -1,16 +1,11 @@
-use Rattle.std.proofs.Common.{◌<◌, List, length, sym, ◌∙◌, subst}
-use Rattle.gib_core.specs.declared.node.Node.{Node}
-use Rattle.gib_core.proofs.Marks.{set_arena, set_view}
+use Rattle.std.proofs.Common.{Some, ap, ◌∙◌}
+use Rattle.gib_core.proofs.Marks.{fork_parts, set_view}
 use Rattle.gib_core.proofs.node.Terms.set_fork.Goals as goal
 
--- src/node.rt
-pub invariant_of-self : goal.invariant_of-self
-invariant_of-self c =
-    set_arena c.self.inside.nodes.items c.args.number c.in-Then.binding c.with_fork.result c.in-Then.rest c.args.fork c.index.result.now c.self.invariant
-    (subst (λ (l : List Node). c.args.number < length l) (sym c.self.view_is) c.requires) (sym c.index.ensures ∙ c.in-Then.is) c.with_fork.ensures
+pub set-requires-below : goal.set-requires-below
+set-requires-below c = fork_parts c.node.result.now c.args.number c.in-Then.binding c.with_fork.result c.in-Then.rest c.args.fork c.node.ensures.below c.in-Then.is c.with_fork.ensures
 
--- src/node.rt
 pub returns : goal.returns
 returns c =
-    set_view c.self.inside.nodes.items c.args.self.now c.args.number c.in-Then.binding c.with_fork.result c.in-Then.rest c.args.fork c.index.result.now c.self.view_is c.self.invariant c.requires
-    (sym c.index.ensures ∙ c.in-Then.is) c.with_fork.ensures
+    set_view c.self.inside.nodes c.args.self.now c.set.new.self c.args.number c.in-Then.binding c.with_fork.result c.in-Then.rest c.args.fork c.self.view_is c.requires
+    (c.node.ensures.found ∙ ap Some c.in-Then.is) c.with_fork.ensures c.set.ensures.set c.set.ensures.arena

@@ -4,7 +4,8 @@ use Rattle.gib_syntax.specs.Tree.{Call}
 use Rattle.gib_syntax.specs.Arena.{tree_of, nothing, arguments_from}
 use Rattle.gib_syntax.specs.Parts.{Parts}
 use Rattle.gib_plain.specs.Running.{code_of}
-use Rattle.gib_plain.proofs.Names.{tree-past, opened}
+use Rattle.gib_syntax.proofs.Layers.{tree-past}
+use Rattle.gib_plain.proofs.Names.{opened}
 use Rattle.gib_plain.proofs.Steps.{goes_value, goes_begin, on_ok}
 use Rattle.gib_plain.proofs.machine.Machine.enter.Goals as goal
 

@@ -3,7 +3,8 @@ use Rattle.gib_types.specs.Tree.{whole}
 use Rattle.gib_syntax.specs.Arena.{tree_of, nothing, arguments_from}
 use Rattle.gib_syntax.specs.Parts.{Parts}
 use Rattle.gib_plain.specs.Running.{code_of}
-use Rattle.gib_plain.proofs.Names.{tree-past, opened}
+use Rattle.gib_syntax.proofs.Layers.{tree-past}
+use Rattle.gib_plain.proofs.Names.{opened}
 use Rattle.gib_plain.proofs.Steps.{came_value, on_ok}
 use Rattle.gib_plain.proofs.machine.Machine.finish.Goals as goal
 

@@ -2,4 +2,4 @@ use Rattle.gib_syntax.proofs.Layers.{opens_view}
 use Rattle.gib_syntax.proofs.exprs.Exprs.node.Goals as goal
 
 pub returns : goal.returns
-returns c = opens_view c.self.inside.nodes.items c.args.self.now c.args.id.0 c.index.result.now c.self.view_is c.self.invariant c.requires c.index.ensures
+returns c = opens_view c.self.inside.nodes c.args.self.now c.args.id.0 c.node.result.now c.self.view_is c.node.ensures.opens c.node.ensures.below

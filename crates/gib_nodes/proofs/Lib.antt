@@ -1,0 +1,2 @@
+-- Trees of nodes, where one is put or set.
+pub mod Layers
