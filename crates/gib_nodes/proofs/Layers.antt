@@ -1,9 +1,9 @@
 -- A node's tree is its layer over the trees of its parts.
-use Rattle.std.proofs.Common.{◌≡◌, ℕ, zero, suc, ◌<◌, ◌≤◌, List, [], ◌∷◌, Option, Some, None, Bool, true, false, refl, sym, ap, ◌∙◌, subst, arith, ◌++◌, length, get_or, ⊎_elim, length-append}
+use Rattle.std.proofs.Common.{◌≡◌, ℕ, zero, suc, ◌<◌, ◌≤◌, List, [], ◌∷◌, Option, Some, None, refl, sym, ap, ◌∙◌, subst, arith, ◌++◌, length, get_or, ⊎_elim, length-append}
 use Rattle.std.proofs.str.Laws.{order}
 use Rattle.std.proofs.lemmas.Option.{same_Some, slice_get_within, slice_get_past, slice_get-get_or}
 use Rattle.std.specs.Prelude.{slice_get, slice_set}
-use Rattle.gib_nodes.specs.Nodes.{IsArena, tree_at, tree_of, IsPut}
+use Rattle.gib_nodes.specs.Nodes.{IsArena, IsOfParts, tree_at, tree_of, IsPut}
 
 pub slice_get_front : {A : Type 0} (xs more : List A) (id : ℕ) → id < length xs → slice_get (xs ++ more) id ≡ slice_get xs id
 slice_get_front [] more id lt = absurd (omega arith)
@@ -47,7 +47,7 @@ set_each P (z ∷ xs) (suc place) x each lt here zero y e = each zero y e
 set_each P (z ∷ xs) (suc place) x each lt here (suc id) y e = set_each (λ w k. P w (suc k)) xs place x (λ k w f. each (suc k) w f) (omega arith) here id y e
 
 -- One kind of nodes, whose trees are made of the trees of their parts alone.
-module _ (Node Tree : Type 0) (Below : Node → ℕ → Type 0) (nothing : Tree) (layer : (ℕ → Tree) → Option Node → Tree) (layer_parts : (f g : ℕ → Tree) (id : ℕ) (o : Option Node) → ((node : Node) → o ≡ Some node → Below node id) → ((a : ℕ) → a < id → f a ≡ g a) → layer f o ≡ layer g o) where
+module _ (Node Tree : Type 0) (Below : Node → ℕ → Type 0) (nothing : Tree) (layer : (ℕ → Tree) → Option Node → Tree) (layer_parts : IsOfParts Below layer) where
   abbrev at : ℕ → List Node → ℕ → Tree
   at k ns id = tree_at nothing layer k ns id
 

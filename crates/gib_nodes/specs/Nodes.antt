@@ -14,8 +14,15 @@ tree_at nothing layer (suc k) nodes id = layer (tree_at nothing layer k nodes) (
 unfoldable pub tree_of : {Node Tree : Type 0} → Tree → ((ℕ → Tree) → Option Node → Tree) → List Node → ℕ → Tree
 tree_of nothing layer nodes id = tree_at nothing layer (suc id) nodes id
 
+-- A layer is made of the trees of a node's parts alone, which have smaller numbers.
+abbrev pub IsOfParts : {Node Tree : Type 0} → (Node → ℕ → Type 0) → ((ℕ → Tree) → Option Node → Tree) → Type 0
+IsOfParts {Node} {Tree} Below layer =
+    (f g : ℕ → Tree) (id : ℕ) (o : Option Node) → ((node : Node) → o ≡ Some node → Below node id) → ((a : ℕ) → a < id → f a ≡ g a)
+    → layer f o ≡ layer g o
+
 -- A node was put behind all others, whose trees stay, and has the next number.
-pub record IsPut {Node Tree : Type 0} (nothing : Tree) (layer : (ℕ → Tree) → Option Node → Tree) (old new : List Node) (id : ℕ) (node : Node) : Type 0 where
+pub record IsPut {Node Tree : Type 0} (nothing : Tree) (layer : (ℕ → Tree) → Option Node → Tree) (old new : List Node) (id : ℕ) (node : Node)
+    : Type 0 where
   pub place : id ≡ length old
   pub nodes : new ≡ old ++ (node ∷ [])
   pub same : (a : ℕ) → a < length old → tree_of nothing layer new a ≡ tree_of nothing layer old a

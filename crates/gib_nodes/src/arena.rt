@@ -1,6 +1,7 @@
 //! One arena for the nodes of all kinds of trees.
 
-ghost use Rattle.std.specs.Prelude.{◌≡◌, ◌<◌, ℕ, Option, Some};
+ghost use Rattle.std.specs.Prelude.{ℕ, Option};
+ghost use Rattle.gib_nodes.specs.Nodes.{IsOfParts};
 
 use std::alloc::{AllocError, Global};
 use std::marker::Model;
@@ -9,12 +10,14 @@ use std::marker::Model;
 pub trait Layered {
     // The trees, and that of no node.
     ghost Tree: { Type 0 };
+
     ghost nothing: { Tree };
     // A node as a tree, where its parts are these trees.
     ghost layer: { (ℕ → Tree) → Option Self → Tree };
     // The parts of a node have smaller numbers, and its tree is made of theirs alone.
     ghost below: { Self → ℕ → Type 0 };
-    ghost parts: { (f g : ℕ → Tree) (id : ℕ) (o : Option Self) → ((node : Self) → o ≡ Some node → below node id) → ((a : ℕ) → a < id → f a ≡ g a) → layer f o ≡ layer g o };
+
+    ghost parts: { IsOfParts below layer };
 }
 
 /// Nodes, each behind its parts.

@@ -1,7 +1,6 @@
 -- What an arena tells of nodes, as the trees of expressions with the words of their types.
-use Rattle.std.proofs.Common.{◌≡◌, ℕ, zero, suc, ◌-◌, ◌+◌, ◌<◌, ◌≤◌, List, [], ◌∷◌, Option, Some, None, refl, sym, ap, ◌∙◌, subst, arith, ◌++◌, length, take, drop, min, get_or, ⊎_elim, length-append}
+use Rattle.std.proofs.Common.{◌≡◌, ℕ, zero, suc, ◌-◌, ◌+◌, ◌≤◌, List, [], ◌∷◌, Option, Some, None, refl, sym, ap, ◌∙◌, subst, arith, ◌++◌, length, take, drop, min, ⊎_elim, length-append}
 use Rattle.std.proofs.str.Laws.{order}
-use Rattle.std.proofs.lemmas.Option.{same_Some, slice_get_within, slice_get-get_or}
 use Rattle.std.proofs.lemmas.List.{take-append-le, drop-append-le, length-drop, take_all}
 use Rattle.std.proofs.Math.Seq.{drop-append_seam}
 use Rattle.std.proofs.Math.ListN.{drop_of_length-le}
@@ -14,7 +13,7 @@ use Rattle.gib_syntax.specs.declared.generic.GenericNode.TheVariants as n
 use Rattle.gib_syntax.specs.declared.written.Word.{Word}
 use Rattle.gib_syntax.specs.declared.written.Run.{Run}
 use Rattle.gib_syntax.specs.GenericTree.{GenericExpression as Expression, GenericCall, GenericMake}
-use Rattle.gib_syntax.specs.Words.{run_words, stack_of, all_types, types_in, IsRunIn, IsTypesRun, IsTypeRun}
+use Rattle.gib_syntax.specs.Words.{run_words, stack_of, all_types, IsRunIn, IsTypesRun, IsTypeRun}
 use Rattle.gib_syntax.specs.GenericArena.{Arena, PartsBelow, IsRunWithin, IsArena, arguments_from, layer, layer_of, nothing_of, tree_of, Opens, Grows, Makes}
 use Rattle.gib_syntax.specs.GenericLaws.{layer_same_if, layer_of_same_if}
 
@@ -151,9 +150,9 @@ put_view a v new id node e put same =
     let len = length-append a.nodes (node ∷ []) in
     subst Q e (record {
       grows = record {
-          longer = omega (arith, longer, len);
-          same = λ b lt. (λ k. put.same b lt k (same k));
-          runs = λ run h. (subst (λ ws. IsRunIn ws run) (sym same) h, ap (λ ws. run_words ws run) same);
+        longer = omega (arith, longer, len);
+        same = λ b lt. (λ k. put.same b lt k (same k));
+        runs = λ run h. (subst (λ ws. IsRunIn ws run) (sym same) h, ap (λ ws. run_words ws run) same);
       };
       inside = omega (arith, put.place, longer, len);
       tree = (λ k. put.tree k (same k));

@@ -1,5 +1,5 @@
 -- What an arena tells of nodes, as the trees of expressions.
-use Rattle.std.proofs.Common.{◌≡◌, ℕ, ◌<◌, ◌≤◌, List, [], ◌∷◌, Some, ap, subst, arith, length, length-append}
+use Rattle.std.proofs.Common.{◌≡◌, ℕ, ◌≤◌, List, [], ◌∷◌, Some, ap, subst, arith, length, length-append}
 use Rattle.gib_nodes.specs.Nodes.{IsPut}
 use Rattle.gib_nodes.specs.Nodes as arena
 use Rattle.gib_nodes.proofs.Layers as layers

@@ -1,26 +1,33 @@
 -- A node's tree is made of the trees of its parts alone.
-use Rattle.std.proofs.Common.{◌≡◌, ℕ, ◌<◌, List, [], ◌∷◌, Option, Some, None, refl, ap}
+use Rattle.std.proofs.Common.{◌≡◌, ℕ, ◌<◌, List, [], ◌∷◌, Some, None, refl, ap}
 use Rattle.std.specs.List.{AllByRecursion}
+use Rattle.gib_nodes.specs.Nodes.{IsOfParts}
 use Rattle.gib_syntax.specs.declared.exprs.ExprId.{ExprId}
 use Rattle.gib_syntax.specs.declared.exprs.Arm.{Arm}
-use Rattle.gib_syntax.specs.declared.exprs.Node.{Node}
 use Rattle.gib_syntax.specs.declared.exprs.Node.TheVariants as n
 use Rattle.gib_syntax.specs.Tree.{Expression, Arms, Paren, Op, Call, Make, Let, Par, If, Case, Tuple, LetSeveral, ParSeveral, Argument, LastArm, NextArm}
 use Rattle.gib_syntax.specs.Arena.{IsArmBelow, ArmsBelow, PartsBelow, arguments_from, arms_from, case_from, layer}
 
-arguments_same : (f g : ℕ → Expression) (id : ℕ) (is : List ExprId) → AllByRecursion (λ (a : ExprId). a.0 < id) is → ((a : ℕ) → a < id → f a ≡ g a) → arguments_from f is ≡ arguments_from g is
+-- Arguments are made of the trees of theirs.
+arguments_same : (f g : ℕ → Expression) (id : ℕ) (is : List ExprId) → AllByRecursion (λ (a : ExprId). a.0 < id) is
+    → ((a : ℕ) → a < id → f a ≡ g a) → arguments_from f is ≡ arguments_from g is
 arguments_same f g id [] h e = refl
 arguments_same f g id (i ∷ is) h e = (λ k. Argument (e i.0 h.0 k) (arguments_same f g id is h.1 e k))
 
-arms_same : (f g : ℕ → Expression) (id : ℕ) (arm : Arm) (arms : List Arm) → arm.body.0 < id → AllByRecursion (IsArmBelow id) arms → ((a : ℕ) → a < id → f a ≡ g a) → arms_from f arm arms ≡ arms_from g arm arms
+-- Arms are made of the trees of theirs.
+arms_same : (f g : ℕ → Expression) (id : ℕ) (arm : Arm) (arms : List Arm) → arm.body.0 < id → AllByRecursion (IsArmBelow id) arms
+    → ((a : ℕ) → a < id → f a ≡ g a) → arms_from f arm arms ≡ arms_from g arm arms
 arms_same f g id arm [] h hs e = (λ k. LastArm arm.constructor arm.variables.items (e arm.body.0 h k))
 arms_same f g id arm (next ∷ arms) h hs e = (λ k. NextArm arm.constructor arm.variables.items (e arm.body.0 h k) (arms_same f g id next arms hs.0 hs.1 e k))
 
-case_same : (f g : ℕ → Expression) (id : ℕ) (arms : List Arm) (make : Arms → Expression) → ArmsBelow arms id → ((a : ℕ) → a < id → f a ≡ g a) → case_from f arms make ≡ case_from g arms make
+-- So is a case of arms.
+case_same : (f g : ℕ → Expression) (id : ℕ) (arms : List Arm) (make : Arms → Expression) → ArmsBelow arms id
+    → ((a : ℕ) → a < id → f a ≡ g a) → case_from f arms make ≡ case_from g arms make
 case_same f g id [] make h e = refl
 case_same f g id (arm ∷ arms) make h e = ap make (arms_same f g id arm arms h.0 h.1 e)
 
-pub layer_same_if : (f g : ℕ → Expression) (id : ℕ) (o : Option Node) → ((node : Node) → o ≡ Some node → PartsBelow node id) → ((a : ℕ) → a < id → f a ≡ g a) → layer f o ≡ layer g o
+-- A node is made of the trees of its parts.
+pub layer_same_if : IsOfParts PartsBelow layer
 layer_same_if f g id None below e = refl
 layer_same_if f g id (Some (n.Variable x)) below e = refl
 layer_same_if f g id (Some (n.Whole p v)) below e = refl

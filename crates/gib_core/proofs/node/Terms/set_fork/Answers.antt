@@ -2,8 +2,8 @@ use Rattle.std.proofs.Common.{Some, ap, ◌∙◌}
 use Rattle.gib_core.proofs.Marks.{fork_parts, set_view}
 use Rattle.gib_core.proofs.node.Terms.set_fork.Goals as goal
 
-pub set-requires-below : goal.set-requires-below
-set-requires-below c = fork_parts c.node.result.now c.args.number c.in-Then.binding c.with_fork.result c.in-Then.rest c.args.fork c.node.ensures.below c.in-Then.is c.with_fork.ensures
+pub set-requires-clause-below : goal.set-requires-clause-below
+set-requires-clause-below c = fork_parts c.node.result.now c.args.number c.in-Then.binding c.with_fork.result c.in-Then.rest c.args.fork c.node.ensures.below c.in-Then.is c.with_fork.ensures
 
 pub returns : goal.returns
 returns c =

@@ -1,5 +1,4 @@
 use Rattle.std.proofs.Common.{ap, refl}
-use Rattle.gib_syntax.specs.GenericArena.{Arena}
 use Rattle.gib_syntax.proofs.GenericLayers.{put_keeps, put_view}
 use Rattle.gib_syntax.proofs.generic.GenericExprs.put.Goals as goal
 
