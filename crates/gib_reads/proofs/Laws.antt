@@ -1,5 +1,6 @@
 -- The laws of a reader, all at once.
-use Rattle.std.proofs.Common.{◌≡◌, ℕ, zero, suc, ◌+◌, ◌≤◌, Bool, true, false, List, [], ◌∷◌, ◌++◌, length, refl, sym, ap, ◌∙◌, subst, arith, ◌⊎◌, inl, inr}
+use Rattle.std.proofs.Common.{◌≡◌, ℕ, zero, suc, ◌+◌, ◌-◌, ◌<◌, ◌≤◌, Bool, true, false, List, [], ◌∷◌, ◌++◌, length, take, refl, sym, ap, ◌∙◌, subst, arith, ◌⊎◌, inl, inr, length-append}
+use Rattle.std.proofs.lemmas.List.{take_at}
 use Rattle.gib_base.specs.declared.Span.{Span}
 use Rattle.gib_base.specs.declared.token.Sign.{Sign}
 use Rattle.gib_base.specs.declared.token.Token.{Token}
@@ -7,8 +8,8 @@ use Rattle.gib_base.specs.declared.token.Token.TheVariants as t
 use Rattle.gib_syntax.specs.declared.tree.Ident.{Ident}
 use Rattle.gib_syntax.specs.Spelling.{Places, IsAt}
 use Rattle.gib_reads.specs.Readers.{At, Reader, then_at, want, want_if, same, before, named, var_at, con_at, next_is, many_step, many_at, many}
-use Rattle.gib_reads.proofs.Tools.{done, failed, same_is}
-use Rattle.gib_reads.proofs.Local.{fail_ok, ok_parts, then_done, then_failed, LocalAt, pure_local, local_nil, keeps, takes_marked, then_local, nil_fails, head_fails, many_local}
+use Rattle.gib_reads.proofs.Tools.{done, failed, Holds, same_is}
+use Rattle.gib_reads.proofs.Local.{fail_ok, at_is, ok_parts, then_done, then_failed, LocalAt, pure_local, local_nil, keeps, takes_marked, then_local, nil_fails, head_fails, many_local}
 use Rattle.gib_reads.proofs.Past.{Past, pure_past, past_by, past_takes, past_refuses, then_past, many_past, many_within}
 
 -- ---- what is told
@@ -105,9 +106,6 @@ pure_told {F = F} {f = f} a ws sp fine good = record {
 pub told_by : {A : Type 0} {k : ℕ} {F : Form A} {r : List Token} {f : List Token → List Token} (p q : Reader A) (ws : List Token) → p ws ≡ q ws
     → Told k F r f q ws → Told k F r f p ws
 told_by p q ws e h = record { taken = λ a rest g. h.taken a rest (sym e ∙ g); begins = λ j g. h.begins j (sym e ∙ g) }
-
-at_is : {A : Type 0} (j k : ℕ) → failed {A = A} (At j) ≡ failed (At k) → j ≡ k
-at_is j k e = cc
 
 pub told_fail : {A : Type 0} {F : Form A} {r : List Token} {f : List Token → List Token} (p : Reader A) (ws vs : List Token)
     → p ws ≡ failed (At (length ws)) → IsSpelled F r (f vs) → Told 1 F r f p ws
@@ -418,3 +416,21 @@ many_reads {w = w} starts R h r ws =
           (λ n l. many_within n starts (R w.text.here w.low) p (λ l. (h [] l).past) l) ws;
       told = told_by (many starts p) (many_at (length ws) starts p) ws refl (many_at_told starts p (λ q l. (h q l).told) (length ws) r ws);
     }
+
+-- ---- what follows at once
+
+-- A text by itself.
+abbrev pub alone : Places → Text
+alone at = record { tok = t.Number 0; after = []; more = []; here = at; there = at; shift = λ k. refl }
+
+-- Tokens are taken.
+pub shrinks : {A : Type 0} {F : Form A} {r : List Token} {f : List Token → List Token} {p : Reader A} {ws : List Token} → Told 1 F r f p ws
+    → Holds (p ws) (λ _ rest. length rest < length ws)
+shrinks h = record { by = λ a rest e. let le = (h.taken a rest e).takes in omega arith }
+
+-- What agrees up to where j tokens are left begins with the tokens before.
+pub agrees_begin : (j : ℕ) (ws vs : List Token) → Agrees j ws vs → (more : List Token) × (vs ≡ take (length ws - j) ws ++ more)
+agrees_begin j ws vs a =
+    let len : length a.front ≡ length ws - j = omega (arith, ap length a.here, length-append a.front a.rest, a.left) in
+    let cut : take (length ws - j) ws ≡ a.front = ap (take (length ws - j)) a.here ∙ take_at a.front a.rest (length ws - j) len in
+    (a.more, a.there ∙ ap (λ l. l ++ a.more) (sym cut))

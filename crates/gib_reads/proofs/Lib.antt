@@ -6,3 +6,4 @@ pub mod SoFar
 pub mod Past
 pub mod Local
 pub mod Laws
+pub mod Cuts

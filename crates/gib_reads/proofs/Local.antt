@@ -19,10 +19,10 @@ fault Deep j = Nested j
 pub fail_ok : {A : Type 0} (f : Fault) (a : A) (rest : List Token) → failed f ≡ done a rest → ⊥
 fail_ok f a rest e = cc
 
-at_is : {A : Type 0} (j k : ℕ) → failed {A = A} (At j) ≡ failed (At k) → j ≡ k
+pub at_is : {A : Type 0} (j k : ℕ) → failed {A = A} (At j) ≡ failed (At k) → j ≡ k
 at_is j k e = cc
 
-nested_is : {A : Type 0} (j k : ℕ) → failed {A = A} (Nested j) ≡ failed (Nested k) → j ≡ k
+pub nested_is : {A : Type 0} (j k : ℕ) → failed {A = A} (Nested j) ≡ failed (Nested k) → j ≡ k
 nested_is j k e = cc
 
 pub at_is_nested : {A : Type 0} (j k : ℕ) → failed {A = A} (At j) ≡ failed (Nested k) → ⊥

@@ -1,9 +1,9 @@
 -- With one level more, reading goes past the token that was nested too deep, and what was read or refused stays.
-use Rattle.std.proofs.Common.{◌≡◌, ℕ, zero, suc, ◌<◌, ◌≤◌, Bool, true, false, List, [], ◌∷◌, length, refl, sym, ap, ◌∙◌, arith, ◌⊎◌, inl, inr}
+use Rattle.std.proofs.Common.{◌≡◌, ℕ, zero, suc, ◌+◌, ◌-◌, ◌<◌, ◌≤◌, Bool, true, false, List, [], ◌∷◌, length, Ok, Err, refl, sym, ap, ◌∙◌, subst, arith, ◌⊎◌, inl, inr}
 use Rattle.gib_base.specs.declared.token.Token.{Token}
-use Rattle.gib_reads.specs.Readers.{At, Nested, Reader, then_at, next_is, many_step, many_at, many}
+use Rattle.gib_reads.specs.Readers.{At, Nested, Read, Reader, then_at, next_is, many_step, many_at, many}
 use Rattle.gib_reads.proofs.Tools.{done, failed}
-use Rattle.gib_reads.proofs.Local.{Kind, Refused, fault, fail_ok, fault_within, at_is_nested, ok_parts, then_done, then_failed, Within}
+use Rattle.gib_reads.proofs.Local.{Kind, Refused, Deep, fault, fail_ok, fault_within, at_is_nested, ok_parts, then_done, then_failed, Within}
 
 -- What a reader with more levels does, beside one with fewer.
 pub record Past {A : Type 0} (p q : Reader A) (ws : List Token) : Type 0 where
@@ -143,3 +143,53 @@ pub many_past : {A : Type 0} (starts : Token → Bool) (p q : Reader A) → ((ws
 unfolding many
 many_past starts p q h ws = past_by (many starts p) (many starts q) (many_at (length ws) starts p) (many_at (length ws) starts q) ws refl refl
     (many_at_past (length ws) starts p q h ws)
+
+-- ---- more levels than one
+
+-- A fault stands, or reading ended, behind the token from which so many are left.
+pub record Further {A : Type 0} (j : ℕ) (r : Read A) : Type 0 where
+  pub ok : (a : A) (rest : List Token) → r ≡ done a rest → length rest < j
+  pub bad : (c : Kind) (k : ℕ) → r ≡ failed (fault c k) → k < j
+
+-- Readers by their levels.
+module _ {A : Type 0} (R : ℕ → Reader A) (past : (n : ℕ) (ws : List Token) → Past (R n) (R (suc n)) ws) (ws : List Token) where
+  stays_from : (r : Read A) → ((n : ℕ) → R n ws ≡ r → R (suc n) ws ≡ r) → (n d m : ℕ) → m ≡ d + n → R n ws ≡ r → R m ws ≡ r
+  stays_from r step n zero m is e = let same_level : m ≡ n = omega arith in ap (λ l. R l ws) same_level ∙ e
+  stays_from r step n (suc d) m is e =
+      let next : m ≡ suc (d + n) = omega arith in
+      ap (λ l. R l ws) next ∙ step (d + n) (stays_from r step n d (d + n) refl e)
+
+  -- What is read is read in more levels.
+  pub read_stays : (n m : ℕ) (a : A) (rest : List Token) → n ≤ m → R n ws ≡ done a rest → R m ws ≡ done a rest
+  read_stays n m a rest le e = stays_from (done a rest) (λ l. (past l ws).ok a rest) n (m - n) m (omega arith) e
+
+  -- What is refused is refused in more levels.
+  pub refused_stays : (n m j : ℕ) → n ≤ m → R n ws ≡ failed (At j) → R m ws ≡ failed (At j)
+  refused_stays n m j le e = stays_from (failed (At j)) (λ l. (past l ws).refused j) n (m - n) m (omega arith) e
+
+  further_next : (n j : ℕ) → Further j (R n ws) → (r : Read A) → R n ws ≡ r → Further j (R (suc n) ws)
+  further_next n j h (Ok x) e =
+      let f = (past n ws).ok x.0 x.1 e in
+      record { ok = λ a rest g. h.ok a rest (e ∙ sym f ∙ g); bad = λ c k g. h.bad c k (e ∙ sym f ∙ g) }
+  further_next n j h (Err (At i)) e =
+      let f = (past n ws).refused i e in
+      record { ok = λ a rest g. h.ok a rest (e ∙ sym f ∙ g); bad = λ c k g. h.bad c k (e ∙ sym f ∙ g) }
+  further_next n j h (Err (Nested i)) e =
+      let lt = h.bad Deep i e in
+      record {
+        ok = λ a rest g. let more = (past n ws).sunk_ok i a rest e g in omega arith;
+        bad = λ c k g. let more = (past n ws).sunk_bad i c k e g in omega arith;
+      }
+
+  further_from : (n j d m : ℕ) → m ≡ suc (d + n) → R n ws ≡ failed (Nested j) → Further j (R m ws)
+  further_from n j zero m is e =
+      let next : m ≡ suc n = omega arith in
+      subst (λ (l : ℕ). Further j (R l ws)) (sym next) (record { ok = λ a rest g. (past n ws).sunk_ok j a rest e g; bad = λ c k g. (past n ws).sunk_bad j c k e g })
+  further_from n j (suc d) m is e =
+      let next : m ≡ suc (suc (d + n)) = omega arith in
+      let l : ℕ = suc (d + n) in
+      subst (λ (l : ℕ). Further j (R l ws)) (sym next) (further_next l j (further_from n j d l refl e) (R l ws) refl)
+
+  -- In more levels reading goes past the token that was nested too deep.
+  pub goes_further : (n m j : ℕ) → n < m → R n ws ≡ failed (Nested j) → Further j (R m ws)
+  goes_further n m j lt e = further_from n j (m - suc n) m (omega arith) e

@@ -13,11 +13,11 @@ use thiserror::Error;
 pub enum ParseFault {
     #[error("out of memory")]
     Memory,
-    /// The token at this place: no program's tokens begin with the tokens up to and including it. The text's
-    /// length where tokens are missing.
+    /// The token at this place: nothing that is read so begins with the tokens up to and including it. The text's length where tokens
+    /// are missing.
     #[error("token not expected at byte {0}")]
     At(u32),
-    /// The expression at this place stands on a level past the last.
+    /// What begins at this place stands on a level past the last.
     #[error("expression nested too deep at byte {0}")]
     Nested(u32),
 }

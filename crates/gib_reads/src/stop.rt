@@ -9,9 +9,9 @@ use std::alloc::{AllocError, AllocFailed};
 pub enum Stop {
     /// Want of memory.
     Memory,
-    /// No program goes on with this token; or with none left, tokens are missing.
+    /// Nothing that is read so goes on with this token; or with none left, tokens are missing.
     At(usize),
-    /// Here an expression begins that is nested too deep.
+    /// What begins here is nested too deep.
     Nested(usize),
 }
 
