@@ -18,7 +18,7 @@ use Rattle.gib_local.specs.Tree.{Line, Arms, LastArm, NextArm}
 use Rattle.gib_local.specs.Grammar.{ArmText, arms_of, arm_at, next_arm_at, arms_at, parse}
 use Rattle.gib_local.specs.LineArena.{ArmsBelow, Grows, arms_from, case_from, nothing, tree_of}
 use Rattle.gib_local.specs.ReadingTerms.{Reads, ReadsArms, arm_text, arms_text}
-use Rattle.gib_local.proofs.Shorter.{next_shrinks}
+use Rattle.gib_local.proofs.WholeLaws.{next_shrinks}
 
 pub grows_none : (a : List LineNode) → Grows a a
 grows_none a = record { longer = omega arith; same = λ id lt. refl }

@@ -26,76 +26,8 @@ use Rattle.gib_local.specs.Grammar.{type_at, parse}
 use Rattle.gib_local.specs.Texts.{starts_type, is_constructor, constructor_at, alternative_at, constructors_at, data_at, listed_at, offsets_at, parameter_at, parameters_at, BodyText, body_at, function_at, main_at, text_at}
 use Rattle.gib_local.specs.LineArena.{Grows, tree_of}
 use Rattle.gib_local.specs.TextParts.{IsFunctionIn, ReadsFunctions, function_text}
-use Rattle.gib_local.proofs.Shorter.{UpTo, Drops, up, less, then_up, here, var_drops, con_drops, want_drops, many_drops, type_drops, option_drops, parse_shrinks}
+use Rattle.gib_local.proofs.WholeLaws.{type_shrinks, con_shrinks, alternative_shrinks, data_shrinks, parameter_shrinks, function_shrinks}
 use Rattle.gib_local.proofs.ArmLoops.{grows_none, PartsSoFar, parts_more, seen, seen_same, within_more}
-
--- ---- each takes a token at least
-
-pub type_shrinks : (at : Places) → Shrinks (type_at at)
-type_shrinks at (t.Sign s.Int ∷ ts) = holds_ok (ty.Whole (before at ts)) ts (omega arith)
-type_shrinks at (t.Sign s.Bool ∷ ts) = holds_ok (ty.Truth (before at ts)) ts (omega arith)
-type_shrinks at (t.Constructor k ∷ ts) = holds_ok (ty.Declared (named at k ts)) ts (omega arith)
-type_shrinks at ts = holds_err (At (length ts))
-
-pub con_shrinks : (at : Places) → Shrinks (con_at at)
-con_shrinks at ts = record { by = λ x rest e. (let o = (con_holds at ts).by x rest e in omega (arith, ap length o.spelled)) }
-
--- Behind a wanted sign.
-behind_sign : {A : Type 0} (a : Rattle.gib_base.specs.declared.token.Sign.Sign) (p : Reader A) (ts : List Token) → Drops p → Holds (then_at (want a ts) (λ _ ts. p ts)) (λ _ rest. length rest < length ts)
-behind_sign a p ts h = then_holds (want_holds a ts) (λ _ rest e. record { by = λ x left f. (let lt = (h rest).by x left f in omega (arith, lt, ap length e)) })
-
-constructor_drops : (at : Places) → Drops (constructor_at at)
-unfolding constructor_at
-constructor_drops at ts = then_up (con_drops at ts) (λ k ts. then_up (many_drops starts_type (type_at at) (type_drops at) ts) (λ fields ts. let made : ConstructorTree = record { name = k; fields = fields } in here made ts))
-
-pub alternative_shrinks : (at : Places) → Shrinks (alternative_at at)
-unfolding alternative_at
-alternative_shrinks at ts = behind_sign s.Bar (constructor_at at) ts (constructor_drops at)
-
-alternative_drops : (at : Places) → Drops (alternative_at at)
-alternative_drops at ts = record { by = λ x rest e. (let lt = (alternative_shrinks at ts).by x rest e in omega (arith, lt)) }
-
-constructors_drops : (at : Places) → Drops (constructors_at at)
-unfolding constructors_at
-constructors_drops at ts = then_up (constructor_drops at ts) (λ c ts. then_up (many_drops (is_sign s.Bar) (alternative_at at) (alternative_drops at) ts) (λ cs ts. here (c ∷ cs) ts))
-
-pub data_shrinks : (at : Places) → Shrinks (data_at at)
-unfolding data_at
-data_shrinks at ts =
-    let rest : Reader DataTree = λ ts. then_at (con_at at ts) (λ k ts. then_at (want s.Equals ts) (λ _ ts. then_at (constructors_at at ts) (λ cs ts. then_at (want s.Semicolon ts) (λ _ ts. Ok (record { name = k; constructors = cs }, ts))))) in
-    behind_sign s.Data rest ts
-    (λ ts. then_up (con_drops at ts) (λ k ts. then_up (want_drops s.Equals ts) (λ _ ts. then_up (constructors_drops at ts) (λ cs ts. then_up (want_drops s.Semicolon ts) (λ _ ts. let made : DataTree = record { name = k; constructors = cs } in here made ts)))))
-
-pub parameter_shrinks : (at : Places) → Shrinks (parameter_at at)
-unfolding parameter_at
-parameter_shrinks at ts =
-    let rest : Reader Parameter = λ ts. then_at (var_at at ts) (λ x ts. then_at (want s.Colon ts) (λ _ ts. then_at (type_at at ts) (λ w ts. then_at (want s.Close ts) (λ _ ts. Ok (record { name = x; ty = w }, ts))))) in
-    behind_sign s.Open rest ts
-    (λ ts. then_up (var_drops at ts) (λ x ts. then_up (want_drops s.Colon ts) (λ _ ts. then_up (type_drops at ts) (λ w ts. then_up (want_drops s.Close ts) (λ _ ts. let made : Parameter = record { name = x; ty = w } in here made ts)))))
-
-parameter_drops : (at : Places) → Drops (parameter_at at)
-parameter_drops at ts = record { by = λ x rest e. (let lt = (parameter_shrinks at ts).by x rest e in omega (arith, lt)) }
-
-parameters_drops : (at : Places) → Drops (parameters_at at)
-unfolding parameters_at
-parameters_drops at ts = then_up (parameter_drops at ts) (λ q ts. then_up (many_drops (is_sign s.Open) (parameter_at at) (parameter_drops at) ts) (λ qs ts. here (q ∷ qs) ts))
-
-parse_drops : (at : Places) (n : ℕ) → Drops (parse at n)
-parse_drops at n ts = record { by = λ x rest e. (let lt = (parse_shrinks at n ts).by x rest e in omega (arith, lt)) }
-
-body_drops : (at : Places) → Drops (body_at at)
-unfolding body_at
-body_drops at ts =
-    then_up (want_drops s.Colon ts) (λ _ ts. then_up (type_drops at ts) (λ w ts. then_up (option_drops at ts) (λ m ts. then_up (want_drops s.Equals ts) (λ _ ts. then_up (parse_drops at 200 ts) (λ u ts. then_up (want_drops s.Semicolon ts)
-    (λ _ ts. let made : BodyText = record { result = w; place = m; line = u } in here made ts))))))
-
-pub function_shrinks : (at : Places) → Shrinks (function_at at)
-unfolding function_at
-function_shrinks at ts =
-    let rest : Reader FunctionText = λ ts. then_at (var_at at ts) (λ f ts. then_at (parameters_at at ts) (λ qs ts. then_at (body_at at ts) (λ b ts. Ok (record { name = f; parameters = qs; result = b.result; place = b.place; body = b.line }, ts)))) in
-    behind_sign s.Fun rest ts
-    (λ ts. then_up (var_drops at ts) (λ f ts. then_up (parameters_drops at ts) (λ qs ts. then_up (body_drops at ts)
-    (λ b ts. let made : FunctionText = record { name = f; parameters = qs; result = b.result; place = b.place; body = b.line } in here made ts))))
 
 map_push : {A B : Type 0} (f : A → B) (xs : List A) (x : A) → map f (xs ++ x ∷ []) ≡ map f xs ++ f x ∷ []
 map_push f [] x = refl

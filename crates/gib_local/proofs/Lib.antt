@@ -22,15 +22,8 @@ mod Inferred
 mod Placing
 mod Passes
 pub mod Layers
-pub mod Operands
 mod TextsRead
 pub mod Calls
-pub mod Sound
-mod TextsSound
-pub mod Alike
-mod TextsAlike
-mod Deeper
-pub mod Shorter
 pub mod ArmLoops
 mod OneLocal
 pub mod DeclarationLoops
@@ -62,3 +55,10 @@ mod KeptNaturals
 mod Offsetting
 mod SingleTexts
 mod TypedCovered
+pub mod Asked
+pub mod Anywhere
+pub mod PhraseLaws
+pub mod TermLaws
+pub mod LevelLaws
+pub mod TextLaws
+pub mod WholeLaws

@@ -17,9 +17,9 @@ use Rattle.gib_local.specs.Building.{Placed, build_core}
 use Rattle.gib_local.specs.Counting.{broken_text}
 use Rattle.gib_check.specs.Faults.{Checked}
 use Rattle.gib_local.specs.Local.{Local, Refusal, judged, placed, named, read, answer}
-use Rattle.gib_local.proofs.Reading.{done}
+use Rattle.gib_reads.proofs.Tools.{done}
 use Rattle.gib_local.proofs.TextsRead.{one_text, whole_back}
-use Rattle.gib_local.proofs.TextsSound.{read_sound}
+use Rattle.gib_local.proofs.WholeLaws.{read_sound}
 
 abbrev found : CoreTree → Placed CoreTree
 found c = Ok c

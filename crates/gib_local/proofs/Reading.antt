@@ -13,12 +13,9 @@ use Rattle.gib_base.specs.declared.token.Token.{Token}
 use Rattle.gib_base.specs.declared.token.Token.TheVariants as t
 use Rattle.gib_reads.specs.Readers.{Read, Reader, before, then_at, named, want, next_is, many, many_at, many_step, is_variable, is_sign, var_at}
 use Rattle.gib_syntax.specs.Spelling.{Places}
+use Rattle.gib_reads.proofs.Tools.{done}
 use Rattle.gib_local.specs.Grammar.{ArmText, starts_operand, arms_of, arm_at, next_arm_at, sign, lower, upper, operand_word, operator_word, type_word, spell_mark, spell_option, spell_operands, spell_names, spell_location, spell_way, spell_between, spell_line, spell_binding, spell_bound, spell_arms, type_at, literal_at, operand_at, operands_at, names_at, mark_at, option_at, location_at, way_at, operator_at, between_at, bound_from, bound_at, let_from, let_at, in_at, arms_at, call_at, parse}
 use Rattle.gib_local.specs.Placed.{IsAt, MarkAt, OptionAt, OperandAt, OperandsAt, NamesAt, TypeAt, LocationAt, WayAt, BetweenAt, ArgumentsAt, Follows, LineAt, BindingAt, BoundAt, ArmsAt}
-
--- This was read, and these words are left.
-abbrev pub done : {A : Type 0} → A → List Token → Read A
-done a ws = Ok (a, ws)
 
 pub name_back : (at : Places) (x : Ident) (ws : List Token) → IsAt at x ws → named at x.name ws ≡ x
 name_back at x ws e = λ i. record { name = x.name; span = sym e i }

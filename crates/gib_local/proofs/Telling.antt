@@ -25,6 +25,7 @@ use Rattle.gib_local.specs.Building.{Placed, build_core}
 use Rattle.gib_local.specs.Counting.{broken_text}
 use Rattle.gib_local.specs.Local.{Local, Refusal, Unread, Breaks, answer, judged, read}
 use Rattle.gib_local.specs.Texts.{whole_text}
+use Rattle.gib_local.proofs.WholeLaws.{first_blamed}
 use Rattle.gib_local.specs.Judged.{Answers, AreTokensOf, Blames, IsDeep, IsUnlexed, IsUnread, Judges, Refuses}
 use Rattle.gib_local.specs.LocalFaults.{IsLocalFault}
 
@@ -55,7 +56,7 @@ pub unread : (l : Lexed) (s : Stop) (e : ParseFault) (place : ℕ) → e ≡ fau
 unread l stop.Memory e place q h i = absurd (let k : parsing.Memory ≡ parsing.At place = sym q ∙ i in cc)
 unread l (stop.At left) e place q h i =
     let k : parsing.At (place_of l left) ≡ parsing.At place = sym q ∙ i in
-    record { left = left; is = ap read h; here = (let m : place_of l left ≡ place = cc in sym m) }
+    record { left = left; is = ap read h; first = first_blamed (places_of l.spans) l.tokens left h; here = (let m : place_of l left ≡ place = cc in sym m) }
 unread l (stop.Nested left) e place q h i = absurd (let k : parsing.Nested (place_of l left) ≡ parsing.At place = sym q ∙ i in cc)
 
 pub deep : (l : Lexed) (s : Stop) (e : ParseFault) (place : ℕ) → e ≡ fault_of l.spans l.len s → Fails s (whole_text (places_of l.spans) l.tokens) → e ≡ parsing.Nested place → IsDeep l place
@@ -85,7 +86,7 @@ refused_bytes bytes l f.Long t h = absurd h
 refused_bytes bytes l (f.At place) t h = absurd h
 refused_bytes bytes l (f.Big place) t h = absurd h
 refused_bytes bytes l f.Many t h = absurd h
-refused_bytes bytes l (f.Syntax place) t h = record { lexed = l; left = h.left; answered = record { is_lexed = t.is; short = t.short; few_names = t.few_names; refused = h.is }; here = h.here }
+refused_bytes bytes l (f.Syntax place) t h = record { lexed = l; left = h.left; answered = record { is_lexed = t.is; short = t.short; few_names = t.few_names; refused = h.is }; first = h.first; here = h.here }
 refused_bytes bytes l (f.Nested place) t h = record { lexed = l; left = h.left; answered = record { is_lexed = t.is; short = t.short; few_names = t.few_names; refused = h.is }; here = h.here }
 refused_bytes bytes l (f.Broken fault) t h = (l, record { is_lexed = t.is; short = t.short; few_names = t.few_names; refused = h })
 refused_bytes bytes l (f.Place place) t h = (l, record { is_lexed = t.is; short = t.short; few_names = t.few_names; refused = h })

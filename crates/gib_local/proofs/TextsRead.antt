@@ -14,9 +14,10 @@ use Rattle.gib_reads.specs.Readers.{Read, Reader, then_at, named, want, next_is,
 use Rattle.gib_local.specs.Tree.{Mark, Line, FunctionText, MainText, LocalTree}
 use Rattle.gib_local.specs.Grammar.{lower, upper, type_word, spell_option, spell_line, type_at, option_at, parse}
 use Rattle.gib_local.specs.Placed.{IsAt, TypeAt, OptionAt, LineAt, Follows}
-use Rattle.gib_local.specs.Texts.{spell_list, spell_type, spell_con, spell_constructor, spell_alternative, spell_constructors, spell_data, spell_offsets, spell_parameter, spell_body, spell_function, spell_main, spell_text, starts_type, is_constructor, constructor_at, alternative_at, constructors_at, data_at, listed_at, offsets_at, parameter_at, parameters_at, BodyText, body_at, function_at, main_at, text_at, ended, whole_text}
-use Rattle.gib_local.specs.PlacedTexts.{ListAt, ConstructorAt, ConstructorsAt, DataAt, OffsetsAt, ParameterAt, ParametersAt, BodyAt, FunctionAt, MainAt, TextAt}
-use Rattle.gib_local.proofs.Reading.{done, no_more, name_back, type_back, option_back, line_back}
+use Rattle.gib_local.specs.Texts.{spell_list, spell_type, spell_con, spell_constructor, spell_alternative, spell_constructors, spell_data, spell_offsets, spell_parameter, spell_body, spell_function, spell_main, spell_text, starts_type, is_constructor, constructor_at, alternative_at, constructors_at, data_at, listed_at, offsets_at, parameter_at, parameters_at, BodyText, body_of, body_at, function_of, function_at, main_of, main_at, text_by, text_at, ended, whole_text, whole_in}
+use Rattle.gib_local.specs.PlacedTexts.{ListAt, ConstructorAt, ConstructorsAt, DataAt, OffsetsAt, ParameterAt, ParametersAt, BodyIn, FunctionIn, MainIn, TextIn, TextAt}
+use Rattle.gib_reads.proofs.Tools.{done}
+use Rattle.gib_local.proofs.Reading.{no_more, name_back, type_back, option_back, line_back}
 
 -- ---- things one after another
 
@@ -178,27 +179,27 @@ ended_line at rest = record { operands = refl; mark = refl }
 abbrev body_text : TypeName → Option Mark → Line → BodyText
 body_text w m u = record { result = w; place = m; line = u }
 
-body_back : (at : Places) (w : TypeName) (m : Option Mark) (u : Line) (rest : List Token) → BodyAt at w m u rest → body_at at (spell_body w m u rest) ≡ done (body_text w m u) rest
-unfolding body_at
-body_back at w m u rest h =
+body_back : (n : ℕ) (at : Places) (w : TypeName) (m : Option Mark) (u : Line) (rest : List Token) → BodyIn n at w m u rest
+    → body_of at (parse at n) (spell_body w m u rest) ≡ done (body_text w m u) rest
+body_back n at w m u rest h =
     let end : List Token = t.Sign s.Semicolon ∷ rest in
     let ws : List Token = t.Sign s.Equals ∷ spell_line u end in
-    ap (λ (z : Read TypeName). then_at z (λ w ws. then_at (option_at at ws) (λ m ws. then_at (want s.Equals ws) (λ _ ws. then_at (parse at 200 ws) (λ u ws. then_at (want s.Semicolon ws) (λ _ left. Ok (body_text w m u, left))))))) (type_back at w (spell_option m ws) h.0)
-    ∙ (ap (λ (z : Read (Option Mark)). then_at z (λ m ws. then_at (want s.Equals ws) (λ _ ws. then_at (parse at 200 ws) (λ u ws. then_at (want s.Semicolon ws) (λ _ left. Ok (body_text w m u, left)))))) (option_back at m ws h.1 refl)
-    ∙ ap (λ (z : Read Line). then_at z (λ u ws. then_at (want s.Semicolon ws) (λ _ left. Ok (body_text w m u, left)))) (line_back at u 200 end (ended_line at rest) h.2))
+    ap (λ (z : Read TypeName). then_at z (λ w ws. then_at (option_at at ws) (λ m ws. then_at (want s.Equals ws) (λ _ ws. then_at (parse at n ws) (λ u ws. then_at (want s.Semicolon ws) (λ _ left. Ok (body_text w m u, left))))))) (type_back at w (spell_option m ws) h.0)
+    ∙ (ap (λ (z : Read (Option Mark)). then_at z (λ m ws. then_at (want s.Equals ws) (λ _ ws. then_at (parse at n ws) (λ u ws. then_at (want s.Semicolon ws) (λ _ left. Ok (body_text w m u, left)))))) (option_back at m ws h.1 refl)
+    ∙ ap (λ (z : Read Line). then_at z (λ u ws. then_at (want s.Semicolon ws) (λ _ left. Ok (body_text w m u, left)))) (line_back at u n end (ended_line at rest) h.2))
 
-functions_read : (at : Places) → Reads (is_sign s.Fun) (function_at at) spell_function (FunctionAt at) Any
-unfolding function_at
-functions_read at = record { begins = λ f rest. refl; fine = λ f rest. tt; back = back; long = long }
+functions_read : (n : ℕ) (at : Places) → Reads (is_sign s.Fun) (function_of at (body_of at (parse at n))) spell_function (FunctionIn n at) Any
+functions_read n at = record { begins = λ f rest. refl; fine = λ f rest. tt; back = back; long = long }
   where
-    back : (f : FunctionText) (rest : List Token) → FunctionAt at f rest → Any rest → function_at at (spell_function f rest) ≡ done f rest
+    back : (f : FunctionText) (rest : List Token) → FunctionIn n at f rest → Any rest
+        → function_of at (body_of at (parse at n)) (spell_function f rest) ≡ done f rest
     back f rest h a =
         let end : List Token = spell_body f.result f.place f.body rest in
         let ws : List Token = spell_list spell_parameter f.parameters end in
         let made : Ident → List Parameter → BodyText → FunctionText = λ i qs b. record { name = i; parameters = qs; result = b.result; place = b.place; body = b.line } in
         let i : Ident = named at f.name.name ws in
-        ap (λ (z : Read (List Parameter)). then_at z (λ qs ws. then_at (body_at at ws) (λ b left. Ok (made i qs b, left)))) (parameters_back at f.parameters end h.1 refl)
-        ∙ (ap (λ (z : Read BodyText). then_at z (λ b left. Ok (made i f.parameters b, left))) (body_back at f.result f.place f.body rest h.2)
+        ap (λ (z : Read (List Parameter)). then_at z (λ qs ws. then_at (body_of at (parse at n) ws) (λ b left. Ok (made i qs b, left)))) (parameters_back at f.parameters end h.1 refl)
+        ∙ (ap (λ (z : Read BodyText). then_at z (λ b left. Ok (made i f.parameters b, left))) (body_back n at f.result f.place f.body rest h.2)
         ∙ (λ j. done (made (name_back at f.name ws h.0 j) f.parameters (body_text f.result f.place f.body)) rest))
 
     parameters_long : (qs : List Parameter) (rest : List Token) → length rest ≤ length (spell_list spell_parameter qs rest)
@@ -217,29 +218,31 @@ functions_read at = record { begins = λ f rest. refl; fine = λ f rest. tt; bac
         let d = Rattle.gib_local.proofs.Reading.line_long f.body (t.Sign s.Semicolon ∷ rest) in
         omega (arith, a, c, d)
 
-main_back : (at : Places) (m : MainText) (rest : List Token) → MainAt at m rest → main_at at (spell_main m rest) ≡ done m rest
-unfolding main_at
-main_back at m rest h =
+main_back : (n : ℕ) (at : Places) (m : MainText) (rest : List Token) → MainIn n at m rest
+    → main_of at (body_of at (parse at n)) (spell_main m rest) ≡ done m rest
+main_back n at m rest h =
     let end : List Token = spell_body m.result m.place m.body rest in
     let made : Parameter → BodyText → MainText = λ q b. record { parameter = q; result = b.result; place = b.place; body = b.line } in
-    ap (λ (z : Read Parameter). then_at z (λ q ws. then_at (body_at at ws) (λ b left. Ok (made q b, left)))) (parameter_back at m.parameter end h.0)
-    ∙ ap (λ (z : Read BodyText). then_at z (λ b left. Ok (made m.parameter b, left))) (body_back at m.result m.place m.body rest h.1)
+    ap (λ (z : Read Parameter). then_at z (λ q ws. then_at (body_of at (parse at n) ws) (λ b left. Ok (made q b, left)))) (parameter_back at m.parameter end h.0)
+    ∙ ap (λ (z : Read BodyText). then_at z (λ b left. Ok (made m.parameter b, left))) (body_back n at m.result m.place m.body rest h.1)
 
 -- ---- whole texts
 
-text_back : (at : Places) (x : LocalTree) (rest : List Token) → TextAt at x rest → text_at at (spell_text x rest) ≡ done x rest
-unfolding text_at
-text_back at x rest h =
+text_back : (n : ℕ) (at : Places) (x : LocalTree) (rest : List Token) → TextIn n at x rest
+    → text_by at (function_of at (body_of at (parse at n))) (main_of at (body_of at (parse at n))) (spell_text x rest) ≡ done x rest
+text_back n at x rest h =
+    let function : Reader FunctionText = function_of at (body_of at (parse at n)) in
+    let main : Reader MainText = main_of at (body_of at (parse at n)) in
     let w3 : List Token = spell_main x.main rest in
     let w2 : List Token = spell_list spell_function x.functions w3 in
     let w1 : List Token = spell_offsets x.offsets w2 in
     let made : List DataTree → List Ident → List FunctionText → MainText → LocalTree = λ ds ks fs m. record { datas = ds; offsets = ks; functions = fs; main = m } in
-    let fs : Reader (List FunctionText) = many (is_sign s.Fun) (function_at at) in
-    ap (λ (z : Read (List DataTree)). then_at z (λ ds ws. then_at (offsets_at at ws) (λ ks ws. then_at (fs ws) (λ fs ws. then_at (main_at at ws) (λ m left. Ok (made ds ks fs m, left))))))
+    let fs : Reader (List FunctionText) = many (is_sign s.Fun) function in
+    ap (λ (z : Read (List DataTree)). then_at z (λ ds ws. then_at (offsets_at at ws) (λ ks ws. then_at (fs ws) (λ fs ws. then_at (main ws) (λ m left. Ok (made ds ks fs m, left))))))
     (list_back (is_sign s.Data) (data_at at) spell_data (DataAt at) Any (datas_read at) x.datas w1 h.datas tt (no_data x.offsets x.functions))
-    ∙ (ap (λ (z : Read (List Ident)). then_at z (λ ks ws. then_at (fs ws) (λ fs ws. then_at (main_at at ws) (λ m left. Ok (made x.datas ks fs m, left))))) (offsets_back at x.offsets w2 h.offsets (no_offsets x.functions))
-    ∙ (ap (λ (z : Read (List FunctionText)). then_at z (λ fs ws. then_at (main_at at ws) (λ m left. Ok (made x.datas x.offsets fs m, left)))) (list_back (is_sign s.Fun) (function_at at) spell_function (FunctionAt at) Any (functions_read at) x.functions w3 h.functions tt refl)
-    ∙ ap (λ (z : Read MainText). then_at z (λ m left. Ok (made x.datas x.offsets x.functions m, left))) (main_back at x.main rest h.main)))
+    ∙ (ap (λ (z : Read (List Ident)). then_at z (λ ks ws. then_at (fs ws) (λ fs ws. then_at (main ws) (λ m left. Ok (made x.datas ks fs m, left))))) (offsets_back at x.offsets w2 h.offsets (no_offsets x.functions))
+    ∙ (ap (λ (z : Read (List FunctionText)). then_at z (λ fs ws. then_at (main ws) (λ m left. Ok (made x.datas x.offsets fs m, left)))) (list_back (is_sign s.Fun) function spell_function (FunctionIn n at) Any (functions_read n at) x.functions w3 h.functions tt refl)
+    ∙ ap (λ (z : Read MainText). then_at z (λ m left. Ok (made x.datas x.offsets x.functions m, left))) (main_back n at x.main rest h.main)))
   where
     no_data : (ks : List Ident) (fs : List FunctionText) → next_is (is_sign s.Data) (spell_offsets ks (spell_list spell_function fs (spell_main x.main rest))) ≡ false
     no_data (k ∷ ks) fs = refl
@@ -252,8 +255,13 @@ text_back at x rest h =
 
 -- What a text spells is read as that text.
 pub whole_back : (at : Places) (x : LocalTree) → TextAt at x [] → whole_text at (spell_text x []) ≡ done x []
-unfolding whole_text
-whole_back at x h = ap (λ (z : Read LocalTree). then_at z ended) (text_back at x [] h)
+unfolding whole_text text_at function_at main_at body_at
+whole_back at x h = ap (λ (z : Read LocalTree). then_at z ended) (text_back 200 at x [] h)
+
+-- In so many levels.
+pub text_back_in : (n : ℕ) (at : Places) (x : LocalTree) → TextIn n at x [] → whole_in n at (spell_text x []) ≡ done x []
+unfolding whole_in
+text_back_in n at x h = ap (λ (z : Read LocalTree). then_at z ended) (text_back n at x [] h)
 
 same_ok : {A : Type 0} (a b : A) (ws vs : List Token) → done a ws ≡ done b vs → a ≡ b
 same_ok {A = A} a b ws vs e = ap (λ (r : Read A). first a r) e

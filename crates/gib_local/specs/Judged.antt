@@ -11,6 +11,7 @@ use Rattle.gib_core.specs.Parts.{Parts, core_of}
 use Rattle.gib_core.specs.Tree.{CoreTree}
 use Rattle.gib_local.specs.declared.fault.LocalFault.{LocalFault}
 use Rattle.gib_local.specs.declared.fault.LocalFault.TheVariants.{Memory, Long, At, Big, Many, Syntax, Nested, Broken, Place, Rule}
+use Rattle.gib_local.specs.Refused.{IsFirstBlamed}
 use Rattle.gib_local.specs.Local.{Refusal, Unread, Misnamed, Misplaced, Breaks, answer}
 
 -- The refusal of a text that was read, unless memory ran out.
@@ -35,6 +36,7 @@ Judges (Err fault) r = Blames fault r
 pub record IsUnread (lexed : Lexed) (place : ℕ) : Type 0 where
   pub left : ℕ
   pub is : answer (places_of lexed.spans) lexed.tokens ≡ Err (Unread (reading.At left))
+  pub first : IsFirstBlamed lexed.tokens left
   pub here : place ≡ place_of lexed left
 
 -- They are refused for a term at this place that is nested too deep.

@@ -10,6 +10,7 @@ use Rattle.gib_reads.specs.Readers as reading
 use Rattle.gib_check.specs.declared.fault.Fault.{Fault}
 use Rattle.gib_local.specs.declared.fault.LocalFault.{LocalFault}
 use Rattle.gib_local.specs.declared.fault.LocalFault.TheVariants.{Memory, Long, At, Big, Many, Syntax, Nested, Broken, Place, Rule}
+use Rattle.gib_local.specs.Refused.{IsFirstBlamed}
 use Rattle.gib_local.specs.Local.{Refusal, Unread, Misnamed, Misplaced, Breaks, answer}
 
 -- Within the limits on bytes and names the text has tokens to which this refusal is answered.
@@ -19,11 +20,12 @@ pub record IsAnswered (bytes : List ℕ) (lexed : Lexed) (refusal : Refusal) : T
   pub few_names : length lexed.names ≤ 65535
   pub refused : answer (places_of lexed.spans) lexed.tokens ≡ Err refusal
 
--- The token at the place may not stand there.
+-- The token at the place is the first that no text goes on with, in however many levels; before it no term is nested too deep.
 pub record IsMisspelled (bytes : List ℕ) (place : ℕ) : Type 0 where
   pub lexed : Lexed
   pub left : ℕ
   pub answered : IsAnswered bytes lexed (Unread (reading.At left))
+  pub first : IsFirstBlamed lexed.tokens left
   pub here : place ≡ place_of lexed left
 
 -- The term at the place is nested too deep.

@@ -45,27 +45,31 @@ abbrev pub ParametersAt : Places → List Parameter → List Token → Type 0
 ParametersAt at [] rest = ⊥
 ParametersAt at (q ∷ qs) rest = ParameterAt at q (spell_list spell_parameter qs rest) × ListAt spell_parameter (ParameterAt at) qs rest
 
--- A result with its place, and a body in 200 levels.
-abbrev pub BodyAt : Places → TypeName → Option Mark → Line → List Token → Type 0
-BodyAt at w place u rest =
+-- A result with its place, and a body in so many levels.
+abbrev pub BodyIn : ℕ → Places → TypeName → Option Mark → Line → List Token → Type 0
+BodyIn n at w place u rest =
     TypeAt at w (spell_option place (t.Sign s.Equals ∷ spell_line u (t.Sign s.Semicolon ∷ rest)))
     × OptionAt at place (t.Sign s.Equals ∷ spell_line u (t.Sign s.Semicolon ∷ rest))
-    × LineAt at u 200 (t.Sign s.Semicolon ∷ rest)
+    × LineAt at u n (t.Sign s.Semicolon ∷ rest)
 
 -- A function does: its name, its parameters, its result and body.
-abbrev pub FunctionAt : Places → FunctionText → List Token → Type 0
-FunctionAt at f rest =
+abbrev pub FunctionIn : ℕ → Places → FunctionText → List Token → Type 0
+FunctionIn n at f rest =
     IsAt at f.name (spell_list spell_parameter f.parameters (spell_body f.result f.place f.body rest))
     × ParametersAt at f.parameters (spell_body f.result f.place f.body rest)
-    × BodyAt at f.result f.place f.body rest
+    × BodyIn n at f.result f.place f.body rest
 
 -- Main does: its parameter, its result and body.
-abbrev pub MainAt : Places → MainText → List Token → Type 0
-MainAt at m rest = ParameterAt at m.parameter (spell_body m.result m.place m.body rest) × BodyAt at m.result m.place m.body rest
+abbrev pub MainIn : ℕ → Places → MainText → List Token → Type 0
+MainIn n at m rest = ParameterAt at m.parameter (spell_body m.result m.place m.body rest) × BodyIn n at m.result m.place m.body rest
 
--- A text that stands before these tokens.
-pub record TextAt (at : Places) (x : LocalTree) (rest : List Token) : Type 0 where
+-- A text that stands before these tokens, in so many levels.
+pub record TextIn (n : ℕ) (at : Places) (x : LocalTree) (rest : List Token) : Type 0 where
   pub datas : ListAt spell_data (DataAt at) x.datas (spell_offsets x.offsets (spell_list spell_function x.functions (spell_main x.main rest)))
   pub offsets : OffsetsAt at x.offsets (spell_list spell_function x.functions (spell_main x.main rest))
-  pub functions : ListAt spell_function (FunctionAt at) x.functions (spell_main x.main rest)
-  pub main : MainAt at x.main rest
+  pub functions : ListAt spell_function (FunctionIn n at) x.functions (spell_main x.main rest)
+  pub main : MainIn n at x.main rest
+
+-- In 200 levels.
+abbrev pub TextAt : Places → LocalTree → List Token → Type 0
+TextAt at x rest = TextIn 200 at x rest

@@ -126,29 +126,45 @@ pub record BodyText : Type 0 where
   pub place : Option Mark
   pub line : Line
 
+-- A result with its place, and a body whose term is read so.
+abbrev pub body_of : Places → Reader Line → Reader BodyText
+body_of at sub ws =
+    then_at (want s.Colon ws) (λ _ ws. then_at (type_at at ws) (λ w ws. then_at (option_at at ws) (λ m ws. then_at (want s.Equals ws) (λ _ ws.
+    then_at (sub ws) (λ u ws. then_at (want s.Semicolon ws) (λ _ ws. Ok (record { result = w; place = m; line = u }, ws)))))))
+
 -- Terms may be nested in 200 levels.
 unfoldable pub body_at : Places → Reader BodyText
-body_at at ws =
-    then_at (want s.Colon ws) (λ _ ws. then_at (type_at at ws) (λ w ws. then_at (option_at at ws) (λ m ws. then_at (want s.Equals ws) (λ _ ws. then_at (parse at 200 ws) (λ u ws. then_at (want s.Semicolon ws) (λ _ ws.
-    Ok (record { result = w; place = m; line = u }, ws)))))))
+body_at at ws = body_of at (parse at 200) ws
+
+-- A function, whose result and body are read so.
+abbrev pub function_of : Places → Reader BodyText → Reader FunctionText
+function_of at body ws =
+    then_at (want s.Fun ws) (λ _ ws. then_at (var_at at ws) (λ f ws. then_at (parameters_at at ws) (λ qs ws. then_at (body ws) (λ b ws.
+    Ok (record { name = f; parameters = qs; result = b.result; place = b.place; body = b.line }, ws)))))
 
 -- A function.
 unfoldable pub function_at : Places → Reader FunctionText
-function_at at ws =
-    then_at (want s.Fun ws) (λ _ ws. then_at (var_at at ws) (λ f ws. then_at (parameters_at at ws) (λ qs ws. then_at (body_at at ws) (λ b ws.
-    Ok (record { name = f; parameters = qs; result = b.result; place = b.place; body = b.line }, ws)))))
+function_at at ws = function_of at (body_at at) ws
+
+-- Main, whose result and body are read so.
+abbrev pub main_of : Places → Reader BodyText → Reader MainText
+main_of at body ws =
+    then_at (want s.Main ws) (λ _ ws. then_at (parameter_at at ws) (λ q ws. then_at (body ws) (λ b ws.
+    Ok (record { parameter = q; result = b.result; place = b.place; body = b.line }, ws))))
 
 -- Main.
 unfoldable pub main_at : Places → Reader MainText
-main_at at ws =
-    then_at (want s.Main ws) (λ _ ws. then_at (parameter_at at ws) (λ q ws. then_at (body_at at ws) (λ b ws.
-    Ok (record { parameter = q; result = b.result; place = b.place; body = b.line }, ws))))
+main_at at ws = main_of at (body_at at) ws
+
+-- A text, whose functions and main are read so, and what stands behind it.
+abbrev pub text_by : Places → Reader FunctionText → Reader MainText → Reader LocalTree
+text_by at function main ws =
+    then_at (many (is_sign s.Data) (data_at at) ws) (λ ds ws. then_at (offsets_at at ws) (λ ks ws. then_at (many (is_sign s.Fun) function ws) (λ fs ws.
+    then_at (main ws) (λ m ws. Ok (record { datas = ds; offsets = ks; functions = fs; main = m }, ws)))))
 
 -- A text, and what stands behind it.
 unfoldable pub text_at : Places → Reader LocalTree
-text_at at ws =
-    then_at (many (is_sign s.Data) (data_at at) ws) (λ ds ws. then_at (offsets_at at ws) (λ ks ws. then_at (many (is_sign s.Fun) (function_at at) ws) (λ fs ws. then_at (main_at at ws) (λ m ws.
-    Ok (record { datas = ds; offsets = ks; functions = fs; main = m }, ws)))))
+text_at at ws = text_by at (function_at at) (main_at at) ws
 
 -- Nothing stands behind.
 abbrev pub ended : {A : Type 0} → A → Reader A
@@ -158,3 +174,7 @@ ended x (w ∷ ws) = Err (At (length (w ∷ ws)))
 -- A whole text.
 unfoldable pub whole_text : Places → Reader LocalTree
 whole_text at ws = then_at (text_at at ws) ended
+
+-- A whole text, in so many levels.
+unfoldable pub whole_in : ℕ → Places → Reader LocalTree
+whole_in n at ws = then_at (text_by at (function_of at (body_of at (parse at n))) (main_of at (body_of at (parse at n))) ws) ended

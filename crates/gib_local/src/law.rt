@@ -30,7 +30,7 @@ ghost use Rattle.gib_base.specs.declared.token.Token.{Token};
 ghost use Rattle.gib_base.specs.declared.token.Token.TheVariants as t;
 ghost use Rattle.gib_base.specs.declared.token.Sign.TheVariants as s;
 ghost use Rattle.gib_reads.specs.Readers.{Read, Fault, At, Nested, left_of};
-ghost use Rattle.gib_local.specs.Refused.{Blames, left_behind};
+ghost use Rattle.gib_local.specs.Refused.{Blames, IsFirstBlamed, left_behind};
 ghost use Rattle.gib_syntax.specs.Spelling.{Places, places_of};
 ghost use Rattle.gib_local.specs.Grammar.{sign, spell_line, parse};
 ghost use Rattle.gib_local.specs.Stepping.{Stack, One, TermS, Fails, run, HasOperands};
@@ -38,7 +38,7 @@ ghost use Rattle.gib_local.specs.Placed.{LineAt, Follows};
 ghost use Rattle.gib_local.specs.Texts.{spell_text, whole_text};
 ghost use Rattle.gib_base.specs.Lexed.{Lexed, IsLexedIn};
 ghost use Rattle.gib_base.specs.declared.token.Dialect.TheVariants.{Located};
-ghost use Rattle.gib_local.specs.PlacedTexts.{TextAt};
+ghost use Rattle.gib_local.specs.PlacedTexts.{TextIn, TextAt};
 ghost use Rattle.gib_types.specs.Tree.{Datum};
 ghost use Rattle.gib_syntax.specs.Meaning.{run as mean};
 ghost use Rattle.gib_core.specs.Meaning.{core_run};
@@ -70,7 +70,7 @@ pub fn one_text()
 {}
 
 /// What is read is a text that the tokens spell and that stands where they stand, of at most 200 levels; no token is left.
-#[tactic(auto, using(crate::proofs::TextsSound::read_sound))]
+#[tactic(auto, using(crate::proofs::WholeLaws::read_sound))]
 pub fn read_is_text()
     ensures { (at : Places) (tokens : List Token) (t : LocalTree) (rest : List Token) → whole_text at tokens ≡ Ok (t, rest) → (spell_text t [] ≡ tokens) × TextAt at t [] × (rest ≡ []) }
 {}
@@ -83,13 +83,27 @@ pub fn text_is_read()
 
 /// No text's tokens begin with the tokens up to and including one that is refused, or that is nested too deep; where tokens
 /// are missing, these are no text's.
-#[tactic(auto, using(crate::proofs::TextsAlike::blamed))]
+#[tactic(auto, using(crate::proofs::WholeLaws::blamed))]
 pub fn refused_is_blamed()
     ensures { (at : Places) (tokens : List Token) (fault : Fault) → whole_text at tokens ≡ Err fault → Blames tokens (left_of fault) }
 {}
 
+/// A refused token is the first: some text's tokens begin with the tokens before it, and levels don't count, for no text of however many has tokens that
+/// begin with those up to and including it.
+#[tactic(auto, using(crate::proofs::WholeLaws::first_blamed))]
+pub fn refused_is_first()
+    ensures { (at : Places) (tokens : List Token) (left : ℕ) → whole_text at tokens ≡ Err (At left) → IsFirstBlamed tokens left }
+{}
+
+/// Tokens have one such token at most, and a text's tokens have none.
+#[tactic(auto, using(crate::proofs::WholeLaws::one_blamed, crate::proofs::WholeLaws::text_has_none))]
+pub fn one_blame()
+    ensures blamed { (tokens : List Token) (left also : ℕ) → IsFirstBlamed tokens left → IsFirstBlamed tokens also → left ≡ also }
+    ensures not_blamed { (levels : ℕ) (at : Places) (t : LocalTree) (left : ℕ) → TextIn levels at t [] → IsFirstBlamed (spell_text t []) left → ⊥ }
+{}
+
 /// With more levels the same term is read, and the same token is refused; of a term that is nested too deep reading goes past the first token.
-#[tactic(auto, using(crate::proofs::Deeper::more_read, crate::proofs::Deeper::more_refused, crate::proofs::Deeper::more_nested))]
+#[tactic(auto, using(crate::proofs::WholeLaws::more_read, crate::proofs::WholeLaws::more_refused, crate::proofs::WholeLaws::more_nested))]
 pub fn levels_count_where_nested()
     ensures read { (at : Places) (levels more : ℕ) (tokens : List Token) (t : Term) (rest : List Token) → levels < more → parse at levels tokens ≡ Ok (t, rest) → parse at more tokens ≡ Ok (t, rest) }
     ensures refused { (at : Places) (levels more : ℕ) (tokens : List Token) (left : ℕ) → levels < more → parse at levels tokens ≡ Err (At left) → parse at more tokens ≡ Err (At left) }

@@ -5,7 +5,7 @@ use Rattle.gib_reads.proofs.Tools.{done}
 use Rattle.gib_local.specs.LineArena.{tree_of}
 use Rattle.gib_local.specs.TextParts.{function_text, main_text}
 use Rattle.gib_local.proofs.DeclarationLoops.{functions_stay, functions_stay_inside, text_done}
-use Rattle.gib_local.proofs.TextsSound.{have_constructors}
+use Rattle.gib_local.proofs.WholeLaws.{have_constructors}
 use Rattle.gib_local.proofs.declarations.text.Goals as goal
 
 pub new-requires : goal.new-requires

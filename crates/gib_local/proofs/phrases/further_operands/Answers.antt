@@ -5,7 +5,7 @@ use Rattle.gib_reads.specs.Readers.{many}
 use Rattle.gib_local.specs.Grammar.{starts_operand, operand_at}
 use Rattle.gib_reads.specs.Answers.{with_front}
 use Rattle.gib_reads.proofs.SoFar.{one_more, one_fails, all_read}
-use Rattle.gib_local.proofs.Operands.{operand_shrinks}
+use Rattle.gib_local.proofs.WholeLaws.{operand_shrinks}
 use Rattle.gib_local.proofs.phrases.further_operands.Goals as goal
 
 pub operands-preserved : goal.operands-preserved
