@@ -7,7 +7,7 @@ use Rattle.gib_syntax.specs.GenericTree.{GenericExpression, GenericVar, GenericN
 use Rattle.gib_syntax.specs.Spelling.{spell}
 use Rattle.gib_parse.specs.Reading.{At, Nested, Mode, Any, App, Atom, Read, Parts, before, named, next_is, literal_at, starts_atom, starts, atom_at, app_at, any_at, step, no_level, parse}
 use Rattle.gib_reads.proofs.Tools.{done, failed}
-use Rattle.gib_reads.proofs.Local.{Kind, Refused, Deep, fault, fail_ok, fault_within, at_is_nested, LocalAt, local_by, nil_fails, head_fails, head_sinks}
+use Rattle.gib_reads.proofs.Local.{Kind, Refused, Deep, fault, fail_ok, fault_within, nested_is, at_is_nested, LocalAt, local_by, nil_fails, head_fails, head_sinks}
 use Rattle.gib_reads.proofs.Past.{Past, past_by, past_refuses}
 use Rattle.gib_reads.proofs.Laws.{Text, World, Told, Reads, told_by, told_fail, told_never}
 use Rattle.gib_parse.proofs.ExpressionLaws.{expression, PartsRead, zero_is, zero_fine, atom_mode, let_reads, if_reads, case_reads, open_reads, open_any_reads, variable_reads, make_reads, constant_reads, atom_reads, app_reads, any_reads}
@@ -38,9 +38,6 @@ none_within false ws c k e = let i = fault_within {A = GenericExpression} Refuse
 none_ok : (v : Bool) (ws : List Token) (a : GenericExpression) (rest : List Token) → no_level v ws ≡ done a rest → ⊥
 none_ok true ws a rest e = fail_ok (Nested (length ws)) a rest e
 none_ok false ws a rest e = fail_ok (At (length ws)) a rest e
-
-nested_is : {A : Type 0} (j k : ℕ) → failed {A = A} (Nested j) ≡ failed (Nested k) → j ≡ k
-nested_is j k e = cc
 
 module _ (x : Text) where
   none_past : (m : Mode) (ws : List Token) → Past (sunk m) (parse x.here 0 m) ws

@@ -11,27 +11,17 @@ use Rattle.gib_parse.specs.Blaming.{Begun, NoneBefore, BegunWith, Sinks}
 use Rattle.gib_reads.proofs.Tools.{failed}
 use Rattle.gib_parse.proofs.Come.{Comes, Came, Sank}
 use Rattle.gib_reads.proofs.Local.{Deep, at_is_nested}
+use Rattle.gib_reads.proofs.Cuts.{moved, Splits, split_at, following, fewer_tokens}
 use Rattle.gib_parse.proofs.ProgramSettle.{settle_program}
 use Rattle.gib_parse.proofs.WholeLaws.{whole_local, whole_past, nested_goes_past, whole_begun}
-use Rattle.gib_parse.proofs.Whole.{whole_reads, derived_comes, whole_within, whole_deep, Splits, split_at}
+use Rattle.gib_parse.proofs.Whole.{whole_reads, derived_comes, whole_within, whole_deep}
 
 -- ---- some program begins so
 
--- What follows fewer of the tokens, where this follows more of them.
-abbrev pub following : List Token → ℕ → ℕ → List Token → List Token
-following ts j k more = drop (length ts - k) (take (length ts - j) ts) ++ more
-
 -- A program that begins with more of the tokens begins with fewer.
-pub fewer_derive : (ts : List Token) (j k : ℕ) → j ≤ k → (p : GenericProgramTree) (more : List Token) → Derives (take (length ts - j) ts ++ more) p → Derives (take (length ts - k) ts ++ following ts j k more) p
-fewer_derive ts j k le p more d =
-    let shorter : length ts - k ≤ length ts - j = omega arith in
-    let part = take (length ts - j) ts in
-    let cut : take (length ts - k) part ≡ take (length ts - k) ts = take-take (length ts - k) (length ts - j) ts shorter in
-    let again : take (length ts - k) ts ++ following ts j k more ≡ part ++ more =
-    sym (append_assoc (take (length ts - k) ts) (drop (length ts - k) part) more)
-    ∙ ap (λ (l : List Token). (l ++ drop (length ts - k) part) ++ more) (sym cut)
-    ∙ ap (λ (l : List Token). l ++ more) (take-append-drop (length ts - k) part) in
-    subst (λ (l : List Token). Derives l p) (sym again) d
+pub fewer_derive : (ts : List Token) (j k : ℕ) → j ≤ k → (p : GenericProgramTree) (more : List Token) → Derives (take (length ts - j) ts ++ more) p
+    → Derives (take (length ts - k) ts ++ following ts j k more) p
+fewer_derive ts j k le p more d = subst (λ (l : List Token). Derives l p) (sym (fewer_tokens ts j k le more)) d
 
 fewer : (ts : List Token) (j k : ℕ) → j ≤ k → Begun ts j → Begun ts k
 fewer ts j k le b = (b.0, following ts j k b.1, fewer_derive ts j k le b.0 b.1 b.2)
@@ -68,10 +58,7 @@ pub whole_sinks : (at : Places) (ts : List Token) (k : ℕ) → whole_in 200 at 
 whole_sinks at ts zero e = absurd (never_at_end 200 at ts e)
 whole_sinks at ts (suc k) e = λ g more d. whole_deep 200 at ts k e g more d
 
--- The places of a text in which other tokens follow.
-abbrev moved : Places → List Token → List Token → Places
-moved at after more k = at ((k + length after) - length more)
-
+-- The places of a text in which other tokens follow a part.
 moved_is : (at : Places) (part after more : List Token) (i : ℕ) → at (i + length (part ++ after)) ≡ moved at after more (i + length (part ++ more))
 moved_is at part after more i =
     let e : (i + length (part ++ more) + length after) - length more ≡ i + length (part ++ after) = omega (arith, length-append part more, length-append part after) in

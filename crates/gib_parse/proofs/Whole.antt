@@ -16,7 +16,8 @@ use Rattle.gib_parse.specs.Blaming.{Deepens, IsFirst}
 use Rattle.gib_reads.proofs.Tools.{done, failed}
 use Rattle.gib_parse.proofs.Nested.{flat_program}
 use Rattle.gib_parse.proofs.Come.{Comes, Came, Sank, comes_at}
-use Rattle.gib_reads.proofs.Local.{Kind, Refused, Deep, fault}
+use Rattle.gib_reads.proofs.Local.{Kind, Refused, Deep, fault, nested_is}
+use Rattle.gib_reads.proofs.Cuts.{moved, moved_is, Splits, split_at, front_of}
 use Rattle.gib_parse.proofs.WholeLaws.{IsWhole, whole_sound, whole_local}
 use Rattle.gib_parse.proofs.ProgramSettle.{settle_program, program_stays}
 use Rattle.gib_parse.proofs.ProgramComplete.{whole_comes}
@@ -76,45 +77,16 @@ came_fails Deep k a rest e = cc
 nested_refused : {A : Type 0} (j k : ℕ) → failed {A = A} (Nested j) ≡ failed (At k) → ⊥
 nested_refused j k e = cc
 
-nested_is : {A : Type 0} (j k : ℕ) → failed {A = A} (Nested j) ≡ failed (Nested k) → j ≡ k
-nested_is j k e = cc
-
 means : {A : Type 0} {met : List ℕ} {r : Read A} {a : A} {rest : List Token} (c : Kind) (k : ℕ) → Comes met r a rest → r ≡ failed (fault c k) → Means c k met
 means {a = a} {rest = rest} c k (Came e m) f = absurd (came_fails c k a rest (sym e ∙ f))
 means {A = A} Refused k (Sank j others e m) f = absurd (nested_refused {A = A} (suc j) k (sym e ∙ f))
 means {A = A} Deep k (Sank j others e m) f = subst (λ (l : List ℕ). IsFirst k l) (sym m) (nested_is {A = A} (suc j) k (sym e ∙ f))
-
--- The places of a text in which other tokens follow.
-abbrev moved : Places → List Token → List Token → Places
-moved at xs ys k = at ((k + length xs) - length ys)
-
-moved_is : (at : Places) (xs ys : List Token) (k : ℕ) → moved at xs ys (k + length ys) ≡ at (k + length xs)
-moved_is at xs ys k = let e : (k + length ys + length xs) - length ys ≡ k + length xs = omega arith in ap at e
 
 fault_here : (l : ℕ) (at : Places) (c : Kind) (front : List Token) (tok : Token) (xs more : List Token) → whole_in l at (front ++ tok ∷ xs) ≡ failed (fault c (suc (length xs))) → (g : GenericProgramTree) → Derives (front ++ tok ∷ more) g → Means c (suc (length more)) (below_program l g)
 fault_here l at c front tok xs more e g d =
     let at' = moved at xs more in
     let there = (whole_local tok xs more at at' (moved_is at xs more) l (front ++ tok ∷ xs)).bad_same (front ++ tok ∷ more) (record { front = front; here = refl; there = refl }) c e in
     means c (suc (length more)) (derived_comes l at' (front ++ tok ∷ more) g d) there
-
--- The token at which so many are left.
-abbrev pub Splits : List Token → ℕ → Type 0
-Splits ts k = (front : List Token) × (tok : Token) × (xs : List Token) × (ts ≡ front ++ tok ∷ xs) × (length xs ≡ k)
-
-pub split_at : (ts : List Token) (k : ℕ) → k < length ts → Splits ts k
-split_at [] k lt = absurd (omega arith)
-split_at (c ∷ ts) k lt = go (split_at ts k) (cases_lt k (length ts)) where
-  go : (k < length ts → Splits ts k) → (k < length ts) ⊎ (length ts ≤ k) → Splits (c ∷ ts) k
-  go again (inl lt') = let r = again lt' in (c ∷ r.0, r.1, r.2, ap (λ l. c ∷ l) r.3, r.4)
-  go again (inr le) = ([], c, ts, refl, omega arith)
-
-front_of : (front : List Token) (tok : Token) (xs more : List Token) → take (length (front ++ tok ∷ xs) - length xs) (front ++ tok ∷ xs) ++ more ≡ front ++ tok ∷ more
-front_of front tok xs more =
-    let grouped : front ++ tok ∷ xs ≡ (front ++ tok ∷ []) ++ xs = sym (append_assoc front (tok ∷ []) xs) in
-    let len : length (front ++ tok ∷ []) ≡ length (front ++ tok ∷ xs) - length xs = omega (arith, length-append front (tok ∷ []), length-append front (tok ∷ xs)) in
-    ap (λ l. take (length (front ++ tok ∷ xs) - length xs) l ++ more) grouped
-    ∙ ap (λ l. l ++ more) (take_at (front ++ tok ∷ []) xs (length (front ++ tok ∷ xs) - length xs) len)
-    ∙ append_assoc front (tok ∷ []) more
 
 fault_split : (l : ℕ) (at : Places) (c : Kind) (k : ℕ) (ts : List Token) → whole_in l at ts ≡ failed (fault c (suc k)) → Splits ts k → (g : GenericProgramTree) (more : List Token) → Derives (take (length ts - k) ts ++ more) g → Means c (suc (length more)) (below_program l g)
 fault_split l at c k ts e r g more d =

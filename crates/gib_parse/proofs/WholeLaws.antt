@@ -1,7 +1,6 @@
 -- What else is asked of the readers, from their laws.
-use Rattle.std.proofs.Common.{◌≡◌, ℕ, zero, suc, ◌+◌, ◌-◌, ◌<◌, ◌≤◌, false, List, [], ◌∷◌, ◌++◌, length, take, refl, sym, ap, ◌∙◌, subst, arith, length-append}
+use Rattle.std.proofs.Common.{◌≡◌, ℕ, zero, suc, ◌+◌, ◌-◌, ◌<◌, ◌≤◌, false, List, [], ◌∷◌, ◌++◌, length, take, refl, sym, ap, ◌∙◌, subst, arith}
 use Rattle.std.specs.List.{AllByRecursion}
-use Rattle.std.proofs.lemmas.List.{take_at}
 use Rattle.gib_base.specs.declared.token.Sign.TheVariants as s
 use Rattle.gib_base.specs.declared.token.Token.{Token}
 use Rattle.gib_base.specs.declared.token.Token.TheVariants as t
@@ -14,8 +13,8 @@ use Rattle.gib_parse.specs.Blaming.{Begun}
 use Rattle.gib_reads.proofs.Tools.{done, failed, Holds}
 use Rattle.gib_reads.proofs.Many.{Shrinks}
 use Rattle.gib_reads.proofs.Local.{Kind, Refused, Deep, fault, LocalAt}
-use Rattle.gib_reads.proofs.Past.{Past}
-use Rattle.gib_reads.proofs.Laws.{Text, World, Form, Told, Taken, Agrees, many_reads}
+use Rattle.gib_reads.proofs.Past.{Past, refused_stays as stays}
+use Rattle.gib_reads.proofs.Laws.{Text, World, Told, Taken, many_reads, alone, shrinks, agrees_begin}
 use Rattle.gib_parse.proofs.TypeLaws.{type_reads}
 use Rattle.gib_parse.proofs.ExpressionLaws.{PartsRead, next_name_reads, next_part_reads, next_arm_reads}
 use Rattle.gib_parse.proofs.LevelLaws.{sunk, none_reads, parse_reads}
@@ -33,15 +32,7 @@ level_reads : (x : Text) (n : ℕ) → PartsRead (level x n) n
 level_reads x zero = none_reads x
 level_reads x (suc n) = parse_reads x n
 
--- A text by itself.
-abbrev alone : Places → Text
-alone at = record { tok = t.Number 0; after = []; more = []; here = at; there = at; shift = λ k. refl }
-
 -- ---- tokens are taken
-
-shrinks : {A : Type 0} {F : Form A} {r : List Token} {f : List Token → List Token} {p : Reader A} {ws : List Token} → Told 1 F r f p ws
-    → Holds (p ws) (λ _ rest. length rest < length ws)
-shrinks h = record { by = λ a rest e. let le = (h.taken a rest e).takes in omega arith }
 
 module _ (at : Places) (n : ℕ) where
   pub parse_shrinks : (m : Mode) → Shrinks (parse at n m)
@@ -108,19 +99,12 @@ is_whole l at ts g rest e o =
 pub whole_sound : (l : ℕ) (at : Places) (ts : List Token) → Holds (whole_in l at ts) (IsWhole l at ts)
 whole_sound l at ts = record { by = λ g rest e. let o = (told_whole l at ts).taken g rest e in is_whole l at ts g rest o.good.1 o }
 
-begun_from : (j : ℕ) (ws vs : List Token) (p : GenericProgramTree) → Agrees j ws vs → IsGenericFineProgram p → vs ≡ spell_program p []
-    → (more : List Token) × Derives (take (length ws - j) ws ++ more) p
-begun_from j ws vs p a f e =
-    let len : length a.front ≡ length ws - j = omega (arith, ap length a.here, length-append a.front a.rest, a.left) in
-    let cut : take (length ws - j) ws ≡ a.front = ap (take (length ws - j)) a.here ∙ take_at a.front a.rest (length ws - j) len in
-    (a.more, record { fine = f; spelled = ap (λ l. l ++ a.more) cut ∙ sym a.there ∙ e })
-
 -- Some program begins with the tokens before the one that is refused.
 pub whole_begun : (at : Places) (n : ℕ) (ws : List Token) (j : ℕ) → whole_in n at ws ≡ failed (At j) → Begun ws j
 whole_begun at n ws j e =
     let o = (told_whole n at ws).begins j e in
-    let d = begun_from j ws o.0 o.2.0 o.1 o.2.1 o.2.2 in
-    (o.2.0, d.0, d.1)
+    let cut = agrees_begin j ws o.0 o.1 in
+    (o.2.0, cut.0, record { fine = o.2.1; spelled = sym cut.1 ∙ o.2.2 })
 
 -- A fault in a program is found at its token.
 pub whole_local : (tok : Token) (xs ys : List Token) (at at' : Places) (shift : (k : ℕ) → at' (k + length ys) ≡ at (k + length xs)) (l : ℕ)
@@ -135,16 +119,9 @@ pub whole_past : (at : Places) (n : ℕ) (ws : List Token) → Past (whole_in n 
 unfolding whole_in
 whole_past at n ws = (all_reads (parse_reads (alone at) n) ws).past
 
-module _ (at : Places) where
-  refused_from : (n j : ℕ) (ws : List Token) → whole_in n at ws ≡ failed (At j) → (d m : ℕ) → m ≡ d + n → whole_in m at ws ≡ failed (At j)
-  refused_from n j ws e zero m is = let same_level : m ≡ n = omega arith in ap (λ l. whole_in l at ws) same_level ∙ e
-  refused_from n j ws e (suc d) m is =
-      let next : m ≡ suc (d + n) = omega arith in
-      ap (λ l. whole_in l at ws) next ∙ (whole_past at (d + n) ws).refused j (refused_from n j ws e d (d + n) refl)
-
-  -- What is refused is refused at any level.
-  pub refused_stays : (n m j : ℕ) (ws : List Token) → n ≤ m → whole_in n at ws ≡ failed (At j) → whole_in m at ws ≡ failed (At j)
-  refused_stays n m j ws le e = refused_from n j ws e (m - n) m (omega arith)
+-- What is refused is refused at any level.
+pub refused_stays : (at : Places) (n m j : ℕ) (ws : List Token) → n ≤ m → whole_in n at ws ≡ failed (At j) → whole_in m at ws ≡ failed (At j)
+refused_stays at n m j ws le e = stays (λ l. whole_in l at) (whole_past at) ws n m j le e
 
 goes_past : (n : ℕ) (at : Places) (ts : List Token) (left k : ℕ) (c : Kind) → whole_in n at ts ≡ failed (Nested left)
     → whole_in (suc n) at ts ≡ failed (fault c k) → k < left

@@ -8,12 +8,12 @@ ghost use Rattle.gib_parse.specs.Reading.{Any, Fault, At, Nested, many, is_sign,
 ghost use Rattle.gib_parse.specs.Parsing.{Fails, Gives, Reads, Stands, AllStand, IsConstructorIn, IsDataIn, IsParameterIn, IsMainIn};
 
 use crate::expressions::{Kind, expression};
-use crate::phrases::{begins, constructor, further_variables, variable, variables, want};
-use crate::stop::Stop;
 use crate::types::{one_type, results, types};
 use gib_base::Span;
 use gib_base::limits::LEVELS;
 use gib_base::token::{Sign, Token};
+use gib_reads::Stop;
+use gib_reads::phrases::{begins, constructor, further_variables, variable, variables, want};
 use gib_syntax::{
     ExprId, GenericConstructor, GenericData, GenericExprs, GenericFunction, GenericMain,
     GenericParameter, GenericProgram, Ident,

@@ -12,11 +12,12 @@ ghost use Rattle.gib_base.specs.declared.token.Sign.TheVariants as s;
 ghost use Rattle.gib_parse.specs.Reading.{Any, Atom, next_is, is_sign, many, starts, starts_atom, is_literal, literal_at, no_level, parse, any_at, let_at, let_of, par_of, bind_at, par_at, if_at, case_at, arms_at, arm_at, next_arm_at, app_at, variable_at, make_at, constant_at, arguments_at, atom_at, open_at, close_at, next_part_at, tuple_at, close_any_at, open_any_at, operation_at, side_at, operator_of, Fault, At, Nested};
 ghost use Rattle.gib_parse.specs.Parsing.{Fails, Gives, mode_of, Reads, AllStand, IsExpressionIn, ReadsArms, expression_tree, arm_tree, arms_tree, call_tree, may_call};
 
-use crate::phrases::{begins, constructor, named, names_bound, span_at, variable, variables, want};
-use crate::stop::Stop;
+use crate::phrases::names_bound;
 use crate::types::type_arguments;
 use gib_base::token::{Sign, Token, is_literal};
 use gib_base::{Memory, Name, Span};
+use gib_reads::Stop;
+use gib_reads::phrases::{begins, constructor, named, span_at, variable, variables, want};
 use gib_syntax::{Arm, ExprId, GenericExprs, GenericNode, Ident, Operator, Run};
 use std::alloc::Global;
 

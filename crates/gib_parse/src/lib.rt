@@ -5,9 +5,8 @@ mod declarations;
 mod expressions;
 pub mod law;
 pub mod parsing;
-pub mod phrases;
+mod phrases;
 mod types;
 
-pub use gib_reads::fault::ParseFault;
-pub use gib_reads::{fault, stop};
+pub use gib_reads::fault::{self, ParseFault};
 pub use parsing::parse;

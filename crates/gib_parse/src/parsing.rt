@@ -8,9 +8,8 @@ ghost use Rattle.gib_parse.specs.Answers.{AnswersRead, AnswersOnly, AnswersFault
 ghost use Rattle.gib_parse.specs.Blaming.{IsBlamedAt, IsTooDeepAt};
 
 use crate::declarations::whole;
-use crate::fault::ParseFault;
 use gib_lex::Tokens;
-pub use gib_reads::fault::fault;
+use gib_reads::fault::{ParseFault, fault};
 use gib_syntax::GenericProgram;
 use std::alloc::Global;
 

@@ -6,12 +6,10 @@ ghost use Rattle.gib_base.specs.declared.token.Sign.TheVariants as s;
 ghost use Rattle.gib_parse.specs.Reading.{Fault, At, Nested, is_sign, many, next_name_at, several_names_at, one_name_at, names_bound_at};
 ghost use Rattle.gib_parse.specs.Parsing.{Fails, Gives, with_front};
 
-use crate::stop::Stop;
 use gib_base::Span;
 use gib_base::token::{Sign, Token};
-pub use gib_reads::phrases::{
-    begins, constructor, further_variables, named, span_at, variable, variables, want,
-};
+use gib_reads::Stop;
+use gib_reads::phrases::{begins, variable, want};
 use gib_syntax::Ident;
 use std::alloc::Global;
 

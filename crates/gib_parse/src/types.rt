@@ -10,10 +10,10 @@ ghost use Rattle.gib_parse.specs.Reading.{Fault, At, then_at, inside, type_at, b
 ghost use Rattle.gib_parse.specs.OpenTypes.{counted};
 ghost use Rattle.gib_parse.specs.Parsing.{Fails, Gives, Follows, FailsHere, ReadsWords, ReadsAllWords, Stands, AllStand, IsTypeIn, AreTypesIn, AreResultsIn};
 
-use crate::phrases::{begins, named, span_at, want};
-use crate::stop::Stop;
 use gib_base::token::{Sign, Token};
 use gib_base::{Memory, Span};
+use gib_reads::Stop;
+use gib_reads::phrases::{begins, named, span_at, want};
 use gib_syntax::{GenericExprs, Ident, ResultRuns, Run, Word};
 use std::alloc::Global;
 use std::marker::Model;
