@@ -1,7 +1,7 @@
 -- The promise of `run`, from how a call ends.
 use Rattle.gib_base.specs.Texts.{TextsView}
 use Rattle.gib_base.specs.declared.token.Dialect.TheVariants as dialect
-use Rattle.std.proofs.Common.{◌≡◌, ◌∙◌, refl, ℕ, List, [], ◌∷◌, ◌++◌, Option, Some, None, IfSome, MatchOption, ◌⊎◌, inl, inr, subst, subst₂, sym, ap, Bool, true, false, true≢false}
+use Rattle.std.proofs.Common.{◌≡◌, ◌∙◌, refl, ℕ, List, [], ◌∷◌, ◌++◌, Option, Some, None, IfSome, ◌⊎◌, inl, inr, subst, subst₂, sym, ap, Bool, true, false, true≢false}
 use Rattle.gib_types.specs.Tree.{Datum}
 use Rattle.gib_syntax.specs.Tree.{ProgramTree}
 use Rattle.gib_types.specs.Table.{Table}
@@ -40,13 +40,19 @@ use Rattle.gib_app.specs.Jobs.{Prints, MakesImage, PacksResult, run_forks}
 use Rattle.gib_app.specs.Causes.{OnProgram, OnBoth, EndsWithout, AsksProgram, IsStored, IsUnread}
 use Rattle.gib_app.specs.Ending.{IsEnding, HasText, DueOfFiles, DueWithout, TakesAll}
 use Rattle.gib_app.specs.Headline.{IsRun, IsPackingRun, copy_with, copy_in, read_in, meant_in, Given, IsResult, IsResultImage, IsResultFile, HasLongFile, HasNoResult, IsTooDeep, DividesByZero, IsTooBig, TellsWhatIsMeant, NoneFailed, NoWriteFailed}
-use Rattle.gib_app.proofs.Performing.{asked_of}
+use Rattle.gib_app.proofs.Performing.{asked_is}
 use Rattle.gib_app.proofs.Fitting.{image_asked, packs_agrees, valueless_packs}
 use Rattle.gib_app.proofs.FirstWriting.{others_after, written_first}
 use Rattle.gib_app.proofs.JobWriting.{named_of_two, one_named}
 use Rattle.gib_app.proofs.Writing.{written_last}
 use Rattle.gib_app.proofs.Replays.{some_or_none}
-use Rattle.gib_app.proofs.Endings.{Laws, Whole, DueAll, DueFit, DueLong, DueNone, same_bytes, same_given, together, joined, runs_well, one_given, packed_or_long, one_meaning, told_by, cause_of, fit_ends, long_due, none_due, due_ends}
+use Rattle.gib_app.proofs.CallCauses.{Whole, cause_of}
+use Rattle.gib_app.proofs.EndsDone.{done_due, fit_ends}
+use Rattle.gib_app.proofs.EndsLong.{long_due}
+use Rattle.gib_app.proofs.EndsNone.{none_due, told_by}
+use Rattle.gib_app.proofs.OneEnd.{one_given, one_meaning, packed_or_long, runs_well}
+use Rattle.gib_app.proofs.OneProgram.{Laws, joined, together}
+use Rattle.gib_app.proofs.SameFiles.{same_bytes, same_given}
 
 -- A run of one document on another, with an image and a packed file of its result, or none.
 
@@ -69,9 +75,6 @@ record NoFault (program packed : Document) (image pack : Option (List ℕ)) (bef
   image_written : (name : List ℕ) → image ≡ Some name → Rose (before.writes name) (now.writes name) → ⊥
   packed_written : (name : List ℕ) → pack ≡ Some name → Rose (before.writes name) (now.writes name) → ⊥
   put : Rose out_before.faults out_now.faults → ⊥
-
-asked_is : (o : Option Plan) (r : Plan) (P : Plan → Type 0) → o ≡ Some r → MatchOption o ⊥ P → P r
-asked_is o r P e h = let Q : Option Plan → Type 0 = λ x. MatchOption x ⊥ P in subst Q e h
 
 -- what holds of the files of a run holds of their bytes
 of_files : (words : List (List ℕ)) (before : ShelfView) (out : SinkView) (source input : List ℕ) (options : Options) (front : List ℕ) (r : AnyRun words before out source input options front)
@@ -413,7 +416,7 @@ any_ends_done laws tells words before now out out_now source input options front
     let takes : TakesAll before now out out_now plan = record { target = quiet.image_written; pack = quiet.packed_written; out = quiet.put } in
     let due = due_of tells words before now out out_now source input options front r quiet (HasText plan)
     (record { texts = on.texts; program = on.program; is_program = on.is_program; holds = (None, output, (refl, on.holds.0), on.holds.1) }) in
-    due_ends laws tells words before now out out_now end' (cause_of tells words before now out out_now end' said ends) status.Done (asked_of (asked words) plan (DueAll tells before now out out_now) r.asks (due, takes))
+    done_due laws tells (record { shelf = before; out = out }) (record { shelf = now; out = out_now }) plan (due, takes) end' (cause_of tells words (record { shelf = before; out = out }) (record { shelf = now; out = out_now }) plan r.asks end' said ends)
 
 any_ends_long : Laws → (tells : Bool) (words : List (List ℕ)) (before now : ShelfView) (out out_now : SinkView) (source input : List ℕ) (options : Options) (front said : List ℕ) (end' : Status) →
     (r : AnyRun words before out source input options front) → NoFault r.program r.packed r.image r.pack before now out out_now → HasLongFile source input options.depth → options.packs ≡ true →
@@ -423,7 +426,7 @@ any_ends_long laws tells words before now out out_now source input options front
     let on = long_result source input options.depth h in
     let due = due_of tells words before now out out_now source input options front r quiet (DueWithout before now Long plan)
     (record { texts = on.texts; program = on.program; is_program = on.is_program; holds = ((None, (refl, on.holds, packs)), λ name bytes named does. quiet.image_written name named) }) in
-    long_due laws tells words before now out out_now (asked_of (asked words) plan (DueLong tells before now) r.asks (refl, due)) end' (cause_of tells words before now out out_now end' said ends)
+    long_due laws tells (record { shelf = before; out = out }) (record { shelf = now; out = out_now }) plan (refl, due) end' (cause_of tells words (record { shelf = before; out = out }) (record { shelf = now; out = out_now }) plan r.asks end' said ends)
 
 any_ends_none : Laws → (tells : Bool) (words : List (List ℕ)) (before now : ShelfView) (out out_now : SinkView) (source input : List ℕ) (options : Options) (front said : List ℕ) (end' : Status) (x : Why) →
     (r : AnyRun words before out source input options front) → NoFault r.program r.packed r.image r.pack before now out out_now → HasNoResult source input options.depth (means_why x) →
@@ -433,7 +436,7 @@ any_ends_none laws tells words before now out out_now source input options front
     let on = of_none source input options.depth (means_why x) h in
     let due = due_of tells words before now out out_now source input options front r quiet (DueWithout before now (Meant x) plan)
     (record { texts = on.texts; program = on.program; is_program = on.is_program; holds = ((None, (refl, on.holds)), λ name bytes named does. absurd (some_or_none bytes does.0)) }) in
-    none_due laws tells words before now out out_now x (asked_of (asked words) plan (DueNone tells before now x) r.asks due) end' (cause_of tells words before now out out_now end' said ends)
+    none_due laws tells (record { shelf = before; out = out }) (record { shelf = now; out = out_now }) plan x due end' (cause_of tells words (record { shelf = before; out = out }) (record { shelf = now; out = out_now }) plan r.asks end' said ends)
 
 any_ends_deep : Laws → (tells : Bool) (words : List (List ℕ)) (before now : ShelfView) (out out_now : SinkView) (source input : List ℕ) (options : Options) (front said : List ℕ) (end' : Status) →
     (r : AnyRun words before out source input options front) → NoFault r.program r.packed r.image r.pack before now out out_now → IsTooDeep source input options.depth →
@@ -462,7 +465,7 @@ any_fits laws tells words before now out out_now source input options front said
     let takes : TakesAll before now out out_now plan = record { target = quiet.image_written; pack = quiet.packed_written; out = quiet.put } in
     let due = due_of tells words before now out out_now source input options front r quiet (λ p names given. Accepts plan.job plan.options p names given)
     (from_given g (λ p names. Accepts plan.job plan.options (sourced p) names (record { second = input; further = [] })) (g.value, input_in g)) in
-    elim (fit_ends laws tells words before now out out_now (asked_of (asked words) plan (DueFit tells before now out out_now) r.asks (due, takes)) end' (cause_of tells words before now out out_now end' said ends)) [
+    elim (fit_ends laws tells (record { shelf = before; out = out }) (record { shelf = now; out = out_now }) plan (due, takes) end' (cause_of tells words (record { shelf = before; out = out }) (record { shelf = now; out = out_now }) plan r.asks end' said ends)) [
       | inl e ↦ inl e
       | inr (inl e) ↦ inr (inl e)
       | inr (inr (inl e)) ↦ inr (inr (inl e))
@@ -493,9 +496,6 @@ short_or_long laws source input depth bytes h k =
     let both = together_trees laws source (λ p names. IsPackedResult p names depth input bytes) (λ p names. IsLongResult p names depth input) (result_file source input depth bytes h) (long_result source input depth k) in
     packed_or_long laws both.0 both.1 depth input bytes both.2 both.3
 
-one_value : (r : Outcome) (u v : Datum) → r ≡ Gives u → r ≡ Gives v → u ≡ v
-one_value r u v e f = let both = sym e ∙ f in cc
-
 pub one_result : Laws → (source input : List ℕ) (depth : ℕ) (output other : List ℕ) → IsResult source input depth output → IsResult source input depth other → output ≡ other
 one_result laws source input depth output other h k =
     let both = together_trees laws source (λ p names. IsOutput p names depth input output) (λ p names. IsOutput p names depth input other)
@@ -505,7 +505,7 @@ one_result laws source input depth output other h k =
     let b = both.3 in
     let same = laws.filed (table_of_program p) _ (input_type p) b.value a.value input b.is_input.file a.is_input.file in
     let M : Datum → Type 0 = λ x. run p depth x ≡ Gives b.result in
-    let u = one_value (run p depth a.value) a.result b.result a.means (subst M same b.means) in
+    let u = one_given (run p depth a.value) a.result b.result a.means (subst M same b.means) in
     a.is_text ∙ ap (text_line p both.1) u ∙ sym b.is_text
 
 result_or_none : Laws → (source input : List ℕ) (depth : ℕ) (output : List ℕ) (meant : Reason) → IsResult source input depth output → HasNoResult source input depth meant → ⊥

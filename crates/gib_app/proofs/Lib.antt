@@ -11,6 +11,17 @@ mod Making
 mod Finishing
 mod Decimals
 mod Performing
+mod Answering
+mod CallCauses
+mod OneProgram
+mod SameFiles
+mod OneEnd
+mod EndsDone
+mod EndsNone
+mod EndsFull
+mod EndsRefused
+mod EndsMissing
+mod EndsLong
 mod Endings
 mod SourceLaws
 mod Signs

@@ -1,7 +1,7 @@
 -- The promise of `local`, from how a call ends.
 use Rattle.gib_base.specs.Texts.{TextsView, plain_texts}
 use Rattle.gib_base.specs.declared.token.Dialect.TheVariants as dialect
-use Rattle.std.proofs.Common.{◌≡◌, ◌∙◌, refl, ℕ, List, [], ◌++◌, Option, Some, None, IfSome, MatchOption, ◌⊎◌, inl, inr, subst, sym, ap, Bool, true≢false}
+use Rattle.std.proofs.Common.{◌≡◌, ◌∙◌, refl, ℕ, List, [], ◌++◌, Option, Some, None, IfSome, ◌⊎◌, inl, inr, subst, sym, ap, Bool, true≢false}
 use Rattle.gib_types.specs.Tree.{Datum}
 use Rattle.gib_core.specs.Marking.{mark_core}
 use Rattle.gib_syntax.specs.Declarations.{table_of_program, input_type}
@@ -16,15 +16,21 @@ use Rattle.gib_app.specs.declared.status.Status.{Status}
 use Rattle.gib_app.specs.declared.status.Status.TheVariants as status
 use Rattle.gib_words.specs.Plan.{Contents, Document, Plan, bytes_in}
 use Rattle.gib_app.specs.Writes.{at_reading}
-use Rattle.gib_app.specs.Formats.{dialect_of, inputs_of, Accepts}
+use Rattle.gib_app.specs.Formats.{inputs_of, Accepts}
 use Rattle.gib_words.specs.Words.{asked}
 use Rattle.gib_app.specs.Jobs.{run_forks}
 use Rattle.gib_app.specs.Running.{Program, IsInput, IsLocated, IsNoProgramIn, IsOutput, MeansNone, text_line}
 use Rattle.gib_app.specs.Causes.{OnProgram, OnBoth, OnSource, AsksProgram, EndsWithout, IsUnread}
 use Rattle.gib_app.specs.Ending.{IsEnding, HasText, DueOfFiles, DueOfSource, DueWithout, TakesAll}
 use Rattle.gib_app.specs.LocalHeadline.{IsLocalRun, MakesCore, LocalGiven, IsLocalResult, HasNoLocalResult, IsLocalTooBig, NoReadFailed, local_plan, program_in}
-use Rattle.gib_app.proofs.Endings.{Laws, Whole, DueAll, DueFit, DueNone, cause_of, due_ends, fit_ends, none_due, one_given, one_meaning, runs_well, same_bytes, same_given, together, told_by}
-use Rattle.gib_app.proofs.Performing.{asked_of}
+use Rattle.gib_app.proofs.CallCauses.{Whole, cause_of}
+use Rattle.gib_app.proofs.EndsDone.{done_due, fit_ends}
+use Rattle.gib_app.proofs.EndsNone.{none_due, told_by}
+use Rattle.gib_app.proofs.EndsRefused.{source_due}
+use Rattle.gib_app.proofs.OneEnd.{one_given, one_meaning, runs_well}
+use Rattle.gib_app.proofs.OneProgram.{Laws, together}
+use Rattle.gib_app.proofs.SameFiles.{same_bytes, same_given}
+use Rattle.gib_app.proofs.Performing.{asked_is}
 use Rattle.gib_app.proofs.Replays.{some_or_none}
 
 -- The program of a core that is made, and the texts of its names.
@@ -114,9 +120,6 @@ one_reason laws source input depth x y h k =
 
 -- ---- From how a call ends
 
-asked_is : (o : Option Plan) (r : Plan) (P : Plan → Type 0) → o ≡ Some r → MatchOption o ⊥ P → P r
-asked_is o r P e h = let Q : Option Plan → Type 0 = λ x. MatchOption x ⊥ P in subst Q e h
-
 packed_read : (before now : ShelfView) (d : Document) → ((name : List ℕ) → IsUnread before now d name → ⊥) → (name : List ℕ) → IsUnread before now d name ⊎ ⊥ → ⊥
 packed_read before now d quiet name (inl h) = quiet name h
 packed_read before now d quiet name (inr h) = h
@@ -171,8 +174,7 @@ module _ (tells : Bool) (words : List (List ℕ)) (before now : ShelfView) (out 
 
   pub local_refused : (said : List ℕ) → IsEnding tells words before now out out_now status.Source said → MakesCore source → ⊥
   local_refused said h made =
-      let P : Plan → Type 0 = λ q. OnSource (at_reading tells before.kept q) q.source (IsNoProgramIn (dialect_of q.job)) in
-      let on : OnSource before.kept r.program (IsNoProgramIn dialect.Located) = asked_is (asked words) plan P r.asks (cause_of tells words before now out out_now status.Source said h) in
+      let on : OnSource before.kept r.program (IsNoProgramIn dialect.Located) = cause_of tells words (record { shelf = before; out = out }) (record { shelf = now; out = out_now }) plan r.asks status.Source said h in
       let es = same_bytes (bytes_in before.kept r.program) source on.source r.source_is on.source_held in
       subst (IsNoProgramIn dialect.Located) es on.holds (names_of made) (program_of made) (record { core = made.core; local = made.local; built = made.built; is = refl; shown = refl })
 
@@ -203,13 +205,13 @@ module _ (tells : Bool) (words : List (List ℕ)) (before now : ShelfView) (out 
     ends_done output said end' h ends =
         let on = output_of source input options.depth output h in
         let due = due_of (HasText plan) (record { texts = on.texts; program = on.program; is_program = on.is_program; holds = (None, output, (refl, on.holds), (None, refl)) }) in
-        due_ends laws tells words before now out out_now end' (cause_of tells words before now out out_now end' said ends) status.Done (asked_of (asked words) plan (DueAll tells before now out out_now) r.asks (due, takes))
+        done_due laws tells (record { shelf = before; out = out }) (record { shelf = now; out = out_now }) plan (due, takes) end' (cause_of tells words (record { shelf = before; out = out }) (record { shelf = now; out = out_now }) plan r.asks end' said ends)
 
     ends_none : (x : Why) (said : List ℕ) (end' : Status) → HasNoLocalResult source input options.depth (means_why x) → IsEnding tells words before now out out_now end' said → (end' ≡ told_by x) ⊎ (end' ≡ status.Memory) ⊎ (end' ≡ status.Full)
     ends_none x said end' h ends =
         let on = of_none source input options.depth (means_why x) h in
         let due = due_of (DueWithout before now (Meant x) plan) (record { texts = on.texts; program = on.program; is_program = on.is_program; holds = ((None, (refl, on.holds)), λ name bytes named does. absurd (no_name name named)) }) in
-        none_due laws tells words before now out out_now x (asked_of (asked words) plan (DueNone tells before now x) r.asks due) end' (cause_of tells words before now out out_now end' said ends)
+        none_due laws tells (record { shelf = before; out = out }) (record { shelf = now; out = out_now }) plan x due end' (cause_of tells words (record { shelf = before; out = out }) (record { shelf = now; out = out_now }) plan r.asks end' said ends)
 
     pub ends_deep : (said : List ℕ) (end' : Status) → HasNoLocalResult source input options.depth Deep → IsEnding tells words before now out out_now end' said → (end' ≡ status.Depth) ⊎ (end' ≡ status.Memory) ⊎ (end' ≡ status.Full)
     ends_deep said end' h ends = ends_none why.Deep said end' h ends
@@ -227,9 +229,8 @@ module _ (tells : Bool) (words : List (List ℕ)) (before now : ShelfView) (out 
           source_read = quiet.program_read;
           holds = none;
         } in
-        let D : Plan → Type 0 = λ q. DueOfSource tells before now q (IsNoProgramIn (dialect_of q.job)) in
         let E : Status → Type 0 = λ s. IsEnding tells words before now out out_now s said in
-        elim (due_ends laws tells words before now out out_now end' (cause_of tells words before now out out_now end' said ends) status.Source (asked_of (asked words) plan D r.asks due)) [
+        elim (source_due laws tells (record { shelf = before; out = out }) (record { shelf = now; out = out_now }) plan due end' (cause_of tells words (record { shelf = before; out = out }) (record { shelf = now; out = out_now }) plan r.asks end' said ends)) [
           | inl e ↦ inl e
           | inr (inl e) ↦ inr e
           | inr (inr e) ↦ absurd (no' (local_full said (subst E e ends)).given.made)
@@ -240,7 +241,7 @@ module _ (tells : Bool) (words : List (List ℕ)) (before now : ShelfView) (out 
     local_fits said end' g fits ends =
         let E : Status → Type 0 = λ s. IsEnding tells words before now out out_now s said in
         let due = due_of (λ p names contents. Accepts plan.job plan.options p names contents) (of_made source (λ p names. Accepts plan.job plan.options p names given) g.made (g.value, input_in g)) in
-        elim (fit_ends laws tells words before now out out_now (asked_of (asked words) plan (DueFit tells before now out out_now) r.asks (due, takes)) end' (cause_of tells words before now out out_now end' said ends)) [
+        elim (fit_ends laws tells (record { shelf = before; out = out }) (record { shelf = now; out = out_now }) plan (due, takes) end' (cause_of tells words (record { shelf = before; out = out }) (record { shelf = now; out = out_now }) plan r.asks end' said ends)) [
           | inl e ↦ inl e
           | inr (inl e) ↦ inr (inl e)
           | inr (inr (inl e)) ↦ inr (inr (inl e))

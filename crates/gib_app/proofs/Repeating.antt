@@ -1,6 +1,6 @@
 -- A call that replays the journal of a trace ends as the call that traced.
 use Rattle.gib_base.specs.Texts.{TextsView}
-use Rattle.std.proofs.Common.{◌≡◌, ◌∙◌, refl, sym, subst, ℕ, List, [], ◌∷◌, ◌++◌, Option, Some, None, IfSome, MatchOption, ◌⊎◌, inl, inr, Bool, true, false}
+use Rattle.std.proofs.Common.{◌≡◌, ◌∙◌, refl, sym, subst, ℕ, List, [], ◌∷◌, ◌++◌, Option, Some, None, IfSome, ◌⊎◌, inl, inr, Bool, true, false}
 use Rattle.gib_base.specs.declared.token.Dialect.TheVariants as dialect
 use Rattle.gib_code.specs.declared.answer.Reason.{Reason as Why}
 use Rattle.gib_code.specs.declared.answer.Reason.TheVariants as why
@@ -22,13 +22,15 @@ use Rattle.gib_app.specs.Causes.{OnProgram, OnBoth, EndsWithout, AsksProgram, Is
 use Rattle.gib_app.specs.Ending.{IsEnding, AreTold, HasText, DueOfFiles, DueWithout, TakesAll, AsksRun, IsDueOrScarce}
 use Rattle.gib_app.specs.Repeating.{trace_plan, replay_plan, IsRepeated, NoneFails, PutAlike}
 use Rattle.gib_app.proofs.Doing.{RunsACore}
-use Rattle.gib_app.proofs.Endings.{Laws, Whole, DueAll, DueNone, same_bytes, same_given, together, ends_as_due}
-use Rattle.gib_app.proofs.Performing.{asked_of}
+use Rattle.gib_app.proofs.CallCauses.{Whole}
+use Rattle.gib_app.proofs.Endings.{ends_as_due}
+use Rattle.gib_app.proofs.EndsDone.{DueAll}
+use Rattle.gib_app.proofs.EndsNone.{DueNone}
+use Rattle.gib_app.proofs.OneProgram.{Laws, together}
+use Rattle.gib_app.proofs.SameFiles.{same_bytes, same_given}
+use Rattle.gib_app.proofs.Performing.{asked_of, asked_is}
 use Rattle.gib_app.proofs.Repeats.{replays_again, same_end}
 use Rattle.gib_app.proofs.Writing.{written_here}
-
-asked_is : (o : Option Plan) (r : Plan) (P : Plan → Type 0) → o ≡ Some r → MatchOption o ⊥ P → P r
-asked_is o r P e h = let Q : Option Plan → Type 0 = λ x. MatchOption x ⊥ P in subst Q e h
 
 -- what holds of the files of a plan holds of their bytes, where these are told
 of_told : (kept : Files) (r : Plan) (source : List ℕ) (given : Contents) → bytes_in kept r.source ≡ Has source → AreTold kept (inputs_of r) given →
@@ -161,7 +163,7 @@ module _ (laws : Laws) (tells : Bool) (words again : List (List ℕ)) (before le
       let text = one.0 in
       let due = due_of quiet (HasText second) (map_program r.source (Traced text) (λ p names. HasText second p names given_again) (again_printed text) one.2) in
       let takes : TakesAll later now out_later out_now second = record { target = quiet.image_written; pack = λ file named. absurd (no_pack file named); out = quiet.put } in
-      let is = ends_as_due laws tells again later now out_later out_now end' said_later k status.Done (asked_of (asked again) second (DueAll tells later now out_later out_now) r.replays (due, takes)) in
+      let is = ends_as_due laws tells again (record { shelf = later; out = out_later }) (record { shelf = now; out = out_now }) end' said_later k status.Done (asked_of (asked again) second (DueAll tells (record { shelf = later; out = out_later }) (record { shelf = now; out = out_now })) r.replays (due, takes)) in
       let E : Status → Type 0 = λ s. IsEnding tells again later now out_later out_now s said_later in
       elim (due_alone again r.program r.packed r.name r.image r.others r.replays status.Done end' is) [
         | inl e ↦ inl (e, record { text = text; put = one.1 front begins; put_again = put_again said_later text front_later one.2 begins_later (subst E e k) })
@@ -197,12 +199,12 @@ module _ (laws : Laws) (tells : Bool) (words again : List (List ℕ)) (before le
       IsEnding tells words before left out out_left status.Depth said → IsEnding tells again later now out_later out_now end' said_later → (end' ≡ status.Depth) ⊎ (end' ≡ status.Memory)
   repeats_deep said said_later end' quiet h k =
       let due = due_none quiet why.Deep (stopped_at why.Deep h.0) in
-      let is = ends_as_due laws tells again later now out_later out_now end' said_later k status.Depth (asked_of (asked again) second (DueNone tells later now why.Deep) r.replays due) in
+      let is = ends_as_due laws tells again (record { shelf = later; out = out_later }) (record { shelf = now; out = out_now }) end' said_later k status.Depth (asked_of (asked again) second (DueNone tells later now why.Deep) r.replays due) in
       due_alone again r.program r.packed r.name r.image r.others r.replays status.Depth end' is
 
   pub repeats_trapped : (said said_later : List ℕ) (end' : Status) → NoneFails r.program r.packed r.name r.image later now out_later out_now →
       IsEnding tells words before left out out_left status.Trap said → IsEnding tells again later now out_later out_now end' said_later → (end' ≡ status.Trap) ⊎ (end' ≡ status.Memory)
   repeats_trapped said said_later end' quiet h k =
       let due = due_none quiet why.Trap (stopped_at why.Trap h.0) in
-      let is = ends_as_due laws tells again later now out_later out_now end' said_later k status.Trap (asked_of (asked again) second (DueNone tells later now why.Trap) r.replays due) in
+      let is = ends_as_due laws tells again (record { shelf = later; out = out_later }) (record { shelf = now; out = out_now }) end' said_later k status.Trap (asked_of (asked again) second (DueNone tells later now why.Trap) r.replays due) in
       due_alone again r.program r.packed r.name r.image r.others r.replays status.Trap end' is

@@ -1,6 +1,6 @@
 -- What is written, why that fails, and what stays.
-use Rattle.std.specs.Prelude.{◌≡◌, ◌⊎◌, ℕ, List, [], ◌∷◌, None, Option, Some, MatchOption, Bool}
-use Rattle.gib_edge.specs.Causes.{Rose}
+use Rattle.std.specs.Prelude.{◌≡◌, ◌≤◌, ◌⊎◌, ℕ, List, [], ◌∷◌, None, Option, Some, MatchOption, Bool}
+use Rattle.gib_edge.specs.Causes.{Rose, AppendsPart}
 use Rattle.gib_edge.specs.Views.{ShelfView, SinkView}
 use Rattle.gib_app.specs.declared.status.Status.{Status}
 use Rattle.gib_app.specs.declared.status.Status.TheVariants as status
@@ -12,8 +12,9 @@ use Rattle.gib_words.specs.Words.{asked}
 use Rattle.gib_app.specs.declared.made.End.{End as KeptEnd}
 use Rattle.gib_app.specs.Jobs.{DoesAll}
 use Rattle.gib_app.specs.Kept.{EndsByBoth}
-use Rattle.gib_app.specs.Causes.{OnBoth, AsksProgram, EndsWithout, IsPrintedInPart}
-use Rattle.gib_app.specs.Ending.{StaysAfter, IsBetween}
+use Rattle.gib_app.specs.Calls.{calls_of, calls_asked}
+use Rattle.gib_app.specs.Causes.{OnBoth, AsksProgram, EndsWithout, IsPrinted, IsPrintedInPart}
+use Rattle.gib_app.specs.Ending.{StaysAfter, IsBetween, FilesStay, ReadsStay, WritesStay, OutStays}
 use Rattle.gib_app.specs.Remains.{ComesOfRun}
 use Rattle.gib_app.specs.Rows.{row}
 use Rattle.gib_app.specs.Stops.{IsStop}
@@ -27,12 +28,15 @@ IsDone kept plan file packed end = OnBoth kept plan (λ p names given. EndsByBot
 abbrev pub IsOfRun : Files → Plan → (file : Option (List ℕ)) → KeptEnd → Type 0
 IsOfRun kept plan file end = OnBoth kept plan (λ p names given. ComesOfRun (row plan.job) p names plan.options given.second file end)
 
--- The job was done, and its files are written.
-pub record IsPerformed (tells : Bool) (before now : Files) (plan : Plan) (end : KeptEnd) : Type 0 where
+-- The job was done and its files are written; no count of faults rose.
+pub record IsPerformed (tells : Bool) (before now : ShelfView) (plan : Plan) (end : KeptEnd) : Type 0 where
   pub file : Option (List ℕ)
   pub packed : Option (List ℕ)
-  pub is_done : IsDone (at_reading tells before plan) plan file packed end
-  pub written : AreWritten tells before now plan file packed
+  pub is_done : IsDone (at_reading tells before.kept plan) plan file packed end
+  pub written : AreWritten tells before.kept now.kept plan file packed
+  pub reads : (name : List ℕ) → now.reads name ≡ before.reads name
+  pub writes : (name : List ℕ) → now.writes name ≡ before.writes name
+  pub once : AppendsPart before.calls now.calls (calls_of plan)
 
 -- What names hold stays, but for the files that are to be written.
 abbrev pub OthersStay : Plan → Files → Files → Type 0
@@ -42,6 +46,21 @@ OthersStay plan before now = (name : List ℕ) → (IsTarget plan name → ⊥) 
 abbrev pub StopFiles : Bool → Plan → Files → Files → Stop → Type 0
 StopFiles tells plan before now stop =
     StaysAfter tells plan.first before now (answer_for stop).status ⊎ IsBetween tells (at_reading tells before plan) now plan (answer_for stop).status
+
+-- No count of faults falls, and each rises only with the status that tells of it.
+pub record StaysBy (before now : ShelfView) (status : Status) : Type 0 where
+  pub reads_later : (name : List ℕ) → before.reads name ≤ now.reads name
+  pub reads : ReadsStay before.reads now.reads status
+  pub writes_later : (name : List ℕ) → before.writes name ≤ now.writes name
+  pub writes : WritesStay before.writes now.writes status
+
+-- What the plan asks for was not made, or not written: why, and what was done.
+pub record IsUnperformed (tells : Bool) (before now : ShelfView) (plan : Plan) (stop : Stop) : Type 0 where
+  pub cause : IsStop tells before now plan stop
+  pub others : OthersStay plan before.kept now.kept
+  pub files : StopFiles tells plan before.kept now.kept stop
+  pub counts : StaysBy before now (answer_for stop).status
+  pub once : AppendsPart before.calls now.calls (calls_of plan)
 
 -- Both files of a job are there, and memory ran out between their writes: the first one was written, and nothing behind it.
 pub record IsHalfway (tells : Bool) (before now : Files) (plan : Plan) (file packed : Option (List ℕ)) (ended : Status) : Type 0 where
@@ -60,15 +79,38 @@ pub record IsHalfway (tells : Bool) (before now : Files) (plan : Plan) (file pac
 abbrev pub AreOrdered : Plan → (file packed : Option (List ℕ)) → Type 0
 AreOrdered plan file packed = (name : List ℕ) → plan.target ≡ Some name → file ≡ None → packed ≡ None
 
+-- What a call works on: its files, and what it prints on.
+pub record World : Type 0 where
+  pub shelf : ShelfView
+  pub out : SinkView
+
 -- Why a call stops.
-abbrev pub IsCallStop : Bool → List (List ℕ) → ShelfView → ShelfView → SinkView → SinkView → Stop → Type 0
-IsCallStop tells words before now out_before out_now Usage = asked words ≡ None
-IsCallStop tells words before now out_before out_now (Source fault) = MatchOption (asked words) ⊥ (λ plan. IsStop tells before now plan (Source fault))
-IsCallStop tells words before now out_before out_now (Unread name) = MatchOption (asked words) ⊥ (λ plan. IsStop tells before now plan (Unread name))
-IsCallStop tells words before now out_before out_now (Input fault) = MatchOption (asked words) ⊥ (λ plan. IsStop tells before now plan (Input fault))
-IsCallStop tells words before now out_before out_now (NoValue reason) = AsksProgram tells words before.kept (EndsWithout tells before now reason)
-IsCallStop tells words before now out_before out_now Memory = Unit {0}
-IsCallStop tells words before now out_before out_now (Unwritten name) =
-    MatchOption (asked words) ⊥ (λ plan. IsStop tells before now plan (Unwritten name)) × (out_now ≡ out_before)
-IsCallStop tells words before now out_before out_now Unput =
-    IsPrintedInPart tells words before now out_before out_now × Rose out_before.faults out_now.faults × ((name : List ℕ) → now.writes name ≡ before.writes name)
+abbrev pub IsCallStop : Bool → List (List ℕ) → World → World → Stop → Type 0
+IsCallStop tells words before now Usage = asked words ≡ None
+IsCallStop tells words before now (Source fault) = MatchOption (asked words) ⊥ (λ plan. IsStop tells before.shelf now.shelf plan (Source fault))
+IsCallStop tells words before now (Unread name) = MatchOption (asked words) ⊥ (λ plan. IsStop tells before.shelf now.shelf plan (Unread name))
+IsCallStop tells words before now (Input fault) = MatchOption (asked words) ⊥ (λ plan. IsStop tells before.shelf now.shelf plan (Input fault))
+IsCallStop tells words before now (NoValue reason) = AsksProgram tells words before.shelf.kept (EndsWithout tells before.shelf now.shelf reason)
+IsCallStop tells words before now Memory = Unit {0}
+IsCallStop tells words before now (Unwritten name) =
+    MatchOption (asked words) ⊥ (λ plan. IsStop tells before.shelf now.shelf plan (Unwritten name)) × (now.out ≡ before.out)
+IsCallStop tells words before now Unput =
+    IsPrintedInPart tells words before.shelf now.shelf before.out now.out × Rose before.out.faults now.out.faults
+    × ((name : List ℕ) → now.shelf.writes name ≡ before.shelf.writes name)
+
+-- What stays where a call ends with a status.
+pub record StaysWith (tells : Bool) (words : List (List ℕ)) (before now : World) (status : Status) : Type 0 where
+  pub files : FilesStay tells words before.shelf.kept now.shelf.kept status
+  pub counts : StaysBy before.shelf now.shelf status
+  pub out : OutStays before.out now.out status
+  pub calls : AppendsPart before.shelf.calls now.shelf.calls (calls_asked words)
+
+-- What the words ask for was made, written and put.
+pub record IsAnswered (tells : Bool) (words : List (List ℕ)) (before now : World) : Type 0 where
+  pub printed : IsPrinted tells words before.shelf now.shelf before.out now.out
+  pub stays : StaysWith tells words before now status.Done
+
+-- It was not: why, and what stays.
+pub record IsUnanswered (tells : Bool) (words : List (List ℕ)) (before now : World) (stop : Stop) : Type 0 where
+  pub cause : IsCallStop tells words before now stop
+  pub stays : StaysWith tells words before now (answer_for stop).status

@@ -1,17 +1,13 @@
 //! Does a plan, up to what is printed.
 
-ghost use Rattle.std.specs.Prelude.{◌≡◌, ◌≤◌, ◌⊎◌, ℕ, List, [], Some, option_map, IfOk, IfErr, OnOk};
-ghost use Rattle.gib_app.specs.Writes.{AreMade, writes_of, job_writes};
+ghost use Rattle.std.specs.Prelude.{◌≡◌, ◌⊎◌, ℕ, List, [], Some, option_map, IfOk, IfErr, OnOk};
+ghost use Rattle.gib_app.specs.Writes.{writes_of, job_writes};
 ghost use Rattle.gib_app.specs.FirstWrites.{HasWritten, HasStuck};
-ghost use Rattle.gib_app.specs.Ending.{ReadsStay, StaysAfter, WritesStay};
-ghost use Rattle.gib_app.specs.Performing.{IsHalfway, IsPerformed, OthersStay, StopFiles};
-ghost use Rattle.gib_edge.specs.Causes.{AppendsPart};
-ghost use Rattle.gib_app.specs.Calls.{calls_of};
+ghost use Rattle.gib_app.specs.Ending.{StaysAfter};
+ghost use Rattle.gib_app.specs.Performing.{IsHalfway, IsPerformed, IsUnperformed};
 ghost use Rattle.gib_words.specs.Kept.{plan_of};
 ghost use Rattle.gib_app.specs.Kept.{file_of, packed_of};
-ghost use Rattle.gib_app.specs.declared.made.Valued.{Valued as Values};
 ghost use Rattle.gib_app.specs.Stopping.{answer_for};
-ghost use Rattle.gib_app.specs.Stops.{IsStop};
 ghost use Rattle.gib_words.specs.Words.{asked};
 
 use crate::first::{write_first, write_named};
@@ -32,8 +28,10 @@ fn write_file<'a, S: Shelf>(
     name: Option<&'a str>,
     file: &Option<Vec<u8>>,
 ) -> Result<(), Stop<'a>>
-    ensures written { OnOk result (HasWritten S.tells (S.view shelf.old) (S.view shelf.new) (writes_of (option_map (λ bytes. bytes.items) file.now) (option_map (λ name. name.now) name.entry))) }
-    ensures stuck { IfErr result (HasStuck S.tells (S.view shelf.old) (S.view shelf.new) (writes_of (option_map (λ bytes. bytes.items) file.now) (option_map (λ name. name.now) name.entry))) }
+    ensures written { OnOk result (HasWritten S.tells (S.view shelf.old) (S.view shelf.new)
+        (writes_of (option_map (λ bytes. bytes.items) file.now) (option_map (λ name. name.now) name.entry))) }
+    ensures stuck { IfErr result (HasStuck S.tells (S.view shelf.old) (S.view shelf.new)
+        (writes_of (option_map (λ bytes. bytes.items) file.now) (option_map (λ name. name.now) name.entry))) }
     ensures same { IfErr result (λ stop. StaysAfter S.tells [] (S.view shelf.old).kept (S.view shelf.new).kept (answer_for stop).status) }
     ensures named { IfErr result (λ _. (n : List ℕ) × (option_map (λ name. name.now) name.entry ≡ Some n)) }
     ensures there { IfErr result (λ _. (bytes : List ℕ) × (option_map (λ bytes. bytes.items) file.now ≡ Some bytes)) }
@@ -57,10 +55,13 @@ fn write_files<'a, S: Shelf>(
     plan: Plan<'a>,
     finished: &Finished,
 ) -> Result<(), Stop<'a>>
-    ensures written { OnOk result (HasWritten S.tells (S.view shelf.old) (S.view shelf.new) (job_writes (plan_of plan.entry) (file_of finished.now.made) (packed_of finished.now))) }
-    ensures stuck { IfErr result (HasStuck S.tells (S.view shelf.old) (S.view shelf.new) (job_writes (plan_of plan.entry) (file_of finished.now.made) (packed_of finished.now))) }
+    ensures written { OnOk result (HasWritten S.tells (S.view shelf.old) (S.view shelf.new)
+        (job_writes (plan_of plan.entry) (file_of finished.now.made) (packed_of finished.now))) }
+    ensures stuck { IfErr result (HasStuck S.tells (S.view shelf.old) (S.view shelf.new)
+        (job_writes (plan_of plan.entry) (file_of finished.now.made) (packed_of finished.now))) }
     ensures same { IfErr result (λ stop. StaysAfter S.tells [] (S.view shelf.old).kept (S.view shelf.new).kept (answer_for stop).status
-        ⊎ IsHalfway S.tells (S.view shelf.old).kept (S.view shelf.new).kept (plan_of plan.entry) (file_of finished.now.made) (packed_of finished.now) (answer_for stop).status) }
+        ⊎ IsHalfway S.tells (S.view shelf.old).kept (S.view shelf.new).kept (plan_of plan.entry)
+        (file_of finished.now.made) (packed_of finished.now) (answer_for stop).status) }
 {
     match write_file(alloc, shelf, plan.target, &finished.made.file) {
         Ok(()) => {}
@@ -86,18 +87,8 @@ pub fn perform<'a, R: Threads + Wait + Sync, S: Shelf, G: Gate + Sync>(
     plan: Plan<'a>,
 ) -> Result<End, Stop<'a>>
     requires asked { (words : List (List ℕ)) × (asked words ≡ Some (plan_of plan)) }
-    ensures done { IfOk result (λ end. IsPerformed S.tells (S.view shelf.old).kept (S.view shelf.new).kept (plan_of plan.entry) end) }
-    ensures value { IfOk result (λ end. (value : Values) → end ≡ End.Value value → AreMade S.tells (S.view shelf.old).kept (S.view shelf.new).kept (plan_of plan.entry).first) }
-    ensures stop { IfErr result (IsStop S.tells (S.view shelf.old) (S.view shelf.new) (plan_of plan.entry)) }
-    ensures others { OthersStay (plan_of plan.entry) (S.view shelf.old).kept (S.view shelf.new).kept }
-    ensures same { IfErr result (StopFiles S.tells (plan_of plan.entry) (S.view shelf.old).kept (S.view shelf.new).kept) }
-    ensures reads_later { (name : List ℕ) → (S.view shelf.old).reads name ≤ (S.view shelf.new).reads name }
-    ensures reads_quiet { IfOk result (λ _. (name : List ℕ) → (S.view shelf.new).reads name ≡ (S.view shelf.old).reads name) }
-    ensures reads { IfErr result (λ stop. ReadsStay (S.view shelf.old).reads (S.view shelf.new).reads (answer_for stop).status) }
-    ensures writes_later { (name : List ℕ) → (S.view shelf.old).writes name ≤ (S.view shelf.new).writes name }
-    ensures writes_quiet { IfOk result (λ _. (name : List ℕ) → (S.view shelf.new).writes name ≡ (S.view shelf.old).writes name) }
-    ensures writes { IfErr result (λ stop. WritesStay (S.view shelf.old).writes (S.view shelf.new).writes (answer_for stop).status) }
-    ensures once { AppendsPart (S.view shelf.old).calls (S.view shelf.new).calls (calls_of (plan_of plan.entry)) }
+    ensures done { IfOk result (IsPerformed S.tells (S.view shelf.old) (S.view shelf.new) (plan_of plan.entry)) }
+    ensures stop { IfErr result (IsUnperformed S.tells (S.view shelf.old) (S.view shelf.new) (plan_of plan.entry)) }
 {
     match write_first(alloc, shelf, plan) {
         Ok(()) => {}

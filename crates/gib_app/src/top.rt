@@ -4,14 +4,12 @@ ghost use Rattle.std.specs.Prelude.{◌≡◌, ◌≤◌, ℕ, List, OnOk, IfErr
 ghost use Rattle.gib_edge.specs.Causes.{AppendsPart};
 ghost use Rattle.gib_app.specs.declared.status.Status.{Status as Statuses};
 ghost use Rattle.gib_words.specs.Words.{bytes_of};
-ghost use Rattle.gib_app.specs.Causes.{IsPrinted};
 ghost use Rattle.gib_app.specs.Calls.{calls_asked};
 ghost use Rattle.gib_app.specs.Lines.{IsPut};
 ghost use Rattle.gib_app.specs.Headline.{IsRun, IsResult, IsTooDeep, TellsWhatIsMeant, IsOrScarce, NoneFailed};
 ghost use Rattle.gib_words.specs.declared.plan.Options.{Options as OptionValues};
-ghost use Rattle.gib_app.specs.Ending.{IsEnding, IsNoTarget, FilesStay, ReadsStay, WritesStay, OutStays, IsDue, IsDueOrScarce};
-ghost use Rattle.gib_app.specs.Performing.{IsCallStop};
-ghost use Rattle.gib_app.specs.Stopping.{answer_for};
+ghost use Rattle.gib_app.specs.Ending.{IsEnding, FilesStay, ReadsStay, WritesStay, OutStays, IsDue, IsDueOrScarce};
+ghost use Rattle.gib_app.specs.Performing.{IsAnswered, IsUnanswered};
 
 use crate::answer::answer_to;
 use crate::lines::put_line;
@@ -40,19 +38,10 @@ fn call<'a, R: Threads + Wait + Sync, S: Shelf, O: Sink, G: Gate + Sync>(
     shelf: &mut S,
     out: &mut O,
 ) -> Result<(), Stop<'a>>
-    ensures done { OnOk result (IsPrinted S.tells (bytes_of words.now) (S.view shelf.old) (S.view shelf.new) (O.view out.old) (O.view out.new)) }
-    ensures stop { IfErr result (IsCallStop S.tells (bytes_of words.now) (S.view shelf.old) (S.view shelf.new) (O.view out.old) (O.view out.new)) }
-    ensures others { (name : List ℕ) → IsNoTarget (bytes_of words.now) name → (S.view shelf.new).kept name ≡ (S.view shelf.old).kept name }
-    ensures same { IfErr result (λ stop. FilesStay S.tells (bytes_of words.now) (S.view shelf.old).kept (S.view shelf.new).kept (answer_for stop).status) }
-    ensures reads_later { (name : List ℕ) → (S.view shelf.old).reads name ≤ (S.view shelf.new).reads name }
-    ensures reads_quiet { OnOk result ((name : List ℕ) → (S.view shelf.new).reads name ≡ (S.view shelf.old).reads name) }
-    ensures reads { IfErr result (λ stop. ReadsStay (S.view shelf.old).reads (S.view shelf.new).reads (answer_for stop).status) }
-    ensures writes_later { (name : List ℕ) → (S.view shelf.old).writes name ≤ (S.view shelf.new).writes name }
-    ensures writes_quiet { OnOk result ((name : List ℕ) → (S.view shelf.new).writes name ≡ (S.view shelf.old).writes name) }
-    ensures writes { IfErr result (λ stop. WritesStay (S.view shelf.old).writes (S.view shelf.new).writes (answer_for stop).status) }
-    ensures out_quiet { OnOk result ((O.view out.new).faults ≡ (O.view out.old).faults) }
-    ensures out { IfErr result (λ stop. OutStays (O.view out.old) (O.view out.new) (answer_for stop).status) }
-    ensures calls { AppendsPart (S.view shelf.old).calls (S.view shelf.new).calls (calls_asked (bytes_of words.now)) }
+    ensures done { OnOk result (IsAnswered S.tells (bytes_of words.now)
+        (record { shelf = S.view shelf.old; out = O.view out.old }) (record { shelf = S.view shelf.new; out = O.view out.new })) }
+    ensures stop { IfErr result (IsUnanswered S.tells (bytes_of words.now)
+        (record { shelf = S.view shelf.old; out = O.view out.old }) (record { shelf = S.view shelf.new; out = O.view out.new })) }
 {
     let plan = match read_words(alloc, words) {
         Ok(plan) => plan,

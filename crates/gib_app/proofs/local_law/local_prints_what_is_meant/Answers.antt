@@ -1,4 +1,4 @@
-use Rattle.gib_app.proofs.Endings.{Laws}
+use Rattle.gib_app.proofs.OneProgram.{Laws}
 use Rattle.gib_app.proofs.LocalHeadlines.{ends_deep, ends_done, ends_refused, ends_trapped, local_deep, local_done, local_fits, local_full, local_refused, local_trapped, no_result, one_reason, one_result}
 use Rattle.gib_app.proofs.local_law.local_prints_what_is_meant.Goals as goal
 

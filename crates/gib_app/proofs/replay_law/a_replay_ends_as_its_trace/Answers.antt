@@ -1,4 +1,4 @@
-use Rattle.gib_app.proofs.Endings.{Laws}
+use Rattle.gib_app.proofs.OneProgram.{Laws}
 use Rattle.gib_app.proofs.Repeating.{repeats_done, repeats_deep, repeats_trapped}
 use Rattle.gib_app.proofs.replay_law.a_replay_ends_as_its_trace.Goals as goal
 

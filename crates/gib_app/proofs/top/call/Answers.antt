@@ -5,116 +5,20 @@ use Rattle.gib_app.specs.declared.made.End.{End as KeptEnd}
 use Rattle.gib_words.specs.declared.plan.Plan.{Plan as KeptPlan}
 use Rattle.gib_words.specs.Words.{asked, bytes_of}
 use Rattle.gib_words.specs.Kept.{plan_of}
-use Rattle.gib_app.specs.Performing.{IsPerformed}
-use Rattle.gib_app.specs.declared.status.Status.TheVariants as status
-use Rattle.gib_app.proofs.Performing.{files_of, others_stay, unput_files, value_files, valueless_files, without_value, prints, prints_part, prints_value, prints_value_part}
+use Rattle.gib_app.specs.Performing.{IsPerformed, World}
+use Rattle.gib_app.proofs.Answering.{no_memory, not_taken, unperformed, valueless, text_put, text_unput, value_put, value_unput, value_not_put}
 use Rattle.gib_app.proofs.top.call.Goals as goal
 
-pub returns-in-Ok-put_all-clause-done : goal.returns-in-Ok-put_all-clause-done
-returns-in-Ok-put_all-clause-done g c =
-    let words = bytes_of c.args.words.now in
-    let M : Option KeptPlan → Type 0 = λ o. MatchOption o (asked words ≡ None) (λ r. asked words ≡ Some (plan_of r)) in
-    let e = subst M c.in-Some.is c.in-Ok.ensures in
-    let before = g.S.Shelf.view c.args.shelf.now in
-    let now' = g.S.Shelf.view c.perform.new.shelf in
-    let a = g.O.Sink.view c.args.out.now in
-    let b = g.O.Sink.view c.put_all.new.out in
-    let D : KeptEnd → Type 0 = IsPerformed g.S.Shelf.tells before.kept now'.kept (plan_of c.in-Some.plan) in
-    let T : List ℕ → Type 0 = λ bytes. Appends a.taken b.taken bytes × PutsPieces a b (length bytes) in
-    let put = subst T c.deref.ensures.value (c.in-Ok-put_all.ensures.ok, c.in-Ok-put_all.ensures.pieces) in
-    prints g.S.Shelf.tells words before now' a b (plan_of c.in-Some.plan) _ c.in-Ok-Prints.text.items e (λ file packed P h. h) (subst D c.in-Ok-Prints.field-0-is c.in-Ok-Prints.ensures.done) put.0 put.1
+-- ---- The words
 
-pub returns-in-Ok-Prints-clause-stop : goal.returns-in-Ok-Prints-clause-stop
-returns-in-Ok-Prints-clause-stop g c =
-    let words = bytes_of c.args.words.now in
-    let M : Option KeptPlan → Type 0 = λ o. MatchOption o (asked words ≡ None) (λ r. asked words ≡ Some (plan_of r)) in
-    let e = subst M c.in-Some.is c.in-Ok.ensures in
-    let before = g.S.Shelf.view c.args.shelf.now in
-    let now' = g.S.Shelf.view c.perform.new.shelf in
-    let a = g.O.Sink.view c.args.out.now in
-    let b = g.O.Sink.view c.put_all.new.out in
-    let D : KeptEnd → Type 0 = IsPerformed g.S.Shelf.tells before.kept now'.kept (plan_of c.in-Some.plan) in
-    let T : List ℕ → Type 0 = λ bytes. AppendsPart a.taken b.taken bytes × PutsSomePieces a b (length bytes) in
-    let put = subst T c.deref.ensures.value (c.in-Err-put_all.ensures.part, c.in-Err-put_all.ensures.some) in (
-      prints_part g.S.Shelf.tells words before now' a b (plan_of c.in-Some.plan) _ c.in-Ok-Prints.text.items e (λ file packed P h. h) (subst D c.in-Ok-Prints.field-0-is c.in-Ok-Prints.ensures.done) put.0 put.1,
-      c.in-Err-put_all.ensures.cause.failed,
-      c.in-Ok-Prints.ensures.writes_quiet,
-    )
+pub returns-in-Err-clause-stop : goal.returns-in-Err-clause-stop
+returns-in-Err-clause-stop g c = no_memory g.S.Shelf.tells (bytes_of c.args.words.now) (record { shelf = g.S.Shelf.view c.args.shelf.now; out = g.O.Sink.view c.args.out.now })
 
-pub returns-in-Ok-put_value-clause-done : goal.returns-in-Ok-put_value-clause-done
-returns-in-Ok-put_value-clause-done g c =
+pub returns-in_default-clause-stop : goal.returns-in_default-clause-stop
+returns-in_default-clause-stop g c =
     let words = bytes_of c.args.words.now in
     let M : Option KeptPlan → Type 0 = λ o. MatchOption o (asked words ≡ None) (λ r. asked words ≡ Some (plan_of r)) in
-    let e = subst M c.in-Some.is c.in-Ok.ensures in
-    let before = g.S.Shelf.view c.args.shelf.now in
-    let now' = g.S.Shelf.view c.perform.new.shelf in
-    let a = g.O.Sink.view c.args.out.now in
-    let b = g.O.Sink.view c.put_value.new.out in
-    let D : KeptEnd → Type 0 = IsPerformed g.S.Shelf.tells before.kept now'.kept (plan_of c.in-Some.plan) in
-    prints_value g.S.Shelf.tells words before now' a b (plan_of c.in-Some.plan) c.in-Ok-Value.value e (subst D c.in-Ok-Value.field-0-is c.in-Ok-Value.ensures.done) c.in-Ok-put_value.ensures.done
-
-pub returns-in-Ok-put_value-clause-others : goal.returns-in-Ok-put_value-clause-others
-returns-in-Ok-put_value-clause-others g c =
-    let words = bytes_of c.args.words.now in
-    let M : Option KeptPlan → Type 0 = λ o. MatchOption o (asked words ≡ None) (λ r. asked words ≡ Some (plan_of r)) in
-    let e = subst M c.in-Some.is c.in-Ok.ensures in
-    others_stay words (plan_of c.in-Some.plan) (g.S.Shelf.view c.args.shelf.now).kept (g.S.Shelf.view c.perform.new.shelf).kept e c.in-Ok-Value.ensures.others
-
-pub returns-in-Err-Write-clause-stop : goal.returns-in-Err-Write-clause-stop
-returns-in-Err-Write-clause-stop g c =
-    let words = bytes_of c.args.words.now in
-    let M : Option KeptPlan → Type 0 = λ o. MatchOption o (asked words ≡ None) (λ r. asked words ≡ Some (plan_of r)) in
-    let e = subst M c.in-Some.is c.in-Ok.ensures in
-    let before = g.S.Shelf.view c.args.shelf.now in
-    let now' = g.S.Shelf.view c.perform.new.shelf in
-    let a = g.O.Sink.view c.args.out.now in
-    let b = g.O.Sink.view c.put_value.new.out in
-    let D : KeptEnd → Type 0 = IsPerformed g.S.Shelf.tells before.kept now'.kept (plan_of c.in-Some.plan) in
-    let failed = ap (λ (f : PrintFault). Err f) c.in-Err-Write.field-0-is in (
-      prints_value_part g.S.Shelf.tells words before now' a b (plan_of c.in-Some.plan) c.in-Ok-Value.value e (subst D c.in-Ok-Value.field-0-is c.in-Ok-Value.ensures.done)
-          (λ text t. c.in-Err-Write.ensures.part text t failed),
-      c.in-Err-Write.ensures.cause failed,
-      c.in-Ok-Value.ensures.writes_quiet,
-    )
-
-pub returns-in-Err-Write-clause-others : goal.returns-in-Err-Write-clause-others
-returns-in-Err-Write-clause-others g c =
-    let words = bytes_of c.args.words.now in
-    let M : Option KeptPlan → Type 0 = λ o. MatchOption o (asked words ≡ None) (λ r. asked words ≡ Some (plan_of r)) in
-    let e = subst M c.in-Some.is c.in-Ok.ensures in
-    others_stay words (plan_of c.in-Some.plan) (g.S.Shelf.view c.args.shelf.now).kept (g.S.Shelf.view c.perform.new.shelf).kept e c.in-Ok-Value.ensures.others
-
-pub returns-in-Err-Write-clause-same : goal.returns-in-Err-Write-clause-same
-returns-in-Err-Write-clause-same g c =
-    let words = bytes_of c.args.words.now in
-    let M : Option KeptPlan → Type 0 = λ o. MatchOption o (asked words ≡ None) (λ r. asked words ≡ Some (plan_of r)) in
-    let e = subst M c.in-Some.is c.in-Ok.ensures in
-    unput_files g.S.Shelf.tells words (plan_of c.in-Some.plan) (g.S.Shelf.view c.args.shelf.now).kept (g.S.Shelf.view c.perform.new.shelf).kept e c.in-Ok-Value.ensures.others
-
-pub returns-in-Ok-Value-clause-same : goal.returns-in-Ok-Value-clause-same
-returns-in-Ok-Value-clause-same g c =
-    let words = bytes_of c.args.words.now in
-    let M : Option KeptPlan → Type 0 = λ o. MatchOption o (asked words ≡ None) (λ r. asked words ≡ Some (plan_of r)) in
-    let e = subst M c.in-Some.is c.in-Ok.ensures in
-    value_files g.S.Shelf.tells words (plan_of c.in-Some.plan) (g.S.Shelf.view c.args.shelf.now).kept (g.S.Shelf.view c.perform.new.shelf).kept status.Memory e c.in-Ok-Value.ensures.others
-    (c.in-Ok-Value.ensures.value c.in-Ok-Value.value c.in-Ok-Value.field-0-is)
-
-pub returns-in-Ok-NoValue-clause-stop : goal.returns-in-Ok-NoValue-clause-stop
-returns-in-Ok-NoValue-clause-stop g c =
-    let words = bytes_of c.args.words.now in
-    let M : Option KeptPlan → Type 0 = λ o. MatchOption o (asked words ≡ None) (λ r. asked words ≡ Some (plan_of r)) in
-    let e = subst M c.in-Some.is c.in-Ok.ensures in
-    let before = g.S.Shelf.view c.args.shelf.now in
-    let now' = g.S.Shelf.view c.perform.new.shelf in
-    let D : KeptEnd → Type 0 = IsPerformed g.S.Shelf.tells before.kept now'.kept (plan_of c.in-Some.plan) in
-    without_value g.S.Shelf.tells words before now' (g.O.Sink.view c.args.out.now) (plan_of c.in-Some.plan) c.in-Ok-NoValue.reason e (subst D c.in-Ok-NoValue.field-0-is c.in-Ok-NoValue.ensures.done)
-
-pub returns-in-Ok-NoValue-clause-same : goal.returns-in-Ok-NoValue-clause-same
-returns-in-Ok-NoValue-clause-same g c =
-    let words = bytes_of c.args.words.now in
-    let M : Option KeptPlan → Type 0 = λ o. MatchOption o (asked words ≡ None) (λ r. asked words ≡ Some (plan_of r)) in
-    let e = subst M c.in-Some.is c.in-Ok.ensures in
-    valueless_files g.S.Shelf.tells words (plan_of c.in-Some.plan) (g.S.Shelf.view c.args.shelf.now).kept (g.S.Shelf.view c.perform.new.shelf).kept c.in-Ok-NoValue.reason e c.in-Ok-NoValue.ensures.others
+    not_taken g.S.Shelf.tells words (record { shelf = g.S.Shelf.view c.args.shelf.now; out = g.O.Sink.view c.args.out.now }) (subst M c.in_default.is c.in-Ok.ensures)
 
 pub perform-requires-clause-asked : goal.perform-requires-clause-asked
 perform-requires-clause-asked g c κs within =
@@ -122,23 +26,119 @@ perform-requires-clause-asked g c κs within =
     let M : Option KeptPlan → Type 0 = λ o. MatchOption o (asked words ≡ None) (λ r. asked words ≡ Some (plan_of r)) in
     (words, subst M c.in-Some.is c.in-Ok.ensures)
 
-pub returns-in-Ok-Prints-clause-others : goal.returns-in-Ok-Prints-clause-others
-returns-in-Ok-Prints-clause-others g c =
-    let words = bytes_of c.args.words.now in
-    let M : Option KeptPlan → Type 0 = λ o. MatchOption o (asked words ≡ None) (λ r. asked words ≡ Some (plan_of r)) in
-    let e = subst M c.in-Some.is c.in-Ok.ensures in
-    others_stay words (plan_of c.in-Some.plan) (g.S.Shelf.view c.args.shelf.now).kept (g.S.Shelf.view c.perform.new.shelf).kept e c.in-Ok-Prints.ensures.others
+-- ---- A text
 
-pub returns-in-Ok-Prints-clause-same : goal.returns-in-Ok-Prints-clause-same
-returns-in-Ok-Prints-clause-same g c =
+pub returns-in-Ok-put_all-clause-done : goal.returns-in-Ok-put_all-clause-done
+returns-in-Ok-put_all-clause-done g c =
     let words = bytes_of c.args.words.now in
     let M : Option KeptPlan → Type 0 = λ o. MatchOption o (asked words ≡ None) (λ r. asked words ≡ Some (plan_of r)) in
-    let e = subst M c.in-Some.is c.in-Ok.ensures in
-    unput_files g.S.Shelf.tells words (plan_of c.in-Some.plan) (g.S.Shelf.view c.args.shelf.now).kept (g.S.Shelf.view c.perform.new.shelf).kept e c.in-Ok-Prints.ensures.others
+    let is = subst M c.in-Some.is c.in-Ok.ensures in
+    let tells = g.S.Shelf.tells in
+    let r = plan_of c.in-Some.plan in
+    let before = g.S.Shelf.view c.args.shelf.now in
+    let now' = g.S.Shelf.view c.perform.new.shelf in
+    let a = g.O.Sink.view c.args.out.now in
+    let b = g.O.Sink.view c.put_all.new.out in
+    let w : World = record { shelf = before; out = a } in
+    let v : World = record { shelf = now'; out = b } in
+    let D : KeptEnd → Type 0 = IsPerformed tells before now' r in
+    let T : List ℕ → Type 0 = λ bytes. Appends a.taken b.taken bytes × PutsPieces a b (length bytes) in
+    let put = subst T c.deref.ensures.value (c.in-Ok-put_all.ensures.ok, c.in-Ok-put_all.ensures.pieces) in
+    text_put tells words r is w v _ c.in-Ok-Prints.text.items (λ file packed P h. h) (subst D c.in-Ok-Prints.field-0-is c.in-Ok-Prints.ensures.done) put.0 put.1 c.in-Ok-put_all.ensures.cause.quiet
 
-pub returns-clause-same : goal.returns-clause-same
-returns-clause-same g c =
+pub returns-in-Ok-Prints-clause-stop : goal.returns-in-Ok-Prints-clause-stop
+returns-in-Ok-Prints-clause-stop g c =
     let words = bytes_of c.args.words.now in
     let M : Option KeptPlan → Type 0 = λ o. MatchOption o (asked words ≡ None) (λ r. asked words ≡ Some (plan_of r)) in
-    let e = subst M c.in-Some.is c.in-Ok.ensures in
-    files_of g.S.Shelf.tells words (plan_of c.in-Some.plan) (g.S.Shelf.view c.args.shelf.now).kept (g.S.Shelf.view c.perform.new.shelf).kept c.in-Err-perform.stop e c.in-Err-perform.ensures.others c.in-Err-perform.ensures.same
+    let is = subst M c.in-Some.is c.in-Ok.ensures in
+    let tells = g.S.Shelf.tells in
+    let r = plan_of c.in-Some.plan in
+    let before = g.S.Shelf.view c.args.shelf.now in
+    let now' = g.S.Shelf.view c.perform.new.shelf in
+    let a = g.O.Sink.view c.args.out.now in
+    let b = g.O.Sink.view c.put_all.new.out in
+    let w : World = record { shelf = before; out = a } in
+    let v : World = record { shelf = now'; out = b } in
+    let D : KeptEnd → Type 0 = IsPerformed tells before now' r in
+    let T : List ℕ → Type 0 = λ bytes. AppendsPart a.taken b.taken bytes × PutsSomePieces a b (length bytes) in
+    let put = subst T c.deref.ensures.value (c.in-Err-put_all.ensures.part, c.in-Err-put_all.ensures.some) in
+    text_unput tells words r is w v _ c.in-Ok-Prints.text.items (λ file packed P h. h) (subst D c.in-Ok-Prints.field-0-is c.in-Ok-Prints.ensures.done) put.0 put.1 c.in-Err-put_all.ensures.cause.failed
+
+-- ---- A value in region memory
+
+pub returns-in-Ok-put_value-clause-done : goal.returns-in-Ok-put_value-clause-done
+returns-in-Ok-put_value-clause-done g c =
+    let words = bytes_of c.args.words.now in
+    let M : Option KeptPlan → Type 0 = λ o. MatchOption o (asked words ≡ None) (λ r. asked words ≡ Some (plan_of r)) in
+    let is = subst M c.in-Some.is c.in-Ok.ensures in
+    let tells = g.S.Shelf.tells in
+    let r = plan_of c.in-Some.plan in
+    let before = g.S.Shelf.view c.args.shelf.now in
+    let now' = g.S.Shelf.view c.perform.new.shelf in
+    let a = g.O.Sink.view c.args.out.now in
+    let b = g.O.Sink.view c.put_value.new.out in
+    let w : World = record { shelf = before; out = a } in
+    let v : World = record { shelf = now'; out = b } in
+    let D : KeptEnd → Type 0 = IsPerformed tells before now' r in
+    value_put tells words r is w v c.in-Ok-Value.value (subst D c.in-Ok-Value.field-0-is c.in-Ok-Value.ensures.done) c.in-Ok-put_value.ensures.done (c.in-Ok-put_value.ensures.quiet (λ failed. cc))
+
+pub returns-in-Err-Write-clause-stop : goal.returns-in-Err-Write-clause-stop
+returns-in-Err-Write-clause-stop g c =
+    let words = bytes_of c.args.words.now in
+    let M : Option KeptPlan → Type 0 = λ o. MatchOption o (asked words ≡ None) (λ r. asked words ≡ Some (plan_of r)) in
+    let is = subst M c.in-Some.is c.in-Ok.ensures in
+    let tells = g.S.Shelf.tells in
+    let r = plan_of c.in-Some.plan in
+    let before = g.S.Shelf.view c.args.shelf.now in
+    let now' = g.S.Shelf.view c.perform.new.shelf in
+    let a = g.O.Sink.view c.args.out.now in
+    let b = g.O.Sink.view c.put_value.new.out in
+    let w : World = record { shelf = before; out = a } in
+    let v : World = record { shelf = now'; out = b } in
+    let D : KeptEnd → Type 0 = IsPerformed tells before now' r in
+    let failed = ap (λ (f : PrintFault). Err f) c.in-Err-Write.field-0-is in
+    value_unput tells words r is w v c.in-Ok-Value.value (subst D c.in-Ok-Value.field-0-is c.in-Ok-Value.ensures.done) (λ text t. c.in-Err-Write.ensures.part text t failed) (c.in-Err-Write.ensures.cause failed)
+
+pub returns-in-Ok-Value-clause-stop : goal.returns-in-Ok-Value-clause-stop
+returns-in-Ok-Value-clause-stop g c =
+    let words = bytes_of c.args.words.now in
+    let M : Option KeptPlan → Type 0 = λ o. MatchOption o (asked words ≡ None) (λ r. asked words ≡ Some (plan_of r)) in
+    let is = subst M c.in-Some.is c.in-Ok.ensures in
+    let tells = g.S.Shelf.tells in
+    let r = plan_of c.in-Some.plan in
+    let before = g.S.Shelf.view c.args.shelf.now in
+    let now' = g.S.Shelf.view c.perform.new.shelf in
+    let a = g.O.Sink.view c.args.out.now in
+    let b = g.O.Sink.view c.put_value.new.out in
+    let w : World = record { shelf = before; out = a } in
+    let v : World = record { shelf = now'; out = b } in
+    let D : KeptEnd → Type 0 = IsPerformed tells before now' r in
+    let failed = ap (λ (f : PrintFault). Err f) c.in-Err-Memory.field-0-is in
+    value_not_put tells words r is w v c.in-Ok-Value.value (subst D c.in-Ok-Value.field-0-is c.in-Ok-Value.ensures.done) (c.in-Err-Memory.ensures.still failed)
+
+-- ---- No value, or another stop
+
+pub returns-in-Ok-NoValue-clause-stop : goal.returns-in-Ok-NoValue-clause-stop
+returns-in-Ok-NoValue-clause-stop g c =
+    let words = bytes_of c.args.words.now in
+    let M : Option KeptPlan → Type 0 = λ o. MatchOption o (asked words ≡ None) (λ r. asked words ≡ Some (plan_of r)) in
+    let is = subst M c.in-Some.is c.in-Ok.ensures in
+    let tells = g.S.Shelf.tells in
+    let r = plan_of c.in-Some.plan in
+    let before = g.S.Shelf.view c.args.shelf.now in
+    let now' = g.S.Shelf.view c.perform.new.shelf in
+    let a = g.O.Sink.view c.args.out.now in
+    let D : KeptEnd → Type 0 = IsPerformed tells before now' r in
+    valueless tells words r is before now' a c.in-Ok-NoValue.reason (subst D c.in-Ok-NoValue.field-0-is c.in-Ok-NoValue.ensures.done)
+
+pub returns-clause-stop : goal.returns-clause-stop
+returns-clause-stop g c =
+    let words = bytes_of c.args.words.now in
+    let M : Option KeptPlan → Type 0 = λ o. MatchOption o (asked words ≡ None) (λ r. asked words ≡ Some (plan_of r)) in
+    let is = subst M c.in-Some.is c.in-Ok.ensures in
+    let tells = g.S.Shelf.tells in
+    let r = plan_of c.in-Some.plan in
+    let before = g.S.Shelf.view c.args.shelf.now in
+    let now' = g.S.Shelf.view c.perform.new.shelf in
+    let a = g.O.Sink.view c.args.out.now in
+    unperformed tells words r is before now' a c.in-Err-perform.stop c.in-Err-perform.ensures.stop
