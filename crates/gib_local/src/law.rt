@@ -90,13 +90,11 @@ pub fn refused_is_blamed()
 
 /// A refused token is the first: some text's tokens begin with the tokens before it, and levels don't count, for no text of however many has tokens that
 /// begin with those up to and including it.
-#[tactic(auto, using(crate::proofs::WholeLaws::first_blamed))]
 pub fn refused_is_first()
     ensures { (at : Places) (tokens : List Token) (left : ℕ) → whole_text at tokens ≡ Err (At left) → IsFirstBlamed tokens left }
 {}
 
 /// Tokens have one such token at most, and a text's tokens have none.
-#[tactic(auto, using(crate::proofs::WholeLaws::one_blamed, crate::proofs::WholeLaws::text_has_none))]
 pub fn one_blame()
     ensures blamed { (tokens : List Token) (left also : ℕ) → IsFirstBlamed tokens left → IsFirstBlamed tokens also → left ≡ also }
     ensures not_blamed { (levels : ℕ) (at : Places) (t : LocalTree) (left : ℕ) → TextIn levels at t [] → IsFirstBlamed (spell_text t []) left → ⊥ }
