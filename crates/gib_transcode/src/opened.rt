@@ -1,0 +1,10 @@
+//! The constructors of a value that are open while its text is read.
+
+use gib_types::ConId;
+
+/// A constructor that is open, and the number of its next field.
+#[derive(Clone, Copy)]
+pub(crate) struct Open {
+    pub(crate) con: ConId,
+    pub(crate) next: usize,
+}
