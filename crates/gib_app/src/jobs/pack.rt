@@ -1,7 +1,8 @@
 //! `pack`: makes the packed file of a value that is given as text, or by a packed file.
 
-ghost use Rattle.std.specs.Prelude.{◌≡◌, ◌≤◌, length, IfOk, IfErr};
-ghost use Rattle.gib_types.specs.Tree.{HasType};
+ghost use Rattle.std.specs.Prelude.{◌≡◌, ◌≤◌, length, IfOk, IfErr, IfSome};
+ghost use Rattle.gib_types.specs.Tree.{Datum, HasType};
+ghost use Rattle.gib_value.specs.Reading.{IsTextOf};
 ghost use Rattle.gib_syntax.specs.Parts.{program_of};
 ghost use Rattle.gib_syntax.specs.Declarations.{table_of_program, input_type};
 ghost use Rattle.gib_app.specs.Jobs.{Packs};
@@ -18,6 +19,7 @@ use crate::stop::Stop;
 use gib_base::Memory;
 use gib_base::limits::FILE_BYTES;
 use gib_file::{one_file, pack as packed_file};
+use gib_transcode::{transcode, transcode_first};
 use gib_value::law::texts_differ;
 use gib_value::{TextFault, Value, read_text};
 use gib_words::plan::Options;
@@ -91,6 +93,67 @@ fn file_of_value(
     }
 }
 
+/// The packed file of the value of the type of main's parameter whose text this is, where one pass over the text finds one. None
+/// says nothing of the text.
+///
+/// # Errors
+///
+/// Want of memory.
+fn file_of_text(
+    alloc: Global,
+    compiled: &Compiled,
+    first_version: bool,
+    text: &[u8],
+) -> Result<Option<Vec<u8>>, Memory>
+    requires ready { IsReady (program_of compiled.now.typed) compiled.now.names }
+    ensures { IfOk result (λ found. IfSome found (λ file. (v : Datum)
+        × IsTextOf (table_of_program (program_of compiled.now.typed)) compiled.now.names.short (input_type (program_of compiled.now.typed)) v text.now
+        × IsFileOf first_version (program_of compiled.now.typed) compiled.now.names v file.items)) }
+{
+    let types = compiled.typed.types();
+    let ty = compiled.typed.input_type();
+    if first_version {
+        return transcode_first(alloc, types, &compiled.names, ty, text);
+    }
+    transcode(alloc, types, &compiled.names, ty, text)
+}
+
+/// The packed file of the value that is packed: of a text in one pass over it, where that finds it; else the value is made.
+///
+/// # Errors
+///
+/// `Input` where the bytes are none of such a value.
+fn file_found(
+    alloc: Global,
+    compiled: &Compiled,
+    options: Options,
+    bytes: &[u8],
+) -> Result<Vec<u8>, Stop<'static>>
+    requires ready { IsReady (program_of compiled.now.typed) compiled.now.names }
+    requires short { length bytes.now ≤ FILE_BYTES }
+    ensures file { IfOk result (λ file. (v : Datum) × IsPackable options.repacks (program_of compiled.now.typed) compiled.now.names v bytes.now
+        × IsFileOf options.first_version (program_of compiled.now.typed) compiled.now.names v file.items) }
+    ensures stop { IfErr result (IsPackStop options.repacks options.first_version (program_of compiled.now.typed) compiled.now.names bytes.now) }
+{
+    if !options.repacks {
+        let Ok(found) = file_of_text(alloc, compiled, options.first_version, without_feed(bytes))
+        else {
+            return Err(Stop::Memory);
+        };
+        if let Some(file) = found {
+            return Ok(file);
+        }
+    }
+    let value = match value_of(alloc, compiled, options, bytes) {
+        Ok(value) => value,
+        Err(stop) => return Err(stop),
+    };
+    match file_of_value(alloc, compiled, options.first_version, &value) {
+        Ok(file) => Ok(file),
+        Err(_) => Err(Stop::Memory),
+    }
+}
+
 /// The packed file of the value that is packed.
 ///
 /// # Errors
@@ -109,12 +172,9 @@ fn file_made(
 {
     one_file();
     texts_differ(compiled.typed.types(), &compiled.names);
-    let value = match value_of(alloc, compiled, options, bytes) {
-        Ok(value) => value,
+    let file = match file_found(alloc, compiled, options, bytes) {
+        Ok(file) => file,
         Err(stop) => return Err(stop),
-    };
-    let Ok(file) = file_of_value(alloc, compiled, options.first_version, &value) else {
-        return Err(Stop::Memory);
     };
     if file.len() as u64 > FILE_BYTES {
         return Err(Stop::Input(InputFault::Long(FILE_BYTES)));

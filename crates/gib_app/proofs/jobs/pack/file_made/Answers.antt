@@ -13,5 +13,11 @@ returns-then-len-gt-FILE_BYTES-clause-stop c =
     let laws : PackLaws (table_of_program p) names.short = subst L c.types.ensures (record { firsts = c.one_file.ensures.bytes; seconds = c.one_file.ensures.second; values = c.one_file.ensures.value; texts = c.texts_differ.ensures }) in
     let over = c.if-len-gt-FILE_BYTES.true in
     let len = c.len.ensures in
-    let many : 16777216 < length c.in-Ok-file_of_value.file.items = omega (arith, over, len) in
-    long_stop_packs c.args.options.repacks c.args.options.first_version p names c.args.bytes.now c.requires.short laws c.in-Ok.value c.in-Ok-file_of_value.file.items c.in-Ok.ensures.packable c.in-Ok-file_of_value.ensures many
+    let found = c.in-Ok.ensures.file in
+    let many : 16777216 < length c.in-Ok.file.items = omega (arith, over, len) in
+    long_stop_packs c.args.options.repacks c.args.options.first_version p names c.args.bytes.now c.requires.short laws found.0 c.in-Ok.file.items found.1 found.2 many
+
+pub returns-clause-file : goal.returns-clause-file
+returns-clause-file c =
+    let found = c.in-Ok.ensures.file in
+    record { value = found.0; short = c.requires.short; packable = found.1; is_file = found.2; few = omega (arith, c.if-len-gt-FILE_BYTES.false, c.len.ensures) }
