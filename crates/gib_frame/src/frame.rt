@@ -14,7 +14,7 @@ use crate::ends::{Cell, Frame, Reply, Task};
 use atomic_table::Table;
 use gib_arena::{Arena, Pass};
 use gib_code::Side;
-use gib_core::Lowered;
+use gib_weave::Runnable;
 use std::alloc::Global;
 use std::snapshot::Snapshot;
 use std::sync::{Arc, Condvar, Mutex, Wait};
@@ -36,7 +36,7 @@ const TAKEN: u64 = 3;
 pub fn make<'a>(
     alloc: Global,
     arena: &'a Arena,
-    lowered: &'a Lowered,
+    lowered: &'a Runnable<'a>,
     side: Side,
     pass: Pass,
 ) -> Result<(Frame, Task<'a>), Pass>
@@ -49,7 +49,7 @@ pub fn make<'a>(
     ensures err { IfErr result (λ p. p ≡ pass) }
 {
     let due = Due {
-        lowered: Snapshot::of(lowered),
+        lowered: Snapshot::of(lowered.lowered()),
         side: Snapshot::of(&side),
         pass: Snapshot::of(&pass),
     };

@@ -14,7 +14,7 @@ use gib_types::Ty;
 
 /// Where a function starts; 0 for no function.
 #[tactic(auto, using(crate::proofs::Steps::start_here, crate::proofs::Steps::start_past))]
-fn start_of(code: &Code, function: u32) -> u32
+pub(crate) fn start_of(code: &Code, function: u32) -> u32
     ensures { result ≡ m.start_at code.now.functions function }
 {
     let functions = code.functions();
@@ -28,7 +28,7 @@ fn start_of(code: &Code, function: u32) -> u32
 
 /// How many slots a frame of a function has; 0 for no function.
 #[tactic(auto, using(crate::proofs::Steps::slots_here, crate::proofs::Steps::slots_past))]
-fn slots_of(code: &Code, function: u32) -> u32
+pub(crate) fn slots_of(code: &Code, function: u32) -> u32
     ensures { result ≡ slots_at code.now.functions function }
 {
     let functions = code.functions();

@@ -13,7 +13,7 @@ use crate::turn::Turn;
 use gib_code::{AnswerType, Fork};
 
 /// The label before one.
-fn before(label: u32) -> u32
+pub(crate) fn before(label: u32) -> u32
     ensures { result ≡ label - 1 }
 {
     if label > 0 { label - 1 } else { 0 }

@@ -15,7 +15,7 @@ use crate::turn::Turn;
 use gib_code::{Operand, Targets};
 
 /// How many of so many regions are newer than the one of this number.
-fn newer(part: u8, count: u8) -> u8
+pub(crate) fn newer(part: u8, count: u8) -> u8
     ensures { result ≡ count - 1 - part }
 {
     count.saturating_sub(1).saturating_sub(part)

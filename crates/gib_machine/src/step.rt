@@ -20,7 +20,8 @@ impl Machine {
     /// again. At a fork, at a join and at its end a step changes nothing.
     pub fn step<M: Mem>(&mut self, code: &Code, mem: &mut M, tails: &mut Tails) -> Turn
         requires { CanStep code.now (with_tails self.old tails.old) (M.view mem.old) }
-        ensures { Made (next code.now (with_tails self.old tails.old)) (with_tails self.old tails.old) (with_tails self.new tails.new) (M.view mem.old) (M.view mem.new) result }
+        ensures { Made (next code.now (with_tails self.old tails.old)) (with_tails self.old tails.old) (with_tails self.new tails.new)
+            (M.view mem.old) (M.view mem.new) result }
     {
         self.goes_on(code, mem, tails)
     }
@@ -32,7 +33,8 @@ impl Machine {
         requires made { self.old.width ≡ widest code.now.functions }
         requires small { IsSmallAsk (next code.now (with_tails self.old tails.old)) }
         requires can { Can (next code.now (with_tails self.old tails.old)) (M.view mem.old) }
-        ensures { Made (next code.now (with_tails self.old tails.old)) (with_tails self.old tails.old) (with_tails self.new tails.new) (M.view mem.old) (M.view mem.new) result }
+        ensures { Made (next code.now (with_tails self.old tails.old)) (with_tails self.old tails.old) (with_tails self.new tails.new)
+            (M.view mem.old) (M.view mem.new) result }
     {
         if self.is_at_rest() {
             self.begins_here(code, mem, tails)
@@ -57,7 +59,8 @@ impl Machine {
         requires begun { at_rest self.old.doing ≡ false }
         requires small { IsSmallAsk (next code.now (with_tails self.old tails.old)) }
         requires can { Can (next code.now (with_tails self.old tails.old)) (M.view mem.old) }
-        ensures { Made (next code.now (with_tails self.old tails.old)) (with_tails self.old tails.old) (with_tails self.new tails.new) (M.view mem.old) (M.view mem.new) result }
+        ensures { Made (next code.now (with_tails self.old tails.old)) (with_tails self.old tails.old) (with_tails self.new tails.new)
+            (M.view mem.old) (M.view mem.new) result }
     {
         match self.doing {
             Doing::Ready => unreachable!(),
@@ -94,7 +97,8 @@ impl Machine {
         requires made { self.old.width ≡ widest code.now.functions }
         requires small { IsSmallAsk (begin code.now (with_tails self.old tails.old) (slice_get code.now.instructions self.old.ip)) }
         requires can { Can (begin code.now (with_tails self.old tails.old) (slice_get code.now.instructions self.old.ip)) (M.view mem.old) }
-        ensures { Made (begin code.now (with_tails self.old tails.old) (slice_get code.now.instructions self.old.ip)) (with_tails self.old tails.old) (with_tails self.new tails.new) (M.view mem.old) (M.view mem.new) result }
+        ensures { Made (begin code.now (with_tails self.old tails.old) (slice_get code.now.instructions self.old.ip)) (with_tails self.old tails.old)
+            (with_tails self.new tails.new) (M.view mem.old) (M.view mem.new) result }
     {
         let instructions = code.instructions();
         let place = self.ip as usize;
@@ -117,7 +121,8 @@ impl Machine {
         requires made { self.old.width ≡ widest code.now.functions }
         requires small { IsSmallAsk (begin code.now (with_tails self.old tails.old) (Some (instruction_of instr.now))) }
         requires can { Can (begin code.now (with_tails self.old tails.old) (Some (instruction_of instr.now))) (M.view mem.old) }
-        ensures { Made (begin code.now (with_tails self.old tails.old) (Some (instruction_of instr.now))) (with_tails self.old tails.old) (with_tails self.new tails.new) (M.view mem.old) (M.view mem.new) result }
+        ensures { Made (begin code.now (with_tails self.old tails.old) (Some (instruction_of instr.now))) (with_tails self.old tails.old)
+            (with_tails self.new tails.new) (M.view mem.old) (M.view mem.new) result }
     {
         match instr {
             Instr::Switch { tree, arms } => self.switches(*tree, arms, mem),

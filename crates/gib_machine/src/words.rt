@@ -12,7 +12,7 @@ use crate::turn::Turn;
 use gib_code::{Operand, Operation, Reason};
 
 /// What is done with two words, as numbers in two's complement.
-fn operated(operation: Operation, left: u64, right: u64) -> u64
+pub(crate) fn operated(operation: Operation, left: u64, right: u64) -> u64
     requires { IsTrue (m.traps operation right) → ⊥ }
     ensures { result ≡ m.operated operation left right }
 {
@@ -30,7 +30,7 @@ fn operated(operation: Operation, left: u64, right: u64) -> u64
 }
 
 /// Whether an operation divides, and by this word, which is 0.
-fn traps(operation: Operation, right: u64) -> bool
+pub(crate) fn traps(operation: Operation, right: u64) -> bool
     ensures { result ≡ m.traps operation right }
 {
     match operation {

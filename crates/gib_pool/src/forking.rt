@@ -26,16 +26,16 @@ use crate::active::ActiveTask;
 use crate::forks::Forks;
 use crate::offer::offer_side;
 use gib_arena::{Arena, Pass};
-use gib_core::Lowered;
 use gib_frame::Frame;
 use gib_machine::Machine;
+use gib_weave::Runnable;
 use std::alloc::Global;
 
 /// Offers the right side of the fork at which the machine stands; none where memory refuses the side or its frame.
 fn offer_here<'a>(
     alloc: Global,
     arena: &'a Arena,
-    lowered: &'a Lowered,
+    lowered: &'a Runnable<'a>,
     machine: &Machine,
     pass: &mut Pass,
     forks: &mut Forks<'a>,
@@ -71,7 +71,7 @@ fn offer_here<'a>(
 pub(crate) fn fork_here<'a>(
     alloc: Global,
     arena: &'a Arena,
-    lowered: &'a Lowered,
+    lowered: &'a Runnable<'a>,
     mut active: ActiveTask,
     forks: &mut Forks<'a>,
 ) -> ActiveTask

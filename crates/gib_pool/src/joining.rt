@@ -16,8 +16,8 @@ use crate::leaving::leave;
 use crate::permits::Permit;
 use crate::workspace::Workspace;
 use gib_arena::{Arena, Pass};
-use gib_core::Lowered;
 use gib_frame::Ending;
+use gib_weave::Runnable;
 use std::sync::Wait;
 
 /// Takes the newest right side in place where nobody ran it, or joins the answer of who did.
@@ -29,7 +29,7 @@ use std::sync::Wait;
 pub(crate) fn join_here<'a, R: Wait>(
     rt: &R,
     arena: &'a Arena,
-    lowered: &Lowered,
+    lowered: &Runnable<'_>,
     mut active: ActiveTask,
     forks: &mut Forks<'a>,
     permit: &mut Permit<'_>,

@@ -30,7 +30,7 @@ use gib_frame::Ending;
 use gib_mem::Mem;
 use gib_packed::Root;
 use gib_region::Tails;
-use gib_weave::{RunFault, root_machine};
+use gib_weave::{RunFault, Runnable, root_machine};
 use std::alloc::{AllocError, Global};
 use std::sync::Wait;
 use std::thread::Threads;
@@ -62,14 +62,14 @@ fn outcome_of(ending: Ending) -> Result<Answer, RunFault>
 /// Want of memory.
 fn root_workspace(
     alloc: Global,
-    lowered: &Lowered,
+    lowered: &Runnable<'_>,
     root: Root,
     config: Config,
 ) -> Result<Workspace, AllocError>
     ensures machine { IfOk result (λ w. (tails : List ℕ) → with_tails w.machine tails ≡ root_start (core_of lowered.now.core) lowered.now.code (word_of root) config.depth config.forks tails) }
     ensures room { IfOk result (λ w. config.forks ≤ vec_capacity w.frames) }
 {
-    let machine = root_machine(alloc, lowered, root, config.depth, config.forks)?;
+    let machine = root_machine(alloc, lowered.lowered(), root, config.depth, config.forks)?;
     let frames = Vec::with_capacity(alloc, config.forks as usize)?;
     Ok(Workspace { machine, frames })
 }
@@ -158,9 +158,10 @@ pub fn run_by<R: Threads + Wait + Sync, G: Gate + Sync>(
     let (arena, first) = memory.into_parts();
     let sleep = CachePadded::new(Sleep::new());
     let permits = CachePadded::new(Permits::new(config.workers.max(1)));
+    let runnable = Runnable::make(alloc, lowered);
     let shared = Shared {
         arena: &arena,
-        lowered,
+        lowered: &runnable,
         sleep: &sleep,
         permits: &permits,
         gate,

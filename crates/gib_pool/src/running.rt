@@ -8,15 +8,15 @@ ghost use Rattle.gib_pool.specs.Active.{Holds, IsHere, IsSamePass, OwesStill, St
 use crate::active::ActiveTask;
 use crate::going::go_on;
 use gib_arena::{Arena, ArenaMem, names_tell};
-use gib_core::Lowered;
 use gib_machine::Turn;
+use gib_weave::Runnable;
 use std::sync::Wait;
 
 /// Goes on until the machine stands at a fork, at a join or at its end, or draws where all chunks are drawn.
 pub(crate) fn run_on<R: Wait>(
     rt: &R,
     arena: &Arena,
-    lowered: &Lowered,
+    lowered: &Runnable<'_>,
     active: ActiveTask,
 ) -> (ActiveTask, Turn)
     requires holds { Holds arena.now lowered.now active }

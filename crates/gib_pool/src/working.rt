@@ -16,17 +16,17 @@ use crate::permits::Permit;
 use crate::running::run_on;
 use crate::workspace::Workspace;
 use gib_arena::{Arena, Pass};
-use gib_core::Lowered;
 use gib_edge::outside::Gate;
 use gib_frame::Ending;
 use gib_machine::Turn;
+use gib_weave::Runnable;
 use std::sync::Wait;
 
 /// Goes on until the task's machine stood once. Where the task has ended, how it did, its pass and the workspace come back.
 fn stand_once<'a, R: Wait, G: Gate>(
     rt: &R,
     arena: &'a Arena,
-    lowered: &'a Lowered,
+    lowered: &'a Runnable<'a>,
     active: ActiveTask,
     forks: &mut Forks<'a>,
     hooks: &Hooks<'_, G>,
@@ -70,7 +70,7 @@ fn stand_once<'a, R: Wait, G: Gate>(
 pub(crate) fn work<'a, R: Wait, G: Gate>(
     rt: &R,
     arena: &'a Arena,
-    lowered: &'a Lowered,
+    lowered: &'a Runnable<'a>,
     active: ActiveTask,
     forks: &mut Forks<'a>,
     hooks: &Hooks<'_, G>,

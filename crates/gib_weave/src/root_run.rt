@@ -14,7 +14,7 @@ use crate::steps::run_for;
 use gib_base::Memory;
 use gib_code::{Answer, Code};
 use gib_core::Lowered;
-use gib_machine::{Machine, Turn};
+use gib_machine::{Machine, Prepared, Turn};
 use gib_mem::Mem;
 use gib_packed::Root;
 use gib_region::Tails;
@@ -117,7 +117,8 @@ pub fn run<M: Mem>(
         Ok(machine) => {
             let mut machine = machine;
             let mut tails = tails;
-            let turn = run_for(&mut machine, code, mem, &mut tails, u64::MAX);
+            let prepared = Prepared::make(alloc, code);
+            let turn = run_for(&mut machine, &prepared, mem, &mut tails, u64::MAX);
             outcome_of(&machine, code, turn)
         }
         Err(_) => Err(RunFault::Memory),
