@@ -1,4 +1,5 @@
 pub mod TwoWords
 pub mod Faults
 pub mod Saying
-pub mod Reading
+pub mod Scripted
+pub mod Leaving

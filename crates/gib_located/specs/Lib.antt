@@ -1,1 +1,2 @@
 pub mod LocatedSource
+pub mod LocatedScript

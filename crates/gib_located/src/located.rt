@@ -1,9 +1,8 @@
 //! From the words of a command line to the LoCal text of a source's core.
 
-ghost use Rattle.std.specs.Prelude.{◌≡◌, ◌≤◌, ◌∷◌, [], ℕ, false, List, None, Some, OnOk, OnErr, IfOk, IfErr, MatchOption};
+ghost use Rattle.std.specs.Prelude.{◌≡◌, ◌≤◌, ◌∷◌, [], ℕ, false, List, None, Some, OnOk, IfOk, IfErr, MatchOption};
 ghost use Rattle.std.specs.Result.{IsErrOf};
-ghost use Rattle.gib_edge.specs.Causes.{Appends, AppendsPart, IsFrontOf};
-ghost use Rattle.gib_edge.specs.Views.{ReadOf};
+ghost use Rattle.gib_edge.specs.Causes.{AppendsPart, IsFrontOf};
 ghost use Rattle.gib_app.specs.Ending.{ReadsStay, OutStays};
 ghost use Rattle.gib_app.specs.Lines.{IsPut};
 ghost use Rattle.gib_app.specs.Stopping.{answer_of};
@@ -14,6 +13,8 @@ ghost use Rattle.gib_app.specs.Cores.{core_after};
 ghost use Rattle.gib_local.specs.LocatedText.{located_text};
 ghost use Rattle.gib_located.specs.LocatedSource.{IsMadeAgain, HasCoreText, IsFault, IsUnreadSource, IsPrinted};
 ghost use Rattle.gib_located.specs.LocatedSource.{IsCallFault, IsEnd, answer_for_fault, located_calls};
+ghost use Rattle.gib_located.specs.LocatedScript.{read_script, read_ended, ended, Runs, IsRun};
+ghost use Rattle.gib_script.specs.Script.{OnShelf};
 
 use gib_app::Status;
 use gib_app::answer::{Answer, Detail, Said, answer_to};
@@ -24,10 +25,11 @@ use gib_app::stop::Stop;
 use gib_base::Texts;
 use gib_check::Typed;
 use gib_edge::command_line::WordsFault;
-use gib_edge::outside::{Shelf, ShelfFault, Sink, put_all};
+use gib_edge::outside::{Shelf, ShelfFault, Sink};
 use gib_infer::law::infer_numbers_variables;
 use gib_local::law::printed_text_makes_its_core;
 use gib_local::{PrintFault, print_located};
+use gib_script::calls::{put_bytes, read_file};
 use std::alloc::Global;
 
 /// One byte more than a source may have.
@@ -99,15 +101,9 @@ fn read_source<'a, S: Shelf>(
 ) -> Result<Vec<u8>, Fault<'a>>
     ensures bytes { IfOk result (λ bytes. IsFrontOf ((S.view shelf.old).kept name.now) 1048577 bytes.items) }
     ensures fault { IfErr result (IsUnreadSource name.now (S.view shelf.old) (S.view shelf.new)) }
-    ensures same { (file : List ℕ) → (S.view shelf.new).kept file ≡ (S.view shelf.old).kept file }
-    ensures later { (file : List ℕ) → (S.view shelf.old).reads file ≤ (S.view shelf.new).reads file }
-    ensures quiet { OnOk result ((file : List ℕ) → (S.view shelf.new).reads file ≡ (S.view shelf.old).reads file) }
-    ensures reads { IfErr result (λ fault. ReadsStay (S.view shelf.old).reads (S.view shelf.new).reads (answer_for_fault fault).status) }
-    ensures writes { (file : List ℕ) → (S.view shelf.new).writes file ≡ (S.view shelf.old).writes file }
-    ensures called { OnOk result (Appends (S.view shelf.old).calls (S.view shelf.new).calls (ReadOf name.now 1048577 ∷ [])) }
-    ensures once { OnErr result (AppendsPart (S.view shelf.old).calls (S.view shelf.new).calls (ReadOf name.now 1048577 ∷ [])) }
+    ensures follows { OnShelf S.tells (read_script name.now) (S.view shelf.old) (S.view shelf.new) (read_ended result) }
 {
-    match shelf.read(alloc, name, MOST) {
+    match read_file(alloc, shelf, name, MOST) {
         Ok(bytes) => Ok(bytes),
         Err(ShelfFault::Failed) => Err(Fault::Stopped(Stop::Unread(name))),
         Err(ShelfFault::Memory) => Err(Fault::Stopped(Stop::Memory)),
@@ -123,14 +119,7 @@ fn call<'a, S: Shelf, O: Sink>(
 ) -> Result<(), Fault<'a>>
     ensures printed { OnOk result (IsPrinted (bytes_of words.now) (S.view shelf.old).kept (O.view out.old).taken (O.view out.new).taken) }
     ensures fault { IfErr result (IsCallFault (bytes_of words.now) (S.view shelf.old) (S.view shelf.new) (O.view out.old) (O.view out.new)) }
-    ensures same { (file : List ℕ) → (S.view shelf.new).kept file ≡ (S.view shelf.old).kept file }
-    ensures later { (file : List ℕ) → (S.view shelf.old).reads file ≤ (S.view shelf.new).reads file }
-    ensures quiet { OnOk result ((file : List ℕ) → (S.view shelf.new).reads file ≡ (S.view shelf.old).reads file) }
-    ensures reads { IfErr result (λ fault. ReadsStay (S.view shelf.old).reads (S.view shelf.new).reads (answer_for_fault fault).status) }
-    ensures writes { (file : List ℕ) → (S.view shelf.new).writes file ≡ (S.view shelf.old).writes file }
-    ensures out_quiet { OnOk result ((O.view out.new).faults ≡ (O.view out.old).faults) }
-    ensures out { IfErr result (λ fault. OutStays (O.view out.old) (O.view out.new) (answer_for_fault fault).status) }
-    ensures calls { AppendsPart (S.view shelf.old).calls (S.view shelf.new).calls (located_calls (bytes_of words.now)) }
+    ensures follows { Runs S.tells (bytes_of words.now) (S.view shelf.old) (S.view shelf.new) (O.view out.old) (O.view out.new) (ended result) }
 {
     let Some(name) = source_name(words) else {
         return Err(Fault::Stopped(Stop::Usage));
@@ -143,7 +132,7 @@ fn call<'a, S: Shelf, O: Sink>(
         Ok(text) => text,
         Err(fault) => return Err(fault),
     };
-    match put_all(out, &text) {
+    match put_bytes(out, &text) {
         Ok(()) => Ok(()),
         Err(_) => Err(Fault::Stopped(Stop::Unput)),
     }
@@ -189,6 +178,9 @@ pub fn located<S: Shelf, O: Sink, E: Sink>(
     // Each status comes only by its cause, and its line is put on `err`, or a front of the line where the count of `err` rose. `Done` comes
     // only where exactly the text of the core of the source was put.
     ensures ends { (said : List ℕ) × IsEnd (bytes_of words.now) (S.view shelf.old) (S.view shelf.new) (O.view out.old) (O.view out.new) result said × IsPut (E.view err.old) (E.view err.new) said }
+
+    // The calls follow the script of the words, and the status tells how it ended. The clauses below are what that leaves.
+    ensures follows { IsRun S.tells (bytes_of words.now) (S.view shelf.old) (S.view shelf.new) (O.view out.old) (O.view out.new) result }
 
     // What files hold stays, and so do the counts of writes; those of reads never fall, and rise only with the status that tells of
     // them; but at `Done` and `WriteFault` nothing is put.
