@@ -25,7 +25,8 @@ use Rattle.gib_app.specs.Causes.{OnBoth, IsMade, EndsWithout}
 use Rattle.gib_app.specs.Ending.{IsBetween, IsNoTarget, first_asked, StaysAfter, FilesStay, OutStays}
 use Rattle.gib_app.specs.Stops.{IsStop}
 use Rattle.gib_app.specs.Stopping.{answer_for}
-use Rattle.gib_app.specs.Performing.{IsPerformed, IsUnperformed, OthersStay, StaysBy, StopFiles, World, IsCallStop, StaysWith, IsAnswered, IsUnanswered}
+use Rattle.gib_script.specs.Script.{World}
+use Rattle.gib_app.specs.Performing.{IsPerformed, IsUnperformed, OthersStay, StaysBy, StopFiles, IsCallStop, StaysWith, IsAnswered, IsUnanswered}
 use Rattle.gib_app.proofs.CallCauses.{Front, Whole}
 use Rattle.gib_app.proofs.Calling.{added_some, calls_are_asked}
 use Rattle.gib_app.proofs.FirstWriting.{others_after}

@@ -23,7 +23,8 @@ use Rattle.gib_app.specs.Lines.{line}
 use Rattle.gib_app.specs.Ending.{IsEnding}
 use Rattle.gib_app.specs.Stopping.{answer_for}
 use Rattle.gib_app.proofs.Performing.{asked_is, map_both}
-use Rattle.gib_app.specs.Performing.{World, IsCallStop}
+use Rattle.gib_script.specs.Script.{World}
+use Rattle.gib_app.specs.Performing.{IsCallStop}
 
 -- the files that a plan reads
 abbrev pub K : Bool → ShelfView → Plan → Files

@@ -15,7 +15,7 @@ use Rattle.gib_app.specs.Causes.{OnBoth, HasNoValue}
 use Rattle.gib_app.specs.Ending.{IsEnding, HasText, DueMissing, DueRefused, DueWithout, IsDue, IsDueOrScarce}
 use Rattle.gib_app.proofs.Performing.{asked_of}
 use Rattle.gib_app.proofs.Doing.{RunsACore, does_accepts, full_runs}
-use Rattle.gib_app.specs.Performing.{World}
+use Rattle.gib_script.specs.Script.{World}
 use Rattle.gib_app.proofs.CallCauses.{K, IsCause, cause_of, untaken_ends}
 use Rattle.gib_app.proofs.OneProgram.{Laws}
 use Rattle.gib_app.proofs.SameFiles.{clash, a_program}

@@ -13,7 +13,7 @@ use Rattle.gib_app.specs.Formats.{Accepts}
 use Rattle.gib_app.specs.Jobs.{Prints, without_image}
 use Rattle.gib_app.specs.Causes.{OnBoth, HasNoValue, FailsToWrite}
 use Rattle.gib_app.specs.Ending.{HasText, DueOfFiles, TakesAll}
-use Rattle.gib_app.specs.Performing.{World}
+use Rattle.gib_script.specs.Script.{World}
 use Rattle.gib_app.proofs.CallCauses.{K, Valueless, IsCause}
 use Rattle.gib_app.proofs.OneProgram.{Laws}
 use Rattle.gib_app.proofs.SameFiles.{clash, fit_or_unfit, no_program, read_both, of_two, of_job}

@@ -13,7 +13,7 @@ use Rattle.gib_app.specs.Jobs.{NoValue as Without}
 use Rattle.gib_app.specs.Causes.{OnBoth, HasNoValue, IsUnwritten}
 use Rattle.gib_app.specs.Ending.{DueOfFiles, DueWithout}
 use Rattle.gib_app.proofs.Replays.{some_or_none}
-use Rattle.gib_app.specs.Performing.{World}
+use Rattle.gib_script.specs.Script.{World}
 use Rattle.gib_app.proofs.CallCauses.{K, Whole, Front, Valueless, IsCause}
 use Rattle.gib_app.proofs.OneProgram.{Laws}
 use Rattle.gib_app.proofs.SameFiles.{clash, fit_or_unfit, no_program, read_both, of_two, of_job}

@@ -16,7 +16,7 @@ use Rattle.gib_app.specs.Formats.{Input as PlanInput}
 use Rattle.gib_app.specs.Causes.{AreFurther, AreGiven, AreReached, further_of, OnProgram, OnSource, OnBoth, OnReached, HasNoValue, IsUnwritten}
 use Rattle.gib_app.specs.Ending.{IsMissing, FirstWritten, DueOfFirst, DueMissing}
 use Rattle.gib_app.proofs.Making.{reached_all}
-use Rattle.gib_app.specs.Performing.{World}
+use Rattle.gib_script.specs.Script.{World}
 use Rattle.gib_app.proofs.CallCauses.{K, Whole, Front, Valueless, Unfit, IsCause}
 use Rattle.gib_app.proofs.OneProgram.{Laws, together}
 use Rattle.gib_app.proofs.SameFiles.{same_bytes, of_job}

@@ -23,7 +23,7 @@ use Rattle.gib_app.specs.Causes.{AreGiven, AreReached, first_of, OnProgram, OnSo
 use Rattle.gib_app.specs.Ending.{AreTold, FirstWritten, DueOfSource, DueRefused, RefusesFirst}
 use Rattle.gib_app.proofs.Doing.{AcceptsBy, does_accepts}
 use Rattle.gib_app.proofs.Making.{reached_all}
-use Rattle.gib_app.specs.Performing.{World}
+use Rattle.gib_script.specs.Script.{World}
 use Rattle.gib_app.proofs.CallCauses.{K, Whole, Front, Valueless, Unfit, IsCause}
 use Rattle.gib_app.proofs.OneProgram.{Laws, together}
 use Rattle.gib_app.proofs.SameFiles.{same_bytes, clash, no_program, a_program, reached_program, read_both, read_one, of_job}

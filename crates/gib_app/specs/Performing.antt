@@ -1,7 +1,8 @@
 -- What is written, why that fails, and what stays.
 use Rattle.std.specs.Prelude.{◌≡◌, ◌≤◌, ◌⊎◌, ℕ, List, [], ◌∷◌, None, Option, Some, MatchOption, Bool}
 use Rattle.gib_edge.specs.Causes.{Rose, AppendsPart}
-use Rattle.gib_edge.specs.Views.{ShelfView, SinkView}
+use Rattle.gib_edge.specs.Views.{ShelfView}
+use Rattle.gib_script.specs.Script.{World}
 use Rattle.gib_app.specs.declared.status.Status.{Status}
 use Rattle.gib_app.specs.declared.status.Status.TheVariants as status
 use Rattle.gib_app.specs.declared.stop.Stop.{Stop}
@@ -78,11 +79,6 @@ pub record IsHalfway (tells : Bool) (before now : Files) (plan : Plan) (file pac
 -- A packed file is written only behind the other file, where that one is asked for.
 abbrev pub AreOrdered : Plan → (file packed : Option (List ℕ)) → Type 0
 AreOrdered plan file packed = (name : List ℕ) → plan.target ≡ Some name → file ≡ None → packed ≡ None
-
--- What a call works on: its files, and what it prints on.
-pub record World : Type 0 where
-  pub shelf : ShelfView
-  pub out : SinkView
 
 -- Why a call stops.
 abbrev pub IsCallStop : Bool → List (List ℕ) → World → World → Stop → Type 0

@@ -5,7 +5,8 @@ use Rattle.gib_app.specs.declared.made.End.{End as KeptEnd}
 use Rattle.gib_words.specs.declared.plan.Plan.{Plan as KeptPlan}
 use Rattle.gib_words.specs.Words.{asked, bytes_of}
 use Rattle.gib_words.specs.Kept.{plan_of}
-use Rattle.gib_app.specs.Performing.{IsPerformed, World}
+use Rattle.gib_script.specs.Script.{World}
+use Rattle.gib_app.specs.Performing.{IsPerformed}
 use Rattle.gib_app.proofs.Answering.{no_memory, not_taken, unperformed, valueless, text_put, text_unput, value_put, value_unput, value_not_put}
 use Rattle.gib_app.proofs.top.call.Goals as goal
 

@@ -5,7 +5,8 @@ use Rattle.gib_words.specs.Words.{bytes_of}
 use Rattle.gib_edge.specs.Views.{ShelfView, SinkView}
 use Rattle.gib_app.specs.Lines.{line, said_text}
 use Rattle.gib_app.specs.Ending.{IsEnding, IsDueOrScarce}
-use Rattle.gib_app.specs.Performing.{World, StaysWith}
+use Rattle.gib_script.specs.Script.{World}
+use Rattle.gib_app.specs.Performing.{StaysWith}
 use Rattle.gib_app.specs.Stopping.{Answer, answer_for}
 use Rattle.gib_app.proofs.Calling.{added_none, added_whole, is_put}
 use Rattle.gib_app.specs.Headline.{IsOrScarce, TellsWhatIsMeant}
