@@ -49,9 +49,9 @@ class Function:
 
 def type_named(head):
     """What the prover calls the functions of an impl by: its type, and behind that the trait's name where it is one of a trait."""
-    shorter = head.replace("->", "")
-    while shorter != head:
-        head, shorter = shorter, re.sub(r"<[^<>]*>", "", shorter)
+    head = head.replace("->", "")
+    while (shorter := re.sub(r"<[^<>]*>", "", head)) != head:
+        head = shorter
     trait, is_for, of = head.split(" where ")[0].partition(" for ")
     last = lambda name: re.findall(r"\w+", name)[-1]
     return last(of) + last(trait) if is_for else last(trait)
