@@ -100,7 +100,7 @@ main (n : Int) : Int = let tree = grow 10 in copies n tree ;
 # What is counted in instructions: the program and its two numbers, what it gives for a number, of what there are so many more in the run on the
 # second number, and how many instructions each may take.
 COUNTED = (
-    ("a sum, a leaf", GROW + SUM_TREE + SUMS, 2, 20, lambda n: n * LEAVES, 18 * LEAVES, 660),
+    ("a sum, a leaf", GROW + SUM_TREE + SUMS, 2, 20, lambda n: n * LEAVES, 18 * LEAVES, 670),
     ("a sum in place, a leaf", GROW + SUM_PAR + SUMS, 2, 20, lambda n: n * LEAVES, 18 * LEAVES, 815),
     ("add_one, a leaf", GROW + COPIES, 2, 20, lambda n: 0, 18 * LEAVES, 1_450),
     ("fib, a call", FIB, 0, 20, fibonacci, 2 * fibonacci(21) - 2, 285),
