@@ -15,7 +15,7 @@ ghost use Rattle.gib_access.specs.Bodies.{offsets_kept as kept};
 
 mod bodies;
 mod fields;
-pub mod law;
+mod law;
 mod planning;
 mod source;
 mod stamps;
@@ -27,7 +27,7 @@ use gib_base::{Memory, Reversed};
 use gib_core::law::reaching_makes_built;
 use gib_core::{AccessMode, Core, ended_parameters};
 use gib_types::ConId;
-use law::{reaching_keeps_numbers, reaching_keeps_the_meaning};
+pub use law::{offsets_are_stored_where_read, reaching_keeps_numbers, reaching_keeps_the_meaning};
 use source::Source;
 use std::alloc::Global;
 use work::Work;

@@ -1,30 +1,30 @@
 //! The core: terms with their places, between the source and the code.
 #![tactic(auto)]
 
-pub mod atom;
+mod atom;
 mod by_variable;
-pub mod checked;
+mod checked;
 mod clock;
 mod cost_examples;
 mod division_examples;
 pub mod ended;
-pub mod examples;
+mod examples;
 pub mod known;
 pub mod law;
 mod literals;
 mod lowered;
 mod marking;
-pub mod mentions;
+mod mentions;
 pub mod named;
-pub mod node;
-pub mod part_types;
+mod node;
+mod part_types;
 mod parts_examples;
-pub mod piece;
-pub mod print;
-pub mod program;
-pub mod rule;
+mod piece;
+mod print;
+mod program;
+mod rule;
 mod rule_examples;
-pub mod scope;
+mod scope;
 pub mod settle;
 mod tally;
 mod text;

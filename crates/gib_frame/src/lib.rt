@@ -5,9 +5,11 @@
 mod due;
 mod ends;
 mod frame;
-pub mod law;
-pub mod sends;
+mod law;
+mod sends;
 
 pub use due::{Due, Ending};
 pub use ends::{Frame, Reply, Task};
 pub use frame::{make, put_answer, wait_answer};
+pub use law::what_is_paid_is_bound;
+pub use sends::{frame_sends, task_sends};

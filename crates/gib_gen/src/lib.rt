@@ -4,14 +4,16 @@
 ghost use Rattle.std.specs.Prelude.{◌≡◌, ◌%◌, IfOk};
 ghost use Rattle.gib_gen.specs.Made.{source_text, grown, file_of};
 
-pub mod described;
+mod described;
 mod input;
-pub mod law;
+mod law;
 mod line;
 mod source;
 
+pub use described::{inputs_described_alike, programs_are_named};
 use gib_base::Memory;
 use input::file;
+pub use law::{full_trees, made_is_program, tree_summary};
 pub use line::summary;
 use source::text;
 use std::alloc::Global;

@@ -2,7 +2,7 @@
 #![tactic(auto)]
 
 pub mod law;
-pub mod loading;
+mod loading;
 pub(crate) mod plan;
 
 pub use loading::{LoadFault, load};

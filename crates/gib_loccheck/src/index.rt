@@ -1,7 +1,7 @@
 //! What is found by a number in constant time.
 
-pub mod bound;
+pub(crate) mod bound;
 mod entry;
 mod flagging;
-pub mod indexed;
-pub mod scope;
+pub(crate) mod indexed;
+pub(crate) mod scope;

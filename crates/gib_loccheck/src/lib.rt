@@ -12,10 +12,10 @@ ghost use Rattle.gib_loccheck.specs.Answers.{IsMemory, IsMemoryOr, IsFirst};
 
 mod atoms;
 mod bodies;
-pub mod examples;
+mod examples;
 mod fault;
 mod index;
-pub mod law;
+mod law;
 mod lines;
 mod state;
 mod table;
@@ -27,6 +27,7 @@ pub use fault::LocFault;
 use gib_core::law::{built_is_unbroken, reaching_makes_built};
 use gib_core::{Checked, Core};
 use index::indexed::IndexedCore;
+pub use law::first_rule_is_smallest;
 use std::alloc::Global;
 
 /// A core that breaks no build rule.

@@ -7,7 +7,7 @@ mod head;
 mod held;
 mod journal;
 mod journal_fault;
-pub mod law;
+mod law;
 mod line;
 mod loaded;
 mod read;
@@ -19,6 +19,7 @@ mod write;
 
 pub use journal::{Journal, Line, Lines};
 pub use journal_fault::JournalFault;
+pub use law::a_journal_has_one_end;
 pub use loaded::{Loaded, Replayed, Traced, replay_loaded, run_loaded};
 pub use read::read_journal;
 pub use replay_fault::ReplayFault;

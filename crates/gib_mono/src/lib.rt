@@ -1,27 +1,32 @@
 //! Copies of a program for the types with which its declarations are used.
 #![tactic(auto)]
 
-pub mod asks;
-pub mod context;
-pub mod copier;
-pub mod copy_names;
-pub mod copy_texts;
-pub mod copying;
-pub mod declaring;
-pub mod entries;
+mod asks;
+mod context;
+mod copier;
+mod copy_names;
+mod copy_texts;
+mod copying;
+mod declaring;
+mod entries;
 pub mod find;
 pub mod found;
-pub mod law;
-pub mod naming;
+mod law;
+mod naming;
 mod plain;
 mod plain_names;
-pub mod program_copy;
-pub mod reading;
-pub mod scene;
-pub mod search;
+mod program_copy;
+mod reading;
+mod scene;
+mod search;
 pub mod source;
 
 pub use copy_names::CopyNames;
 pub use copy_texts::texts;
 pub use found::MonoFault;
+pub use law::{
+    copies_are_shown, copies_are_typed, copies_mean_the_same, examples, names_are_given,
+    plain_copies_mean_the_same, plain_programs_are_copied_as_they_stand,
+    plain_programs_are_their_own, plain_programs_mean_the_same, uses_are_asked,
+};
 pub use program_copy::{MonoProgram, mono};

@@ -4,7 +4,7 @@
 mod declarations;
 mod expressions;
 pub mod law;
-pub mod parsing;
+mod parsing;
 mod phrases;
 mod types;
 

@@ -14,11 +14,11 @@ ghost use Rattle.gib_place.specs.SameSource.{IsSameProgram};
 
 mod bodies;
 mod examples;
-pub mod field;
+mod field;
 mod filling;
-pub mod law;
+mod law;
 mod laying;
-pub mod line;
+mod line;
 mod placing;
 mod renumber;
 mod several;
@@ -29,7 +29,7 @@ mod walk;
 use bodies::{place_functions, place_main};
 use gib_base::Memory;
 use gib_core::{Core, Terms};
-use law::{placing_keeps_reachable, placing_keeps_the_meaning, placing_keeps_the_source};
+pub use law::{placing_keeps_reachable, placing_keeps_the_meaning, placing_keeps_the_source};
 use std::alloc::Global;
 
 /// A core whose bodies are placed, with its variables numbered in the order of the text.

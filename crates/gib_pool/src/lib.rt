@@ -10,7 +10,7 @@ mod going;
 mod helping;
 mod hooks;
 mod joining;
-pub mod law;
+mod law;
 mod leaving;
 mod offer;
 mod permits;
@@ -24,5 +24,9 @@ mod worker;
 mod working;
 mod workspace;
 
+pub use law::{
+    a_side_begins, a_wider_pass_keeps, each_turn_keeps, passes_come_back, tasks_are_sound_together,
+    there_is_room_for_a_frame,
+};
 pub use run::{Loaded, run_by};
 pub use threads::Config;
