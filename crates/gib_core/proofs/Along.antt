@@ -1,15 +1,16 @@
 -- Lines one behind another: what holds of both parts, and what they bind.
-use Rattle.std.proofs.Common.{◌≡◌, ◌⊎◌, inl, inr, Bool, true, false, ◌==◌, ◌||◌, if◌then◌else◌, List, [], ◌∷◌, ◌++◌, Some, None, refl, sym, ap, ◌∙◌}
+use Rattle.std.proofs.Common.{◌≡◌, ◌⊎◌, inl, inr, Bool, true, false, ◌==◌, ◌||◌, ◌&&◌, if◌then◌else◌, List, [], ◌∷◌, ◌++◌, Some, None, refl, sym, ap, ◌∙◌}
 use Rattle.std.proofs.lemmas.Bool.{eqb-true, eq-eqb, both_ways, or_parts, or_from, or_right, or_cases, false_from_ne_true}
 use Rattle.gib_types.specs.declared.table.Ty.{Ty}
 use Rattle.gib_types.specs.declared.table.ConId.{ConId}
 use Rattle.gib_types.specs.Table.{Table, fields_at}
 use Rattle.gib_core.specs.declared.atom.Variable.{Variable}
 use Rattle.gib_core.specs.declared.atom.Kind.TheVariants.{Here, Region, Scalar}
-use Rattle.gib_core.specs.Tree.{CoreTree}
-use Rattle.gib_core.specs.Met.{Setting, Line, PastLine, SideLine, ParLine, PrimLine, ReachLine, WriteLine, PointLine, CallLine, GiveLine, CaseLine, IfLine, SeveralLine, TupleLine, PartLine, Met}
-use Rattle.gib_core.specs.Rules.{Bound, Before, Judgement, is_among, is_bound, bind_fields, bind_arms, any_bound, arm_variables, rules, least, binds_new, next, next_all, LinesAreBuilt}
-use Rattle.gib_core.specs.Inferring.{first_type, further_types}
+use Rattle.gib_core.specs.declared.atom.Atom.{Atom}
+use Rattle.gib_core.specs.Tree.{Bind, CoreTree}
+use Rattle.gib_core.specs.Met.{Setting, behind, met_bind, Line, PastLine, SideLine, ParLine, PrimLine, ReachLine, WriteLine, PointLine, CallLine, GiveLine, CaseLine, IfLine, SeveralLine, TupleLine, PartLine, Met}
+use Rattle.gib_core.specs.Rules.{Bound, Before, Judgement, is_among, are_variables, is_bound, bind_fields, bind_arms, any_bound, arm_variables, rules, least, binds_new, next, next_all, LinesAreBuilt}
+use Rattle.gib_core.specs.Inferring.{as_atoms, first_type, further_types}
 use Rattle.gib_core.specs.Reachable.{all_reached, LinesAreReachable}
 
 pub same_variable : (x y : Variable) → (x.0 == y.0) ≡ true → x ≡ y
@@ -40,6 +41,16 @@ pub least_none : (rs : List Judgement) → NoneBroken rs → least rs ≡ None
 least_none [] h = refl
 least_none (r ∷ rs) h = ap (λ b. if b then Some r.0 else least rs) h.0 ∙ least_none rs h.1
 
+-- Bindings one behind another: what stands behind them, and their lines.
+
+abbrev pub behind_all : Setting → List Bind → Setting
+behind_all s [] = s
+behind_all s (b ∷ bs) = behind_all (behind s b) bs
+
+abbrev pub met_all : Table → Setting → List Bind → List Met
+met_all table s [] = []
+met_all table s (b ∷ bs) = met_bind table s b ++ met_all table (behind s b) bs
+
 -- Lines in two parts.
 
 pub next_append : (tb : Table) (b : Before) (xs ys : List Met) → next_all tb b (xs ++ ys) ≡ next_all tb (next_all tb b xs) ys
@@ -50,6 +61,10 @@ module _ (core : CoreTree) where
   pub built_append : (b : Before) (xs ys : List Met) → LinesAreBuilt core b xs → LinesAreBuilt core (next_all core.table b xs) ys → LinesAreBuilt core b (xs ++ ys)
   built_append b [] ys h k = k
   built_append b (m ∷ xs) ys h k = (h.0, built_append (next core.table b m.line) xs ys h.1 k)
+
+  pub reachable_append : (b : Before) (xs ys : List Met) → LinesAreReachable core b xs → LinesAreReachable core (next_all core.table b xs) ys → LinesAreReachable core b (xs ++ ys)
+  reachable_append b [] ys h k = k
+  reachable_append b (m ∷ xs) ys h k = (h.0, reachable_append (next core.table b m.line) xs ys h.1 k)
 
   pub reachable_split : (b : Before) (xs ys : List Met) → LinesAreReachable core b (xs ++ ys) → LinesAreReachable core b xs × LinesAreReachable core (next_all core.table b xs) ys
   reachable_split b [] ys h = (tt, h)
@@ -66,6 +81,11 @@ among_append (x ∷ xs) ys y = go (x.0 == y.0) (among_append xs ys y)
     go : (b : Bool) → is_among (xs ++ ys) y ≡ (is_among xs y || is_among ys y) → (b || is_among (xs ++ ys) y) ≡ ((b || is_among xs y) || is_among ys y)
     go true e = refl
     go false e = e
+
+-- Variables are those that stand as their atoms.
+pub own_atoms : (xs : List Variable) → are_variables xs (as_atoms xs) ≡ true
+own_atoms [] = refl
+own_atoms (x ∷ xs) = λ i. eq-eqb x.0 x.0 refl i && own_atoms xs i
 
 -- The variables of a list differ from each other.
 abbrev pub AreDistinct : List Variable → Type 0

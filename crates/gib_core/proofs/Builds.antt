@@ -110,7 +110,7 @@ keep_reached : (b : Before) (sc : Scope) (x : ℕ) (t z tree k p : ℕ) (i : Sor
 keep_reached b sc x t z tree k p i e = λ y ty h. tracked_elsewhere b sc x y i ty (tracked_field b sc x y t z tree k p ty e h (test (y == x))) h
 
 -- The operators' types are scalars.
-operator_scalar : (g : Operator) → is_scalar (operator_type g) ≡ true
+pub operator_scalar : (g : Operator) → is_scalar (operator_type g) ≡ true
 operator_scalar o.Add = refl
 operator_scalar o.Subtract = refl
 operator_scalar o.Multiply = refl

@@ -1,13 +1,14 @@
 -- To reach fields leaves what is known of ends: the ended parameters stay.
-use Rattle.std.proofs.Common.{◌≡◌, Bool, ◌||◌, ◌&&◌, List, [], Option, Some, None, refl, ◌∙◌}
+use Rattle.std.proofs.Common.{◌≡◌, Bool, ◌||◌, ◌&&◌, List, [], None, refl, ◌∙◌}
 use Rattle.gib_types.specs.Table.{Table, fields_at}
 use Rattle.gib_core.specs.declared.atom.Variable.{Variable}
 use Rattle.gib_core.specs.declared.atom.AccessMode.{AccessMode}
 use Rattle.gib_core.specs.Tree.{Term, Then, Write, Point, CallTerm, Give, CaseTerm, IfTerm, Tuple, Bind, Past, One, Both, Prim, Reach, On, Several, Branches, NoBranch, BranchThen, prepend, is_variable, CoreTree}
 use Rattle.gib_core.specs.Met.{Body, bodies}
-use Rattle.gib_core.specs.Ending.{Ended, is_telling, is_known, all_known, lasts_known, last_packed, if_some, ended}
+use Rattle.gib_core.specs.Ending.{Ended, is_telling, is_known, all_known, lasts_known, last_packed, ended}
 use Rattle.gib_core.specs.Reaching.{uses, Later, reaches, laters, ends_now, not_now, bind_uses, packed_variables, reach, reach_bind, reach_parts, reach_branches, tells_ends, ended_by, offsets_by, reach_core}
 use Rattle.gib_core.proofs.Alike.{alike_tells}
+use Rattle.gib_core.proofs.Maps.{same_if}
 use Rattle.gib_core.proofs.PastReaches.{ends_past, reaches_past, reach_alike}
 use Rattle.gib_core.proofs.Remade.{all_of, KnowsSame, remade_ended}
 
@@ -26,10 +27,6 @@ module _ (tb : Table) (es gs : List Ended) where
 
   reaches_known : (m : AccessMode) (t u : Term) (ps : List Variable) (z : Variable) → is_known tb gs (prepend (reaches m es t ps) u) z ≡ is_known tb gs u z
   reaches_known m t u ps z = reaches_past (λ v. is_known tb gs v z) (λ y by v. refl) m es t u ps
-
-  some_same : (o : Option Variable) (f g : Variable → Bool) → ((y : Variable) → f y ≡ g y) → if_some o f ≡ if_some o g
-  some_same None f g h = refl
-  some_same (Some y) f g h = h y
 
   mutual
     pub known_same : (m : AccessMode) (fs : List Later) (t : Term) (z : Variable) → is_known tb gs (reach m tb es fs t) z ≡ is_known tb gs t z
@@ -58,7 +55,7 @@ module _ (tb : Table) (es gs : List Ended) where
     lasts_same m NoBranch = refl
     lasts_same m (BranchThen k xs t rest) =
         let ps = packed_variables tb k xs in
-        λ i. some_same (last_packed None (fields_at tb k.0) xs) (λ y. is_known tb gs (prepend (reaches m es t ps) (reach m tb es (laters m es t ps) t)) y) (λ y. is_known tb gs t y)
+        λ i. same_if (last_packed None (fields_at tb k.0) xs) (λ y. is_known tb gs (prepend (reaches m es t ps) (reach m tb es (laters m es t ps) t)) y) (λ y. is_known tb gs t y)
         (λ y. reaches_known m t (reach m tb es (laters m es t ps) t) ps y ∙ known_same m (laters m es t ps) t y) i && lasts_same m rest i
 
 -- Once its fields are reached, the same parameters of a core are ended.

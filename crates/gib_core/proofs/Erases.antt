@@ -192,6 +192,10 @@ module _ (tb : Table) where
       subst (λ (m : ℕ). Relates m sub (bind_side r w (bind_side l v env)) new) (sym (behind_same (behind_variables n l) o.1.0 r o.1.2))
       (relates_side r w o.1.2 (relates_more o.1.1 (relates_side l v o.0 h)))
 
+pub not_made : (o : Option ℕ) (v : Datum) → ((k : ℕ) → is_made_by (Some k) v ≡ false) → is_made_by o v ≡ false
+not_made None v h = refl
+not_made (Some k) v h = h k
+
 module _ (tb : Table) (call : Calls) where
   literal_eval : (a : Atom) (other : Environment) (n : ℕ) → IsFit n a → eval tb call (expression_of a) other ≡ Gives (value other a)
   literal_eval (atomic.Variable x) other n h = refl
@@ -407,10 +411,6 @@ module _ (tb : Table) (call : Calls) where
   abbrev eval_option : Option Arms → Datum → Environment → Outcome
   eval_option None v other = Gives (whole (pos 0))
   eval_option (Some arms) v other = eval_arms tb call arms v other
-
-  not_made : (o : Option ℕ) (v : Datum) → ((k : ℕ) → is_made_by (Some k) v ≡ false) → is_made_by o v ≡ false
-  not_made None v h = refl
-  not_made (Some k) v h = h k
 
   arms_scalar : (arms : Arms) (v : Datum) (other : Environment) → ((k : ℕ) → is_made_by (Some k) v ≡ false) → eval_arms tb call arms v other ≡ Gives (whole (pos 0))
   arms_scalar (LastArm k xs e) v other h = ap (λ b. choose b (eval tb call e (bind xs (parts v) other)) (Gives (whole (pos 0)))) (not_made (constructor_named tb (number_of k)) v h)

@@ -36,7 +36,7 @@ pub mod Unbroken
 pub mod Orders
 -- To reach the fields of arms keeps the build rules.
 mod Skipped
-mod Kept
+pub mod Kept
 mod Awaits
 mod Offered
 mod Onward
@@ -59,7 +59,7 @@ mod Entering
 mod Severals
 mod Covering
 mod Fitted
-mod Builds
+pub mod Builds
 mod Bodies
 pub mod Fine
 -- Functions by their names and types; the one code of a core.

@@ -29,9 +29,9 @@ pub below_push : (id : ℕ) (bs : List Binding) (x : Binding) → AllByRecursion
 below_push id [] x h below = (below, tt)
 below_push id (y ∷ bs) x h below = (h.0, below_push id bs x h.1 below)
 
-prepend_behind : (bs : List Bind) (x : Bind) (t : Term) → prepend (bs ++ x ∷ []) t ≡ prepend bs (Then x t)
-prepend_behind [] x t = refl
-prepend_behind (y ∷ bs) x t = ap (Then y) (prepend_behind bs x t)
+pub prepend-append : (xs ys : List Bind) (t : Term) → prepend (xs ++ ys) t ≡ prepend xs (prepend ys t)
+prepend-append [] ys t = refl
+prepend-append (x ∷ xs) ys t = ap (Then x) (prepend-append xs ys t)
 
 pub line_first : (nodes : List Node) (id : ℕ) (node : Node) → Opens nodes id node → LineSoFar nodes id [] id node
 line_first nodes id node opens = record { term = refl; below = tt; within = omega arith; opens = opens }
@@ -47,7 +47,7 @@ line_next nodes id rest bindings now node new x after so is put opens =
     subst P (sym put) (record {
       term = so.term
           ∙ ap (prepend (binds_from f bindings)) opened
-          ∙ sym (prepend_behind (binds_from f bindings) (bind_from f x) (f after.0))
+          ∙ sym (prepend-append (binds_from f bindings) (bind_from f x ∷ []) (f after.0))
           ∙ ap (λ (bs : List Bind). prepend bs (f after.0)) (sym (map-append (bind_from f) bindings (x ∷ [])));
       below = below_push id bindings x so.below (binding_below_more rest id x so.within parts.0);
       within = omega (arith, parts.1, so.within);

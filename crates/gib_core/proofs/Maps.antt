@@ -176,6 +176,10 @@ module _ (tb : Table) (f : Bind → Bind) (g : Nested → Term → Term)
     branches_met NoBranch s = refl
     branches_met (BranchThen k xs t rest) s = λ i. (nested (InArm k xs) (map_term f g t) (in_arm tb s k xs) ∙ map_met t (in_arm tb s k xs)) i ++ branches_met rest s i
 
+pub same_if : (o : Option Variable) (p q : Variable → Bool) → ((y : Variable) → p y ≡ q y) → if_some o p ≡ if_some o q
+same_if None p q h = refl
+same_if (Some y) p q h = h y
+
 -- Which ends are known.
 module _ (tb : Table) (es : List Ended) (f : Bind → Bind) (g : Nested → Term → Term)
     (bound : (b : Bind) (z : Variable) → is_telling es (f b) z ≡ is_telling es b z) (told : (t : Term) (z : Variable) → tells es (g InSide t) z ≡ tells es t z)
@@ -187,10 +191,6 @@ module _ (tb : Table) (es : List Ended) (f : Bind → Bind) (g : Nested → Term
   map_telling (Both fork l r) z = refl
   map_telling (Prim x o y w) z = refl
   map_telling (Reach y by) z = refl
-
-  same_if : (o : Option Variable) (p q : Variable → Bool) → ((y : Variable) → p y ≡ q y) → if_some o p ≡ if_some o q
-  same_if None p q h = refl
-  same_if (Some y) p q h = h y
 
   mutual
     pub map_known : (t : Term) (z : Variable) → is_known tb es (map_term f g t) z ≡ is_known tb es t z

@@ -33,25 +33,35 @@ use Rattle.gib_syntax.specs.Results as results
 use Rattle.gib_syntax.specs.Results.{Results, AreSeveral}
 
 -- The numbers from one on to another one, without it.
-abbrev Runs : ℕ → List ℕ → ℕ → Type 0
+abbrev pub Runs : ℕ → List ℕ → ℕ → Type 0
 Runs n [] m = n ≡ m
 Runs n (x ∷ xs) m = (x ≡ n) × Runs (n + 1) xs m
 
-runs_apart : (n m : ℕ) (xs ys : List ℕ) → Runs n (xs ++ ys) m → (k : ℕ) × Runs n xs k × Runs k ys m
+pub runs_apart : (n m : ℕ) (xs ys : List ℕ) → Runs n (xs ++ ys) m → (k : ℕ) × Runs n xs k × Runs k ys m
 runs_apart n m [] ys h = (n, refl, h)
 runs_apart n m (x ∷ xs) ys h = let r = runs_apart (n + 1) m xs ys h.1 in (r.0, (h.0, r.1), r.2)
 
-runs_up : (n m : ℕ) (xs : List ℕ) → Runs n xs m → n ≤ m
+pub runs_up : (n m : ℕ) (xs : List ℕ) → Runs n xs m → n ≤ m
 runs_up n m [] h = omega (arith, h)
 runs_up n m (x ∷ xs) h = let r = runs_up (n + 1) m xs h.1 in omega (arith, r)
 
-number_runs : (n count : ℕ) → Runs n (numbers_from n count) (n + count)
+pub number_runs : (n count : ℕ) → Runs n (numbers_from n count) (n + count)
 number_runs n zero = omega arith
 number_runs n (suc count) =
     let h = number_runs (suc n) count in
     let next : suc n ≡ n + 1 = omega arith in
     let last : suc n + count ≡ n + suc count = omega arith in
     (refl, subst (λ (k : ℕ). Runs k (numbers_from (suc n) count) (n + suc count)) next (subst (λ (k : ℕ). Runs (suc n) (numbers_from (suc n) count) k) last h))
+
+pub runs_append : (n k m : ℕ) (xs ys : List ℕ) → Runs n xs k → Runs k ys m → Runs n (xs ++ ys) m
+runs_append n k m [] ys e h = subst (λ (j : ℕ). Runs j ys m) (sym e) h
+runs_append n k m (x ∷ xs) ys e h = (e.0, runs_append (n + 1) k m xs ys e.1 h)
+
+pub runs_numbers : (n m : ℕ) (xs : List ℕ) → Runs n xs m → xs ≡ numbers_from n (length xs)
+runs_numbers n m [] h = refl
+runs_numbers n m (x ∷ xs) h =
+    let next : n + 1 ≡ suc n = omega arith in
+    λ i. h.0 i ∷ (runs_numbers (n + 1) m xs h.1 ∙ ap (λ j. numbers_from j (length xs)) next) i
 
 -- Variables in scope are below a number.
 record InScope (n : ℕ) (ks : List Known) : Type 0 where
@@ -87,7 +97,7 @@ scope_reach n ks y (Some k) e h =
     let lt = h.inside y k e in
     scope_put n (record k { reached = true }) ks (omega (arith, name, lt)) h
 
-field_variable : (k : ConId) (x : Variable) (ty : Ty) (before : Option Variable) → (field k x ty before).variable.0 ≡ x.0
+pub field_variable : (k : ConId) (x : Variable) (ty : Ty) (before : Option Variable) → (field k x ty before).variable.0 ≡ x.0
 field_variable k x Whole before = refl
 field_variable k x Truth before = refl
 field_variable k x (Tree t) None = refl
@@ -236,10 +246,10 @@ found_at table is k None e lt = absurd (there table.rows k.0 lt e)
     there (r ∷ rows) (suc i) lt e = there rows i (omega (arith, lt)) e
 found_at table is k (Some r) e lt = place_named table.rows k.0 r is.names_differ e
 
-found_in : (table : Table) → IsTable table → (k : ConId) → k.0 < length table.rows → IsFound table k
+pub found_in : (table : Table) → IsTable table → (k : ConId) → k.0 < length table.rows → IsFound table k
 found_in table is k lt = found_at table is k (slice_get table.rows k.0) refl lt
 
-past_found : (table : Table) → IsTable table → (k : ConId) (ty : Ty) → is_of_type table k ty ≡ true → IsFound table k
+pub past_found : (table : Table) → IsTable table → (k : ConId) (ty : Ty) → is_of_type table k ty ≡ true → IsFound table k
 past_found table is k Whole e = absurd cc
 past_found table is k Truth e = absurd cc
 past_found table is k (Tree t) e = found_con table is t.0 k (con_there table t.0 k.0 e)
@@ -260,11 +270,11 @@ rows_by ty r rows le (fails l) (fails e) =
     let of : rows_of ty (r ∷ rows) ≡ rows_of ty rows = ap (λ t. if t then 1 + rows_of ty rows else rows_of ty rows) e in
     omega (arith, le, before, of)
 
-rows_inside : (ty : ℕ) (rows : List Row) → rows_before ty rows + rows_of ty rows ≤ length rows
+pub rows_inside : (ty : ℕ) (rows : List Row) → rows_before ty rows + rows_of ty rows ≤ length rows
 rows_inside ty [] = omega arith
 rows_inside ty (r ∷ rows) = rows_by ty r rows (rows_inside ty rows) (test (nat_lt r.owner ty)) (test (r.owner == ty))
 
-covered : (table : Table) (o : Option Ty) (arms : List (ConId × List Variable)) → cover table o arms ≡ true → (t : ℕ) × (are_arms table (constructors_of table t) arms ≡ true)
+pub covered : (table : Table) (o : Option Ty) (arms : List (ConId × List Variable)) → cover table o arms ≡ true → (t : ℕ) × (are_arms table (constructors_of table t) arms ≡ true)
 covered table None arms e = absurd cc
 covered table (Some Whole) arms e = absurd cc
 covered table (Some Truth) arms e = absurd cc

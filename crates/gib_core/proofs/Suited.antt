@@ -64,7 +64,7 @@ known_past_all (x ∷ xs) ks y e =
     let parts = or_parts (x.0 == y.0) (is_among xs y) e in
     known_past_all xs (reached x ∷ ks) y parts.1 ∙ known_past (reached x) ks y parts.0
 
-has_all : (xs : List Variable) (ks : List Known) (y : Variable) → has ks y ≡ true → has (with_variables xs ks) y ≡ true
+pub has_all : (xs : List Variable) (ks : List Known) (y : Variable) → has ks y ≡ true → has (with_variables xs ks) y ≡ true
 has_all xs ks y h = has_variables xs ks y ∙ or_right (is_among xs y) (has ks y) h
 
 -- What a side does not bind is none of its variables.

@@ -128,6 +128,7 @@ abbrev mutual
   has_telling es (IfTerm x t u) = has_telling es t || has_telling es u
   has_telling es (Tuple tys ss ps) = parts_telling es ps
 
+  -- A binding has one, outside the sides of a `par`.
   pub bind_telling : List Ended → Bind → Bool
   bind_telling es (Past h k) = false
   bind_telling es (One s) = side_telling es s
@@ -135,14 +136,17 @@ abbrev mutual
   bind_telling es (Prim x f v w) = false
   bind_telling es (Reach y by) = false
 
+  -- The term of a side has one.
   pub side_telling : List Ended → Side → Bool
   side_telling es (On kind x ty t) = has_telling es t
   side_telling es (Several xs tys t) = has_telling es t
 
+  -- One of the parts has one.
   pub parts_telling : List Ended → PartTerms → Bool
   parts_telling es NoPart = false
   parts_telling es (PartThen t ps) = has_telling es t || parts_telling es ps
 
+  -- One of the branches has one.
   pub branches_telling : List Ended → Branches → Bool
   branches_telling es NoBranch = false
   branches_telling es (BranchThen k xs t bs) = has_telling es t || branches_telling es bs
