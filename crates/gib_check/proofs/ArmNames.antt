@@ -1,5 +1,5 @@
 -- The places of arms by their constructors, and by the constructors' names.
-use Rattle.std.proofs.Common.{◌≡◌, ℕ, zero, suc, ◌<◌, Bool, true, false, cond, eqb, List, [], ◌∷◌, length, get_or, Option, Some, None, refl, sym, ap, ◌∙◌, subst, arith, slice_get}
+use Rattle.std.proofs.Common.{◌≡◌, ℕ, ◌<◌, Bool, true, false, cond, eqb, List, [], ◌∷◌, length, get_or, Option, Some, None, refl, sym, ap, ◌∙◌, arith, slice_get}
 use Rattle.std.proofs.lemmas.Bool.{eqb-true, eq-eqb, ne_eqb, eqb-false}
 use Rattle.std.proofs.lemmas.List.{length-map}
 use Rattle.std.proofs.lemmas.Option.{slice_get-map, slice_get-get_or, same_Some}
@@ -8,22 +8,7 @@ use Rattle.gib_types.specs.Table.{Row, Table, name_of, name_at}
 use Rattle.gib_syntax.specs.Declarations.{place_of, next_place, AreDifferent, constructor_names, constructor_named}
 use Rattle.gib_check.specs.ArmPlaces.{is_number, place_named}
 use Rattle.gib_check.proofs.Different.{place_within}
-
-place_at : (xs : List ℕ) (x i : ℕ) → place_of xs x ≡ Some i → slice_get xs i ≡ Some x
-place_at [] x i e = absurd cc
-place_at (y ∷ ys) x i e = go (eqb y x) refl (place_of ys x) (λ j h. place_at ys x j h) e where
-  go : (b : Bool) → eqb y x ≡ b → (o : Option ℕ) → ((j : ℕ) → o ≡ Some j → slice_get ys j ≡ Some x) → cond b (Some 0) (next_place o) ≡ Some i → slice_get (y ∷ ys) i ≡ Some x
-  go true q o h e = subst (λ n. slice_get (y ∷ ys) n ≡ Some x) (same_Some 0 i e) (ap Some (eqb-true y x q))
-  go false q None h e = absurd cc
-  go false q (Some j) h e = subst (λ n. slice_get (y ∷ ys) n ≡ Some x) (same_Some (suc j) i e) (h j refl)
-
-place_there : (xs : List ℕ) (x i : ℕ) → AreDifferent xs → slice_get xs i ≡ Some x → place_of xs x ≡ Some i
-place_there [] x i d e = absurd cc
-place_there (y ∷ ys) x zero d e = ap (λ b. cond b (Some 0) (next_place (place_of ys x))) (eq-eqb y x (same_Some y x e))
-place_there (y ∷ ys) x (suc i) d e = go (eqb y x) refl (place_there ys x i d.1 e) where
-  go : (b : Bool) → eqb y x ≡ b → place_of ys x ≡ Some i → cond b (Some 0) (next_place (place_of ys x)) ≡ Some (suc i)
-  go true q there = absurd (let clash : None ≡ Some i = sym (subst (λ z. place_of ys z ≡ None) (eqb-true y x q) d.0) ∙ there in cc)
-  go false q there = ap next_place there
+use Rattle.gib_syntax.proofs.Soundness.{place_within, place_found}
 
 name_there : (table : Table) (con : ℕ) → con < length table.rows → slice_get (constructor_names table) con ≡ Some (name_at table con)
 name_there table con lt =
@@ -39,10 +24,10 @@ is_its_name table k con d lt = go (eqb k (name_at table con)) refl where
 
   other : (o : Option ℕ) → constructor_named table k ≡ o → eqb k (name_at table con) ≡ false → is_number o con ≡ false
   other None e q = refl
-  other (Some c) e q = ne_eqb c con (λ same. eqb-false k (name_at table con) q (same_Some k (name_at table con) (sym (place_at names k c e) ∙ ap (slice_get names) same ∙ name_there table con lt)))
+  other (Some c) e q = ne_eqb c con (λ same. eqb-false k (name_at table con) q (same_Some k (name_at table con) (sym (place_within names k c e) ∙ ap (slice_get names) same ∙ name_there table con lt)))
 
   go : (b : Bool) → eqb k (name_at table con) ≡ b → is_number (constructor_named table k) con ≡ b
-  go true q = ap (λ o. is_number o con) (ap (λ z. place_of names z) (eqb-true k (name_at table con) q) ∙ place_there names (name_at table con) con d (name_there table con lt)) ∙ eq-eqb con con refl
+  go true q = ap (λ o. is_number o con) (ap (λ z. place_of names z) (eqb-true k (name_at table con) q) ∙ place_found names (name_at table con) con d (name_there table con lt)) ∙ eq-eqb con con refl
   go false q = other (constructor_named table k) refl q
 
 -- The first name of a constructor is the first that is its name.

@@ -1,6 +1,6 @@
 -- What is so is inferred, within the limits.
-use Rattle.std.proofs.Common.{◌≡◌, ℕ, suc, ◌+◌, ◌<◌, ◌≤◌, ◌==◌, Bool, true, false, ltb, not, ◌&&◌, ◌||◌, List, [], ◌∷◌, length, Option, Some, Ok, refl, sym, ap, ◌∙◌, subst, arith}
-use Rattle.std.proofs.lemmas.Bool.{eq-eqb, eqb-true, lt-ltb}
+use Rattle.std.proofs.Common.{◌≡◌, ℕ, suc, ◌+◌, ◌<◌, ◌≤◌, ◌==◌, Bool, true, false, ltb, not, ◌||◌, List, [], ◌∷◌, length, Option, Some, Ok, refl, sym, ap, ◌∙◌, subst, arith}
+use Rattle.std.proofs.lemmas.Bool.{eq-eqb, eqb-true, lt-ltb, and_from}
 use Rattle.std.proofs.lemmas.List.{length-map}
 use Rattle.std.specs.Prelude.{is_some, is_none, slice_get}
 use Rattle.std.specs.List.{list_all, AllByRecursion}
@@ -20,7 +20,7 @@ use Rattle.gib_check.specs.declared.standing.Standing.{Standing}
 use Rattle.gib_check.specs.declared.standing.Standing.TheVariants as standing
 use Rattle.gib_check.specs.declared.standing.Standing.TheVariants.{NoTuple}
 use Rattle.gib_check.specs.Faults.{Checked, and_then, allowed, found, FormPart, one_more, new_variable, part_variable, as_many, known, all_known, row_named, same_lists, same_results, wanted, single_at, all_single, all_wanted, all_of, declared_type, argument_count, ArmHead, heads, head_names, all_declared, is_of, are_different, is_there, covers, field_count, fields_if, all_counted, bind_all, bind_parts, parts_for, types_bound, may_stand, standing_for, MayGive, first_type, infer, infer_all, infer_arms, infer_arm, place}
-use Rattle.gib_check.proofs.Steps.{PartsAre, EachHas, AllDeclared, AllCounted, IsNew, IsOwn, row_join}
+use Rattle.gib_check.proofs.Steps.{PartsAre, EachHas, AllDeclared, AllCounted, IsNew, IsOwn, row_join, given}
 use Rattle.gib_check.proofs.States.{part_new}
 use Rattle.gib_types.proofs.SameForms.{same_form_own}
 use Rattle.gib_check.proofs.Sound.{names-heads, OneArmHas}
@@ -30,9 +30,6 @@ pub record Yields {A : Type 0} (c : Checked A) (P : A → Type 0) : Type 0 where
   pub value : A
   pub is : c ≡ Ok value
   pub so : P value
-
-abbrev given : {A : Type 0} → A → Checked A
-given x = Ok x
 
 pub yields_ok : {A : Type 0} {P : A → Type 0} (x : A) → P x → Yields (given x) P
 yields_ok x p = record { value = x; is = refl; so = p }
@@ -73,12 +70,9 @@ mutual
   all_known_ok datas vars NoType h = refl
   all_known_ok datas vars (MoreTypes w ws) h = ap (λ z. and_then z (λ _. all_known datas vars ws)) (known_ok datas vars w h.0) ∙ all_known_ok datas vars ws h.1
 
-both : (a b : Bool) → a ≡ true → b ≡ true → (a && b) ≡ true
-both a b e f = ap (λ z. z && b) e ∙ f
-
 pub same_lists_own : (ts : List Form) → same_lists ts ts ≡ true
 same_lists_own [] = refl
-same_lists_own (t ∷ ts) = both (same_form t t) (same_lists ts ts) (same_form_own t) (same_lists_own ts)
+same_lists_own (t ∷ ts) = and_from (same_form t t) (same_lists ts ts) (same_form_own t) (same_lists_own ts)
 
 pub same_results_own : (r : Results Form) → same_results r r ≡ true
 same_results_own (One t) = same_form_own t
@@ -118,16 +112,16 @@ all_counted_ok rows (a ∷ hs) h = ap (λ z. and_then z (λ _. all_counted rows 
 own_ok : (rows : List GenericRow) (ty : ℕ) (names : List ℕ) → AllByRecursion (IsOwn rows ty) names → list_all (λ k. is_of ty (row_named rows k)) names ≡ true
 own_ok rows ty [] h = refl
 own_ok rows ty (k ∷ names) h =
-    both (is_of ty (row_named rows k)) (list_all (λ k. is_of ty (row_named rows k)) names)
+    and_from (is_of ty (row_named rows k)) (list_all (λ k. is_of ty (row_named rows k)) names)
     (ap (is_of ty) (row_join rows (place_named rows k) h.0.0 h.0.1 h.0.2 h.0.3) ∙ eq-eqb h.0.1.owner ty h.0.4) (own_ok rows ty names h.1)
 
 pub different_ok : (names : List ℕ) → AreDifferent names → are_different names ≡ true
 different_ok [] h = refl
-different_ok (x ∷ xs) h = both (not (is_some (place_of xs x))) (are_different xs) (ap (λ (o : Option ℕ). not (is_some o)) h.0) (different_ok xs h.1)
+different_ok (x ∷ xs) h = and_from (not (is_some (place_of xs x))) (are_different xs) (ap (λ (o : Option ℕ). not (is_some o)) h.0) (different_ok xs h.1)
 
 all_there_ok : (ty : ℕ) (names : List ℕ) (rows : List GenericRow) → ((c : ℕ) (row : GenericRow) → slice_get rows c ≡ Some row → is_there ty names row ≡ true) → list_all (is_there ty names) rows ≡ true
 all_there_ok ty names [] h = refl
-all_there_ok ty names (r ∷ rows) h = both (is_there ty names r) (list_all (is_there ty names) rows) (h 0 r refl) (all_there_ok ty names rows (λ c row e. h (suc c) row e))
+all_there_ok ty names (r ∷ rows) h = and_from (is_there ty names r) (list_all (is_there ty names) rows) (h 0 r refl) (all_there_ok ty names rows (λ c row e. h (suc c) row e))
 
 there_ok : (o : Option ℕ) (b : Bool) → (b ≡ true → (i : ℕ) × (o ≡ Some i)) → (not b || is_some o) ≡ true
 there_ok o false h = refl
@@ -135,8 +129,8 @@ there_ok o true h = ap (λ (z : Option ℕ). is_some z) (h refl).1
 
 pub covers_ok : (rows : List GenericRow) (ty : ℕ) (names : List ℕ) → CoversType rows ty names → covers rows ty names ≡ true
 covers_ok rows ty names h =
-    both _ _ (own_ok rows ty names h.own)
-    (both _ _ (different_ok names h.once)
+    and_from _ _ (own_ok rows ty names h.own)
+    (and_from _ _ (different_ok names h.once)
     (all_there_ok ty names rows (λ c row e. there_ok (place_of names row.name) (row.owner == ty) (λ t. h.each c row e (eqb-true row.owner ty t)))))
 
 -- The rules of counts, as answers.

@@ -48,11 +48,6 @@ none_short [] n e = omega arith
 none_short (x ∷ xs) zero e = absurd cc
 none_short (x ∷ xs) (suc n) e = let h = none_short xs n e in omega (arith, h)
 
-pub short_none : {A : Type 0} (xs : List A) (n : ℕ) → length xs ≤ n → slice_get xs n ≡ None
-short_none [] n h = refl
-short_none (x ∷ xs) zero h = absurd (omega (arith, h))
-short_none (x ∷ xs) (suc n) h = short_none xs n (omega (arith, h))
-
 -- Different names at two places.
 some_none : {A : Type 0} (x : A) → Some x ≡ None → ⊥
 some_none x e = absurd cc

@@ -83,12 +83,12 @@ pub same_advance : (old new : Judging) → new.types ≡ old.types → new.parts
 same_advance old new e p = record { types = subst (Grows old.types) (sym e) (grows_none old.types); more = []; parts = p ∙ sym (append-nil old.parts) }
 
 -- A run of parts stays.
-take_more : (n : ℕ) (xs ys : List TypeId) → n ≤ length xs → take n (xs ++ ys) ≡ take n xs
+pub take_more : (n : ℕ) (xs ys : List TypeId) → n ≤ length xs → take n (xs ++ ys) ≡ take n xs
 take_more zero xs ys l = refl
 take_more (suc n) [] ys l = absurd (omega (arith, l))
 take_more (suc n) (x ∷ xs) ys l = ap (λ z. x ∷ z) (take_more n xs ys (omega (arith, l)))
 
-run_more : (start count : ℕ) (xs ys : List TypeId) → start + count ≤ length xs → take count (drop start (xs ++ ys)) ≡ take count (drop start xs)
+pub run_more : (start count : ℕ) (xs ys : List TypeId) → start + count ≤ length xs → take count (drop start (xs ++ ys)) ≡ take count (drop start xs)
 run_more zero count xs ys l = take_more count xs ys (omega (arith, l))
 run_more (suc start) count [] ys l = absurd (omega (arith, l))
 run_more (suc start) count (x ∷ xs) ys l = run_more start count xs ys (omega (arith, l))

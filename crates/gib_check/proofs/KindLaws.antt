@@ -1,7 +1,7 @@
 -- Where the rules are broken.
-use Rattle.std.proofs.Common.{◌≡◌, ℕ, ◌+◌, ◌≤◌, Bool, true, false, ltb, eqb, List, ◌∷◌, Option, Some, None, Ok, Err, refl, sym, ap, ◌∙◌, subst, arith}
+use Rattle.std.proofs.Common.{◌≡◌, ℕ, ◌+◌, ◌≤◌, Bool, true, false, ltb, eqb, List, ◌∷◌, Option, Some, None, Err, refl, sym, ap, ◌∙◌, subst, arith}
 use Rattle.std.specs.Prelude.{is_none, is_some}
-use Rattle.std.proofs.lemmas.Bool.{ltb-true, ltb-false, eqb-true, eqb-false}
+use Rattle.std.proofs.lemmas.Bool.{ltb-true, ltb-false, eqb-true, eqb-false, le-ltb, both_ways}
 use Rattle.gib_base.specs.declared.Span.{Span}
 use Rattle.gib_types.specs.Form.{Form, Forms, WholeForm, TruthForm, VariableForm, DataForm}
 use Rattle.gib_syntax.specs.Results.{Results, One, Several}
@@ -13,20 +13,14 @@ use Rattle.gib_syntax.specs.GenericTyping.{FormScope, form_in, CoversType}
 use Rattle.gib_check.specs.declared.fault.Fault.{Fault}
 use Rattle.gib_check.specs.declared.fault.Kind.{Kind}
 use Rattle.gib_check.specs.declared.fault.Kind.TheVariants as kind
-use Rattle.gib_check.specs.Faults.{Checked, and_then, allowed, found, FormPart, same_results, wanted, single_at, single, may_stand, counted, part_variable, known, declared_type, covers, covered}
+use Rattle.gib_check.specs.Faults.{and_then, allowed, found, FormPart, same_results, wanted, single_at, single, may_stand, counted, part_variable, known, declared_type, covers, covered}
 use Rattle.gib_check.specs.FirstFault.{check_parts}
 use Rattle.gib_check.specs.declared.counts.Counts.{Counts}
 use Rattle.gib_check.specs.declared.standing.Standing.{Standing}
 use Rattle.gib_check.specs.declared.standing.Standing.TheVariants.{NoTuple}
 use Rattle.gib_check.specs.Kinds.{fault, IsBrokenWhere}
-use Rattle.gib_check.proofs.Steps.{same_results_is, covers_is}
+use Rattle.gib_check.proofs.Steps.{same_results_is, covers_is, given, refused}
 use Rattle.gib_check.proofs.Complete.{same_results_own, covers_ok}
-
-abbrev given : {A : Type 0} → A → Checked A
-given x = Ok x
-
-abbrev refused : {A : Type 0} → Fault → Checked A
-refused f = Err f
 
 same_fault : {A : Type 0} (f g : Fault) → refused {A = A} f ≡ refused g → f ≡ g
 same_fault f g e = cc
@@ -56,26 +50,17 @@ pub there : {A : Type 0} (o : Option A) → is_none o ≡ false → (x : A) × (
 there None e = absurd cc
 there (Some x) e = (x, refl)
 
-true_false : (b : Bool) → b ≡ true → b ≡ false → ⊥
-true_false b t f = let e = sym t ∙ f in cc
-
 abbrev is_data : Form → Bool
 is_data WholeForm = false
 is_data TruthForm = false
 is_data (VariableForm v) = false
 is_data (DataForm t ts) = true
 
-not_less : (n m : ℕ) → m ≤ n → ltb n m ≡ false
-not_less n m l = go (ltb n m) refl where
-  go : (b : Bool) → ltb n m ≡ b → b ≡ false
-  go true e = absurd (let k = ltb-true n m e in omega (arith, k, l))
-  go false e = refl
-
 pub wanted_broken : (due : Results Form) (part : FormPart) → IsBrokenWhere (wanted due part) (part.ty ≡ due → ⊥) (fault kind.Shape part.place)
 wanted_broken due part =
     allowed_broken (same_results part.ty due) kind.Shape part.place (tt {0}) (part.ty ≡ due → ⊥)
     (λ e p. p (same_results_is part.ty due e))
-    (λ e same. true_false (same_results part.ty due) (subst (λ z. same_results part.ty z ≡ true) same (same_results_own part.ty)) e)
+    (λ e same. both_ways (same_results part.ty due) e (subst (λ z. same_results part.ty z ≡ true) same (same_results_own part.ty)))
 
 single_at_broken : (r : Results Form) (at : Span) → IsBrokenWhere (single_at r at) ((ts : List Form) × (r ≡ Several ts)) (fault kind.Shape at)
 single_at_broken (One t) at = record { broken = λ p. absurd (clash p.0 p.1); only = λ g e. absurd (over g e) } where
@@ -95,14 +80,14 @@ none_stands st n at e = ap (λ z. may_stand z n at) e
 pub ninth_variable : (i : ℕ) (scope : FormScope) (n : Counts) (x : Ident) → form_in scope (number_of x) ≡ None → 8 ≤ i → part_variable i scope n x ≡ Err (fault kind.Limit x.span)
 ninth_variable i scope n x e l =
     ap (λ (o : Option Form). and_then (allowed (is_none o) kind.Twice x.span (tt {0})) (λ _. and_then (allowed (ltb i 8) kind.Limit x.span (tt {0})) (λ _. counted n x))) e
-    ∙ ap (λ b. and_then (allowed b kind.Limit x.span (tt {0})) (λ _. counted n x)) (not_less i 8 l)
+    ∙ ap (λ b. and_then (allowed b kind.Limit x.span (tt {0})) (λ _. counted n x)) (le-ltb i 8 l)
 
 pub ninth_part : (datas : List GenericDataTree) (vars : List ℕ) (i : ℕ) (w : WrittenType) (ws : List WrittenType) → 8 ≤ i → check_parts datas vars i (w ∷ ws) ≡ Err (fault kind.Limit (written_place w))
 ninth_part datas vars i w ws l =
-    ap (λ b. and_then (allowed b kind.Limit (written_place w) (tt {0})) (λ _. and_then (known datas vars w) (λ _. check_parts datas vars (i + 1) ws))) (not_less i 8 l)
+    ap (λ b. and_then (allowed b kind.Limit (written_place w) (tt {0})) (λ _. and_then (known datas vars w) (λ _. check_parts datas vars (i + 1) ws))) (le-ltb i 8 l)
 
 no_data : (t : Form) (i : ℕ) (ts : Forms) → (is_data t ≡ false) → t ≡ DataForm i ts → ⊥
-no_data t i ts e q = true_false (is_data t) (ap is_data q) e
+no_data t i ts e q = both_ways (is_data t) e (ap is_data q)
 
 pub declared_broken : (t : Form) (x : Ident) → IsBrokenWhere (declared_type t x) ((i : ℕ) (ts : Forms) → t ≡ DataForm i ts → ⊥) (fault kind.Shape x.span)
 declared_broken WholeForm x = record { broken = λ p. refl; only = λ g e. ((λ i ts q. no_data WholeForm i ts refl q), sym (same_fault {A = ℕ × Forms} (fault kind.Shape x.span) g e)) }
@@ -116,7 +101,7 @@ pub covered_broken : (rows : List GenericRow) (ty : ℕ) (names : List ℕ) (at 
 covered_broken rows ty names at =
     allowed_broken (covers rows ty names) kind.Arms at (tt {0}) (CoversType rows ty names → ⊥)
     (λ e p. p (covers_is rows ty names e))
-    (λ e h. true_false (covers rows ty names) (covers_ok rows ty names h) e)
+    (λ e h. both_ways (covers rows ty names) e (covers_ok rows ty names h))
 
 -- A test of what has to be there.
 pub some_broken : {A : Type 0} (o : Option A) (k : Kind) (at : Span) → IsBrokenWhere (allowed (is_some o) k at (tt {0})) (o ≡ None) (fault k at)

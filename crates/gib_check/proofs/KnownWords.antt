@@ -11,11 +11,11 @@ use Rattle.gib_check.specs.Faults.{Checked, and_then, found, as_many, known, all
 use Rattle.gib_check.specs.FirstFault.{check_types}
 use Rattle.gib_check.specs.Knowing.{known_words}
 
-then_then : {A B C : Type 0} (c : Checked A) (f : A → Checked B) (g : B → Checked C) → and_then (and_then c f) g ≡ and_then c (λ x. and_then (f x) g)
+pub then_then : {A B C : Type 0} (c : Checked A) (f : A → Checked B) (g : B → Checked C) → and_then (and_then c f) g ≡ and_then c (λ x. and_then (f x) g)
 then_then (Ok x) f g = refl
 then_then (Err e) f g = refl
 
-then_same : {A B : Type 0} (c : Checked A) (f g : A → Checked B) → ((x : A) → f x ≡ g x) → and_then c f ≡ and_then c g
+pub then_same : {A B : Type 0} (c : Checked A) (f g : A → Checked B) → ((x : A) → f x ≡ g x) → and_then c f ≡ and_then c g
 then_same (Ok x) f g h = h x
 then_same (Err e) f g h = refl
 

@@ -4,12 +4,12 @@ mod BodySteps
 pub mod Complete
 mod Declaring
 pub mod Different
-mod Growing
+pub mod Growing
 mod Had
 mod InScope
 mod KindLaws
 mod Knowing
-mod KnownWords
+pub mod KnownWords
 pub mod Loops
 pub mod Making
 mod NameRows
@@ -20,12 +20,12 @@ mod Passing
 pub mod Places
 mod PlainRows
 pub mod Programs
-mod Read
-mod RowLists
+pub mod Read
+pub mod RowLists
 pub mod RowRules
 mod SameNumber
 pub mod Sound
-mod Singles
+pub mod Singles
 mod Stacks
 mod States
 pub mod Steps

@@ -173,7 +173,7 @@ meaning_grows old new meaning.Opaque g h = refl
 meaning_grows old new (meaning.Given vs is) g h = ap (assign vs.items) (forms_grow old new is.items g h)
 
 -- Types that runs spell, one after another.
-abbrev run_meant : List Word → Meant → Run → Form
+abbrev pub run_meant : List Word → Meant → Run → Form
 run_meant words m run = formed m (type_in words run)
 
 pub record RunsSoFar (words : List Word) (start now : Judging) (m : Meaning) (runs rest : List Run) (ids : List TypeId) : Type 0 where

@@ -9,7 +9,7 @@ use Rattle.gib_check.specs.Functions.{head_of, head_in}
 use Rattle.gib_check.specs.Views.{tree_number, row_name, function_name, types_in, table_in, IsDeclared}
 
 -- The table of these types and data declarations.
-abbrev table_from : List ℕ → List DataDecl → Table
+abbrev pub table_from : List ℕ → List DataDecl → Table
 table_from types ds = record { types = map tree_number (map data_tree ds); rows = rows_from types 0 (map data_tree ds) }
 
 table_same : (parts : Parts) (types : List ℕ) (ds : List DataDecl) → ds ≡ parts.data_decls → types ≡ types_in parts → table_from types ds ≡ table_in parts

@@ -1,6 +1,7 @@
 -- Declarations by their names and places.
 use Rattle.std.proofs.Common.{◌≡◌, ℕ, zero, suc, ◌+◌, ◌<◌, Bool, true, false, cond, eqb, List, [], ◌∷◌, ◌++◌, map, length, get_or, Option, Some, None, Ok, Err, refl, sym, ap, ap₂, ◌∙◌, subst, arith, slice_get}
-use Rattle.std.proofs.lemmas.List.{map-append, length-map}
+use Rattle.std.proofs.lemmas.List.{map-append, length-map, length_push}
+use Rattle.std.proofs.lemmas.Option.{slice_get-get_or}
 use Rattle.gib_syntax.specs.declared.tree.Ident.{Ident}
 use Rattle.gib_syntax.specs.declared.written.Word.{Word}
 use Rattle.gib_syntax.specs.declared.program.GenericConstructor.{GenericConstructor}
@@ -15,6 +16,7 @@ use Rattle.gib_check.specs.declared.named.RowDecl.{RowDecl}
 use Rattle.gib_check.specs.declared.fault.Kind.TheVariants as kind
 use Rattle.gib_check.specs.Faults.{found, function, row_at, row_named, field_count}
 use Rattle.gib_check.specs.NameViews.{generic_globals, data_number, function_number, row_number, variables_or, variables_at, row_decl, all_rows, row_in, row_option, kept_name, arity_of}
+use Rattle.gib_check.proofs.Different.{place_within}
 
 -- What stands at a seam.
 at_seam : {A : Type 0} (pre : List A) (x : A) (xs : List A) → slice_get (pre ++ x ∷ xs) (length pre) ≡ Some x
@@ -24,10 +26,6 @@ at_seam (y ∷ pre) x xs = at_seam pre x xs
 shift : {A : Type 0} (xs : List A) (x : A) (ys : List A) → xs ++ x ∷ ys ≡ (xs ++ x ∷ []) ++ ys
 shift [] x ys = refl
 shift (z ∷ xs) x ys = ap (λ l. z ∷ l) (shift xs x ys)
-
-long : {A : Type 0} (xs : List A) (x : A) → length (xs ++ x ∷ []) ≡ length xs + 1
-long [] x = refl
-long (z ∷ xs) x = let e = long xs x in omega (arith, e)
 
 rows_of_data : (parts : GenericParts) (i : ℕ) (d : GenericData) (cs : List GenericConstructor) → variables_at parts.datas i ≡ d.variables.items → map (row_in parts) (map (row_decl parts.exprs.words i d) cs) ≡ map (row_of (data_in parts.exprs.words d)) (map (constructor_in parts.exprs.words) cs)
 rows_of_data parts i d [] e = refl
@@ -41,7 +39,7 @@ rows_behind parts pre (d ∷ ds) e =
     let at : variables_at parts.datas (length pre) ≡ d.variables.items = ap (λ l. variables_or (slice_get l (length pre))) e ∙ ap variables_or (at_seam pre d ds) in
     map-append (row_in parts) (map (row_decl words (length pre) d) d.constructors.items) (all_rows words (length pre + 1) ds)
     ∙ ap₂ (λ (xs ys : List GenericRow). xs ++ ys) (rows_of_data parts (length pre) d d.constructors.items at)
-    (ap (λ n. map (row_in parts) (all_rows words n ds)) (sym (long pre d)) ∙ rows_behind parts (pre ++ d ∷ []) ds (e ∙ shift pre d ds))
+    (ap (λ n. map (row_in parts) (all_rows words n ds)) (sym (length_push pre d)) ∙ rows_behind parts (pre ++ d ∷ []) ds (e ∙ shift pre d ds))
 
 pub rows_are : (parts : GenericParts) → map (row_in parts) (all_rows parts.exprs.words 0 parts.datas) ≡ rows_of (map (data_in parts.exprs.words) parts.datas)
 rows_are parts = rows_behind parts [] parts.datas refl
@@ -145,22 +143,14 @@ pub function_missing : (a : Arena) (fs : List GenericFunction) (x : Ident) → p
 unfolding AtFunction
 function_missing a fs x p = ap (λ o. found o kind.Unknown x.span) (subst (λ o. AtFunction a fs o (generic_named (map (function_in a) fs) (number_of x))) p (function_all a fs (number_of x)))
 
-get_of : {A : Type 0} (xs : List A) (i : ℕ) (d : A) → i < length xs → slice_get xs i ≡ Some (get_or xs i d)
-get_of [] i d l = absurd (omega (arith, l))
-get_of (x ∷ xs) zero d l = refl
-get_of (x ∷ xs) (suc i) d l = get_of xs i d (omega (arith, l))
-
-place_below : (ys : List ℕ) (x i : ℕ) → place_of ys x ≡ Some i → i < length ys
-place_below ys x i e = Rattle.gib_check.proofs.Different.place_within ys x i e
-
 -- As the code finds them.
 pub function_found_at : (program parts : GenericParts) (names : List ℕ) (fs : List GenericFunction) (x : Ident) (i : ℕ) (o : Option ℕ) (f : GenericFunction) → program ≡ parts → names ≡ map function_number (generic_globals program).functions → fs ≡ program.functions → o ≡ place_of names (number_of x) → o ≡ Some i → f ≡ get_or fs i f → function (generic_globals parts).functions x ≡ Ok (function_in parts.exprs f)
 function_found_at program parts names fs x i o f same en ef eo e ed =
     let p : place_of (map function_number (map (function_in program.exprs) program.functions)) (number_of x) ≡ Some i = ap (λ l. place_of l (number_of x)) (sym en) ∙ sym eo ∙ e in
     let l : i < length program.functions =
-    (let k = place_below (map function_number (map (function_in program.exprs) program.functions)) (number_of x) i p in
+    (let k = place_within (map function_number (map (function_in program.exprs) program.functions)) (number_of x) i p in
     let m = length-map (map (function_in program.exprs) program.functions) function_number in let n = length-map program.functions (function_in program.exprs) in omega (arith, k, m, n)) in
-    let g : slice_get program.functions i ≡ Some f = get_of program.functions i f l ∙ ap (λ z. Some (get_or z i f)) (sym ef) ∙ ap Some (sym ed) in
+    let g : slice_get program.functions i ≡ Some f = slice_get-get_or program.functions i f l ∙ ap (λ z. Some (get_or z i f)) (sym ef) ∙ ap Some (sym ed) in
     subst (λ (z : GenericParts). function (generic_globals z).functions x ≡ Ok (function_in z.exprs f)) same (function_found program.exprs program.functions x i f p g)
 
 pub function_missing_at : (program parts : GenericParts) (names : List ℕ) (x : Ident) (o : Option ℕ) → program ≡ parts → names ≡ map function_number (generic_globals program).functions → o ≡ place_of names (number_of x) → o ≡ None → function (generic_globals parts).functions x ≡ Err (record { kind = kind.Unknown; span = x.span })
@@ -172,9 +162,9 @@ pub arity_found_at : (program parts : GenericParts) (names : List ℕ) (ds : Lis
 arity_found_at program parts names ds x i o d n same en ef eo e ed en' =
     let p : place_of (map data_number (map (data_in program.exprs.words) program.datas)) x ≡ Some i = ap (λ l. place_of l x) (sym en) ∙ sym eo ∙ e in
     let l : i < length program.datas =
-    (let k = place_below (map data_number (map (data_in program.exprs.words) program.datas)) x i p in
+    (let k = place_within (map data_number (map (data_in program.exprs.words) program.datas)) x i p in
     let m = length-map (map (data_in program.exprs.words) program.datas) data_number in let q = length-map program.datas (data_in program.exprs.words) in omega (arith, k, m, q)) in
-    let g : slice_get program.datas i ≡ Some d = get_of program.datas i d l ∙ ap (λ z. Some (get_or z i d)) (sym ef) ∙ ap Some (sym ed) in
+    let g : slice_get program.datas i ≡ Some d = slice_get-get_or program.datas i d l ∙ ap (λ z. Some (get_or z i d)) (sym ef) ∙ ap Some (sym ed) in
     ap Some en' ∙ sym (subst (λ (z : GenericParts). arity_of (data_named (generic_globals z).datas x) ≡ Some (length d.variables.items)) same (ap arity_of (data_found program.exprs.words program.datas x i d p g)))
 
 pub arity_missing_at : (program parts : GenericParts) (names : List ℕ) (x : ℕ) (o : Option ℕ) → program ≡ parts → names ≡ map data_number (generic_globals program).datas → o ≡ place_of names x → o ≡ None → None ≡ arity_of (data_named (generic_globals parts).datas x)
@@ -184,8 +174,8 @@ arity_missing_at program parts names x o same en eo e =
 row_place : (names : List ℕ) (rows : List RowDecl) (x i : ℕ) (o : Option ℕ) (r : RowDecl) → names ≡ map kept_name rows → o ≡ place_of names x → o ≡ Some i → r ≡ get_or rows i r → (place_of (map kept_name rows) x ≡ Some i) × (slice_get rows i ≡ Some r)
 row_place names rows x i o r en eo e ed =
     let p : place_of (map kept_name rows) x ≡ Some i = ap (λ l. place_of l x) (sym en) ∙ sym eo ∙ e in
-    let l : i < length rows = (let k = place_below (map kept_name rows) x i p in let m = length-map rows kept_name in omega (arith, k, m)) in
-    (p, get_of rows i r l ∙ ap Some (sym ed))
+    let l : i < length rows = (let k = place_within (map kept_name rows) x i p in let m = length-map rows kept_name in omega (arith, k, m)) in
+    (p, slice_get-get_or rows i r l ∙ ap Some (sym ed))
 
 pub row_found_at : (program parts : GenericParts) (names : List ℕ) (rows : List RowDecl) (x i : ℕ) (o : Option ℕ) (r : RowDecl) → program ≡ parts → rows ≡ all_rows program.exprs.words 0 program.datas → names ≡ map kept_name rows → o ≡ place_of names x → o ≡ Some i → r ≡ get_or rows i r → row_option parts (Some r) ≡ row_named (generic_globals parts).rows x
 row_found_at program parts names rows x i o r same er en eo e ed =

@@ -2,6 +2,7 @@
 use Rattle.std.proofs.Common.{◌≡◌, ℕ, ◌+◌, ◌<◌, ◌≤◌, Bool, true, false, cond, eqb, ltb, List, [], ◌∷◌, ◌++◌, map, length, Option, Some, None, Ok, Err, refl, sym, ap, ◌∙◌, subst, arith}
 use Rattle.std.proofs.lemmas.Bool.{ltb-true, lt-ltb}
 use Rattle.std.proofs.lemmas.List.{append-nil, map-append, length-append, length-map}
+use Rattle.std.proofs.lemmas.Option.{slice_get_past}
 use Rattle.std.specs.Prelude.{is_none, slice_get}
 use Rattle.std.specs.List.{AllByRecursion}
 use Rattle.gib_syntax.specs.declared.tree.Ident.{Ident}
@@ -19,7 +20,7 @@ use Rattle.gib_check.specs.Answers.{IsFaultOf}
 use Rattle.gib_check.specs.Refusals.{IsFirst, IsMemory, IsMemoryOr}
 use Rattle.gib_check.specs.Faults.{Checked, and_then, allowed, known, standing_of, MayGive, place}
 use Rattle.gib_check.specs.FirstFault.{new_name, fewer, check_variables, no_ninth, few_fields, check_constructors, check_datas, check_types, check_constructor_fields, check_fields, check_parameters, check_parts, check_results, check_head, check_heads, with_parameters, parameters_met, check_body, check_bodies, check_declarations, check_program, fault_in, first_fault}
-use Rattle.gib_check.proofs.Different.{different_push, new_of, snoc, none_short, short_none, none_push, none_front, none_in}
+use Rattle.gib_check.proofs.Different.{different_push, new_of, snoc, none_short, none_push, none_front, none_in}
 use Rattle.gib_check.proofs.Steps.{Holds, holds_ok, holds_err, then_holds, allowed_holds, known_holds, wanted_holds}
 use Rattle.gib_check.proofs.Sound.{infer_sound}
 use Rattle.gib_check.proofs.Complete.{Yields, yields, yields_ok, then_yields, known_ok, wanted_ok, infer_ok}
@@ -60,7 +61,7 @@ new_name_holds names x = record { by = λ u e. none_is (place_of names (number_o
 new_name_ok : (names : List ℕ) (x : Ident) → place_of names (number_of x) ≡ None → new_name names x ≡ Ok (tt {0})
 new_name_ok names x h = ap (λ (o : Option ℕ). allowed (is_none o) kind.Twice x.span (tt {0})) h
 
-fewer_holds : (most : ℕ) (names : List ℕ) (x : Ident) → Holds (fewer most names x) (λ _. length names < most)
+pub fewer_holds : (most : ℕ) (names : List ℕ) (x : Ident) → Holds (fewer most names x) (λ _. length names < most)
 fewer_holds most names x = record { by = λ u e. ltb-true (length names) most ((allowed_holds (ltb (length names) most) kind.Limit x.span (tt {0})).by u e).0 }
 
 fewer_ok : (most : ℕ) (names : List ℕ) (x : Ident) → length names < most → fewer most names x ≡ Ok (tt {0})
@@ -74,7 +75,7 @@ few_fields_holds : (fields : List WrittenType) → Holds (few_fields fields) (λ
 few_fields_holds fields = record { by = λ u e. none_short fields 8 ((no_ninth_holds (slice_get fields 8)).by u e) }
 
 few_fields_ok : (fields : List WrittenType) → length fields ≤ 8 → few_fields fields ≡ Ok (tt {0})
-few_fields_ok fields h = ap no_ninth (short_none fields 8 h)
+few_fields_ok fields h = ap no_ninth (slice_get_past fields 8 h)
 
 long_push : (names : List ℕ) (x : ℕ) → length (names ++ x ∷ []) ≡ length names + 1
 long_push names x = length-append names (x ∷ []) ∙ omega arith
@@ -181,7 +182,7 @@ datas_hold types constructors (d ∷ ds) =
           });
     })))
 
-different_front : (xs ys : List ℕ) → AreDifferent (xs ++ ys) → AreDifferent xs
+pub different_front : (xs ys : List ℕ) → AreDifferent (xs ++ ys) → AreDifferent xs
 different_front [] ys h = tt
 different_front (x ∷ xs) ys h = (none_front xs ys x h.0, different_front xs ys h.1)
 

@@ -17,12 +17,12 @@ use Rattle.gib_check.proofs.Growing.{grows_none, grows_on, listed_grow, below_mo
 
 -- reading words is what they mean
 
-taken_formed : (m : Meant) (n : ℕ) (st : List WrittenType) → taken_forms n (map (formed m) st) ≡ formed_all m (taken n st)
+pub taken_formed : (m : Meant) (n : ℕ) (st : List WrittenType) → taken_forms n (map (formed m) st) ≡ formed_all m (taken n st)
 taken_formed m zero st = refl
 taken_formed m (suc n) [] = refl
 taken_formed m (suc n) (x ∷ st) = ap (MoreForms (formed m x)) (taken_formed m n st)
 
-left_formed : (m : Meant) (n : ℕ) (st : List WrittenType) → drop n (map (formed m) st) ≡ map (formed m) (left n st)
+pub left_formed : (m : Meant) (n : ℕ) (st : List WrittenType) → drop n (map (formed m) st) ≡ map (formed m) (left n st)
 left_formed m zero st = refl
 left_formed m (suc n) [] = refl
 left_formed m (suc n) (x ∷ st) = left_formed m n st
@@ -52,22 +52,22 @@ words_last m (y ∷ ws) x fs = ap (read_one m y) (words_last m ws x fs)
 
 -- numbers
 
-taken_listed : (fs : List Form) (n : ℕ) (is : List TypeId) → taken_forms n (listed fs is) ≡ forms_at fs (take n is)
+pub taken_listed : (fs : List Form) (n : ℕ) (is : List TypeId) → taken_forms n (listed fs is) ≡ forms_at fs (take n is)
 taken_listed fs zero is = refl
 taken_listed fs (suc n) [] = refl
 taken_listed fs (suc n) (i ∷ is) = ap (MoreForms (form_at fs i.0)) (taken_listed fs n is)
 
-left_listed : (fs : List Form) (n : ℕ) (is : List TypeId) → drop n (listed fs is) ≡ listed fs (drop n is)
+pub left_listed : (fs : List Form) (n : ℕ) (is : List TypeId) → drop n (listed fs is) ≡ listed fs (drop n is)
 left_listed fs zero is = refl
 left_listed fs (suc n) [] = refl
 left_listed fs (suc n) (i ∷ is) = left_listed fs n is
 
-below_taken : (b n : ℕ) (is : List TypeId) → AreBelow b is → AreBelow b (take n is)
+pub below_taken : (b n : ℕ) (is : List TypeId) → AreBelow b is → AreBelow b (take n is)
 below_taken b zero is h = tt
 below_taken b (suc n) [] h = tt
 below_taken b (suc n) (i ∷ is) h = (h.0, below_taken b n is h.1)
 
-below_left : (b n : ℕ) (is : List TypeId) → AreBelow b is → AreBelow b (drop n is)
+pub below_left : (b n : ℕ) (is : List TypeId) → AreBelow b is → AreBelow b (drop n is)
 below_left b zero is h = h
 below_left b (suc n) [] h = tt
 below_left b (suc n) (i ∷ is) h = below_left b n is h.1

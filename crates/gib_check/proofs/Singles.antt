@@ -34,11 +34,11 @@ pub record SinglesSoFar (s : Judging) (parts rest : List Part) (done : List Type
 pub singles_start : (s : Judging) (parts : List Part) → ArePartsMet s parts → SinglesSoFar s parts parts []
 singles_start s parts h = record { read = before-none (all_single (parts_in s parts)); met = h; below = tt }
 
-listed_push : (fs : List Form) (done : List TypeId) (id : TypeId) → listed fs (done ++ id ∷ []) ≡ listed fs done ++ form_at fs id.0 ∷ []
+pub listed_push : (fs : List Form) (done : List TypeId) (id : TypeId) → listed fs (done ++ id ∷ []) ≡ listed fs done ++ form_at fs id.0 ∷ []
 listed_push fs [] id = refl
 listed_push fs (i ∷ done) id = ap (λ l. form_at fs i.0 ∷ l) (listed_push fs done id)
 
-below_push : (n : ℕ) (done : List TypeId) (id : TypeId) → AreBelow n done → id.0 < n → AreBelow n (done ++ id ∷ [])
+pub below_push : (n : ℕ) (done : List TypeId) (id : TypeId) → AreBelow n done → id.0 < n → AreBelow n (done ++ id ∷ [])
 below_push n [] id h l = (l, tt)
 below_push n (i ∷ done) id h l = (h.0, below_push n done id h.1 l)
 

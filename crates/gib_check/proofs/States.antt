@@ -1,8 +1,8 @@
 -- What the check of a body keeps.
-use Rattle.std.proofs.Common.{◌≡◌, ℕ, zero, suc, ◌+◌, ◌-◌, ◌<◌, ◌≤◌, Bool, true, false, cond, eqb, ltb, List, [], ◌∷◌, ◌++◌, drop, length, Option, Some, None, Ok, Err, refl, sym, ap, ◌∙◌, subst, arith}
+use Rattle.std.proofs.Common.{◌≡◌, ℕ, zero, suc, ◌+◌, ◌-◌, ◌<◌, ◌≤◌, Bool, true, false, cond, eqb, ltb, List, [], ◌∷◌, ◌++◌, drop, length, Option, Some, None, Ok, Err, refl, sym, ap, ◌∙◌, subst}
 use Rattle.std.proofs.lemmas.List.{length-map}
 use Rattle.std.specs.Prelude.{is_some, is_none, Result, OnOk, OnErr}
-use Rattle.std.proofs.lemmas.Bool.{lt-ltb}
+use Rattle.std.proofs.lemmas.Bool.{lt-ltb, le-ltb}
 use Rattle.gib_types.specs.declared.types.TypeId.{TypeId}
 use Rattle.gib_types.specs.declared.types.TypeNode.{TypeNode}
 use Rattle.gib_types.specs.Form.{Form}
@@ -78,12 +78,6 @@ pub type_missing : (s : Judging) (types : List TypeNode) (parts : List TypeId) (
 type_missing s types parts scope counts x o e q r = subst (λ z. variable (in_scope z) x ≡ Err (record { kind = kind.Unknown; span = x.span })) e (variable_missing (forms_of types) scope x o q r)
 
 -- A new variable.
-ge-ltb : (n m : ℕ) → m ≤ n → ltb n m ≡ false
-ge-ltb n m l = go (ltb n m) refl where
-  go : (b : Bool) → ltb n m ≡ b → b ≡ false
-  go true e = absurd (let k = Rattle.std.proofs.lemmas.Bool.ltb-true n m e in omega (arith, k, l))
-  go false e = refl
-
 none_of_some : (o : Option Form) → is_some o ≡ true → is_none o ≡ false
 none_of_some None e = absurd cc
 none_of_some (Some f) e = refl
@@ -101,7 +95,7 @@ pub new_limit : (s : Judging) (types : List TypeNode) (parts : List TypeId) (sco
 new_limit s types parts scope counts x o e q r l =
     subst (λ (z : Judging). new_variable (in_scope z) z.counts x ≡ Err (record { kind = kind.Limit; span = x.span })) e
     (ap (λ b. and_then (allowed b kind.Twice x.span (tt {0})) (λ _. counted counts x)) (none_of_none (form_in (scope_forms (forms_of types) scope) (number_of x)) (scope_has (forms_of types) scope (number_of x) o q ∙ r))
-    ∙ ap (λ b. allowed b kind.Limit x.span (record counts { variables = counts.variables + 1 })) (ge-ltb counts.variables 200 l))
+    ∙ ap (λ b. allowed b kind.Limit x.span (record counts { variables = counts.variables + 1 })) (le-ltb counts.variables 200 l))
 
 pub new_counted : (s : Judging) (types : List TypeNode) (parts : List TypeId) (scope : IdScope) (counts : Counts) (x : Ident) (o : Option TypeId) → judging types parts scope counts ≡ s → o ≡ id_in scope (number_of x) → is_some o ≡ false → counts.variables < 200 → new_variable (in_scope s) s.counts x ≡ Ok (record counts { variables = counts.variables + 1 })
 new_counted s types parts scope counts x o e q r l =
@@ -121,7 +115,7 @@ part_limit i s types parts scope counts x o e q r l =
     subst (λ (z : Judging). part_variable i (in_scope z) z.counts x ≡ Err (record { kind = kind.Limit; span = x.span })) e
     (ap (λ b. and_then (allowed b kind.Twice x.span (tt {0})) (λ _. and_then (allowed (ltb i 8) kind.Limit x.span (tt {0})) (λ _. counted counts x)))
     (none_of_none (form_in (scope_forms (forms_of types) scope) (number_of x)) (scope_has (forms_of types) scope (number_of x) o q ∙ r))
-    ∙ ap (λ b. and_then (allowed b kind.Limit x.span (tt {0})) (λ _. counted counts x)) (ge-ltb i 8 l))
+    ∙ ap (λ b. and_then (allowed b kind.Limit x.span (tt {0})) (λ _. counted counts x)) (le-ltb i 8 l))
 
 pub part_new : (i : ℕ) (scope : FormScope) (n : Counts) (x : Ident) → i < 8 → part_variable i scope n x ≡ new_variable scope n x
 part_new i scope n x l = ap (λ b. and_then (unbound scope x) (λ _. and_then (allowed b kind.Limit x.span (tt {0})) (λ _. counted n x))) (lt-ltb i 8 l)
@@ -138,10 +132,6 @@ put_met old types parts new is scope counts start count e s c p h =
     (λ k. parts_put (judging types parts scope counts) (judging types new scope counts) is start count s c p refl k) h
 
 -- Of a call as the last expression.
-pub on_ok : {A E : Type 0} {P Q : Type 0} (r : Result A E) → OnOk r P → (P → Q) → OnOk r Q
-on_ok (Ok x) h f = f h
-on_ok (Err e) h f = h
-
 pub either_way : {A E : Type 0} {P Q C : Type 0} (r : Result A E) → OnOk r P → OnErr r Q → (P → C) → (Q → C) → C
 either_way (Ok x) h k f g = f h
 either_way (Err e) h k f g = g k

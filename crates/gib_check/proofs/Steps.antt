@@ -1,6 +1,6 @@
 -- What each rule says where it is kept.
 use Rattle.std.proofs.Common.{◌≡◌, ℕ, zero, suc, ◌+◌, ◌<◌, ◌≤◌, ◌==◌, Bool, true, false, eqb, ltb, not, ◌&&◌, ◌||◌, List, [], ◌∷◌, length, Option, Some, None, Ok, Err, refl, sym, ap, ap₂, ◌∙◌, subst, arith}
-use Rattle.std.proofs.lemmas.Bool.{eqb-true, eq-eqb, ltb-true}
+use Rattle.std.proofs.lemmas.Bool.{eqb-true, eq-eqb, ltb-true, and_parts}
 use Rattle.std.proofs.lemmas.List.{length-map}
 use Rattle.std.specs.Prelude.{is_some, is_none, slice_get}
 use Rattle.std.specs.List.{list_all, AllByRecursion}
@@ -24,10 +24,10 @@ use Rattle.gib_check.specs.Faults.{Checked, and_then, allowed, found, FormPart, 
 pub record Holds {A : Type 0} (c : Checked A) (P : A → Type 0) : Type 0 where
   pub by : (x : A) → c ≡ Ok x → P x
 
-abbrev given : {A : Type 0} → A → Checked A
+abbrev pub given : {A : Type 0} → A → Checked A
 given x = Ok x
 
-abbrev refused : {A : Type 0} → Fault → Checked A
+abbrev pub refused : {A : Type 0} → Fault → Checked A
 refused f = Err f
 
 ok_is : {A : Type 0} (x y : A) → given x ≡ given y → x ≡ y
@@ -97,21 +97,13 @@ mutual
   all_known_holds datas vars NoType = holds_ok (tt {0}) tt
   all_known_holds datas vars (MoreTypes w ws) = then_holds (known_holds datas vars w) (λ _ k. record { by = λ u e. (k, (all_known_holds datas vars ws).by u e) })
 
-and_left : (a b : Bool) → (a && b) ≡ true → a ≡ true
-and_left true b e = refl
-and_left false b e = absurd cc
-
-and_right : (a b : Bool) → (a && b) ≡ true → b ≡ true
-and_right true b e = e
-and_right false b e = absurd cc
-
 -- The same types are equal.
 pub same_lists_is : (ts us : List Form) → same_lists ts us ≡ true → ts ≡ us
 same_lists_is [] [] e = refl
 same_lists_is [] (u ∷ us) e = absurd cc
 same_lists_is (t ∷ ts) [] e = absurd cc
 same_lists_is (t ∷ ts) (u ∷ us) e =
-    ap₂ (λ (f : Form) (fs : List Form). f ∷ fs) (same_form_is t u (and_left (same_form t u) (same_lists ts us) e)) (same_lists_is ts us (and_right (same_form t u) (same_lists ts us) e))
+    ap₂ (λ (f : Form) (fs : List Form). f ∷ fs) (same_form_is t u (and_parts (same_form t u) (same_lists ts us) e).0) (same_lists_is ts us (and_parts (same_form t u) (same_lists ts us) e).1)
 
 pub same_results_is : (r q : Results Form) → same_results r q ≡ true → r ≡ q
 same_results_is (One t) (One u) e = ap One (same_form_is t u e)
@@ -201,13 +193,13 @@ own_is rows ty k e = let o = of_is ty (row_named rows k) e in let p = row_split 
 own_all : (rows : List GenericRow) (ty : ℕ) (names : List ℕ) → list_all (λ k. is_of ty (row_named rows k)) names ≡ true → AllByRecursion (IsOwn rows ty) names
 own_all rows ty [] e = tt
 own_all rows ty (k ∷ names) e = (
-  own_is rows ty k (and_left _ (list_all (λ k. is_of ty (row_named rows k)) names) e),
-  own_all rows ty names (and_right (is_of ty (row_named rows k)) _ e),
+  own_is rows ty k (and_parts _ (list_all (λ k. is_of ty (row_named rows k)) names) e).0,
+  own_all rows ty names (and_parts (is_of ty (row_named rows k)) _ e).1,
 )
 
 pub different_is : (names : List ℕ) → are_different names ≡ true → AreDifferent names
 different_is [] e = tt
-different_is (x ∷ xs) e = (not_some (place_of xs x) (and_left (not (is_some (place_of xs x))) (are_different xs) e), different_is xs (and_right (not (is_some (place_of xs x))) (are_different xs) e))
+different_is (x ∷ xs) e = (not_some (place_of xs x) (and_parts (not (is_some (place_of xs x))) (are_different xs) e).0, different_is xs (and_parts (not (is_some (place_of xs x))) (are_different xs) e).1)
 
 there_one : (b : Bool) (o : Option ℕ) → (not b || is_some o) ≡ true → b ≡ true → (i : ℕ) × (o ≡ Some i)
 there_one true o e t = some_is o e
@@ -216,17 +208,17 @@ there_one false o e t = absurd cc
 each_there : (ty : ℕ) (names : List ℕ) (rows : List GenericRow) (c : ℕ) (row : GenericRow) → list_all (is_there ty names) rows ≡ true → slice_get rows c ≡ Some row → is_there ty names row ≡ true
 each_there ty names [] c row e q = absurd cc
 each_there ty names (r ∷ rows) zero row e q =
-    let same : r ≡ row = cc in subst (λ z. is_there ty names z ≡ true) same (and_left (is_there ty names r) (list_all (is_there ty names) rows) e)
-each_there ty names (r ∷ rows) (suc c) row e q = each_there ty names rows c row (and_right (is_there ty names r) (list_all (is_there ty names) rows) e) q
+    let same : r ≡ row = cc in subst (λ z. is_there ty names z ≡ true) same (and_parts (is_there ty names r) (list_all (is_there ty names) rows) e).0
+each_there ty names (r ∷ rows) (suc c) row e q = each_there ty names rows c row (and_parts (is_there ty names r) (list_all (is_there ty names) rows) e).1 q
 
 pub covers_is : (rows : List GenericRow) (ty : ℕ) (names : List ℕ) → covers rows ty names ≡ true → CoversType rows ty names
 covers_is rows ty names e =
     let own = list_all (λ k. is_of ty (row_named rows k)) names in
-    let rest = and_right own (are_different names && list_all (is_there ty names) rows) e in
+    let rest = (and_parts own (are_different names && list_all (is_there ty names) rows) e).1 in
     record {
-      own = own_all rows ty names (and_left own (are_different names && list_all (is_there ty names) rows) e);
-      each = λ c row q o. there_one (row.owner == ty) (place_of names row.name) (each_there ty names rows c row (and_right (are_different names) (list_all (is_there ty names) rows) rest) q) (eq-eqb row.owner ty o);
-      once = different_is names (and_left (are_different names) (list_all (is_there ty names) rows) rest);
+      own = own_all rows ty names (and_parts own (are_different names && list_all (is_there ty names) rows) e).0;
+      each = λ c row q o. there_one (row.owner == ty) (place_of names row.name) (each_there ty names rows c row (and_parts (are_different names) (list_all (is_there ty names) rows) rest).1 q) (eq-eqb row.owner ty o);
+      once = different_is names (and_parts (are_different names) (list_all (is_there ty names) rows) rest).0;
     }
 
 pub covered_holds : (rows : List GenericRow) (ty : ℕ) (names : List ℕ) (at : Span) → Holds (covered rows ty names at) (λ _. CoversType rows ty names)

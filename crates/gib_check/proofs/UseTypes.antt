@@ -24,8 +24,9 @@ use Rattle.gib_check.specs.NameViews.{variables_at, row_in, row_option}
 use Rattle.gib_check.specs.Judging.{Judging, forms, Keeps, Meets, Reads, listed, meant_by, IsMeaningBelow}
 use Rattle.gib_check.proofs.Growing.{grows_none, grows_on, listed_grow, below_more}
 use Rattle.gib_check.proofs.Read.{all_read, read_count}
-use Rattle.gib_check.proofs.Loops.{passed_on, along, meaning_more, meaning_grows, RunsSoFar}
+use Rattle.gib_check.proofs.Loops.{passed_on, along, meaning_more, meaning_grows, RunsSoFar, run_meant}
 use Rattle.gib_check.proofs.RowLists.{rest-is}
+use Rattle.gib_check.proofs.Singles.{listed_push, below_push}
 
 -- Type arguments: their number, then their names.
 pub count_fails : (e : TypeFault) (n m due : ℕ) (at : Ident) (rest : Checked (Unit {0})) → n ≡ m → IsFaultOf e (as_many n due at) → IsFaultOf e (and_then (as_many m due at) (λ _. rest))
@@ -54,18 +55,7 @@ named_read parts rows k row o fs ts e q h = h ∙ ap (λ (z : Option GenericRow)
 pub none_named : (parts : GenericParts) (rows : List GenericRow) (k : ℕ) (o : Option RowDecl) (ts : Forms) → o ≡ None → row_option parts o ≡ row_named rows k → [] ≡ fields_if (row_named rows k) ts
 none_named parts rows k o ts e q = ap (λ (z : Option GenericRow). fields_if z ts) (sym (ap (row_option parts) e) ∙ q)
 
-listed_push : (fs : List Form) (ids : List TypeId) (id : TypeId) → listed fs (ids ++ id ∷ []) ≡ listed fs ids ++ form_at fs id.0 ∷ []
-listed_push fs [] id = refl
-listed_push fs (i ∷ ids) id = ap (λ l. form_at fs i.0 ∷ l) (listed_push fs ids id)
-
-below_push : (n : ℕ) (ids : List TypeId) (id : TypeId) → AreBelow n ids → id.0 < n → AreBelow n (ids ++ id ∷ [])
-below_push n [] id h l = (l, tt)
-below_push n (i ∷ ids) id h l = (h.0, below_push n ids id h.1 l)
-
 -- Types that runs spell, one after another.
-abbrev run_form : List Word → Meant → Run → Form
-run_form words m run = formed m (type_in words run)
-
 pub runs_start : (words : List Word) (start : Judging) (m : Meaning) (runs : List Run) → IsMeaningBelow (length start.types) m → RunsSoFar words start start m runs runs []
 runs_start words start m runs h = record { keeps = record { grows = grows_none start.types; parts = refl; scope = refl; counts = refl }; below = tt; meaning = h; types = refl }
 
@@ -75,7 +65,7 @@ runs_meaning words start now m runs rest ids h = meaning_more (length start.type
 runs_more : (words : List Word) (start now newer : Judging) (m : Meaning) (runs after : List Run) (run : Run) (ids more : List TypeId) (id : TypeId) → RunsSoFar words start now m runs (run ∷ after) ids → Meets now.types newer.types id (formed (meant_by (forms now) m) (type_in words run)) → Keeps now newer → more ≡ ids ++ id ∷ [] → RunsSoFar words start newer m runs after more
 runs_more words start now newer m runs after run ids more id h met k e =
     let same : meant_by (forms now) m ≡ meant_by (forms start) m = meaning_grows start.types now.types m h.keeps.grows h.meaning in
-    let rest : List Form = map (run_form words (meant_by (forms start) m)) after in
+    let rest : List Form = map (run_meant words (meant_by (forms start) m)) after in
     record {
       keeps = record { grows = grows_on start.types now.types newer.types h.keeps.grows met.grows; parts = k.parts ∙ h.keeps.parts; scope = k.scope ∙ h.keeps.scope; counts = k.counts ∙ h.keeps.counts };
       below = subst (AreBelow (length newer.types)) (sym e) (below_push (length newer.types) ids id (below_more (length now.types) (length newer.types) ids met.grows.longer h.below) met.below);
@@ -94,7 +84,7 @@ runs_next words start now newer m runs (run ∷ rest) d spelled ids more id l h 
 
 pub runs_end : (words : List Word) (start now : Judging) (m : Meaning) (runs rest : List Run) (ids : List TypeId) → length rest < 1 → RunsSoFar words start now m runs rest ids → listed (forms now) ids ≡ map (formed (meant_by (forms start) m)) (map (type_in words) runs)
 runs_end words start now m runs [] ids l h = sym (append-nil (listed (forms now) ids)) ∙ h.types ∙ go runs where
-  go : (rs : List Run) → map (run_form words (meant_by (forms start) m)) rs ≡ map (formed (meant_by (forms start) m)) (map (type_in words) rs)
+  go : (rs : List Run) → map (run_meant words (meant_by (forms start) m)) rs ≡ map (formed (meant_by (forms start) m)) (map (type_in words) rs)
   go [] = refl
   go (run ∷ rs) = ap (λ l. formed (meant_by (forms start) m) (type_in words run) ∷ l) (go rs)
 runs_end words start now m runs (run ∷ rest) ids l h = absurd (omega (arith, l))
@@ -114,7 +104,7 @@ parameters_next words start now newer m runs (q ∷ rest) d spelled ids more id 
 
 pub parameters_end : (words : List Word) (start now : Judging) (m : Meaning) (parameters rest : List GenericParameter) (ids : List TypeId) → length rest < 1 → RunsSoFar words start now m (map parameter_run parameters) (map parameter_run rest) ids → listed (forms now) ids ≡ map (parameter_meant (meant_by (forms start) m)) (map (parameter_in words) parameters)
 parameters_end words start now m parameters [] ids l h = sym (append-nil (listed (forms now) ids)) ∙ h.types ∙ go parameters where
-  go : (qs : List GenericParameter) → map (run_form words (meant_by (forms start) m)) (map parameter_run qs) ≡ map (parameter_meant (meant_by (forms start) m)) (map (parameter_in words) qs)
+  go : (qs : List GenericParameter) → map (run_meant words (meant_by (forms start) m)) (map parameter_run qs) ≡ map (parameter_meant (meant_by (forms start) m)) (map (parameter_in words) qs)
   go [] = refl
   go (q ∷ qs) = ap (λ l. formed (meant_by (forms start) m) (type_in words q.ty) ∷ l) (go qs)
 parameters_end words start now m parameters (q ∷ rest) ids l h = absurd (omega (arith, l))

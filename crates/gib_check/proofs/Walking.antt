@@ -33,6 +33,7 @@ use Rattle.gib_check.specs.declared.rules.ResultIds.{ResultIds}
 use Rattle.gib_check.specs.declared.standing.Standing.{Standing}
 use Rattle.gib_check.specs.declared.standing.Standing.TheVariants.{NoTuple}
 use Rattle.gib_check.specs.declared.reading.Meaning.{Meaning}
+use Rattle.gib_check.proofs.KnownWords.{then_then}
 use Rattle.gib_check.proofs.Loops.{passed_on, along, added_kept, meaning_grows}
 
 -- A part, by what it is.
@@ -342,10 +343,6 @@ module _ (parts : GenericParts) (variables : List Ident) where
   pub two_dropped : (old inner now : FormScope) (b c : ℕ × Form) (len : ℕ) → inner ≡ c ∷ b ∷ old → len ≡ length old → now ≡ drop (length inner - len) inner → now ≡ old
   two_dropped old inner now b c len e l d =
       d ∙ ap (λ s. drop (length s - len) s) e ∙ (let n : length (c ∷ b ∷ old) - len ≡ 2 = omega (arith, l) in ap (λ k. drop k (c ∷ b ∷ old)) n)
-
-  then_then : {A B C : Type 0} (c : Checked A) (f : A → Checked B) (g : B → Checked C) → and_then (and_then c f) g ≡ and_then c (λ x. and_then (f x) g)
-  then_then (Ok x) f g = refl
-  then_then (Err e) f g = refl
 
   -- Arguments were judged.
   pub record AllJudged (before after : Judging) (scope : FormScope) (results : Counts → Checked (List FormPart × Counts)) (ps : List Part) : Type 0 where
