@@ -19,6 +19,7 @@ pub mod Opening
 mod Passing
 pub mod Places
 mod PlainRows
+pub mod DataRules
 pub mod Programs
 pub mod Read
 pub mod RowLists

@@ -33,6 +33,7 @@ mod Later
 mod Unused
 pub mod Cased
 pub mod Unbroken
+pub mod Runs
 pub mod Orders
 -- To reach the fields of arms keeps the build rules.
 mod Skipped
@@ -40,6 +41,7 @@ pub mod Kept
 mod Awaits
 mod Offered
 mod Onward
+pub mod Outside
 pub mod Suited
 mod Reached
 pub mod PastReaches
@@ -59,6 +61,7 @@ mod Entering
 mod Severals
 mod Covering
 mod Fitted
+pub mod BuiltFacts
 pub mod Builds
 mod Bodies
 pub mod Fine

@@ -19,7 +19,7 @@ use Rattle.gib_core.specs.declared.scope.Known.{Known}
 use Rattle.gib_core.specs.Tree.{Term, Then, Write, Point, CallTerm, Give, CaseTerm, IfTerm, Tuple, PartTerms, NoPart, PartThen, parts_count, Bind, Past, One, Both, Prim, Reach, Side, On, Several, Branches, NoBranch, BranchThen, CoreTree}
 use Rattle.gib_core.specs.Inferring.{first_type, further_types, numbers_from, constructors_of}
 use Rattle.gib_core.specs.Numbering.{binders, bind_binders, side_binders, part_binders, branch_binders, IsNumbered, AreNumbered}
-use Rattle.gib_core.specs.Met.{Destination, Nowhere, Empty, Open, InParts, Setting, PastLine, SideLine, ParLine, CaseLine, IfLine, SeveralLine, PartLine, known, reached, reached_too, field, packed_before, with_arm, with_parameters, stands_too, in_side, in_several, in_part, with_variables, behind, behind_side, left_of, right_of, in_arm, in_branch, arms_of, met, met_bind, met_side, met_parts, met_branches, Body, bodies, opening, result_place}
+use Rattle.gib_core.specs.Met.{Destination, Nowhere, Empty, Open, InParts, Setting, SideLine, ParLine, CaseLine, SeveralLine, PartLine, known, reached, reached_too, field, packed_before, with_arm, with_parameters, stands_too, in_side, in_several, in_part, with_variables, behind, behind_side, left_of, right_of, in_arm, in_branch, arms_of, met, met_bind, met_side, met_parts, met_branches, Body, bodies, opening, result_place}
 use Rattle.gib_core.specs.Rules.{Before, is_reached, is_usable, all_usable, any_other, is_other, is_empty, is_of_type, is_bound, is_nowhere, is_in_parts, any_bound, are_several, are_due, same_types, is_declared, are_declared, are_parts, have_types, may_write, are_scalars, type_of, cover, are_arms, has_type, next, next_all, LinesAreBuilt, before_body, IsBuilt, AreBuilt}
 use Rattle.gib_core.specs.Ordered.{IsFit, AreFit, FieldsOrdered, behind_fields, behind_variables, IsFound, IsTypeFound, IsOrdered, BindOrdered, SideOrdered, PartsOrdered, BranchesOrdered, AreOrdered, IsNatural, AreNaturalAtoms, IsNaturalTerm, IsNaturalBind, IsNaturalSide, AreNaturalParts, AreNaturalBranches, AreNatural}
 use Rattle.gib_core.proofs.Facts.{least2, least3, least4, Test, holds, fails, test}
@@ -31,37 +31,7 @@ use Rattle.gib_core.specs.Erasing.{declared_name}
 use Rattle.gib_syntax.specs.Declarations.{tree_type, type_or}
 use Rattle.gib_syntax.specs.Results as results
 use Rattle.gib_syntax.specs.Results.{Results, AreSeveral}
-
--- The numbers from one on to another one, without it.
-abbrev pub Runs : ℕ → List ℕ → ℕ → Type 0
-Runs n [] m = n ≡ m
-Runs n (x ∷ xs) m = (x ≡ n) × Runs (n + 1) xs m
-
-pub runs_apart : (n m : ℕ) (xs ys : List ℕ) → Runs n (xs ++ ys) m → (k : ℕ) × Runs n xs k × Runs k ys m
-runs_apart n m [] ys h = (n, refl, h)
-runs_apart n m (x ∷ xs) ys h = let r = runs_apart (n + 1) m xs ys h.1 in (r.0, (h.0, r.1), r.2)
-
-pub runs_up : (n m : ℕ) (xs : List ℕ) → Runs n xs m → n ≤ m
-runs_up n m [] h = omega (arith, h)
-runs_up n m (x ∷ xs) h = let r = runs_up (n + 1) m xs h.1 in omega (arith, r)
-
-pub number_runs : (n count : ℕ) → Runs n (numbers_from n count) (n + count)
-number_runs n zero = omega arith
-number_runs n (suc count) =
-    let h = number_runs (suc n) count in
-    let next : suc n ≡ n + 1 = omega arith in
-    let last : suc n + count ≡ n + suc count = omega arith in
-    (refl, subst (λ (k : ℕ). Runs k (numbers_from (suc n) count) (n + suc count)) next (subst (λ (k : ℕ). Runs (suc n) (numbers_from (suc n) count) k) last h))
-
-pub runs_append : (n k m : ℕ) (xs ys : List ℕ) → Runs n xs k → Runs k ys m → Runs n (xs ++ ys) m
-runs_append n k m [] ys e h = subst (λ (j : ℕ). Runs j ys m) (sym e) h
-runs_append n k m (x ∷ xs) ys e h = (e.0, runs_append (n + 1) k m xs ys e.1 h)
-
-pub runs_numbers : (n m : ℕ) (xs : List ℕ) → Runs n xs m → xs ≡ numbers_from n (length xs)
-runs_numbers n m [] h = refl
-runs_numbers n m (x ∷ xs) h =
-    let next : n + 1 ≡ suc n = omega arith in
-    λ i. h.0 i ∷ (runs_numbers (n + 1) m xs h.1 ∙ ap (λ j. numbers_from j (length xs)) next) i
+use Rattle.gib_core.proofs.Runs.{Runs, number_runs, runs_apart, runs_up}
 
 -- Variables in scope are below a number.
 record InScope (n : ℕ) (ks : List Known) : Type 0 where

@@ -26,7 +26,8 @@ use Rattle.gib_core.proofs.Skipped.{Serves}
 use Rattle.gib_core.proofs.PastReaches.{arms_same, count_same}
 use Rattle.gib_core.proofs.Onward.{next_same, arm_next, bind_next}
 use Rattle.gib_core.proofs.Kept.{scoped, past_kept, prim_kept, write_kept, point_kept, call_kept, give_kept, case_kept, if_kept, tuple_kept}
-use Rattle.gib_core.proofs.Suited.{Suits, ArmsSuit, AreFine, IsKept, IsOut, out_of, others_behind, awaits_behind, serves_more, scoped_behind, cased_after, then_built, rest_suits, term_of_side, side_from, both_from, arm_from, rest_arms, first_arm, case_arms}
+use Rattle.gib_core.proofs.Suited.{Suits, ArmsSuit, AreFine, IsKept, others_behind, awaits_behind, serves_more, scoped_behind, cased_after, then_built, rest_suits, term_of_side, side_from, both_from, arm_from, rest_arms, first_arm, case_arms}
+use Rattle.gib_core.proofs.Outside.{IsOut, out_of}
 
 module _ (mode : AccessMode) (core : CoreTree) where
   abbrev Listed : AccessMode → List ConId → Type 0

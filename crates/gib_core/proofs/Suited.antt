@@ -13,7 +13,7 @@ use Rattle.gib_core.specs.declared.atom.Kind.{Kind}
 use Rattle.gib_core.specs.declared.atom.Kind.TheVariants.{Here, Region, Scalar}
 use Rattle.gib_core.specs.Tree.{Term, Then, Write, Point, CallTerm, Give, CaseTerm, IfTerm, Tuple, variables_of, Bind, Past, One, Both, Prim, Reach, Side, On, Several, prepend, CoreTree}
 use Rattle.gib_core.specs.Ending.{Ended, is_telling, has_ended, call_ends}
-use Rattle.gib_core.specs.Met.{Known, Setting, at, SideLine, CaseLine, SeveralLine, Line, Met, known, reached, with_arm, with_variables, in_side, in_several, in_arm, left_of, right_of, behind, packed_field, met, met_bind, met_side}
+use Rattle.gib_core.specs.Met.{Known, Setting, at, SideLine, CaseLine, SeveralLine, Line, Met, known, reached, with_arm, with_variables, in_side, in_several, in_arm, left_of, right_of, behind, met, met_bind, met_side}
 use Rattle.gib_core.specs.Reaching.{is_variable, has_variable, uses, bind_uses, side_uses, Later, told_first, not_now, laters, ends_from, in_par, reaches, offset_of, all_offsets, packed_variables, ended_by, reach, reach_bind, reach_side, reach_core}
 use Rattle.gib_core.specs.Rules.{Before, further, is_among, is_bound, is_outside, is_reached, one_tells, arm_variables, any_bound, rules, least, next, next_all, LinesAreBuilt}
 use Rattle.gib_core.specs.Reachable.{all_reached, LinesAreReachable}
@@ -27,6 +27,7 @@ use Rattle.gib_core.proofs.Awaits.{but, AreAwaited, AreApart, AreFirst, Awaits, 
 use Rattle.gib_core.proofs.Onward.{side_next}
 use Rattle.gib_core.proofs.Kept.{scoped, side_kept, several_kept}
 use Rattle.gib_core.proofs.Later.{or_none}
+use Rattle.gib_core.proofs.Outside.{IsOut, out_of, out_par}
 
 fields_among : (types : List Ty) (xs : List Variable) (y : Variable) → is_among (at_fields false types xs) y ≡ true → is_among xs y ≡ true
 fields_among [] xs y m = absurd cc
@@ -320,22 +321,6 @@ module _ (core : CoreTree) where
         others = λ y m. false_from_ne_true (is_among s.others y) (λ g. both_ways (is_among vs y) (h.differs y g).0 m);
         uncased = λ y m. case_keeps core b s x arms y e (hidden y m) (false_from_ne_true (is_among b.cased y) (λ g. both_ways (is_bound b.bound y) (unbound y m) (h.cased y g)));
       }
-
--- Where ends reach fields, no par stands around.
-abbrev pub IsOut : AccessMode → Setting → Type 0
-IsOut Skips s = Unit {0}
-IsOut Offsets s = Unit {0}
-IsOut Ends s = is_outside s.others ≡ true
-
-pub out_of : (m : AccessMode) (s s' : Setting) → s'.others ≡ s.others → IsOut m s → IsOut m s'
-out_of Skips s s' e o = tt
-out_of Offsets s s' e o = tt
-out_of Ends s s' e o = ap is_outside e ∙ o
-
-pub out_par : (m : AccessMode) (s : Setting) → IsOut (in_par m) s
-out_par Skips s = tt
-out_par Offsets s = tt
-out_par Ends s = tt
 
 module _ (mode : AccessMode) (core : CoreTree) where
   -- Lines break no rule of the core whose fields are reached.

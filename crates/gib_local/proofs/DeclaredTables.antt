@@ -20,12 +20,13 @@ use Rattle.gib_check.specs.FirstFault.{check_declarations}
 use Rattle.gib_check.specs.NameViews.{row_number}
 use Rattle.gib_check.specs.Views.{tree_number, row_name}
 use Rattle.gib_check.proofs.Programs as generic
+use Rattle.gib_check.proofs.DataRules as data_rules
 use Rattle.gib_check.proofs.RowRules.{table_is}
 use Rattle.gib_local.specs.Building.{declared}
 use Rattle.gib_local.specs.Naming.{check_text}
 use Rattle.gib_local.specs.Tree.{LocalTree}
 
-names_are : (ds : List DataTree) → map generic.data_number (map generic_data ds) ≡ map tree_number ds
+names_are : (ds : List DataTree) → map data_rules.data_number (map generic_data ds) ≡ map tree_number ds
 names_are [] = refl
 names_are (d ∷ ds) = ap (λ l. number_of d.name ∷ l) (names_are ds)
 

@@ -16,6 +16,7 @@ use Rattle.gib_check.proofs.Opening.{call_opened, make_opened, tuple_opened, cas
 use Rattle.gib_check.proofs.Growing.{advances_on, same_advance, keeps_advance, met_stays, parts_grow, parts_stay}
 use Rattle.gib_check.proofs.Loops.{along, ArgumentsSoFar, ArmsSoFar, arguments_start, arguments_next, arguments_stops, arguments_fails, arms_start, arms_next, arms_stops, arms_fails}
 use Rattle.gib_check.proofs.Walking as walking
+use Rattle.gib_check.proofs.Answering as answering
 use Rattle.gib_check.proofs.walk.+infer.Goals as goal
 
 pub infer-returns-in-Whole-clause-read : goal.infer-returns-in-Whole-clause-read
@@ -113,7 +114,7 @@ arm_results-returns-clause-read t c =
     arms_stops c.args.named.now c.args.variables.now c.args.at.standing c.args.at.id.0 c.args.state.now c.arms.state c.args.types.now c.args.arms.now c.arms.rest.now c.arms.parts.items c.in_default.len_below c.arms.invariant
 
 pub operation-put-requires : goal.operation-put-requires
-operation-put-requires t c = walking.closed_below (length c.infer-2.new.state.types) c.result_node.result c.result_node.ensures.closed
+operation-put-requires t c = answering.closed_below (length c.infer-2.new.state.types) c.result_node.result c.result_node.ensures.closed
 
 pub operation-returns-in_err-wanted_whole-clause-read : goal.operation-returns-in_err-wanted_whole-clause-read
 operation-returns-in_err-wanted_whole-clause-read t c =
@@ -174,7 +175,7 @@ pub let_in-returns-clause-read : goal.let_in-returns-clause-read
 let_in-returns-clause-read t c =
     walking.let_is c.args.named.now c.args.variables.now c.args.at.standing c.args.state.now c.one_more.new.self c.infer.new.state c.bind.new.self c.args.at.span c.args.bound.name (generic_tree c.args.named.now c.args.bound.value.0) (generic_tree c.args.named.now c.args.body.0) c.in_ok-value.value c.in_ok-ty.ty (record { read = c.in_ok-one_more.ensures.counts; kept = c.one_more.ensures.scope; types = c.one_more.ensures.types }) (record { read = c.in_ok-value.ensures.read; kept = c.in_ok-value.ensures.kept; met = c.in_ok-value.ensures.met }) (c.in_ok-ty.ensures.form c.infer.new.state) (record { read = c.in_ok-bind.ensures.counts; scope = c.in_ok-bind.ensures.scope; types = c.bind.ensures.types })
     ∙ c.in_ok-given.ensures.read
-    ∙ walking.same_answer c.infer-2.new.state c.truncate.new.self c.in_ok-given.given (same_advance c.infer-2.new.state c.truncate.new.self c.truncate.ensures.types c.truncate.ensures.parts) c.in_ok-given.ensures.met.here c.truncate.ensures.counts
+    ∙ answering.same_answer c.infer-2.new.state c.truncate.new.self c.in_ok-given.given (same_advance c.infer-2.new.state c.truncate.new.self c.truncate.ensures.types c.truncate.ensures.parts) c.in_ok-given.ensures.met.here c.truncate.ensures.counts
 
 pub let_in-returns-clause-kept : goal.let_in-returns-clause-kept
 let_in-returns-clause-kept t c =
@@ -231,7 +232,7 @@ pub let_par-returns-clause-read : goal.let_par-returns-clause-read
 let_par-returns-clause-read t c =
     walking.par_is c.args.named.now c.args.variables.now c.args.at.standing c.args.at.span c.args.sides.left.name (generic_tree c.args.named.now c.args.sides.left.value.0) c.args.sides.right.name (generic_tree c.args.named.now c.args.sides.right.value.0) (generic_tree c.args.named.now c.args.body.0) c.args.state.now c.one_more.new.self c.infer.new.state c.infer-2.new.state c.bind.new.self c.bind-2.new.self c.in_ok-left.left c.in_ok-right.right c.in_ok-left_ty.left_ty c.in_ok-right_ty.right_ty (record { read = c.in_ok-one_more.ensures.counts; kept = c.one_more.ensures.scope; types = c.one_more.ensures.types }) (record { read = c.in_ok-left.ensures.read; kept = c.in_ok-left.ensures.kept; met = c.in_ok-left.ensures.met }) (record { read = c.in_ok-right.ensures.read; kept = c.in_ok-right.ensures.kept; met = c.in_ok-right.ensures.met }) (record { left = (c.in_ok-left_ty.ensures.form c.infer-2.new.state); right = (c.in_ok-right_ty.ensures.form c.infer-2.new.state) }) (record { read = c.in_ok-bind.ensures.counts; scope = c.in_ok-bind.ensures.scope; types = c.bind.ensures.types }) (record { read = c.in_ok-bind-2.ensures.counts; scope = c.in_ok-bind-2.ensures.scope; types = c.bind-2.ensures.types })
     ∙ c.in_ok-given.ensures.read
-    ∙ walking.same_answer c.infer-3.new.state c.truncate.new.self c.in_ok-given.given (same_advance c.infer-3.new.state c.truncate.new.self c.truncate.ensures.types c.truncate.ensures.parts) c.in_ok-given.ensures.met.here c.truncate.ensures.counts
+    ∙ answering.same_answer c.infer-3.new.state c.truncate.new.self c.in_ok-given.given (same_advance c.infer-3.new.state c.truncate.new.self c.truncate.ensures.types c.truncate.ensures.parts) c.in_ok-given.ensures.met.here c.truncate.ensures.counts
 
 pub let_par-returns-clause-kept : goal.let_par-returns-clause-kept
 let_par-returns-clause-kept t c =
@@ -275,11 +276,11 @@ pub let_several-returns-clause-read : goal.let_several-returns-clause-read
 let_several-returns-clause-read t c =
     walking.several_is c.args.named.now c.args.variables.now c.args.at.standing c.args.at.span c.args.names.now (generic_tree c.args.named.now c.args.sides.left.0) (generic_tree c.args.named.now c.args.sides.right.0) c.args.state.now c.one_more.new.self c.infer.new.state c.bind_parts.new.self c.in_ok-value.value c.in_ok-types.types.items (record { read = c.in_ok-one_more.ensures.counts; kept = c.one_more.ensures.scope; types = c.one_more.ensures.types }) (record { read = (subst (λ st. infer (generic_globals c.args.named.now) (variable_numbers c.args.variables.now) opaque st (in_scope c.one_more.new.self) c.one_more.new.self.counts (generic_tree c.args.named.now c.args.sides.left.0) ≡ Rattle.std.proofs.Common.Ok (forms_given c.infer.new.state c.in_ok-value.value, c.infer.new.state.counts)) c.standing_for.ensures c.in_ok-value.ensures.read); kept = c.in_ok-value.ensures.kept; met = c.in_ok-value.ensures.met }) (walking.seen (λ z. Rattle.gib_check.specs.Faults.types_bound c.args.names.now z ≡ Rattle.std.proofs.Common.Ok (listed (forms c.infer.new.state) c.in_ok-types.types.items)) c.infer.new.state c.part.result (record { ty = c.in_ok-value.value; place = Rattle.gib_check.specs.Faults.place (generic_tree c.args.named.now c.args.sides.left.0) }) c.part.ensures c.in_ok-types.ensures.types) (record { read = (subst (λ is. Rattle.gib_check.specs.Faults.bind_parts 0 (in_scope c.infer.new.state) c.infer.new.state.counts c.args.names.now (listed (forms c.infer.new.state) is) ≡ Rattle.std.proofs.Common.Ok (in_scope c.bind_parts.new.self, c.bind_parts.new.self.counts)) c.deref.ensures.value c.in_ok-bind_parts.ensures.read); types = c.bind_parts.ensures.types })
     ∙ c.in_ok-given.ensures.read
-    ∙ walking.same_answer c.infer-2.new.state c.truncate.new.self c.in_ok-given.given (same_advance c.infer-2.new.state c.truncate.new.self c.truncate.ensures.types c.truncate.ensures.parts) c.in_ok-given.ensures.met.here c.truncate.ensures.counts
+    ∙ answering.same_answer c.infer-2.new.state c.truncate.new.self c.in_ok-given.given (same_advance c.infer-2.new.state c.truncate.new.self c.truncate.ensures.types c.truncate.ensures.parts) c.in_ok-given.ensures.met.here c.truncate.ensures.counts
 
 pub let_several-returns-clause-kept : goal.let_several-returns-clause-kept
 let_several-returns-clause-kept t c =
-    walking.parts_dropped (in_scope c.infer.new.state) (in_scope c.infer-2.new.state) (in_scope c.truncate.new.self) c.in_ok-bind_parts.ensures.kept.0 c.len-len.result
+    answering.parts_dropped (in_scope c.infer.new.state) (in_scope c.infer-2.new.state) (in_scope c.truncate.new.self) c.in_ok-bind_parts.ensures.kept.0 c.len-len.result
     (c.in_ok-given.ensures.kept ∙ c.in_ok-bind_parts.ensures.kept.1) c.len-len.ensures c.in_ok-truncate.ensures.scope
     ∙ c.in_ok-value.ensures.kept ∙ c.one_more.ensures.scope
 
@@ -334,12 +335,12 @@ pub par_several-returns-clause-read : goal.par_several-returns-clause-read
 par_several-returns-clause-read t c =
     walking.sides_is c.args.named.now c.args.variables.now c.args.at.standing c.args.at.span c.args.names.now.left.now (generic_tree c.args.named.now c.args.parts.left.0) c.args.names.now.right.now (generic_tree c.args.named.now c.args.parts.right.0) (generic_tree c.args.named.now c.args.parts.body.0) c.args.state.now c.one_more.new.self c.infer.new.state c.infer-2.new.state c.bind_parts.new.self c.bind_parts-2.new.self c.in_ok-left.left c.in_ok-right.right c.in_ok-left_types.left_types.items c.in_ok-right_types.right_types.items (record { read = c.in_ok-one_more.ensures.counts; kept = c.one_more.ensures.scope; types = c.one_more.ensures.types }) (record { read = (subst (λ st. infer (generic_globals c.args.named.now) (variable_numbers c.args.variables.now) opaque st (in_scope c.one_more.new.self) c.one_more.new.self.counts (generic_tree c.args.named.now c.args.parts.left.0) ≡ Rattle.std.proofs.Common.Ok (forms_given c.infer.new.state c.in_ok-left.left, c.infer.new.state.counts)) c.standing_for.ensures c.in_ok-left.ensures.read); kept = c.in_ok-left.ensures.kept; met = c.in_ok-left.ensures.met }) (record { read = (subst (λ st. infer (generic_globals c.args.named.now) (variable_numbers c.args.variables.now) opaque st (in_scope c.infer.new.state) c.infer.new.state.counts (generic_tree c.args.named.now c.args.parts.right.0) ≡ Rattle.std.proofs.Common.Ok (forms_given c.infer-2.new.state c.in_ok-right.right, c.infer-2.new.state.counts)) c.standing_for-2.ensures c.in_ok-right.ensures.read); kept = c.in_ok-right.ensures.kept; met = c.in_ok-right.ensures.met }) (record { left = (walking.seen (λ z. Rattle.gib_check.specs.Faults.types_bound c.args.names.now.left.now z ≡ Rattle.std.proofs.Common.Ok (listed (forms c.infer-2.new.state) c.in_ok-left_types.left_types.items)) c.infer-2.new.state c.part.result (record { ty = c.in_ok-left.left; place = Rattle.gib_check.specs.Faults.place (generic_tree c.args.named.now c.args.parts.left.0) }) c.part.ensures c.in_ok-left_types.ensures.types); right = (walking.seen (λ z. Rattle.gib_check.specs.Faults.types_bound c.args.names.now.right.now z ≡ Rattle.std.proofs.Common.Ok (listed (forms c.infer-2.new.state) c.in_ok-right_types.right_types.items)) c.infer-2.new.state c.part-2.result (record { ty = c.in_ok-right.right; place = Rattle.gib_check.specs.Faults.place (generic_tree c.args.named.now c.args.parts.right.0) }) c.part-2.ensures c.in_ok-right_types.ensures.types) }) (record { read = (subst (λ is. Rattle.gib_check.specs.Faults.bind_parts 0 (in_scope c.infer-2.new.state) c.infer-2.new.state.counts c.args.names.now.left.now (listed (forms c.infer-2.new.state) is) ≡ Rattle.std.proofs.Common.Ok (in_scope c.bind_parts.new.self, c.bind_parts.new.self.counts)) c.deref.ensures.value c.in_ok-bind_parts.ensures.read); types = c.bind_parts.ensures.types }) (record { read = (subst (λ is. Rattle.gib_check.specs.Faults.bind_parts 0 (in_scope c.bind_parts.new.self) c.bind_parts.new.self.counts c.args.names.now.right.now (listed (forms c.bind_parts.new.self) is) ≡ Rattle.std.proofs.Common.Ok (in_scope c.bind_parts-2.new.self, c.bind_parts-2.new.self.counts)) c.deref-2.ensures.value c.in_ok-bind_parts-2.ensures.read); types = c.bind_parts-2.ensures.types })
     ∙ c.in_ok-given.ensures.read
-    ∙ walking.same_answer c.infer-3.new.state c.truncate.new.self c.in_ok-given.given (same_advance c.infer-3.new.state c.truncate.new.self c.truncate.ensures.types c.truncate.ensures.parts) c.in_ok-given.ensures.met.here c.truncate.ensures.counts
+    ∙ answering.same_answer c.infer-3.new.state c.truncate.new.self c.in_ok-given.given (same_advance c.infer-3.new.state c.truncate.new.self c.truncate.ensures.types c.truncate.ensures.parts) c.in_ok-given.ensures.met.here c.truncate.ensures.counts
 
 pub par_several-returns-clause-kept : goal.par_several-returns-clause-kept
 par_several-returns-clause-kept t c =
-    walking.parts_dropped (in_scope c.infer-2.new.state) (in_scope c.infer-3.new.state) (in_scope c.truncate.new.self) _ c.len-len.result
-    (c.in_ok-given.ensures.kept ∙ walking.both_added (in_scope c.infer-2.new.state) (in_scope c.bind_parts.new.self) (in_scope c.bind_parts-2.new.self) c.in_ok-bind_parts.ensures.kept.0 c.in_ok-bind_parts-2.ensures.kept.0 c.in_ok-bind_parts.ensures.kept.1 c.in_ok-bind_parts-2.ensures.kept.1) c.len-len.ensures c.in_ok-truncate.ensures.scope
+    answering.parts_dropped (in_scope c.infer-2.new.state) (in_scope c.infer-3.new.state) (in_scope c.truncate.new.self) _ c.len-len.result
+    (c.in_ok-given.ensures.kept ∙ answering.both_added (in_scope c.infer-2.new.state) (in_scope c.bind_parts.new.self) (in_scope c.bind_parts-2.new.self) c.in_ok-bind_parts.ensures.kept.0 c.in_ok-bind_parts-2.ensures.kept.0 c.in_ok-bind_parts.ensures.kept.1 c.in_ok-bind_parts-2.ensures.kept.1) c.len-len.ensures c.in_ok-truncate.ensures.scope
     ∙ c.in_ok-right.ensures.kept ∙ c.in_ok-left.ensures.kept ∙ c.one_more.ensures.scope
 
 pub par_several-returns-clause-met : goal.par_several-returns-clause-met
@@ -370,17 +371,17 @@ tuple-returns-in_err-may_stand-clause-read t c =
 pub tuple-returns-in_err-parts-clause-read : goal.tuple-returns-in_err-parts-clause-read
 tuple-returns-in_err-parts-clause-read t c =
     let p = err_from_is_err_and c.from_residual-in_err-parts.result c.from_residual-in_err-parts.ensures.1 in
-    rw (p.1, p.2) (walking.tuple_parts c.args.named.now c.args.variables.now c.args.at.standing c.args.at.span (length c.args.ids.now) (λ n. Rattle.gib_check.specs.Faults.infer_all (generic_globals c.args.named.now) (variable_numbers c.args.variables.now) opaque (in_scope c.args.state.now) n (Rattle.gib_syntax.specs.GenericArena.arguments_from (generic_tree c.args.named.now) c.args.ids.now)) c.in_err-parts.field-0.0 c.args.state.now c.one_more.new.self (record { read = c.in_ok-one_more.ensures.counts; kept = c.one_more.ensures.scope; types = c.one_more.ensures.types }) c.in_ok-may_stand.ensures (along c.in_err-parts.field-0.0 _ _ (walking.results_same c.args.named.now c.args.variables.now c.args.state.now c.one_more.new.self c.args.ids.now c.one_more.ensures.scope) c.in_err-parts.ensures.read))
+    rw (p.1, p.2) (walking.tuple_parts c.args.named.now c.args.variables.now c.args.at.standing c.args.at.span (length c.args.ids.now) (λ n. Rattle.gib_check.specs.Faults.infer_all (generic_globals c.args.named.now) (variable_numbers c.args.variables.now) opaque (in_scope c.args.state.now) n (Rattle.gib_syntax.specs.GenericArena.arguments_from (generic_tree c.args.named.now) c.args.ids.now)) c.in_err-parts.field-0.0 c.args.state.now c.one_more.new.self (record { read = c.in_ok-one_more.ensures.counts; kept = c.one_more.ensures.scope; types = c.one_more.ensures.types }) c.in_ok-may_stand.ensures (along c.in_err-parts.field-0.0 _ _ (answering.results_same c.args.named.now c.args.variables.now c.args.state.now c.one_more.new.self c.args.ids.now c.one_more.ensures.scope) c.in_err-parts.ensures.read))
 
 pub tuple-returns-in_err-types-clause-read : goal.tuple-returns-in_err-types-clause-read
 tuple-returns-in_err-types-clause-read t c =
     let p = err_from_is_err_and c.from_residual-in_err-types.result c.from_residual-in_err-types.ensures.1 in
-    rw (p.1, p.2) (walking.tuple_single c.args.named.now c.args.variables.now c.args.at.standing c.args.at.span (length c.args.ids.now) (λ n. Rattle.gib_check.specs.Faults.infer_all (generic_globals c.args.named.now) (variable_numbers c.args.variables.now) opaque (in_scope c.args.state.now) n (Rattle.gib_syntax.specs.GenericArena.arguments_from (generic_tree c.args.named.now) c.args.ids.now)) c.in_err-types.field-0.0 c.args.state.now c.one_more.new.self (parts_in c.arguments.new.state c.in_ok-parts.parts.items) c.arguments.new.state.counts (record { read = c.in_ok-one_more.ensures.counts; kept = c.one_more.ensures.scope; types = c.one_more.ensures.types }) c.in_ok-may_stand.ensures ((walking.results_same c.args.named.now c.args.variables.now c.args.state.now c.one_more.new.self c.args.ids.now c.one_more.ensures.scope) ∙ c.in_ok-parts.ensures.read) (subst (λ ps. Rattle.gib_check.specs.Answers.IsFaultOf c.in_err-types.field-0.0 (Rattle.gib_check.specs.Faults.all_single (parts_in c.arguments.new.state ps))) c.deref.ensures.value c.in_err-types.ensures.types))
+    rw (p.1, p.2) (walking.tuple_single c.args.named.now c.args.variables.now c.args.at.standing c.args.at.span (length c.args.ids.now) (λ n. Rattle.gib_check.specs.Faults.infer_all (generic_globals c.args.named.now) (variable_numbers c.args.variables.now) opaque (in_scope c.args.state.now) n (Rattle.gib_syntax.specs.GenericArena.arguments_from (generic_tree c.args.named.now) c.args.ids.now)) c.in_err-types.field-0.0 c.args.state.now c.one_more.new.self (parts_in c.arguments.new.state c.in_ok-parts.parts.items) c.arguments.new.state.counts (record { read = c.in_ok-one_more.ensures.counts; kept = c.one_more.ensures.scope; types = c.one_more.ensures.types }) c.in_ok-may_stand.ensures ((answering.results_same c.args.named.now c.args.variables.now c.args.state.now c.one_more.new.self c.args.ids.now c.one_more.ensures.scope) ∙ c.in_ok-parts.ensures.read) (subst (λ ps. Rattle.gib_check.specs.Answers.IsFaultOf c.in_err-types.field-0.0 (Rattle.gib_check.specs.Faults.all_single (parts_in c.arguments.new.state ps))) c.deref.ensures.value c.in_err-types.ensures.types))
 
 pub tuple-returns-clause-read : goal.tuple-returns-clause-read
 tuple-returns-clause-read t c =
-    walking.tuple_ok c.args.named.now c.args.variables.now c.args.at.standing c.args.at.span (length c.args.ids.now) (λ n. Rattle.gib_check.specs.Faults.infer_all (generic_globals c.args.named.now) (variable_numbers c.args.variables.now) opaque (in_scope c.args.state.now) n (Rattle.gib_syntax.specs.GenericArena.arguments_from (generic_tree c.args.named.now) c.args.ids.now)) c.args.state.now c.one_more.new.self (parts_in c.arguments.new.state c.in_ok-parts.parts.items) c.arguments.new.state.counts (listed (forms c.arguments.new.state) c.in_ok-types.types.items) (record { read = c.in_ok-one_more.ensures.counts; kept = c.one_more.ensures.scope; types = c.one_more.ensures.types }) c.in_ok-may_stand.ensures ((walking.results_same c.args.named.now c.args.variables.now c.args.state.now c.one_more.new.self c.args.ids.now c.one_more.ensures.scope) ∙ c.in_ok-parts.ensures.read) (subst (λ ps. Rattle.gib_check.specs.Faults.all_single (parts_in c.arguments.new.state ps) ≡ Rattle.std.proofs.Common.Ok (listed (forms c.arguments.new.state) c.in_ok-types.types.items)) c.deref.ensures.value c.in_ok-types.ensures.types)
-    ∙ ap₂ walking.answer_of (sym (c.in_ok-given.ensures.forms ∙ ap (λ is. Several (listed (forms c.arguments.new.state) is)) c.deref-2.ensures.value)) (sym c.put_parts.ensures.counts)
+    walking.tuple_ok c.args.named.now c.args.variables.now c.args.at.standing c.args.at.span (length c.args.ids.now) (λ n. Rattle.gib_check.specs.Faults.infer_all (generic_globals c.args.named.now) (variable_numbers c.args.variables.now) opaque (in_scope c.args.state.now) n (Rattle.gib_syntax.specs.GenericArena.arguments_from (generic_tree c.args.named.now) c.args.ids.now)) c.args.state.now c.one_more.new.self (parts_in c.arguments.new.state c.in_ok-parts.parts.items) c.arguments.new.state.counts (listed (forms c.arguments.new.state) c.in_ok-types.types.items) (record { read = c.in_ok-one_more.ensures.counts; kept = c.one_more.ensures.scope; types = c.one_more.ensures.types }) c.in_ok-may_stand.ensures ((answering.results_same c.args.named.now c.args.variables.now c.args.state.now c.one_more.new.self c.args.ids.now c.one_more.ensures.scope) ∙ c.in_ok-parts.ensures.read) (subst (λ ps. Rattle.gib_check.specs.Faults.all_single (parts_in c.arguments.new.state ps) ≡ Rattle.std.proofs.Common.Ok (listed (forms c.arguments.new.state) c.in_ok-types.types.items)) c.deref.ensures.value c.in_ok-types.ensures.types)
+    ∙ ap₂ answering.answer_of (sym (c.in_ok-given.ensures.forms ∙ ap (λ is. Several (listed (forms c.arguments.new.state) is)) c.deref-2.ensures.value)) (sym c.put_parts.ensures.counts)
 
 pub tuple-returns-clause-kept : goal.tuple-returns-clause-kept
 tuple-returns-clause-kept t c =
@@ -411,25 +412,25 @@ call-returns-in_err-types-clause-read t c =
 pub call-returns-in_err-as_many-clause-read : goal.call-returns-in_err-as_many-clause-read
 call-returns-in_err-as_many-clause-read t c =
     let p = err_from_is_err_and c.from_residual-in_err-as_many.result c.from_residual-in_err-as_many.ensures.1 in
-    rw (p.1, p.2) (walking.call_count c.args.named.now c.args.variables.now c.args.called.name (types_in c.args.named.now.exprs.words c.args.called.types) (length c.args.ids.now) (λ n. Rattle.gib_check.specs.Faults.infer_all (generic_globals c.args.named.now) (variable_numbers c.args.variables.now) Rattle.gib_syntax.specs.GenericTyping.opaque (in_scope c.args.state.now) n (Rattle.gib_syntax.specs.GenericArena.arguments_from (generic_tree c.args.named.now) c.args.ids.now)) c.in_err-as_many.field-0.0 c.args.state.now c.one_more.new.self (Rattle.gib_syntax.specs.GenericParts.function_in c.args.named.now.exprs c.in_ok-function.function.now) (record { read = c.in_ok-one_more.ensures.counts; kept = c.one_more.ensures.scope; types = c.one_more.ensures.types }) c.in_ok-function.ensures (subst (λ n. walking.use_types c.args.named.now c.args.variables.now c.args.called.name (types_in c.args.named.now.exprs.words c.args.called.types) (length c.args.ids.now) (λ n. Rattle.gib_check.specs.Faults.infer_all (generic_globals c.args.named.now) (variable_numbers c.args.variables.now) Rattle.gib_syntax.specs.GenericTyping.opaque (in_scope c.args.state.now) n (Rattle.gib_syntax.specs.GenericArena.arguments_from (generic_tree c.args.named.now) c.args.ids.now)) n ≡ Rattle.std.proofs.Common.Ok (tt {0})) (omega (Rattle.std.proofs.Common.arith, c.len-due.ensures, c.in_ok-function.function.now.variables.ok)) c.in_ok-types.ensures.read) (walking.counted_as (λ z. Rattle.gib_check.specs.Answers.IsFaultOf c.in_err-as_many.field-0.0 (z)) c.args.called.name (length c.args.ids.now) c.len.result (length c.args.ids.now) (length (Rattle.gib_syntax.specs.GenericParts.function_in c.args.named.now.exprs c.in_ok-function.function.now).parameters) refl (walking.mapped_length c.args.named.now.exprs.words c.len.result c.in_ok-function.function.now.parameters.items (omega (Rattle.std.proofs.Common.arith, c.len.ensures, c.in_ok-function.function.now.parameters.ok))) c.in_err-as_many.ensures))
+    rw (p.1, p.2) (walking.call_count c.args.named.now c.args.variables.now c.args.called.name (types_in c.args.named.now.exprs.words c.args.called.types) (length c.args.ids.now) (λ n. Rattle.gib_check.specs.Faults.infer_all (generic_globals c.args.named.now) (variable_numbers c.args.variables.now) Rattle.gib_syntax.specs.GenericTyping.opaque (in_scope c.args.state.now) n (Rattle.gib_syntax.specs.GenericArena.arguments_from (generic_tree c.args.named.now) c.args.ids.now)) c.in_err-as_many.field-0.0 c.args.state.now c.one_more.new.self (Rattle.gib_syntax.specs.GenericParts.function_in c.args.named.now.exprs c.in_ok-function.function.now) (record { read = c.in_ok-one_more.ensures.counts; kept = c.one_more.ensures.scope; types = c.one_more.ensures.types }) c.in_ok-function.ensures (subst (λ n. walking.use_types c.args.named.now c.args.variables.now c.args.called.name (types_in c.args.named.now.exprs.words c.args.called.types) (length c.args.ids.now) (λ n. Rattle.gib_check.specs.Faults.infer_all (generic_globals c.args.named.now) (variable_numbers c.args.variables.now) Rattle.gib_syntax.specs.GenericTyping.opaque (in_scope c.args.state.now) n (Rattle.gib_syntax.specs.GenericArena.arguments_from (generic_tree c.args.named.now) c.args.ids.now)) n ≡ Rattle.std.proofs.Common.Ok (tt {0})) (omega (Rattle.std.proofs.Common.arith, c.len-due.ensures, c.in_ok-function.function.now.variables.ok)) c.in_ok-types.ensures.read) (answering.counted_as (λ z. Rattle.gib_check.specs.Answers.IsFaultOf c.in_err-as_many.field-0.0 (z)) c.args.called.name (length c.args.ids.now) c.len.result (length c.args.ids.now) (length (Rattle.gib_syntax.specs.GenericParts.function_in c.args.named.now.exprs c.in_ok-function.function.now).parameters) refl (answering.mapped_length c.args.named.now.exprs.words c.len.result c.in_ok-function.function.now.parameters.items (omega (Rattle.std.proofs.Common.arith, c.len.ensures, c.in_ok-function.function.now.parameters.ok))) c.in_err-as_many.ensures))
 
 pub call-returns-in_err-parts-clause-read : goal.call-returns-in_err-parts-clause-read
 call-returns-in_err-parts-clause-read t c =
     let p = err_from_is_err_and c.from_residual-in_err-parts.result c.from_residual-in_err-parts.ensures.1 in
-    rw (p.1, p.2) (walking.call_parts c.args.named.now c.args.variables.now c.args.called.name (types_in c.args.named.now.exprs.words c.args.called.types) (length c.args.ids.now) (λ n. Rattle.gib_check.specs.Faults.infer_all (generic_globals c.args.named.now) (variable_numbers c.args.variables.now) Rattle.gib_syntax.specs.GenericTyping.opaque (in_scope c.args.state.now) n (Rattle.gib_syntax.specs.GenericArena.arguments_from (generic_tree c.args.named.now) c.args.ids.now)) c.in_err-parts.field-0.0 c.args.state.now c.one_more.new.self (Rattle.gib_syntax.specs.GenericParts.function_in c.args.named.now.exprs c.in_ok-function.function.now) (record { read = c.in_ok-one_more.ensures.counts; kept = c.one_more.ensures.scope; types = c.one_more.ensures.types }) c.in_ok-function.ensures (subst (λ n. walking.use_types c.args.named.now c.args.variables.now c.args.called.name (types_in c.args.named.now.exprs.words c.args.called.types) (length c.args.ids.now) (λ n. Rattle.gib_check.specs.Faults.infer_all (generic_globals c.args.named.now) (variable_numbers c.args.variables.now) Rattle.gib_syntax.specs.GenericTyping.opaque (in_scope c.args.state.now) n (Rattle.gib_syntax.specs.GenericArena.arguments_from (generic_tree c.args.named.now) c.args.ids.now)) n ≡ Rattle.std.proofs.Common.Ok (tt {0})) (omega (Rattle.std.proofs.Common.arith, c.len-due.ensures, c.in_ok-function.function.now.variables.ok)) c.in_ok-types.ensures.read) (walking.counted_as (λ z. z ≡ Rattle.std.proofs.Common.Ok (tt {0})) c.args.called.name (length c.args.ids.now) c.len.result (length c.args.ids.now) (length (Rattle.gib_syntax.specs.GenericParts.function_in c.args.named.now.exprs c.in_ok-function.function.now).parameters) refl (walking.mapped_length c.args.named.now.exprs.words c.len.result c.in_ok-function.function.now.parameters.items (omega (Rattle.std.proofs.Common.arith, c.len.ensures, c.in_ok-function.function.now.parameters.ok))) c.in_ok-as_many.ensures) (Rattle.gib_check.proofs.Loops.along c.in_err-parts.field-0.0 _ _ (walking.results_moved c.args.named.now c.args.variables.now c.args.state.now c.one_more.new.self c.type_arguments.new.state c.args.ids.now c.type_arguments.ensures.keeps c.one_more.ensures.scope) c.in_err-parts.ensures.read))
+    rw (p.1, p.2) (walking.call_parts c.args.named.now c.args.variables.now c.args.called.name (types_in c.args.named.now.exprs.words c.args.called.types) (length c.args.ids.now) (λ n. Rattle.gib_check.specs.Faults.infer_all (generic_globals c.args.named.now) (variable_numbers c.args.variables.now) Rattle.gib_syntax.specs.GenericTyping.opaque (in_scope c.args.state.now) n (Rattle.gib_syntax.specs.GenericArena.arguments_from (generic_tree c.args.named.now) c.args.ids.now)) c.in_err-parts.field-0.0 c.args.state.now c.one_more.new.self (Rattle.gib_syntax.specs.GenericParts.function_in c.args.named.now.exprs c.in_ok-function.function.now) (record { read = c.in_ok-one_more.ensures.counts; kept = c.one_more.ensures.scope; types = c.one_more.ensures.types }) c.in_ok-function.ensures (subst (λ n. walking.use_types c.args.named.now c.args.variables.now c.args.called.name (types_in c.args.named.now.exprs.words c.args.called.types) (length c.args.ids.now) (λ n. Rattle.gib_check.specs.Faults.infer_all (generic_globals c.args.named.now) (variable_numbers c.args.variables.now) Rattle.gib_syntax.specs.GenericTyping.opaque (in_scope c.args.state.now) n (Rattle.gib_syntax.specs.GenericArena.arguments_from (generic_tree c.args.named.now) c.args.ids.now)) n ≡ Rattle.std.proofs.Common.Ok (tt {0})) (omega (Rattle.std.proofs.Common.arith, c.len-due.ensures, c.in_ok-function.function.now.variables.ok)) c.in_ok-types.ensures.read) (answering.counted_as (λ z. z ≡ Rattle.std.proofs.Common.Ok (tt {0})) c.args.called.name (length c.args.ids.now) c.len.result (length c.args.ids.now) (length (Rattle.gib_syntax.specs.GenericParts.function_in c.args.named.now.exprs c.in_ok-function.function.now).parameters) refl (answering.mapped_length c.args.named.now.exprs.words c.len.result c.in_ok-function.function.now.parameters.items (omega (Rattle.std.proofs.Common.arith, c.len.ensures, c.in_ok-function.function.now.parameters.ok))) c.in_ok-as_many.ensures) (Rattle.gib_check.proofs.Loops.along c.in_err-parts.field-0.0 _ _ (answering.results_moved c.args.named.now c.args.variables.now c.args.state.now c.one_more.new.self c.type_arguments.new.state c.args.ids.now c.type_arguments.ensures.keeps c.one_more.ensures.scope) c.in_err-parts.ensures.read))
 
 pub call-returns-in_err-all_wanted-clause-read : goal.call-returns-in_err-all_wanted-clause-read
 call-returns-in_err-all_wanted-clause-read t c =
     let p = err_from_is_err_and c.from_residual-in_err-all_wanted.result c.from_residual-in_err-all_wanted.ensures.1 in
-    rw (p.1, p.2) (walking.call_shape c.args.named.now c.args.variables.now c.args.called.name (types_in c.args.named.now.exprs.words c.args.called.types) (length c.args.ids.now) (λ n. Rattle.gib_check.specs.Faults.infer_all (generic_globals c.args.named.now) (variable_numbers c.args.variables.now) Rattle.gib_syntax.specs.GenericTyping.opaque (in_scope c.args.state.now) n (Rattle.gib_syntax.specs.GenericArena.arguments_from (generic_tree c.args.named.now) c.args.ids.now)) c.in_err-all_wanted.field-0.0 c.args.state.now c.one_more.new.self (Rattle.gib_syntax.specs.GenericParts.function_in c.args.named.now.exprs c.in_ok-function.function.now) (parts_in c.arguments.new.state c.in_ok-parts.parts.items) (parts_in c.parameter_types.new.state c.deref-4.result.now) (listed (forms c.parameter_types.new.state) c.deref-5.result.now) c.arguments.new.state.counts (record { read = c.in_ok-one_more.ensures.counts; kept = c.one_more.ensures.scope; types = c.one_more.ensures.types }) c.in_ok-function.ensures (subst (λ n. walking.use_types c.args.named.now c.args.variables.now c.args.called.name (types_in c.args.named.now.exprs.words c.args.called.types) (length c.args.ids.now) (λ n. Rattle.gib_check.specs.Faults.infer_all (generic_globals c.args.named.now) (variable_numbers c.args.variables.now) Rattle.gib_syntax.specs.GenericTyping.opaque (in_scope c.args.state.now) n (Rattle.gib_syntax.specs.GenericArena.arguments_from (generic_tree c.args.named.now) c.args.ids.now)) n ≡ Rattle.std.proofs.Common.Ok (tt {0})) (omega (Rattle.std.proofs.Common.arith, c.len-due.ensures, c.in_ok-function.function.now.variables.ok)) c.in_ok-types.ensures.read) (walking.counted_as (λ z. z ≡ Rattle.std.proofs.Common.Ok (tt {0})) c.args.called.name (length c.args.ids.now) c.len.result (length c.args.ids.now) (length (Rattle.gib_syntax.specs.GenericParts.function_in c.args.named.now.exprs c.in_ok-function.function.now).parameters) refl (walking.mapped_length c.args.named.now.exprs.words c.len.result c.in_ok-function.function.now.parameters.items (omega (Rattle.std.proofs.Common.arith, c.len.ensures, c.in_ok-function.function.now.parameters.ok))) c.in_ok-as_many.ensures) ((walking.results_moved c.args.named.now c.args.variables.now c.args.state.now c.one_more.new.self c.type_arguments.new.state c.args.ids.now c.type_arguments.ensures.keeps c.one_more.ensures.scope) ∙ c.in_ok-parts.ensures.read) (ap (parts_in c.parameter_types.new.state) c.deref-4.ensures.value ∙ parts_grow c.arguments.new.state c.parameter_types.new.state c.in_ok-parts.parts.items (keeps_advance c.arguments.new.state c.parameter_types.new.state c.in_ok-wanted_types.ensures.keeps) c.in_ok-parts.ensures.met.here) (ap (listed (forms c.parameter_types.new.state)) c.deref-5.ensures.value ∙ c.in_ok-wanted_types.ensures.types ∙ walking.parameters_are c.args.named.now.exprs.words c.in_ok-function.function.now.parameters.items c.deref-3.result.now (Rattle.gib_syntax.specs.GenericParts.function_in c.args.named.now.exprs c.in_ok-function.function.now).variables (Rattle.gib_check.specs.Judging.meant_by (forms c.arguments.new.state) c.in_ok-meaning.meaning) _ (Rattle.gib_syntax.specs.Forms.formed_all Rattle.gib_syntax.specs.GenericTyping.opaque (types_in c.args.named.now.exprs.words c.args.called.types)) c.deref-3.ensures.value (c.in_ok-meaning.ensures.meant ∙ ap (λ vs. Rattle.gib_syntax.specs.Forms.assign vs (Rattle.gib_types.specs.Types.forms_at (forms c.arguments.new.state) c.deref-2.result.now)) c.deref.ensures.value) (ap (Rattle.gib_types.specs.Types.forms_at (forms c.arguments.new.state)) c.deref-2.ensures.value ∙ (walking.given_types c.type_arguments.new.state c.arguments.new.state c.in_ok-types.types.items (types_in c.args.named.now.exprs.words c.args.called.types) c.in_ok-types.ensures.types c.in_ok-parts.ensures.met.advances.types c.in_ok-types.ensures.below))) c.in_err-all_wanted.ensures)
+    rw (p.1, p.2) (walking.call_shape c.args.named.now c.args.variables.now c.args.called.name (types_in c.args.named.now.exprs.words c.args.called.types) (length c.args.ids.now) (λ n. Rattle.gib_check.specs.Faults.infer_all (generic_globals c.args.named.now) (variable_numbers c.args.variables.now) Rattle.gib_syntax.specs.GenericTyping.opaque (in_scope c.args.state.now) n (Rattle.gib_syntax.specs.GenericArena.arguments_from (generic_tree c.args.named.now) c.args.ids.now)) c.in_err-all_wanted.field-0.0 c.args.state.now c.one_more.new.self (Rattle.gib_syntax.specs.GenericParts.function_in c.args.named.now.exprs c.in_ok-function.function.now) (parts_in c.arguments.new.state c.in_ok-parts.parts.items) (parts_in c.parameter_types.new.state c.deref-4.result.now) (listed (forms c.parameter_types.new.state) c.deref-5.result.now) c.arguments.new.state.counts (record { read = c.in_ok-one_more.ensures.counts; kept = c.one_more.ensures.scope; types = c.one_more.ensures.types }) c.in_ok-function.ensures (subst (λ n. walking.use_types c.args.named.now c.args.variables.now c.args.called.name (types_in c.args.named.now.exprs.words c.args.called.types) (length c.args.ids.now) (λ n. Rattle.gib_check.specs.Faults.infer_all (generic_globals c.args.named.now) (variable_numbers c.args.variables.now) Rattle.gib_syntax.specs.GenericTyping.opaque (in_scope c.args.state.now) n (Rattle.gib_syntax.specs.GenericArena.arguments_from (generic_tree c.args.named.now) c.args.ids.now)) n ≡ Rattle.std.proofs.Common.Ok (tt {0})) (omega (Rattle.std.proofs.Common.arith, c.len-due.ensures, c.in_ok-function.function.now.variables.ok)) c.in_ok-types.ensures.read) (answering.counted_as (λ z. z ≡ Rattle.std.proofs.Common.Ok (tt {0})) c.args.called.name (length c.args.ids.now) c.len.result (length c.args.ids.now) (length (Rattle.gib_syntax.specs.GenericParts.function_in c.args.named.now.exprs c.in_ok-function.function.now).parameters) refl (answering.mapped_length c.args.named.now.exprs.words c.len.result c.in_ok-function.function.now.parameters.items (omega (Rattle.std.proofs.Common.arith, c.len.ensures, c.in_ok-function.function.now.parameters.ok))) c.in_ok-as_many.ensures) ((answering.results_moved c.args.named.now c.args.variables.now c.args.state.now c.one_more.new.self c.type_arguments.new.state c.args.ids.now c.type_arguments.ensures.keeps c.one_more.ensures.scope) ∙ c.in_ok-parts.ensures.read) (ap (parts_in c.parameter_types.new.state) c.deref-4.ensures.value ∙ parts_grow c.arguments.new.state c.parameter_types.new.state c.in_ok-parts.parts.items (keeps_advance c.arguments.new.state c.parameter_types.new.state c.in_ok-wanted_types.ensures.keeps) c.in_ok-parts.ensures.met.here) (ap (listed (forms c.parameter_types.new.state)) c.deref-5.ensures.value ∙ c.in_ok-wanted_types.ensures.types ∙ answering.parameters_are c.args.named.now.exprs.words c.in_ok-function.function.now.parameters.items c.deref-3.result.now (Rattle.gib_syntax.specs.GenericParts.function_in c.args.named.now.exprs c.in_ok-function.function.now).variables (Rattle.gib_check.specs.Judging.meant_by (forms c.arguments.new.state) c.in_ok-meaning.meaning) _ (Rattle.gib_syntax.specs.Forms.formed_all Rattle.gib_syntax.specs.GenericTyping.opaque (types_in c.args.named.now.exprs.words c.args.called.types)) c.deref-3.ensures.value (c.in_ok-meaning.ensures.meant ∙ ap (λ vs. Rattle.gib_syntax.specs.Forms.assign vs (Rattle.gib_types.specs.Types.forms_at (forms c.arguments.new.state) c.deref-2.result.now)) c.deref.ensures.value) (ap (Rattle.gib_types.specs.Types.forms_at (forms c.arguments.new.state)) c.deref-2.ensures.value ∙ (answering.given_types c.type_arguments.new.state c.arguments.new.state c.in_ok-types.types.items (types_in c.args.named.now.exprs.words c.args.called.types) c.in_ok-types.ensures.types c.in_ok-parts.ensures.met.advances.types c.in_ok-types.ensures.below))) c.in_err-all_wanted.ensures)
 
 pub call-returns-clause-read : goal.call-returns-clause-read
 call-returns-clause-read t c =
-    walking.call_ok c.args.named.now c.args.variables.now c.args.called.name (types_in c.args.named.now.exprs.words c.args.called.types) (length c.args.ids.now) (λ n. Rattle.gib_check.specs.Faults.infer_all (generic_globals c.args.named.now) (variable_numbers c.args.variables.now) Rattle.gib_syntax.specs.GenericTyping.opaque (in_scope c.args.state.now) n (Rattle.gib_syntax.specs.GenericArena.arguments_from (generic_tree c.args.named.now) c.args.ids.now)) c.args.state.now c.one_more.new.self (Rattle.gib_syntax.specs.GenericParts.function_in c.args.named.now.exprs c.in_ok-function.function.now) (parts_in c.arguments.new.state c.in_ok-parts.parts.items) (parts_in c.parameter_types.new.state c.deref-4.result.now) (listed (forms c.parameter_types.new.state) c.deref-5.result.now) c.arguments.new.state.counts (record { read = c.in_ok-one_more.ensures.counts; kept = c.one_more.ensures.scope; types = c.one_more.ensures.types }) c.in_ok-function.ensures (subst (λ n. walking.use_types c.args.named.now c.args.variables.now c.args.called.name (types_in c.args.named.now.exprs.words c.args.called.types) (length c.args.ids.now) (λ n. Rattle.gib_check.specs.Faults.infer_all (generic_globals c.args.named.now) (variable_numbers c.args.variables.now) Rattle.gib_syntax.specs.GenericTyping.opaque (in_scope c.args.state.now) n (Rattle.gib_syntax.specs.GenericArena.arguments_from (generic_tree c.args.named.now) c.args.ids.now)) n ≡ Rattle.std.proofs.Common.Ok (tt {0})) (omega (Rattle.std.proofs.Common.arith, c.len-due.ensures, c.in_ok-function.function.now.variables.ok)) c.in_ok-types.ensures.read) (walking.counted_as (λ z. z ≡ Rattle.std.proofs.Common.Ok (tt {0})) c.args.called.name (length c.args.ids.now) c.len.result (length c.args.ids.now) (length (Rattle.gib_syntax.specs.GenericParts.function_in c.args.named.now.exprs c.in_ok-function.function.now).parameters) refl (walking.mapped_length c.args.named.now.exprs.words c.len.result c.in_ok-function.function.now.parameters.items (omega (Rattle.std.proofs.Common.arith, c.len.ensures, c.in_ok-function.function.now.parameters.ok))) c.in_ok-as_many.ensures) ((walking.results_moved c.args.named.now c.args.variables.now c.args.state.now c.one_more.new.self c.type_arguments.new.state c.args.ids.now c.type_arguments.ensures.keeps c.one_more.ensures.scope) ∙ c.in_ok-parts.ensures.read)
+    walking.call_ok c.args.named.now c.args.variables.now c.args.called.name (types_in c.args.named.now.exprs.words c.args.called.types) (length c.args.ids.now) (λ n. Rattle.gib_check.specs.Faults.infer_all (generic_globals c.args.named.now) (variable_numbers c.args.variables.now) Rattle.gib_syntax.specs.GenericTyping.opaque (in_scope c.args.state.now) n (Rattle.gib_syntax.specs.GenericArena.arguments_from (generic_tree c.args.named.now) c.args.ids.now)) c.args.state.now c.one_more.new.self (Rattle.gib_syntax.specs.GenericParts.function_in c.args.named.now.exprs c.in_ok-function.function.now) (parts_in c.arguments.new.state c.in_ok-parts.parts.items) (parts_in c.parameter_types.new.state c.deref-4.result.now) (listed (forms c.parameter_types.new.state) c.deref-5.result.now) c.arguments.new.state.counts (record { read = c.in_ok-one_more.ensures.counts; kept = c.one_more.ensures.scope; types = c.one_more.ensures.types }) c.in_ok-function.ensures (subst (λ n. walking.use_types c.args.named.now c.args.variables.now c.args.called.name (types_in c.args.named.now.exprs.words c.args.called.types) (length c.args.ids.now) (λ n. Rattle.gib_check.specs.Faults.infer_all (generic_globals c.args.named.now) (variable_numbers c.args.variables.now) Rattle.gib_syntax.specs.GenericTyping.opaque (in_scope c.args.state.now) n (Rattle.gib_syntax.specs.GenericArena.arguments_from (generic_tree c.args.named.now) c.args.ids.now)) n ≡ Rattle.std.proofs.Common.Ok (tt {0})) (omega (Rattle.std.proofs.Common.arith, c.len-due.ensures, c.in_ok-function.function.now.variables.ok)) c.in_ok-types.ensures.read) (answering.counted_as (λ z. z ≡ Rattle.std.proofs.Common.Ok (tt {0})) c.args.called.name (length c.args.ids.now) c.len.result (length c.args.ids.now) (length (Rattle.gib_syntax.specs.GenericParts.function_in c.args.named.now.exprs c.in_ok-function.function.now).parameters) refl (answering.mapped_length c.args.named.now.exprs.words c.len.result c.in_ok-function.function.now.parameters.items (omega (Rattle.std.proofs.Common.arith, c.len.ensures, c.in_ok-function.function.now.parameters.ok))) c.in_ok-as_many.ensures) ((answering.results_moved c.args.named.now c.args.variables.now c.args.state.now c.one_more.new.self c.type_arguments.new.state c.args.ids.now c.type_arguments.ensures.keeps c.one_more.ensures.scope) ∙ c.in_ok-parts.ensures.read)
     (ap (parts_in c.parameter_types.new.state) c.deref-4.ensures.value ∙ parts_grow c.arguments.new.state c.parameter_types.new.state c.in_ok-parts.parts.items (keeps_advance c.arguments.new.state c.parameter_types.new.state c.in_ok-wanted_types.ensures.keeps) c.in_ok-parts.ensures.met.here)
-    (ap (listed (forms c.parameter_types.new.state)) c.deref-5.ensures.value ∙ c.in_ok-wanted_types.ensures.types ∙ walking.parameters_are c.args.named.now.exprs.words c.in_ok-function.function.now.parameters.items c.deref-3.result.now (Rattle.gib_syntax.specs.GenericParts.function_in c.args.named.now.exprs c.in_ok-function.function.now).variables (Rattle.gib_check.specs.Judging.meant_by (forms c.arguments.new.state) c.in_ok-meaning.meaning) _ (Rattle.gib_syntax.specs.Forms.formed_all Rattle.gib_syntax.specs.GenericTyping.opaque (types_in c.args.named.now.exprs.words c.args.called.types)) c.deref-3.ensures.value (c.in_ok-meaning.ensures.meant ∙ ap (λ vs. Rattle.gib_syntax.specs.Forms.assign vs (Rattle.gib_types.specs.Types.forms_at (forms c.arguments.new.state) c.deref-2.result.now)) c.deref.ensures.value) (ap (Rattle.gib_types.specs.Types.forms_at (forms c.arguments.new.state)) c.deref-2.ensures.value ∙ (walking.given_types c.type_arguments.new.state c.arguments.new.state c.in_ok-types.types.items (types_in c.args.named.now.exprs.words c.args.called.types) c.in_ok-types.ensures.types c.in_ok-parts.ensures.met.advances.types c.in_ok-types.ensures.below)))
+    (ap (listed (forms c.parameter_types.new.state)) c.deref-5.ensures.value ∙ c.in_ok-wanted_types.ensures.types ∙ answering.parameters_are c.args.named.now.exprs.words c.in_ok-function.function.now.parameters.items c.deref-3.result.now (Rattle.gib_syntax.specs.GenericParts.function_in c.args.named.now.exprs c.in_ok-function.function.now).variables (Rattle.gib_check.specs.Judging.meant_by (forms c.arguments.new.state) c.in_ok-meaning.meaning) _ (Rattle.gib_syntax.specs.Forms.formed_all Rattle.gib_syntax.specs.GenericTyping.opaque (types_in c.args.named.now.exprs.words c.args.called.types)) c.deref-3.ensures.value (c.in_ok-meaning.ensures.meant ∙ ap (λ vs. Rattle.gib_syntax.specs.Forms.assign vs (Rattle.gib_types.specs.Types.forms_at (forms c.arguments.new.state) c.deref-2.result.now)) c.deref.ensures.value) (ap (Rattle.gib_types.specs.Types.forms_at (forms c.arguments.new.state)) c.deref-2.ensures.value ∙ (answering.given_types c.type_arguments.new.state c.arguments.new.state c.in_ok-types.types.items (types_in c.args.named.now.exprs.words c.args.called.types) c.in_ok-types.ensures.types c.in_ok-parts.ensures.met.advances.types c.in_ok-types.ensures.below)))
     c.in_ok-all_wanted.ensures
-    ∙ walking.call_answer c.arguments.new.state c.parameter_types.new.state c.result_types.new.state c.in_ok-given.given _ _ _ (Rattle.gib_syntax.specs.GenericParts.results_in c.args.named.now.exprs.words c.in_ok-function.function.now.result) c.in_ok-given.ensures.forms (walking.meant_later c.arguments.new.state c.parameter_types.new.state c.in_ok-meaning.meaning (Rattle.gib_syntax.specs.GenericParts.function_in c.args.named.now.exprs c.in_ok-function.function.now).variables c.deref.result.now c.in_ok-types.types.items c.deref-2.result.now (Rattle.gib_syntax.specs.Forms.formed_all Rattle.gib_syntax.specs.GenericTyping.opaque (types_in c.args.named.now.exprs.words c.args.called.types)) c.in_ok-meaning.ensures.meant c.deref.ensures.value c.deref-2.ensures.value (walking.given_types c.type_arguments.new.state c.arguments.new.state c.in_ok-types.types.items (types_in c.args.named.now.exprs.words c.args.called.types) c.in_ok-types.ensures.types c.in_ok-parts.ensures.met.advances.types c.in_ok-types.ensures.below) c.in_ok-wanted_types.ensures.keeps.grows c.in_ok-meaning.ensures.below)
+    ∙ answering.call_answer c.arguments.new.state c.parameter_types.new.state c.result_types.new.state c.in_ok-given.given _ _ _ (Rattle.gib_syntax.specs.GenericParts.results_in c.args.named.now.exprs.words c.in_ok-function.function.now.result) c.in_ok-given.ensures.forms (answering.meant_later c.arguments.new.state c.parameter_types.new.state c.in_ok-meaning.meaning (Rattle.gib_syntax.specs.GenericParts.function_in c.args.named.now.exprs c.in_ok-function.function.now).variables c.deref.result.now c.in_ok-types.types.items c.deref-2.result.now (Rattle.gib_syntax.specs.Forms.formed_all Rattle.gib_syntax.specs.GenericTyping.opaque (types_in c.args.named.now.exprs.words c.args.called.types)) c.in_ok-meaning.ensures.meant c.deref.ensures.value c.deref-2.ensures.value (answering.given_types c.type_arguments.new.state c.arguments.new.state c.in_ok-types.types.items (types_in c.args.named.now.exprs.words c.args.called.types) c.in_ok-types.ensures.types c.in_ok-parts.ensures.met.advances.types c.in_ok-types.ensures.below) c.in_ok-wanted_types.ensures.keeps.grows c.in_ok-meaning.ensures.below)
     refl c.in_ok-wanted_types.ensures.keeps.counts c.in_ok-given.ensures.counts
 
 pub call-given-requires : goal.call-given-requires
@@ -456,25 +457,25 @@ make-returns-in_err-types-clause-read t c =
 pub make-returns-in_err-as_many-clause-read : goal.make-returns-in_err-as_many-clause-read
 make-returns-in_err-as_many-clause-read t c =
     let p = err_from_is_err_and c.from_residual-in_err-as_many.result c.from_residual-in_err-as_many.ensures.1 in
-    rw (p.1, p.2) (walking.make_count c.args.named.now c.args.variables.now c.args.made.name (types_in c.args.named.now.exprs.words c.args.made.types) (length c.args.ids.now) (λ n. Rattle.gib_check.specs.Faults.infer_all (generic_globals c.args.named.now) (variable_numbers c.args.variables.now) Rattle.gib_syntax.specs.GenericTyping.opaque (in_scope c.args.state.now) n (Rattle.gib_syntax.specs.GenericArena.arguments_from (generic_tree c.args.named.now) c.args.ids.now)) c.in_err-as_many.field-0.0 c.args.state.now c.one_more.new.self (Rattle.gib_check.specs.NameViews.row_in c.args.named.now c.in_ok-row.row) (record { read = c.in_ok-one_more.ensures.counts; kept = c.one_more.ensures.scope; types = c.one_more.ensures.types }) c.in_ok-row.ensures.row (subst (λ n. walking.use_types c.args.named.now c.args.variables.now c.args.made.name (types_in c.args.named.now.exprs.words c.args.made.types) (length c.args.ids.now) (λ n. Rattle.gib_check.specs.Faults.infer_all (generic_globals c.args.named.now) (variable_numbers c.args.variables.now) Rattle.gib_syntax.specs.GenericTyping.opaque (in_scope c.args.state.now) n (Rattle.gib_syntax.specs.GenericArena.arguments_from (generic_tree c.args.named.now) c.args.ids.now)) n ≡ Rattle.std.proofs.Common.Ok (tt {0})) (ap length c.variables-due.ensures) c.in_ok-types.ensures.read) (walking.counted_as (λ z. Rattle.gib_check.specs.Answers.IsFaultOf c.in_err-as_many.field-0.0 (z)) c.args.made.name (length c.args.ids.now) c.in_ok-row.row.count (length c.args.ids.now) (length (Rattle.gib_check.specs.NameViews.row_in c.args.named.now c.in_ok-row.row).fields) refl c.in_ok-row.ensures.count c.in_err-as_many.ensures))
+    rw (p.1, p.2) (walking.make_count c.args.named.now c.args.variables.now c.args.made.name (types_in c.args.named.now.exprs.words c.args.made.types) (length c.args.ids.now) (λ n. Rattle.gib_check.specs.Faults.infer_all (generic_globals c.args.named.now) (variable_numbers c.args.variables.now) Rattle.gib_syntax.specs.GenericTyping.opaque (in_scope c.args.state.now) n (Rattle.gib_syntax.specs.GenericArena.arguments_from (generic_tree c.args.named.now) c.args.ids.now)) c.in_err-as_many.field-0.0 c.args.state.now c.one_more.new.self (Rattle.gib_check.specs.NameViews.row_in c.args.named.now c.in_ok-row.row) (record { read = c.in_ok-one_more.ensures.counts; kept = c.one_more.ensures.scope; types = c.one_more.ensures.types }) c.in_ok-row.ensures.row (subst (λ n. walking.use_types c.args.named.now c.args.variables.now c.args.made.name (types_in c.args.named.now.exprs.words c.args.made.types) (length c.args.ids.now) (λ n. Rattle.gib_check.specs.Faults.infer_all (generic_globals c.args.named.now) (variable_numbers c.args.variables.now) Rattle.gib_syntax.specs.GenericTyping.opaque (in_scope c.args.state.now) n (Rattle.gib_syntax.specs.GenericArena.arguments_from (generic_tree c.args.named.now) c.args.ids.now)) n ≡ Rattle.std.proofs.Common.Ok (tt {0})) (ap length c.variables-due.ensures) c.in_ok-types.ensures.read) (answering.counted_as (λ z. Rattle.gib_check.specs.Answers.IsFaultOf c.in_err-as_many.field-0.0 (z)) c.args.made.name (length c.args.ids.now) c.in_ok-row.row.count (length c.args.ids.now) (length (Rattle.gib_check.specs.NameViews.row_in c.args.named.now c.in_ok-row.row).fields) refl c.in_ok-row.ensures.count c.in_err-as_many.ensures))
 
 pub make-returns-in_err-parts-clause-read : goal.make-returns-in_err-parts-clause-read
 make-returns-in_err-parts-clause-read t c =
     let p = err_from_is_err_and c.from_residual-in_err-parts.result c.from_residual-in_err-parts.ensures.1 in
-    rw (p.1, p.2) (walking.make_parts c.args.named.now c.args.variables.now c.args.made.name (types_in c.args.named.now.exprs.words c.args.made.types) (length c.args.ids.now) (λ n. Rattle.gib_check.specs.Faults.infer_all (generic_globals c.args.named.now) (variable_numbers c.args.variables.now) Rattle.gib_syntax.specs.GenericTyping.opaque (in_scope c.args.state.now) n (Rattle.gib_syntax.specs.GenericArena.arguments_from (generic_tree c.args.named.now) c.args.ids.now)) c.in_err-parts.field-0.0 c.args.state.now c.one_more.new.self (Rattle.gib_check.specs.NameViews.row_in c.args.named.now c.in_ok-row.row) (record { read = c.in_ok-one_more.ensures.counts; kept = c.one_more.ensures.scope; types = c.one_more.ensures.types }) c.in_ok-row.ensures.row (subst (λ n. walking.use_types c.args.named.now c.args.variables.now c.args.made.name (types_in c.args.named.now.exprs.words c.args.made.types) (length c.args.ids.now) (λ n. Rattle.gib_check.specs.Faults.infer_all (generic_globals c.args.named.now) (variable_numbers c.args.variables.now) Rattle.gib_syntax.specs.GenericTyping.opaque (in_scope c.args.state.now) n (Rattle.gib_syntax.specs.GenericArena.arguments_from (generic_tree c.args.named.now) c.args.ids.now)) n ≡ Rattle.std.proofs.Common.Ok (tt {0})) (ap length c.variables-due.ensures) c.in_ok-types.ensures.read) (walking.counted_as (λ z. z ≡ Rattle.std.proofs.Common.Ok (tt {0})) c.args.made.name (length c.args.ids.now) c.in_ok-row.row.count (length c.args.ids.now) (length (Rattle.gib_check.specs.NameViews.row_in c.args.named.now c.in_ok-row.row).fields) refl c.in_ok-row.ensures.count c.in_ok-as_many.ensures) (Rattle.gib_check.proofs.Loops.along c.in_err-parts.field-0.0 _ _ (walking.results_moved c.args.named.now c.args.variables.now c.args.state.now c.one_more.new.self c.type_arguments.new.state c.args.ids.now c.type_arguments.ensures.keeps c.one_more.ensures.scope) c.in_err-parts.ensures.read))
+    rw (p.1, p.2) (walking.make_parts c.args.named.now c.args.variables.now c.args.made.name (types_in c.args.named.now.exprs.words c.args.made.types) (length c.args.ids.now) (λ n. Rattle.gib_check.specs.Faults.infer_all (generic_globals c.args.named.now) (variable_numbers c.args.variables.now) Rattle.gib_syntax.specs.GenericTyping.opaque (in_scope c.args.state.now) n (Rattle.gib_syntax.specs.GenericArena.arguments_from (generic_tree c.args.named.now) c.args.ids.now)) c.in_err-parts.field-0.0 c.args.state.now c.one_more.new.self (Rattle.gib_check.specs.NameViews.row_in c.args.named.now c.in_ok-row.row) (record { read = c.in_ok-one_more.ensures.counts; kept = c.one_more.ensures.scope; types = c.one_more.ensures.types }) c.in_ok-row.ensures.row (subst (λ n. walking.use_types c.args.named.now c.args.variables.now c.args.made.name (types_in c.args.named.now.exprs.words c.args.made.types) (length c.args.ids.now) (λ n. Rattle.gib_check.specs.Faults.infer_all (generic_globals c.args.named.now) (variable_numbers c.args.variables.now) Rattle.gib_syntax.specs.GenericTyping.opaque (in_scope c.args.state.now) n (Rattle.gib_syntax.specs.GenericArena.arguments_from (generic_tree c.args.named.now) c.args.ids.now)) n ≡ Rattle.std.proofs.Common.Ok (tt {0})) (ap length c.variables-due.ensures) c.in_ok-types.ensures.read) (answering.counted_as (λ z. z ≡ Rattle.std.proofs.Common.Ok (tt {0})) c.args.made.name (length c.args.ids.now) c.in_ok-row.row.count (length c.args.ids.now) (length (Rattle.gib_check.specs.NameViews.row_in c.args.named.now c.in_ok-row.row).fields) refl c.in_ok-row.ensures.count c.in_ok-as_many.ensures) (Rattle.gib_check.proofs.Loops.along c.in_err-parts.field-0.0 _ _ (answering.results_moved c.args.named.now c.args.variables.now c.args.state.now c.one_more.new.self c.type_arguments.new.state c.args.ids.now c.type_arguments.ensures.keeps c.one_more.ensures.scope) c.in_err-parts.ensures.read))
 
 pub make-returns-in_err-all_wanted-clause-read : goal.make-returns-in_err-all_wanted-clause-read
 make-returns-in_err-all_wanted-clause-read t c =
     let p = err_from_is_err_and c.from_residual-in_err-all_wanted.result c.from_residual-in_err-all_wanted.ensures.1 in
-    rw (p.1, p.2) (walking.make_shape c.args.named.now c.args.variables.now c.args.made.name (types_in c.args.named.now.exprs.words c.args.made.types) (length c.args.ids.now) (λ n. Rattle.gib_check.specs.Faults.infer_all (generic_globals c.args.named.now) (variable_numbers c.args.variables.now) Rattle.gib_syntax.specs.GenericTyping.opaque (in_scope c.args.state.now) n (Rattle.gib_syntax.specs.GenericArena.arguments_from (generic_tree c.args.named.now) c.args.ids.now)) c.in_err-all_wanted.field-0.0 c.args.state.now c.one_more.new.self (Rattle.gib_check.specs.NameViews.row_in c.args.named.now c.in_ok-row.row) (parts_in c.arguments.new.state c.in_ok-parts.parts.items) (parts_in c.row_fields.new.state c.deref-2.result.now) (listed (forms c.row_fields.new.state) c.deref-3.result.now) c.arguments.new.state.counts (record { read = c.in_ok-one_more.ensures.counts; kept = c.one_more.ensures.scope; types = c.one_more.ensures.types }) c.in_ok-row.ensures.row (subst (λ n. walking.use_types c.args.named.now c.args.variables.now c.args.made.name (types_in c.args.named.now.exprs.words c.args.made.types) (length c.args.ids.now) (λ n. Rattle.gib_check.specs.Faults.infer_all (generic_globals c.args.named.now) (variable_numbers c.args.variables.now) Rattle.gib_syntax.specs.GenericTyping.opaque (in_scope c.args.state.now) n (Rattle.gib_syntax.specs.GenericArena.arguments_from (generic_tree c.args.named.now) c.args.ids.now)) n ≡ Rattle.std.proofs.Common.Ok (tt {0})) (ap length c.variables-due.ensures) c.in_ok-types.ensures.read) (walking.counted_as (λ z. z ≡ Rattle.std.proofs.Common.Ok (tt {0})) c.args.made.name (length c.args.ids.now) c.in_ok-row.row.count (length c.args.ids.now) (length (Rattle.gib_check.specs.NameViews.row_in c.args.named.now c.in_ok-row.row).fields) refl c.in_ok-row.ensures.count c.in_ok-as_many.ensures) ((walking.results_moved c.args.named.now c.args.variables.now c.args.state.now c.one_more.new.self c.type_arguments.new.state c.args.ids.now c.type_arguments.ensures.keeps c.one_more.ensures.scope) ∙ c.in_ok-parts.ensures.read) (ap (parts_in c.row_fields.new.state) c.deref-2.ensures.value ∙ parts_grow c.arguments.new.state c.row_fields.new.state c.in_ok-parts.parts.items (keeps_advance c.arguments.new.state c.row_fields.new.state c.row_fields.ensures.keeps) c.in_ok-parts.ensures.met.here) (ap (listed (forms c.row_fields.new.state)) c.deref-3.ensures.value ∙ c.in_ok-fields.ensures.types ∙ ap (Rattle.gib_syntax.specs.GenericTyping.field_forms (Rattle.gib_check.specs.NameViews.row_in c.args.named.now c.in_ok-row.row)) (ap (Rattle.gib_types.specs.Types.forms_at (forms c.arguments.new.state)) c.deref.ensures.value ∙ (walking.given_types c.type_arguments.new.state c.arguments.new.state c.in_ok-types.types.items (types_in c.args.named.now.exprs.words c.args.made.types) c.in_ok-types.ensures.types c.in_ok-parts.ensures.met.advances.types c.in_ok-types.ensures.below))) c.in_err-all_wanted.ensures)
+    rw (p.1, p.2) (walking.make_shape c.args.named.now c.args.variables.now c.args.made.name (types_in c.args.named.now.exprs.words c.args.made.types) (length c.args.ids.now) (λ n. Rattle.gib_check.specs.Faults.infer_all (generic_globals c.args.named.now) (variable_numbers c.args.variables.now) Rattle.gib_syntax.specs.GenericTyping.opaque (in_scope c.args.state.now) n (Rattle.gib_syntax.specs.GenericArena.arguments_from (generic_tree c.args.named.now) c.args.ids.now)) c.in_err-all_wanted.field-0.0 c.args.state.now c.one_more.new.self (Rattle.gib_check.specs.NameViews.row_in c.args.named.now c.in_ok-row.row) (parts_in c.arguments.new.state c.in_ok-parts.parts.items) (parts_in c.row_fields.new.state c.deref-2.result.now) (listed (forms c.row_fields.new.state) c.deref-3.result.now) c.arguments.new.state.counts (record { read = c.in_ok-one_more.ensures.counts; kept = c.one_more.ensures.scope; types = c.one_more.ensures.types }) c.in_ok-row.ensures.row (subst (λ n. walking.use_types c.args.named.now c.args.variables.now c.args.made.name (types_in c.args.named.now.exprs.words c.args.made.types) (length c.args.ids.now) (λ n. Rattle.gib_check.specs.Faults.infer_all (generic_globals c.args.named.now) (variable_numbers c.args.variables.now) Rattle.gib_syntax.specs.GenericTyping.opaque (in_scope c.args.state.now) n (Rattle.gib_syntax.specs.GenericArena.arguments_from (generic_tree c.args.named.now) c.args.ids.now)) n ≡ Rattle.std.proofs.Common.Ok (tt {0})) (ap length c.variables-due.ensures) c.in_ok-types.ensures.read) (answering.counted_as (λ z. z ≡ Rattle.std.proofs.Common.Ok (tt {0})) c.args.made.name (length c.args.ids.now) c.in_ok-row.row.count (length c.args.ids.now) (length (Rattle.gib_check.specs.NameViews.row_in c.args.named.now c.in_ok-row.row).fields) refl c.in_ok-row.ensures.count c.in_ok-as_many.ensures) ((answering.results_moved c.args.named.now c.args.variables.now c.args.state.now c.one_more.new.self c.type_arguments.new.state c.args.ids.now c.type_arguments.ensures.keeps c.one_more.ensures.scope) ∙ c.in_ok-parts.ensures.read) (ap (parts_in c.row_fields.new.state) c.deref-2.ensures.value ∙ parts_grow c.arguments.new.state c.row_fields.new.state c.in_ok-parts.parts.items (keeps_advance c.arguments.new.state c.row_fields.new.state c.row_fields.ensures.keeps) c.in_ok-parts.ensures.met.here) (ap (listed (forms c.row_fields.new.state)) c.deref-3.ensures.value ∙ c.in_ok-fields.ensures.types ∙ ap (Rattle.gib_syntax.specs.GenericTyping.field_forms (Rattle.gib_check.specs.NameViews.row_in c.args.named.now c.in_ok-row.row)) (ap (Rattle.gib_types.specs.Types.forms_at (forms c.arguments.new.state)) c.deref.ensures.value ∙ (answering.given_types c.type_arguments.new.state c.arguments.new.state c.in_ok-types.types.items (types_in c.args.named.now.exprs.words c.args.made.types) c.in_ok-types.ensures.types c.in_ok-parts.ensures.met.advances.types c.in_ok-types.ensures.below))) c.in_err-all_wanted.ensures)
 
 pub make-returns-clause-read : goal.make-returns-clause-read
 make-returns-clause-read t c =
-    walking.make_ok c.args.named.now c.args.variables.now c.args.made.name (types_in c.args.named.now.exprs.words c.args.made.types) (length c.args.ids.now) (λ n. Rattle.gib_check.specs.Faults.infer_all (generic_globals c.args.named.now) (variable_numbers c.args.variables.now) Rattle.gib_syntax.specs.GenericTyping.opaque (in_scope c.args.state.now) n (Rattle.gib_syntax.specs.GenericArena.arguments_from (generic_tree c.args.named.now) c.args.ids.now)) c.args.state.now c.one_more.new.self (Rattle.gib_check.specs.NameViews.row_in c.args.named.now c.in_ok-row.row) (parts_in c.arguments.new.state c.in_ok-parts.parts.items) (parts_in c.row_fields.new.state c.deref-2.result.now) (listed (forms c.row_fields.new.state) c.deref-3.result.now) c.arguments.new.state.counts (record { read = c.in_ok-one_more.ensures.counts; kept = c.one_more.ensures.scope; types = c.one_more.ensures.types }) c.in_ok-row.ensures.row (subst (λ n. walking.use_types c.args.named.now c.args.variables.now c.args.made.name (types_in c.args.named.now.exprs.words c.args.made.types) (length c.args.ids.now) (λ n. Rattle.gib_check.specs.Faults.infer_all (generic_globals c.args.named.now) (variable_numbers c.args.variables.now) Rattle.gib_syntax.specs.GenericTyping.opaque (in_scope c.args.state.now) n (Rattle.gib_syntax.specs.GenericArena.arguments_from (generic_tree c.args.named.now) c.args.ids.now)) n ≡ Rattle.std.proofs.Common.Ok (tt {0})) (ap length c.variables-due.ensures) c.in_ok-types.ensures.read) (walking.counted_as (λ z. z ≡ Rattle.std.proofs.Common.Ok (tt {0})) c.args.made.name (length c.args.ids.now) c.in_ok-row.row.count (length c.args.ids.now) (length (Rattle.gib_check.specs.NameViews.row_in c.args.named.now c.in_ok-row.row).fields) refl c.in_ok-row.ensures.count c.in_ok-as_many.ensures) ((walking.results_moved c.args.named.now c.args.variables.now c.args.state.now c.one_more.new.self c.type_arguments.new.state c.args.ids.now c.type_arguments.ensures.keeps c.one_more.ensures.scope) ∙ c.in_ok-parts.ensures.read)
+    walking.make_ok c.args.named.now c.args.variables.now c.args.made.name (types_in c.args.named.now.exprs.words c.args.made.types) (length c.args.ids.now) (λ n. Rattle.gib_check.specs.Faults.infer_all (generic_globals c.args.named.now) (variable_numbers c.args.variables.now) Rattle.gib_syntax.specs.GenericTyping.opaque (in_scope c.args.state.now) n (Rattle.gib_syntax.specs.GenericArena.arguments_from (generic_tree c.args.named.now) c.args.ids.now)) c.args.state.now c.one_more.new.self (Rattle.gib_check.specs.NameViews.row_in c.args.named.now c.in_ok-row.row) (parts_in c.arguments.new.state c.in_ok-parts.parts.items) (parts_in c.row_fields.new.state c.deref-2.result.now) (listed (forms c.row_fields.new.state) c.deref-3.result.now) c.arguments.new.state.counts (record { read = c.in_ok-one_more.ensures.counts; kept = c.one_more.ensures.scope; types = c.one_more.ensures.types }) c.in_ok-row.ensures.row (subst (λ n. walking.use_types c.args.named.now c.args.variables.now c.args.made.name (types_in c.args.named.now.exprs.words c.args.made.types) (length c.args.ids.now) (λ n. Rattle.gib_check.specs.Faults.infer_all (generic_globals c.args.named.now) (variable_numbers c.args.variables.now) Rattle.gib_syntax.specs.GenericTyping.opaque (in_scope c.args.state.now) n (Rattle.gib_syntax.specs.GenericArena.arguments_from (generic_tree c.args.named.now) c.args.ids.now)) n ≡ Rattle.std.proofs.Common.Ok (tt {0})) (ap length c.variables-due.ensures) c.in_ok-types.ensures.read) (answering.counted_as (λ z. z ≡ Rattle.std.proofs.Common.Ok (tt {0})) c.args.made.name (length c.args.ids.now) c.in_ok-row.row.count (length c.args.ids.now) (length (Rattle.gib_check.specs.NameViews.row_in c.args.named.now c.in_ok-row.row).fields) refl c.in_ok-row.ensures.count c.in_ok-as_many.ensures) ((answering.results_moved c.args.named.now c.args.variables.now c.args.state.now c.one_more.new.self c.type_arguments.new.state c.args.ids.now c.type_arguments.ensures.keeps c.one_more.ensures.scope) ∙ c.in_ok-parts.ensures.read)
     (ap (parts_in c.row_fields.new.state) c.deref-2.ensures.value ∙ parts_grow c.arguments.new.state c.row_fields.new.state c.in_ok-parts.parts.items (keeps_advance c.arguments.new.state c.row_fields.new.state c.row_fields.ensures.keeps) c.in_ok-parts.ensures.met.here)
-    (ap (listed (forms c.row_fields.new.state)) c.deref-3.ensures.value ∙ c.in_ok-fields.ensures.types ∙ ap (Rattle.gib_syntax.specs.GenericTyping.field_forms (Rattle.gib_check.specs.NameViews.row_in c.args.named.now c.in_ok-row.row)) (ap (Rattle.gib_types.specs.Types.forms_at (forms c.arguments.new.state)) c.deref.ensures.value ∙ (walking.given_types c.type_arguments.new.state c.arguments.new.state c.in_ok-types.types.items (types_in c.args.named.now.exprs.words c.args.made.types) c.in_ok-types.ensures.types c.in_ok-parts.ensures.met.advances.types c.in_ok-types.ensures.below)))
+    (ap (listed (forms c.row_fields.new.state)) c.deref-3.ensures.value ∙ c.in_ok-fields.ensures.types ∙ ap (Rattle.gib_syntax.specs.GenericTyping.field_forms (Rattle.gib_check.specs.NameViews.row_in c.args.named.now c.in_ok-row.row)) (ap (Rattle.gib_types.specs.Types.forms_at (forms c.arguments.new.state)) c.deref.ensures.value ∙ (answering.given_types c.type_arguments.new.state c.arguments.new.state c.in_ok-types.types.items (types_in c.args.named.now.exprs.words c.args.made.types) c.in_ok-types.ensures.types c.in_ok-parts.ensures.met.advances.types c.in_ok-types.ensures.below)))
     c.in_ok-all_wanted.ensures
-    ∙ walking.make_answer c.arguments.new.state c.put.new.self c.in_ok-ty.ty _ c.arguments.new.state.counts (c.in_ok-ty.ensures.met.form ∙ ap (Rattle.gib_types.specs.Form.DataForm c.in_ok-row.row.owner.0) (Rattle.gib_check.proofs.Growing.forms_grow c.arguments.new.state.types c.row_fields.new.state.types c.in_ok-types.types.items c.row_fields.ensures.keeps.grows (Rattle.gib_check.proofs.Growing.below_more (length c.type_arguments.new.state.types) (length c.arguments.new.state.types) c.in_ok-types.types.items c.in_ok-parts.ensures.met.advances.types.longer c.in_ok-types.ensures.below) ∙ (walking.given_types c.type_arguments.new.state c.arguments.new.state c.in_ok-types.types.items (types_in c.args.named.now.exprs.words c.args.made.types) c.in_ok-types.ensures.types c.in_ok-parts.ensures.met.advances.types c.in_ok-types.ensures.below))) (c.put.ensures.keeps.counts ∙ c.row_fields.ensures.keeps.counts)
+    ∙ answering.make_answer c.arguments.new.state c.put.new.self c.in_ok-ty.ty _ c.arguments.new.state.counts (c.in_ok-ty.ensures.met.form ∙ ap (Rattle.gib_types.specs.Form.DataForm c.in_ok-row.row.owner.0) (Rattle.gib_check.proofs.Growing.forms_grow c.arguments.new.state.types c.row_fields.new.state.types c.in_ok-types.types.items c.row_fields.ensures.keeps.grows (Rattle.gib_check.proofs.Growing.below_more (length c.type_arguments.new.state.types) (length c.arguments.new.state.types) c.in_ok-types.types.items c.in_ok-parts.ensures.met.advances.types.longer c.in_ok-types.ensures.below) ∙ (answering.given_types c.type_arguments.new.state c.arguments.new.state c.in_ok-types.types.items (types_in c.args.named.now.exprs.words c.args.made.types) c.in_ok-types.ensures.types c.in_ok-parts.ensures.met.advances.types c.in_ok-types.ensures.below))) (c.put.ensures.keeps.counts ∙ c.row_fields.ensures.keeps.counts)
 
 pub make-row_fields-requires : goal.make-row_fields-requires
 make-row_fields-requires t c = subst (Rattle.gib_types.specs.Types.AreBelow (length c.arguments.new.state.types)) (sym c.deref.ensures.value) (Rattle.gib_check.proofs.Growing.below_more (length c.type_arguments.new.state.types) (length c.arguments.new.state.types) c.in_ok-types.types.items c.in_ok-parts.ensures.met.advances.types.longer c.in_ok-types.ensures.below)
@@ -511,65 +512,65 @@ call-result_types-requires t c = Rattle.gib_check.proofs.Loops.meaning_more (len
 pub arm_result-returns-in_err-bind_all-clause-read : goal.arm_result-returns-in_err-bind_all-clause-read
 arm_result-returns-in_err-bind_all-clause-read t c =
     let p = err_from_is_err_and c.from_residual-in_err-bind_all.result c.from_residual-in_err-bind_all.ensures.1 in
-    rw (p.1, p.2) (walking.arm_fails c.args.named.now c.args.variables.now c.args.at.standing (Rattle.gib_types.specs.Types.forms_at (forms c.args.state.now) c.args.types.now) c.args.arm.now.constructor c.args.arm.now.variables.items (generic_tree c.args.named.now c.args.arm.now.body.0) c.in_err-bind_all.field-0.0 c.args.state.now c.fields_named.new.state c.deref.result.now (Rattle.gib_check.specs.Judging.listed (forms c.fields_named.new.state) c.deref-2.result.now) c.fields_named.ensures.keeps c.deref.ensures.value (ap (Rattle.gib_check.specs.Judging.listed (forms c.fields_named.new.state)) c.deref-2.ensures.value ∙ c.in_ok-fields.ensures.types) c.in_err-bind_all.ensures.read)
+    rw (p.1, p.2) (answering.arm_fails c.args.named.now c.args.variables.now c.args.at.standing (Rattle.gib_types.specs.Types.forms_at (forms c.args.state.now) c.args.types.now) c.args.arm.now.constructor c.args.arm.now.variables.items (generic_tree c.args.named.now c.args.arm.now.body.0) c.in_err-bind_all.field-0.0 c.args.state.now c.fields_named.new.state c.deref.result.now (Rattle.gib_check.specs.Judging.listed (forms c.fields_named.new.state) c.deref-2.result.now) c.fields_named.ensures.keeps c.deref.ensures.value (ap (Rattle.gib_check.specs.Judging.listed (forms c.fields_named.new.state)) c.deref-2.ensures.value ∙ c.in_ok-fields.ensures.types) c.in_err-bind_all.ensures.read)
 
 pub arm_result-returns-in_err-given-clause-read : goal.arm_result-returns-in_err-given-clause-read
 arm_result-returns-in_err-given-clause-read t c =
     let p = err_from_is_err_and c.from_residual-in_err-given.result c.from_residual-in_err-given.ensures.1 in
-    rw (p.1, p.2) (Rattle.gib_check.proofs.Loops.along c.in_err-given.field-0.0 _ _ (walking.arm_is c.args.named.now c.args.variables.now c.args.at.standing (Rattle.gib_types.specs.Types.forms_at (forms c.args.state.now) c.args.types.now) c.args.arm.now.constructor c.args.arm.now.variables.items (generic_tree c.args.named.now c.args.arm.now.body.0) c.args.state.now c.fields_named.new.state c.bind_all.new.self c.deref.result.now (Rattle.gib_check.specs.Judging.listed (forms c.fields_named.new.state) c.deref-2.result.now) c.fields_named.ensures.keeps c.deref.ensures.value (ap (Rattle.gib_check.specs.Judging.listed (forms c.fields_named.new.state)) c.deref-2.ensures.value ∙ c.in_ok-fields.ensures.types) c.in_ok-bind_all.ensures.read) c.in_err-given.ensures.read)
+    rw (p.1, p.2) (Rattle.gib_check.proofs.Loops.along c.in_err-given.field-0.0 _ _ (answering.arm_is c.args.named.now c.args.variables.now c.args.at.standing (Rattle.gib_types.specs.Types.forms_at (forms c.args.state.now) c.args.types.now) c.args.arm.now.constructor c.args.arm.now.variables.items (generic_tree c.args.named.now c.args.arm.now.body.0) c.args.state.now c.fields_named.new.state c.bind_all.new.self c.deref.result.now (Rattle.gib_check.specs.Judging.listed (forms c.fields_named.new.state) c.deref-2.result.now) c.fields_named.ensures.keeps c.deref.ensures.value (ap (Rattle.gib_check.specs.Judging.listed (forms c.fields_named.new.state)) c.deref-2.ensures.value ∙ c.in_ok-fields.ensures.types) c.in_ok-bind_all.ensures.read) c.in_err-given.ensures.read)
 
 pub arm_result-returns-clause-read : goal.arm_result-returns-clause-read
 arm_result-returns-clause-read t c =
-    walking.arm_is c.args.named.now c.args.variables.now c.args.at.standing (Rattle.gib_types.specs.Types.forms_at (forms c.args.state.now) c.args.types.now) c.args.arm.now.constructor c.args.arm.now.variables.items (generic_tree c.args.named.now c.args.arm.now.body.0) c.args.state.now c.fields_named.new.state c.bind_all.new.self c.deref.result.now (Rattle.gib_check.specs.Judging.listed (forms c.fields_named.new.state) c.deref-2.result.now) c.fields_named.ensures.keeps c.deref.ensures.value (ap (Rattle.gib_check.specs.Judging.listed (forms c.fields_named.new.state)) c.deref-2.ensures.value ∙ c.in_ok-fields.ensures.types) c.in_ok-bind_all.ensures.read
+    answering.arm_is c.args.named.now c.args.variables.now c.args.at.standing (Rattle.gib_types.specs.Types.forms_at (forms c.args.state.now) c.args.types.now) c.args.arm.now.constructor c.args.arm.now.variables.items (generic_tree c.args.named.now c.args.arm.now.body.0) c.args.state.now c.fields_named.new.state c.bind_all.new.self c.deref.result.now (Rattle.gib_check.specs.Judging.listed (forms c.fields_named.new.state) c.deref-2.result.now) c.fields_named.ensures.keeps c.deref.ensures.value (ap (Rattle.gib_check.specs.Judging.listed (forms c.fields_named.new.state)) c.deref-2.ensures.value ∙ c.in_ok-fields.ensures.types) c.in_ok-bind_all.ensures.read
     ∙ c.in_ok-given.ensures.read
-    ∙ walking.same_answer c.infer.new.state c.truncate.new.self c.in_ok-given.given (same_advance c.infer.new.state c.truncate.new.self c.truncate.ensures.types c.truncate.ensures.parts) c.in_ok-given.ensures.met.here c.truncate.ensures.counts
+    ∙ answering.same_answer c.infer.new.state c.truncate.new.self c.in_ok-given.given (same_advance c.infer.new.state c.truncate.new.self c.truncate.ensures.types c.truncate.ensures.parts) c.in_ok-given.ensures.met.here c.truncate.ensures.counts
 
 pub arm_result-returns-clause-kept : goal.arm_result-returns-clause-kept
 arm_result-returns-clause-kept t c =
-    walking.arm_dropped (in_scope c.fields_named.new.state) (in_scope c.infer.new.state) (in_scope c.truncate.new.self) c.len-len.result
+    answering.arm_dropped (in_scope c.fields_named.new.state) (in_scope c.infer.new.state) (in_scope c.truncate.new.self) c.len-len.result
     (subst (λ s. Rattle.std.proofs.Common.drop (length s - length (in_scope c.fields_named.new.state)) s ≡ in_scope c.fields_named.new.state) (sym c.in_ok-given.ensures.kept) c.in_ok-bind_all.ensures.kept) c.len-len.ensures c.in_ok-truncate.ensures.scope
     ∙ c.fields_named.ensures.keeps.scope
 
 pub case-returns-in_err-ty-clause-read : goal.case-returns-in_err-ty-clause-read
 case-returns-in_err-ty-clause-read t c =
     let p = err_from_is_err_and c.from_residual-in_err-ty.result c.from_residual-in_err-ty.ensures.1 in
-    rw (p.1, p.2) (walking.case_unknown c.args.named.now c.args.variables.now (generic_globals c.args.named.now).rows c.args.at.span c.args.variable (Rattle.std.proofs.Common.map Rattle.gib_check.specs.Judging.arm_head c.args.arms.now) (λ ts n. Rattle.gib_check.specs.Judging.infer_each_arm (generic_globals c.args.named.now) (variable_numbers c.args.variables.now) c.args.at.standing ts (generic_tree c.args.named.now) (in_scope c.args.state.now) n c.args.arms.now) c.in_err-ty.field-0.0 c.args.state.now c.one_more.new.self (record { read = c.in_ok-one_more.ensures.counts; kept = c.one_more.ensures.scope; types = c.one_more.ensures.types }) c.in_err-ty.ensures.read)
+    rw (p.1, p.2) (answering.case_unknown c.args.named.now c.args.variables.now (generic_globals c.args.named.now).rows c.args.at.span c.args.variable (Rattle.std.proofs.Common.map Rattle.gib_check.specs.Judging.arm_head c.args.arms.now) (λ ts n. Rattle.gib_check.specs.Judging.infer_each_arm (generic_globals c.args.named.now) (variable_numbers c.args.variables.now) c.args.at.standing ts (generic_tree c.args.named.now) (in_scope c.args.state.now) n c.args.arms.now) c.in_err-ty.field-0.0 c.args.state.now c.one_more.new.self (record { read = c.in_ok-one_more.ensures.counts; kept = c.one_more.ensures.scope; types = c.one_more.ensures.types }) c.in_err-ty.ensures.read)
 
 pub case-returns-in_err-ty-2-clause-read : goal.case-returns-in_err-ty-2-clause-read
 case-returns-in_err-ty-2-clause-read t c =
     let p = err_from_is_err_and c.from_residual-in_err-ty-2.result c.from_residual-in_err-ty-2.ensures.1 in
-    rw (p.1, p.2) (walking.case_shape c.args.named.now c.args.variables.now (generic_globals c.args.named.now).rows c.args.at.span c.args.variable (Rattle.std.proofs.Common.map Rattle.gib_check.specs.Judging.arm_head c.args.arms.now) (λ ts n. Rattle.gib_check.specs.Judging.infer_each_arm (generic_globals c.args.named.now) (variable_numbers c.args.variables.now) c.args.at.standing ts (generic_tree c.args.named.now) (in_scope c.args.state.now) n c.args.arms.now) c.in_err-ty-2.field-0.0 c.args.state.now c.one_more.new.self (form_at (forms c.one_more.new.self) c.in_ok-ty.ty.0) (record { read = c.in_ok-one_more.ensures.counts; kept = c.one_more.ensures.scope; types = c.one_more.ensures.types }) c.in_ok-ty.ensures.read (subst (λ ns. Rattle.gib_check.specs.Answers.IsFaultOf c.in_err-ty-2.field-0.0 (Rattle.gib_check.specs.Faults.declared_type (form_at (forms_of ns) c.in_ok-ty.ty.0) c.args.variable)) c.types.ensures c.in_err-ty-2.ensures.read))
+    rw (p.1, p.2) (answering.case_shape c.args.named.now c.args.variables.now (generic_globals c.args.named.now).rows c.args.at.span c.args.variable (Rattle.std.proofs.Common.map Rattle.gib_check.specs.Judging.arm_head c.args.arms.now) (λ ts n. Rattle.gib_check.specs.Judging.infer_each_arm (generic_globals c.args.named.now) (variable_numbers c.args.variables.now) c.args.at.standing ts (generic_tree c.args.named.now) (in_scope c.args.state.now) n c.args.arms.now) c.in_err-ty-2.field-0.0 c.args.state.now c.one_more.new.self (form_at (forms c.one_more.new.self) c.in_ok-ty.ty.0) (record { read = c.in_ok-one_more.ensures.counts; kept = c.one_more.ensures.scope; types = c.one_more.ensures.types }) c.in_ok-ty.ensures.read (subst (λ ns. Rattle.gib_check.specs.Answers.IsFaultOf c.in_err-ty-2.field-0.0 (Rattle.gib_check.specs.Faults.declared_type (form_at (forms_of ns) c.in_ok-ty.ty.0) c.args.variable)) c.types.ensures c.in_err-ty-2.ensures.read))
 
 pub case-returns-in_err-all_declared-clause-read : goal.case-returns-in_err-all_declared-clause-read
 case-returns-in_err-all_declared-clause-read t c =
     let p = err_from_is_err_and c.from_residual-in_err-all_declared.result c.from_residual-in_err-all_declared.ensures.1 in
-    rw (p.1, p.2) (walking.case_missing c.args.named.now c.args.variables.now (generic_globals c.args.named.now).rows c.args.at.span c.args.variable (Rattle.std.proofs.Common.map Rattle.gib_check.specs.Judging.arm_head c.args.arms.now) (λ ts n. Rattle.gib_check.specs.Judging.infer_each_arm (generic_globals c.args.named.now) (variable_numbers c.args.variables.now) c.args.at.standing ts (generic_tree c.args.named.now) (in_scope c.args.state.now) n c.args.arms.now) c.in_err-all_declared.field-0.0 c.args.state.now c.one_more.new.self (form_at (forms c.one_more.new.self) c.in_ok-ty.ty.0) (c.in_ok-ty-2.ty.name, Rattle.gib_types.specs.Types.forms_at (forms c.one_more.new.self) c.in_ok-ty-2.ty.arguments.items) (record { read = c.in_ok-one_more.ensures.counts; kept = c.one_more.ensures.scope; types = c.one_more.ensures.types }) c.in_ok-ty.ensures.read (subst (λ ns. Rattle.gib_check.specs.Faults.declared_type (form_at (forms_of ns) c.in_ok-ty.ty.0) c.args.variable ≡ Rattle.std.proofs.Common.Ok (c.in_ok-ty-2.ty.name, Rattle.gib_types.specs.Types.forms_at (forms_of ns) c.in_ok-ty-2.ty.arguments.items)) c.types.ensures c.in_ok-ty-2.ensures.read) c.in_err-all_declared.ensures)
+    rw (p.1, p.2) (answering.case_missing c.args.named.now c.args.variables.now (generic_globals c.args.named.now).rows c.args.at.span c.args.variable (Rattle.std.proofs.Common.map Rattle.gib_check.specs.Judging.arm_head c.args.arms.now) (λ ts n. Rattle.gib_check.specs.Judging.infer_each_arm (generic_globals c.args.named.now) (variable_numbers c.args.variables.now) c.args.at.standing ts (generic_tree c.args.named.now) (in_scope c.args.state.now) n c.args.arms.now) c.in_err-all_declared.field-0.0 c.args.state.now c.one_more.new.self (form_at (forms c.one_more.new.self) c.in_ok-ty.ty.0) (c.in_ok-ty-2.ty.name, Rattle.gib_types.specs.Types.forms_at (forms c.one_more.new.self) c.in_ok-ty-2.ty.arguments.items) (record { read = c.in_ok-one_more.ensures.counts; kept = c.one_more.ensures.scope; types = c.one_more.ensures.types }) c.in_ok-ty.ensures.read (subst (λ ns. Rattle.gib_check.specs.Faults.declared_type (form_at (forms_of ns) c.in_ok-ty.ty.0) c.args.variable ≡ Rattle.std.proofs.Common.Ok (c.in_ok-ty-2.ty.name, Rattle.gib_types.specs.Types.forms_at (forms_of ns) c.in_ok-ty-2.ty.arguments.items)) c.types.ensures c.in_ok-ty-2.ensures.read) c.in_err-all_declared.ensures)
 
 pub case-returns-in_err-covered-clause-read : goal.case-returns-in_err-covered-clause-read
 case-returns-in_err-covered-clause-read t c =
     let p = err_from_is_err_and c.from_residual-in_err-covered.result c.from_residual-in_err-covered.ensures.1 in
-    rw (p.1, p.2) (walking.case_uncovered c.args.named.now c.args.variables.now (generic_globals c.args.named.now).rows c.args.at.span c.args.variable (Rattle.std.proofs.Common.map Rattle.gib_check.specs.Judging.arm_head c.args.arms.now) (λ ts n. Rattle.gib_check.specs.Judging.infer_each_arm (generic_globals c.args.named.now) (variable_numbers c.args.variables.now) c.args.at.standing ts (generic_tree c.args.named.now) (in_scope c.args.state.now) n c.args.arms.now) c.in_err-covered.field-0.0 c.args.state.now c.one_more.new.self (form_at (forms c.one_more.new.self) c.in_ok-ty.ty.0) (c.in_ok-ty-2.ty.name, Rattle.gib_types.specs.Types.forms_at (forms c.one_more.new.self) c.in_ok-ty-2.ty.arguments.items) (record { read = c.in_ok-one_more.ensures.counts; kept = c.one_more.ensures.scope; types = c.one_more.ensures.types }) c.in_ok-ty.ensures.read (subst (λ ns. Rattle.gib_check.specs.Faults.declared_type (form_at (forms_of ns) c.in_ok-ty.ty.0) c.args.variable ≡ Rattle.std.proofs.Common.Ok (c.in_ok-ty-2.ty.name, Rattle.gib_types.specs.Types.forms_at (forms_of ns) c.in_ok-ty-2.ty.arguments.items)) c.types.ensures c.in_ok-ty-2.ensures.read) c.in_ok-all_declared.ensures c.in_err-covered.ensures)
+    rw (p.1, p.2) (answering.case_uncovered c.args.named.now c.args.variables.now (generic_globals c.args.named.now).rows c.args.at.span c.args.variable (Rattle.std.proofs.Common.map Rattle.gib_check.specs.Judging.arm_head c.args.arms.now) (λ ts n. Rattle.gib_check.specs.Judging.infer_each_arm (generic_globals c.args.named.now) (variable_numbers c.args.variables.now) c.args.at.standing ts (generic_tree c.args.named.now) (in_scope c.args.state.now) n c.args.arms.now) c.in_err-covered.field-0.0 c.args.state.now c.one_more.new.self (form_at (forms c.one_more.new.self) c.in_ok-ty.ty.0) (c.in_ok-ty-2.ty.name, Rattle.gib_types.specs.Types.forms_at (forms c.one_more.new.self) c.in_ok-ty-2.ty.arguments.items) (record { read = c.in_ok-one_more.ensures.counts; kept = c.one_more.ensures.scope; types = c.one_more.ensures.types }) c.in_ok-ty.ensures.read (subst (λ ns. Rattle.gib_check.specs.Faults.declared_type (form_at (forms_of ns) c.in_ok-ty.ty.0) c.args.variable ≡ Rattle.std.proofs.Common.Ok (c.in_ok-ty-2.ty.name, Rattle.gib_types.specs.Types.forms_at (forms_of ns) c.in_ok-ty-2.ty.arguments.items)) c.types.ensures c.in_ok-ty-2.ensures.read) c.in_ok-all_declared.ensures c.in_err-covered.ensures)
 
 pub case-returns-in_err-all_counted-clause-read : goal.case-returns-in_err-all_counted-clause-read
 case-returns-in_err-all_counted-clause-read t c =
     let p = err_from_is_err_and c.from_residual-in_err-all_counted.result c.from_residual-in_err-all_counted.ensures.1 in
-    rw (p.1, p.2) (walking.case_count c.args.named.now c.args.variables.now (generic_globals c.args.named.now).rows c.args.at.span c.args.variable (Rattle.std.proofs.Common.map Rattle.gib_check.specs.Judging.arm_head c.args.arms.now) (λ ts n. Rattle.gib_check.specs.Judging.infer_each_arm (generic_globals c.args.named.now) (variable_numbers c.args.variables.now) c.args.at.standing ts (generic_tree c.args.named.now) (in_scope c.args.state.now) n c.args.arms.now) c.in_err-all_counted.field-0.0 c.args.state.now c.one_more.new.self (form_at (forms c.one_more.new.self) c.in_ok-ty.ty.0) (c.in_ok-ty-2.ty.name, Rattle.gib_types.specs.Types.forms_at (forms c.one_more.new.self) c.in_ok-ty-2.ty.arguments.items) (record { read = c.in_ok-one_more.ensures.counts; kept = c.one_more.ensures.scope; types = c.one_more.ensures.types }) c.in_ok-ty.ensures.read (subst (λ ns. Rattle.gib_check.specs.Faults.declared_type (form_at (forms_of ns) c.in_ok-ty.ty.0) c.args.variable ≡ Rattle.std.proofs.Common.Ok (c.in_ok-ty-2.ty.name, Rattle.gib_types.specs.Types.forms_at (forms_of ns) c.in_ok-ty-2.ty.arguments.items)) c.types.ensures c.in_ok-ty-2.ensures.read) c.in_ok-all_declared.ensures c.in_ok-covered.ensures c.in_err-all_counted.ensures)
+    rw (p.1, p.2) (answering.case_count c.args.named.now c.args.variables.now (generic_globals c.args.named.now).rows c.args.at.span c.args.variable (Rattle.std.proofs.Common.map Rattle.gib_check.specs.Judging.arm_head c.args.arms.now) (λ ts n. Rattle.gib_check.specs.Judging.infer_each_arm (generic_globals c.args.named.now) (variable_numbers c.args.variables.now) c.args.at.standing ts (generic_tree c.args.named.now) (in_scope c.args.state.now) n c.args.arms.now) c.in_err-all_counted.field-0.0 c.args.state.now c.one_more.new.self (form_at (forms c.one_more.new.self) c.in_ok-ty.ty.0) (c.in_ok-ty-2.ty.name, Rattle.gib_types.specs.Types.forms_at (forms c.one_more.new.self) c.in_ok-ty-2.ty.arguments.items) (record { read = c.in_ok-one_more.ensures.counts; kept = c.one_more.ensures.scope; types = c.one_more.ensures.types }) c.in_ok-ty.ensures.read (subst (λ ns. Rattle.gib_check.specs.Faults.declared_type (form_at (forms_of ns) c.in_ok-ty.ty.0) c.args.variable ≡ Rattle.std.proofs.Common.Ok (c.in_ok-ty-2.ty.name, Rattle.gib_types.specs.Types.forms_at (forms_of ns) c.in_ok-ty-2.ty.arguments.items)) c.types.ensures c.in_ok-ty-2.ensures.read) c.in_ok-all_declared.ensures c.in_ok-covered.ensures c.in_err-all_counted.ensures)
 
 pub case-returns-in_err-parts-clause-read : goal.case-returns-in_err-parts-clause-read
 case-returns-in_err-parts-clause-read t c =
     let p = err_from_is_err_and c.from_residual-in_err-parts.result c.from_residual-in_err-parts.ensures.1 in
-    rw (p.1, p.2) (walking.case_parts c.args.named.now c.args.variables.now (generic_globals c.args.named.now).rows c.args.at.span c.args.variable (Rattle.std.proofs.Common.map Rattle.gib_check.specs.Judging.arm_head c.args.arms.now) (λ ts n. Rattle.gib_check.specs.Judging.infer_each_arm (generic_globals c.args.named.now) (variable_numbers c.args.variables.now) c.args.at.standing ts (generic_tree c.args.named.now) (in_scope c.args.state.now) n c.args.arms.now) c.in_err-parts.field-0.0 c.args.state.now c.one_more.new.self (form_at (forms c.one_more.new.self) c.in_ok-ty.ty.0) (c.in_ok-ty-2.ty.name, Rattle.gib_types.specs.Types.forms_at (forms c.one_more.new.self) c.in_ok-ty-2.ty.arguments.items) (record { read = c.in_ok-one_more.ensures.counts; kept = c.one_more.ensures.scope; types = c.one_more.ensures.types }) c.in_ok-ty.ensures.read (subst (λ ns. Rattle.gib_check.specs.Faults.declared_type (form_at (forms_of ns) c.in_ok-ty.ty.0) c.args.variable ≡ Rattle.std.proofs.Common.Ok (c.in_ok-ty-2.ty.name, Rattle.gib_types.specs.Types.forms_at (forms_of ns) c.in_ok-ty-2.ty.arguments.items)) c.types.ensures c.in_ok-ty-2.ensures.read) c.in_ok-all_declared.ensures c.in_ok-covered.ensures c.in_ok-all_counted.ensures (Rattle.gib_check.proofs.Loops.along c.in_err-parts.field-0.0 _ _ (λ i. Rattle.gib_check.specs.Judging.infer_each_arm (generic_globals c.args.named.now) (variable_numbers c.args.variables.now) c.args.at.standing (Rattle.gib_types.specs.Types.forms_at (forms c.one_more.new.self) (sym c.deref.ensures.value i)) (generic_tree c.args.named.now) (sym c.one_more.ensures.scope i) c.one_more.new.self.counts c.args.arms.now) c.in_err-parts.ensures.read))
+    rw (p.1, p.2) (answering.case_parts c.args.named.now c.args.variables.now (generic_globals c.args.named.now).rows c.args.at.span c.args.variable (Rattle.std.proofs.Common.map Rattle.gib_check.specs.Judging.arm_head c.args.arms.now) (λ ts n. Rattle.gib_check.specs.Judging.infer_each_arm (generic_globals c.args.named.now) (variable_numbers c.args.variables.now) c.args.at.standing ts (generic_tree c.args.named.now) (in_scope c.args.state.now) n c.args.arms.now) c.in_err-parts.field-0.0 c.args.state.now c.one_more.new.self (form_at (forms c.one_more.new.self) c.in_ok-ty.ty.0) (c.in_ok-ty-2.ty.name, Rattle.gib_types.specs.Types.forms_at (forms c.one_more.new.self) c.in_ok-ty-2.ty.arguments.items) (record { read = c.in_ok-one_more.ensures.counts; kept = c.one_more.ensures.scope; types = c.one_more.ensures.types }) c.in_ok-ty.ensures.read (subst (λ ns. Rattle.gib_check.specs.Faults.declared_type (form_at (forms_of ns) c.in_ok-ty.ty.0) c.args.variable ≡ Rattle.std.proofs.Common.Ok (c.in_ok-ty-2.ty.name, Rattle.gib_types.specs.Types.forms_at (forms_of ns) c.in_ok-ty-2.ty.arguments.items)) c.types.ensures c.in_ok-ty-2.ensures.read) c.in_ok-all_declared.ensures c.in_ok-covered.ensures c.in_ok-all_counted.ensures (Rattle.gib_check.proofs.Loops.along c.in_err-parts.field-0.0 _ _ (λ i. Rattle.gib_check.specs.Judging.infer_each_arm (generic_globals c.args.named.now) (variable_numbers c.args.variables.now) c.args.at.standing (Rattle.gib_types.specs.Types.forms_at (forms c.one_more.new.self) (sym c.deref.ensures.value i)) (generic_tree c.args.named.now) (sym c.one_more.ensures.scope i) c.one_more.new.self.counts c.args.arms.now) c.in_err-parts.ensures.read))
 
 pub case-returns-in_err-common-clause-read : goal.case-returns-in_err-common-clause-read
 case-returns-in_err-common-clause-read t c =
     let p = err_from_is_err_and c.from_residual-in_err-common.result c.from_residual-in_err-common.ensures.1 in
-    rw (p.1, p.2) (Rattle.gib_check.proofs.Loops.along c.in_err-common.field-0.0 _ _ (walking.case_ends c.args.named.now c.args.variables.now (generic_globals c.args.named.now).rows c.args.at.span c.args.variable (Rattle.std.proofs.Common.map Rattle.gib_check.specs.Judging.arm_head c.args.arms.now) (λ ts n. Rattle.gib_check.specs.Judging.infer_each_arm (generic_globals c.args.named.now) (variable_numbers c.args.variables.now) c.args.at.standing ts (generic_tree c.args.named.now) (in_scope c.args.state.now) n c.args.arms.now) c.args.state.now c.one_more.new.self (form_at (forms c.one_more.new.self) c.in_ok-ty.ty.0) (c.in_ok-ty-2.ty.name, Rattle.gib_types.specs.Types.forms_at (forms c.one_more.new.self) c.in_ok-ty-2.ty.arguments.items) (parts_in c.arm_results.new.state c.in_ok-parts.parts.items) c.arm_results.new.state.counts (record { read = c.in_ok-one_more.ensures.counts; kept = c.one_more.ensures.scope; types = c.one_more.ensures.types }) c.in_ok-ty.ensures.read (subst (λ ns. Rattle.gib_check.specs.Faults.declared_type (form_at (forms_of ns) c.in_ok-ty.ty.0) c.args.variable ≡ Rattle.std.proofs.Common.Ok (c.in_ok-ty-2.ty.name, Rattle.gib_types.specs.Types.forms_at (forms_of ns) c.in_ok-ty-2.ty.arguments.items)) c.types.ensures c.in_ok-ty-2.ensures.read) c.in_ok-all_declared.ensures c.in_ok-covered.ensures c.in_ok-all_counted.ensures ((λ i. Rattle.gib_check.specs.Judging.infer_each_arm (generic_globals c.args.named.now) (variable_numbers c.args.variables.now) c.args.at.standing (Rattle.gib_types.specs.Types.forms_at (forms c.one_more.new.self) (sym c.deref.ensures.value i)) (generic_tree c.args.named.now) (sym c.one_more.ensures.scope i) c.one_more.new.self.counts c.args.arms.now) ∙ c.in_ok-parts.ensures.read))
-    (subst (λ ps. Rattle.gib_check.specs.Answers.IsFaultOf {B = Results Form × Counts} c.in_err-common.field-0.0 (Rattle.gib_check.specs.Faults.and_then {B = Results Form × Counts} (Rattle.gib_check.specs.Faults.all_of (Rattle.gib_check.specs.Faults.first_type ps) ps) (λ _. Rattle.std.proofs.Common.Ok (Rattle.gib_check.specs.Faults.first_type ps, c.arm_results.new.state.counts)))) (ap (parts_in c.arm_results.new.state) c.deref-2.ensures.value) (walking.fault_with c.in_err-common.field-0.0 (Rattle.gib_check.specs.Faults.all_of (Rattle.gib_check.specs.Faults.first_type (parts_in c.arm_results.new.state c.deref-2.result.now)) (parts_in c.arm_results.new.state c.deref-2.result.now)) (Rattle.gib_check.specs.Faults.first_type (parts_in c.arm_results.new.state c.deref-2.result.now)) c.arm_results.new.state.counts c.in_err-common.ensures.read)))
+    rw (p.1, p.2) (Rattle.gib_check.proofs.Loops.along c.in_err-common.field-0.0 _ _ (answering.case_ends c.args.named.now c.args.variables.now (generic_globals c.args.named.now).rows c.args.at.span c.args.variable (Rattle.std.proofs.Common.map Rattle.gib_check.specs.Judging.arm_head c.args.arms.now) (λ ts n. Rattle.gib_check.specs.Judging.infer_each_arm (generic_globals c.args.named.now) (variable_numbers c.args.variables.now) c.args.at.standing ts (generic_tree c.args.named.now) (in_scope c.args.state.now) n c.args.arms.now) c.args.state.now c.one_more.new.self (form_at (forms c.one_more.new.self) c.in_ok-ty.ty.0) (c.in_ok-ty-2.ty.name, Rattle.gib_types.specs.Types.forms_at (forms c.one_more.new.self) c.in_ok-ty-2.ty.arguments.items) (parts_in c.arm_results.new.state c.in_ok-parts.parts.items) c.arm_results.new.state.counts (record { read = c.in_ok-one_more.ensures.counts; kept = c.one_more.ensures.scope; types = c.one_more.ensures.types }) c.in_ok-ty.ensures.read (subst (λ ns. Rattle.gib_check.specs.Faults.declared_type (form_at (forms_of ns) c.in_ok-ty.ty.0) c.args.variable ≡ Rattle.std.proofs.Common.Ok (c.in_ok-ty-2.ty.name, Rattle.gib_types.specs.Types.forms_at (forms_of ns) c.in_ok-ty-2.ty.arguments.items)) c.types.ensures c.in_ok-ty-2.ensures.read) c.in_ok-all_declared.ensures c.in_ok-covered.ensures c.in_ok-all_counted.ensures ((λ i. Rattle.gib_check.specs.Judging.infer_each_arm (generic_globals c.args.named.now) (variable_numbers c.args.variables.now) c.args.at.standing (Rattle.gib_types.specs.Types.forms_at (forms c.one_more.new.self) (sym c.deref.ensures.value i)) (generic_tree c.args.named.now) (sym c.one_more.ensures.scope i) c.one_more.new.self.counts c.args.arms.now) ∙ c.in_ok-parts.ensures.read))
+    (subst (λ ps. Rattle.gib_check.specs.Answers.IsFaultOf {B = Results Form × Counts} c.in_err-common.field-0.0 (Rattle.gib_check.specs.Faults.and_then {B = Results Form × Counts} (Rattle.gib_check.specs.Faults.all_of (Rattle.gib_check.specs.Faults.first_type ps) ps) (λ _. Rattle.std.proofs.Common.Ok (Rattle.gib_check.specs.Faults.first_type ps, c.arm_results.new.state.counts)))) (ap (parts_in c.arm_results.new.state) c.deref-2.ensures.value) (answering.fault_with c.in_err-common.field-0.0 (Rattle.gib_check.specs.Faults.all_of (Rattle.gib_check.specs.Faults.first_type (parts_in c.arm_results.new.state c.deref-2.result.now)) (parts_in c.arm_results.new.state c.deref-2.result.now)) (Rattle.gib_check.specs.Faults.first_type (parts_in c.arm_results.new.state c.deref-2.result.now)) c.arm_results.new.state.counts c.in_err-common.ensures.read)))
 
 pub case-returns-clause-read : goal.case-returns-clause-read
 case-returns-clause-read t c =
-    walking.case_ends c.args.named.now c.args.variables.now (generic_globals c.args.named.now).rows c.args.at.span c.args.variable (Rattle.std.proofs.Common.map Rattle.gib_check.specs.Judging.arm_head c.args.arms.now) (λ ts n. Rattle.gib_check.specs.Judging.infer_each_arm (generic_globals c.args.named.now) (variable_numbers c.args.variables.now) c.args.at.standing ts (generic_tree c.args.named.now) (in_scope c.args.state.now) n c.args.arms.now) c.args.state.now c.one_more.new.self (form_at (forms c.one_more.new.self) c.in_ok-ty.ty.0) (c.in_ok-ty-2.ty.name, Rattle.gib_types.specs.Types.forms_at (forms c.one_more.new.self) c.in_ok-ty-2.ty.arguments.items) (parts_in c.arm_results.new.state c.in_ok-parts.parts.items) c.arm_results.new.state.counts (record { read = c.in_ok-one_more.ensures.counts; kept = c.one_more.ensures.scope; types = c.one_more.ensures.types }) c.in_ok-ty.ensures.read (subst (λ ns. Rattle.gib_check.specs.Faults.declared_type (form_at (forms_of ns) c.in_ok-ty.ty.0) c.args.variable ≡ Rattle.std.proofs.Common.Ok (c.in_ok-ty-2.ty.name, Rattle.gib_types.specs.Types.forms_at (forms_of ns) c.in_ok-ty-2.ty.arguments.items)) c.types.ensures c.in_ok-ty-2.ensures.read) c.in_ok-all_declared.ensures c.in_ok-covered.ensures c.in_ok-all_counted.ensures ((λ i. Rattle.gib_check.specs.Judging.infer_each_arm (generic_globals c.args.named.now) (variable_numbers c.args.variables.now) c.args.at.standing (Rattle.gib_types.specs.Types.forms_at (forms c.one_more.new.self) (sym c.deref.ensures.value i)) (generic_tree c.args.named.now) (sym c.one_more.ensures.scope i) c.one_more.new.self.counts c.args.arms.now) ∙ c.in_ok-parts.ensures.read)
-    ∙ subst (λ ps. Rattle.gib_check.specs.Faults.and_then {B = Results Form × Counts} (Rattle.gib_check.specs.Faults.all_of (Rattle.gib_check.specs.Faults.first_type ps) ps) (λ _. Rattle.std.proofs.Common.Ok (Rattle.gib_check.specs.Faults.first_type ps, c.arm_results.new.state.counts)) ≡ Rattle.std.proofs.Common.Ok (forms_given c.common_type.new.state c.in_ok-common.common, c.arm_results.new.state.counts)) (ap (parts_in c.arm_results.new.state) c.deref-2.ensures.value) (walking.ok_with (Rattle.gib_check.specs.Faults.all_of (Rattle.gib_check.specs.Faults.first_type (parts_in c.arm_results.new.state c.deref-2.result.now)) (parts_in c.arm_results.new.state c.deref-2.result.now)) (Rattle.gib_check.specs.Faults.first_type (parts_in c.arm_results.new.state c.deref-2.result.now)) (forms_given c.common_type.new.state c.in_ok-common.common) c.arm_results.new.state.counts c.in_ok-common.ensures.read)
+    answering.case_ends c.args.named.now c.args.variables.now (generic_globals c.args.named.now).rows c.args.at.span c.args.variable (Rattle.std.proofs.Common.map Rattle.gib_check.specs.Judging.arm_head c.args.arms.now) (λ ts n. Rattle.gib_check.specs.Judging.infer_each_arm (generic_globals c.args.named.now) (variable_numbers c.args.variables.now) c.args.at.standing ts (generic_tree c.args.named.now) (in_scope c.args.state.now) n c.args.arms.now) c.args.state.now c.one_more.new.self (form_at (forms c.one_more.new.self) c.in_ok-ty.ty.0) (c.in_ok-ty-2.ty.name, Rattle.gib_types.specs.Types.forms_at (forms c.one_more.new.self) c.in_ok-ty-2.ty.arguments.items) (parts_in c.arm_results.new.state c.in_ok-parts.parts.items) c.arm_results.new.state.counts (record { read = c.in_ok-one_more.ensures.counts; kept = c.one_more.ensures.scope; types = c.one_more.ensures.types }) c.in_ok-ty.ensures.read (subst (λ ns. Rattle.gib_check.specs.Faults.declared_type (form_at (forms_of ns) c.in_ok-ty.ty.0) c.args.variable ≡ Rattle.std.proofs.Common.Ok (c.in_ok-ty-2.ty.name, Rattle.gib_types.specs.Types.forms_at (forms_of ns) c.in_ok-ty-2.ty.arguments.items)) c.types.ensures c.in_ok-ty-2.ensures.read) c.in_ok-all_declared.ensures c.in_ok-covered.ensures c.in_ok-all_counted.ensures ((λ i. Rattle.gib_check.specs.Judging.infer_each_arm (generic_globals c.args.named.now) (variable_numbers c.args.variables.now) c.args.at.standing (Rattle.gib_types.specs.Types.forms_at (forms c.one_more.new.self) (sym c.deref.ensures.value i)) (generic_tree c.args.named.now) (sym c.one_more.ensures.scope i) c.one_more.new.self.counts c.args.arms.now) ∙ c.in_ok-parts.ensures.read)
+    ∙ subst (λ ps. Rattle.gib_check.specs.Faults.and_then {B = Results Form × Counts} (Rattle.gib_check.specs.Faults.all_of (Rattle.gib_check.specs.Faults.first_type ps) ps) (λ _. Rattle.std.proofs.Common.Ok (Rattle.gib_check.specs.Faults.first_type ps, c.arm_results.new.state.counts)) ≡ Rattle.std.proofs.Common.Ok (forms_given c.common_type.new.state c.in_ok-common.common, c.arm_results.new.state.counts)) (ap (parts_in c.arm_results.new.state) c.deref-2.ensures.value) (answering.ok_with (Rattle.gib_check.specs.Faults.all_of (Rattle.gib_check.specs.Faults.first_type (parts_in c.arm_results.new.state c.deref-2.result.now)) (parts_in c.arm_results.new.state c.deref-2.result.now)) (Rattle.gib_check.specs.Faults.first_type (parts_in c.arm_results.new.state c.deref-2.result.now)) (forms_given c.common_type.new.state c.in_ok-common.common) c.arm_results.new.state.counts c.in_ok-common.ensures.read)
     ∙ ap (λ (n : Rattle.gib_check.specs.declared.counts.Counts.Counts). Rattle.std.proofs.Common.Ok (forms_given c.common_type.new.state c.in_ok-common.common, n)) (sym c.common_type.ensures.counts)
 
 pub arm_result-returns-clause-met : goal.arm_result-returns-clause-met

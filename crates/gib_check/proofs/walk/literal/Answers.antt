@@ -1,5 +1,5 @@
 use Rattle.gib_check.proofs.Growing.{advances_on, same_advance, keeps_advance}
-use Rattle.gib_check.proofs.Walking.{literal_ok}
+use Rattle.gib_check.proofs.Answering.{literal_ok}
 use Rattle.gib_check.proofs.walk.literal.Goals as goal
 
 pub returns-clause-read : goal.returns-clause-read

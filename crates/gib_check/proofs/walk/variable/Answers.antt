@@ -2,7 +2,7 @@ use Rattle.std.proofs.lemmas.Result.{err_from_is_err_and}
 use Rattle.gib_types.specs.Types.{form_at}
 use Rattle.gib_check.specs.Judging.{forms}
 use Rattle.gib_check.proofs.Growing.{same_advance}
-use Rattle.gib_check.proofs.Walking.{variable_fails, variable_ok}
+use Rattle.gib_check.proofs.Answering.{variable_fails, variable_ok}
 use Rattle.gib_check.proofs.walk.variable.Goals as goal
 
 pub returns-in_err-ty-clause-read : goal.returns-in_err-ty-clause-read
