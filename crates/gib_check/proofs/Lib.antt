@@ -32,4 +32,5 @@ mod States
 pub mod Steps
 mod TypedTables
 mod UseTypes
+mod Answering
 mod Walking
