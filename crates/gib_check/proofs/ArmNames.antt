@@ -8,7 +8,7 @@ use Rattle.gib_types.specs.Table.{Row, Table, name_of, name_at}
 use Rattle.gib_syntax.specs.Declarations.{place_of, next_place, AreDifferent, constructor_names, constructor_named}
 use Rattle.gib_check.specs.ArmPlaces.{is_number, place_named}
 use Rattle.gib_check.proofs.Different.{place_within}
-use Rattle.gib_syntax.proofs.Soundness.{place_within, place_found}
+use Rattle.gib_syntax.proofs.Soundness.{place_within as place_read, place_found}
 
 name_there : (table : Table) (con : ℕ) → con < length table.rows → slice_get (constructor_names table) con ≡ Some (name_at table con)
 name_there table con lt =
@@ -24,7 +24,7 @@ is_its_name table k con d lt = go (eqb k (name_at table con)) refl where
 
   other : (o : Option ℕ) → constructor_named table k ≡ o → eqb k (name_at table con) ≡ false → is_number o con ≡ false
   other None e q = refl
-  other (Some c) e q = ne_eqb c con (λ same. eqb-false k (name_at table con) q (same_Some k (name_at table con) (sym (place_within names k c e) ∙ ap (slice_get names) same ∙ name_there table con lt)))
+  other (Some c) e q = ne_eqb c con (λ same. eqb-false k (name_at table con) q (same_Some k (name_at table con) (sym (place_read names k c e) ∙ ap (slice_get names) same ∙ name_there table con lt)))
 
   go : (b : Bool) → eqb k (name_at table con) ≡ b → is_number (constructor_named table k) con ≡ b
   go true q = ap (λ o. is_number o con) (ap (λ z. place_of names z) (eqb-true k (name_at table con) q) ∙ place_found names (name_at table con) con d (name_there table con lt)) ∙ eq-eqb con con refl
