@@ -68,7 +68,7 @@ fields_left {laid = laid} {s = s} {a = a} {n = n} {bs = bs} {rest = rest} (tree_
 abbrev AreSmall : List ℕ → Type 0
 AreSmall bs = (i : ℕ) → get_or bs i 0 < 256
 
-append_small : (xs ys : List ℕ) → AreSmall xs → AreSmall ys → AreSmall (xs ++ ys)
+pub append_small : (xs ys : List ℕ) → AreSmall xs → AreSmall ys → AreSmall (xs ++ ys)
 append_small [] ys a b i = b i
 append_small (x ∷ xs) ys a b zero = a 0
 append_small (x ∷ xs) ys a b (suc i) = append_small xs ys (λ j. a (suc j)) b i

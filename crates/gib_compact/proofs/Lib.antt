@@ -1,5 +1,6 @@
 -- Walks and what they have left.
 pub mod LeftLemmas
+pub mod Running
 pub mod Walked
 pub mod BackLemmas
 -- Values in pieces, and the buffers that hold them.

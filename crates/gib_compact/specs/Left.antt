@@ -51,3 +51,30 @@ pub record Found (laid : LaidOut) (s : Store) (h : ℕ) (new : Walk) (rest : Lis
   pub value : Dec laid s h t v end
   pub left : Left laid s end new.due (reverse new.back.items) later
   pub whole : rest ≡ tree v ++ later
+
+-- From a on stand so many bytes with which the rest begins, and what is behind them is left now.
+pub record Runs (laid : LaidOut) (s : Store) (a count : ℕ) (new : Walk) (rest : List ℕ) : Type 0 where
+  pub bytes : List ℕ
+  pub later : List ℕ
+  pub holds : Holds s a bytes
+  pub long : length bytes ≡ count
+  pub small_bytes : (i : ℕ) → get_or bytes i 0 < 256
+  pub left : IsLeft laid s new later
+  pub whole : rest ≡ bytes ++ later
+
+-- So many bytes with which the rest begins were passed, and what is behind them is left now.
+pub record Passes (laid : LaidOut) (s : Store) (count : ℕ) (new : Walk) (rest : List ℕ) : Type 0 where
+  pub bytes : List ℕ
+  pub later : List ℕ
+  pub long : length bytes ≡ count
+  pub left : IsLeft laid s new later
+  pub whole : rest ≡ bytes ++ later
+
+-- The bytes with which the rest begins were written, and what is behind them is left now; so many of the most bytes are left.
+pub record Puts (laid : LaidOut) (s : Store) (new : Walk) (most few : ℕ) (before now rest : List ℕ) : Type 0 where
+  pub bytes : List ℕ
+  pub later : List ℕ
+  pub out : now ≡ before ++ bytes
+  pub left : IsLeft laid s new later
+  pub whole : rest ≡ bytes ++ later
+  pub count : length bytes + few ≡ most

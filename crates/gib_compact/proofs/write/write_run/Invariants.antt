@@ -1,6 +1,6 @@
 use Rattle.std.proofs.Common.{◌≡◌, ◌-◌, ◌<◌, ◌≤◌, ◌^◌, ℕ, List, ◌++◌, length, take}
 use Rattle.gib_mem.specs.Memory.{Holds}
-use Rattle.gib_compact.proofs.write.copy_bytes.Given as goal
+use Rattle.gib_compact.proofs.write.write_run.Given as goal
 
 abbrev pub invariant-words : goal.invariant-words
 invariant-words g l = record {

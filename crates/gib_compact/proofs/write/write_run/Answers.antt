@@ -6,7 +6,7 @@ use Rattle.gib_packed.proofs.HoldsLemmas.{Holds-same, same_byte}
 use Rattle.gib_packed.proofs.HoldsAt.{Holds-at}
 use Rattle.gib_packed.proofs.WalkLemmas.{known_below}
 use Rattle.gib_compact.proofs.LeftLemmas.{eight}
-use Rattle.gib_compact.proofs.write.copy_bytes.Goals as goal
+use Rattle.gib_compact.proofs.write.write_run.Goals as goal
 
 -- the next eight bytes, in the memory as it was
 pub get_word-word-requires : goal.get_word-word-requires
