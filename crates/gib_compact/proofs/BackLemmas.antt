@@ -91,7 +91,7 @@ module _ (a : Arena) (p l r l' r' n : Pass) (j : Rejoined a p l r l' r') (none :
 
 -- ---- pieces that are dealt
 
-same_cells : (p l r : Pass) → IsSplit p l r → Grows (cells p) (cells l)
+pub same_cells : (p l r : Pass) → IsSplit p l r → Grows (cells p) (cells l)
 same_cells p l r s = grows_same (ap (λ (v : View). cells_of v.holding) s.left)
 
 pub parts_of : {laid : LaidOut} (p l r : Pass) (n : ℕ) (ps : List Piece) {all : List ℕ} → IsSplit p l r → Cut laid (cells p) ps all → Parts laid l r (take n ps) (drop n ps) all

@@ -16,3 +16,4 @@ mod write;
 
 pub use fault::CompactFault;
 pub use packed_file::compact;
+pub use parts::{alone, gather, in_front};

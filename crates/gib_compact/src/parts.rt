@@ -7,7 +7,7 @@ use gib_base::Memory;
 use std::alloc::Global;
 
 /// A buffer in front of others, of which the last one comes first.
-pub(crate) fn in_front(
+pub fn in_front(
     first: Result<Vec<u8>, Memory>,
     others: Result<Vec<Vec<u8>>, Memory>,
 ) -> Result<Vec<Vec<u8>>, Memory>
@@ -20,7 +20,7 @@ pub(crate) fn in_front(
 }
 
 /// A buffer alone.
-pub(crate) fn alone(alloc: Global, part: Result<Vec<u8>, Memory>) -> Result<Vec<Vec<u8>>, Memory>
+pub fn alone(alloc: Global, part: Result<Vec<u8>, Memory>) -> Result<Vec<Vec<u8>>, Memory>
     ensures { (xs : List ℕ) → IfOk part (λ out. out.items ≡ xs) → IfOk result (λ parts. gathered parts.items ≡ xs) }
 {
     let part = part?;
@@ -30,7 +30,7 @@ pub(crate) fn alone(alloc: Global, part: Result<Vec<u8>, Memory>) -> Result<Vec<
 }
 
 /// The bytes of buffers, of which the last one comes first, one after another. Each is given back once it was copied.
-pub(crate) fn gather(alloc: Global, parts: Vec<Vec<u8>>) -> Result<Vec<u8>, Memory>
+pub fn gather(alloc: Global, parts: Vec<Vec<u8>>) -> Result<Vec<u8>, Memory>
     ensures { IfOk result (λ out. out.items ≡ gathered parts.items) }
 {
     let mut parts = parts;
