@@ -128,7 +128,7 @@ arguments_none : (p : Reader GenericExpression) (ts : List Token) → next_is st
 unfolding arguments_at
 arguments_none p ts e = ap (λ (r : Read (List GenericExpression)). then_at r (λ xs ts. Ok (arguments_of xs, ts))) (many_none starts_atom p ts e)
 
-abbrev as_arguments : Read (List GenericExpression) → Read GenericArguments
+abbrev pub as_arguments : Read (List GenericExpression) → Read GenericArguments
 as_arguments r = then_at r (λ xs ts. Ok (arguments_of xs, ts))
 
 regroup_rest : (a : GenericExpression) (r : Read (List GenericExpression)) → as_arguments (then_at r (λ more ts. Ok (a ∷ more, ts))) ≡ then_at (as_arguments r) (λ xs ts. Ok (GenericArgument a xs, ts))

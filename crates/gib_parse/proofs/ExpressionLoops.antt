@@ -18,7 +18,7 @@ use Rattle.gib_parse.specs.Reading.{Parts, var_at, want, case_at, Read, Reader, 
 use Rattle.gib_parse.specs.Parsing.{Fails, AllStand, IsExpressionIn, ReadsArms, arm_tree, arms_tree, call_tree}
 use Rattle.gib_syntax.specs.Forms.{WrittenType, WrittenTypes, NoType, MoreTypes}
 use Rattle.gib_base.specs.declared.token.Token.TheVariants as t
-use Rattle.gib_parse.proofs.Complete.{argument_and_more}
+use Rattle.gib_parse.proofs.Complete.{argument_and_more, as_arguments}
 use Rattle.gib_reads.proofs.Tools.{done, failed}
 use Rattle.gib_parse.proofs.WholeLaws.{parse_shrinks, next_shrinks, next_part_shrinks}
 use Rattle.gib_reads.proofs.SoFar.{one_and_more, none_yet, first_one, first_fails, all_read, one_fails, shorter}
@@ -49,9 +49,6 @@ trees a ids = seen IsExpressionIn id_tree id_stays a ids
 arguments_seen : (a : Arena) (ids : List ExprId) → arguments_of (trees a ids) ≡ arguments_from (tree_of a) ids
 arguments_seen a [] = refl
 arguments_seen a (id ∷ ids) = ap (GenericArgument (tree_of a id.0)) (arguments_seen a ids)
-
-abbrev as_arguments : Read (List GenericExpression) → Read GenericArguments
-as_arguments r = then_at r (λ xs ts. Ok (arguments_of xs, ts))
 
 pub arguments_done : (old new : Arena) (at : Places) (level : ℕ) (tokens rest : List Token) (ids : List ExprId) → ArgumentsSoFar old new at level tokens rest ids → next_is starts_atom rest ≡ false → arguments_at (parse at level Atom) tokens ≡ done (arguments_from (tree_of new) ids) rest
 unfolding arguments_at

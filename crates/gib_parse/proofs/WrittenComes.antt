@@ -1,6 +1,7 @@
 -- Types that are spelled so are read.
 use Rattle.std.proofs.Common.{◌≡◌, Bool, true, false, ◌||◌, List, [], ◌∷◌, ◌++◌, length, Ok, refl, sym, ap, ◌∙◌, true≢false, append_assoc}
 use Rattle.std.proofs.lemmas.List.{append-nil}
+use Rattle.std.proofs.lemmas.Bool.{or_parts}
 use Rattle.gib_base.specs.declared.Span.{Span}
 use Rattle.gib_base.specs.declared.token.Sign.{Sign}
 use Rattle.gib_base.specs.declared.token.Sign.TheVariants as s
@@ -111,13 +112,9 @@ type_arguments_come at (MoreTypes w ws) rest e = bracket_comes at w ws rest
 abbrev pub goes_on : Token → Bool
 goes_on c = is_sign s.OpenBracket c || starts_atom c
 
-both_false : (a b : Bool) → (a || b) ≡ false → (a ≡ false) × (b ≡ false)
-both_false true b e = absurd (true≢false e)
-both_false false b e = (refl, e)
-
 pub ends_parts : (rest : List Token) → next_is goes_on rest ≡ false → (next_is (is_sign s.OpenBracket) rest ≡ false) × (next_is starts_atom rest ≡ false)
 ends_parts [] e = (refl, refl)
-ends_parts (c ∷ rest) e = both_false (is_sign s.OpenBracket c) (starts_atom c) e
+ends_parts (c ∷ rest) e = or_parts (is_sign s.OpenBracket c) (starts_atom c) e
 
 no_bracket_sign : (b : Sign) (v : Bool) → same s.OpenBracket b ≡ v → starts_atom (t.Sign b) ≡ true → same s.OpenBracket b ≡ false
 no_bracket_sign b false f e = f
