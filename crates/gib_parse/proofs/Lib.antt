@@ -9,6 +9,7 @@ pub mod Settle
 pub mod ProgramSettle
 pub mod WrittenComes
 pub mod Come
+pub mod Starts
 pub mod Complete
 pub mod ProgramComplete
 -- Expressions that are nested too deep; the one fault of tokens; the whole.

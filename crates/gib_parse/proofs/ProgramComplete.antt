@@ -17,7 +17,8 @@ use Rattle.gib_parse.proofs.WholeLaws.{type_shrinks, next_types_shrink, type_par
 use Rattle.gib_parse.proofs.Settle.{settle, settle_name, settle_names, settle_type}
 use Rattle.gib_parse.proofs.WrittenComes.{type_comes, type_begins}
 use Rattle.gib_parse.proofs.Come.{Comes, Came, then_comes, then_last, comes_at, Steps, many_comes}
-use Rattle.gib_parse.proofs.Complete.{complete, variables_come}
+use Rattle.gib_parse.proofs.Complete.{complete}
+use Rattle.gib_parse.proofs.Starts.{variables_come}
 use Rattle.gib_parse.proofs.ProgramSettle.{settle_type_parameters, settle_types, settle_constructor, settle_constructors, settle_data, settle_datas, settle_parameter, settle_parameters, settle_further_types, settle_results, settle_function, settle_functions, settle_main, settle_program}
 
 -- ---- data declarations
