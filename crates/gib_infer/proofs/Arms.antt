@@ -8,7 +8,7 @@ use Rattle.gib_syntax.specs.Arena.{IsArmBelow, ArmsBelow}
 use Rattle.gib_syntax.specs.Parts.{Parts}
 use Rattle.gib_core.specs.Inferring.{arm_for, con_named}
 use Rattle.gib_infer.specs.Made.{globals_in, arm_at, arms_at}
-use Rattle.gib_infer.proofs.FieldSteps.{rest-is}
+use Rattle.gib_check.proofs.RowLists.{rest-is}
 
 -- The arm is among those that are left.
 pub record ArmsLeft (parts : Parts) (arms left : List Arm) (k : ℕ) : Type 0 where

@@ -21,7 +21,8 @@ use Rattle.gib_core.specs.Ordered.{IsFit}
 use Rattle.gib_infer.proofs.Fits.{scope_more, at_fit}
 use Rattle.gib_infer.proofs.Makes.{least_three, can_have}
 use Rattle.gib_infer.proofs.Rising.{ScopeKept, can_kept}
-use Rattle.gib_infer.proofs.Ready.{behind_all, CanUse, CanUseAll, Ready, PlaceFor, NamesTyped, Clean, clean_nothing, clean_then, then_all, line_then, ready_behind, LineOk, CodeBuilt}
+use Rattle.gib_infer.proofs.Ready.{CanUse, CanUseAll, Ready, PlaceFor, NamesTyped, Clean, clean_nothing, clean_then, then_all, line_then, ready_behind, LineOk, CodeBuilt}
+use Rattle.gib_core.proofs.Along.{behind_all}
 
 -- Names in scope.
 

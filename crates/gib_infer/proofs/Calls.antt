@@ -31,7 +31,7 @@ use Rattle.gib_core.specs.Inferring.{Scope, Lined, Atomed, Several, Code, infer,
 use Rattle.gib_infer.specs.declared.work.Work.{Work}
 use Rattle.gib_infer.specs.Made.{scope_of, globals_in, code_at, codes_at, AreBelow, AreBindingsBelow, Keeps, MakesLine, MakesAtom, MakesAtoms, pending, plain_atoms, one_of, scalar_one, ended_call, side_call}
 use Rattle.gib_infer.proofs.Making.{next_of, keeps_more, boxed_made, line_after, atom_after}
-use Rattle.gib_infer.proofs.FieldSteps.{rest-is}
+use Rattle.gib_check.proofs.RowLists.{rest-is}
 
 -- ---- arguments
 

@@ -1,10 +1,7 @@
 -- What the loops over fields keep, and a call that is bound.
-use Rattle.std.proofs.Common.{◌≡◌, ◌+◌, ◌-◌, ◌<◌, ◌≤◌, Bool, List, [], ◌∷◌, ◌++◌, length, refl, sym, ap, ◌∙◌, subst, arith, append_assoc, take, drop, get_or}
-use Rattle.std.proofs.lemmas.List.{append-nil}
-use Rattle.std.proofs.Math.Seq.{take-length}
+use Rattle.std.proofs.Common.{◌≡◌, ◌+◌, ◌-◌, ◌<◌, ◌≤◌, List, [], ◌∷◌, ◌++◌, length, refl, sym, ap, ◌∙◌, subst, arith, append_assoc, take, drop, get_or}
 use Rattle.gib_base.specs.declared.name.Name.{Name}
 use Rattle.gib_types.specs.declared.table.Ty.{Ty}
-use Rattle.gib_syntax.specs.Meaning.{at_fields}
 use Rattle.gib_core.specs.declared.atom.Kind.TheVariants.{Here, Scalar}
 use Rattle.gib_core.specs.declared.atom.Variable.{Variable}
 use Rattle.gib_core.specs.declared.atom.Atom.{Atom}
@@ -21,15 +18,7 @@ use Rattle.gib_core.specs.Inferring.{call_atom, first_type, further_types, point
 use Rattle.gib_infer.specs.declared.work.Work.{Work}
 use Rattle.gib_infer.specs.Made.{AreBindingsBelow, Keeps, MakesAtom, PointsSoFar, plain_atoms}
 use Rattle.gib_infer.proofs.Making.{next_of, pushed, keeps_more}
-
-pub rest-is : {A : Type 0} (x : A) (xs : List A) → take (length (x ∷ xs) - 1) xs ≡ xs
-rest-is x xs = let n : length (x ∷ xs) - 1 ≡ length xs = omega arith in ap (λ k. take k xs) n ∙ take-length xs
-
--- Nothing is left.
-pub selected : {A : Type 0} (scalars : Bool) (types : List Ty) (left done all : List A) → length left < 1 → done ++ at_fields scalars types left ≡ all → done ≡ all
-selected scalars [] left done all lt e = sym (append-nil done) ∙ e
-selected scalars (t ∷ ts) [] done all lt e = sym (append-nil done) ∙ e
-selected scalars (t ∷ ts) (x ∷ xs) done all lt e = absurd (omega (arith, lt))
+use Rattle.gib_check.proofs.RowLists.{rest-is}
 
 -- A scalar call that is bound.
 pub call_bound : (old mid new : Work) (before after : List Binding) (x : Variable) (f : Name) (xs : List Atom) (of : Ty) (at : TermId) → x.0 ≡ old.fresh → mid ≡ next_of old → Grows mid.terms new.terms → at.0 < length new.terms → term_of new.terms at.0 ≡ CallTerm f xs → new.scope.items ≡ mid.scope.items → new.fresh ≡ mid.fresh → AreBindingsBelow (length old.terms) before → after ≡ before ++ b.One (sides.One (record { kind = Scalar; variable = x; ty = of; term = at })) ∷ [] → MakesAtom old new before after (a.Variable x) of (call_atom of f (plain_atoms old xs))

@@ -1,18 +1,18 @@
 -- Scopes whose atoms may be used below a number, and constructors that are found by their names.
-use Rattle.std.proofs.Common.{◌≡◌, ℕ, suc, ◌+◌, ◌≤◌, Bool, true, false, ◌==◌, if◌then◌else◌, List, [], ◌∷◌, length, Option, Some, None, refl, sym, ap, ◌∙◌, subst, arith}
+use Rattle.std.proofs.Common.{◌≡◌, ℕ, suc, ◌+◌, ◌≤◌, Bool, true, false, ◌==◌, if◌then◌else◌, List, [], ◌∷◌, length, Option, Some, None, refl, sym, ap, ◌∙◌, arith}
 use Rattle.std.specs.Prelude.{slice_get}
 use Rattle.std.specs.Option.{option_map}
 use Rattle.std.proofs.lemmas.Option.{same_Some, slice_get-map}
-use Rattle.std.proofs.lemmas.Bool.{eqb-true}
 use Rattle.gib_types.specs.declared.table.Ty.{Ty}
 use Rattle.gib_types.specs.Table.{Row, Table, name_of, name_at}
 use Rattle.gib_syntax.specs.declared.tree.Ident.{Ident}
-use Rattle.gib_syntax.specs.Declarations.{place_of, next_place, constructor_names, constructor_named}
+use Rattle.gib_syntax.specs.Declarations.{constructor_names, constructor_named}
 use Rattle.gib_core.specs.declared.atom.Atom.{Atom}
 use Rattle.gib_core.specs.Tree.{var, variables_from}
 use Rattle.gib_core.specs.Ordered.{IsFit, AreFit}
 use Rattle.gib_core.proofs.Erases.{fit_more}
 use Rattle.gib_core.specs.Inferring.{Scope, slot, first_type, further_types, with_fields, atom_at}
+use Rattle.gib_syntax.proofs.Soundness.{place_within}
 
 abbrev pub ScopeFits : ℕ → Scope → Type 0
 ScopeFits n [] = Unit {0}
@@ -54,18 +54,10 @@ variables_same n (x ∷ xs) [] e = absurd cc
 variables_same n (x ∷ xs) (y ∷ ys) e = ap (λ l. record { 0 = n } ∷ l) (variables_same (n + 1) xs ys (omega (arith, e)))
 
 -- The name of a constructor that was found by it.
-found_at : (xs : List ℕ) (x c : ℕ) → place_of xs x ≡ Some c → slice_get xs c ≡ Some x
-found_at [] x c e = absurd cc
-found_at (y ∷ ys) x c e = go (y == x) (place_of ys x) (eqb-true y x) (λ j f. found_at ys x j f) e
-  where
-    go : (b : Bool) (p : Option ℕ) → (b ≡ true → y ≡ x) → ((j : ℕ) → p ≡ Some j → slice_get ys j ≡ Some x) → (if b then Some 0 else next_place p) ≡ Some c → slice_get (y ∷ ys) c ≡ Some x
-    go true p is h f = subst (λ (n : ℕ). slice_get (y ∷ ys) n ≡ Some x) (same_Some 0 c f) (ap Some (is refl))
-    go false None is h f = absurd cc
-    go false (Some j) is h f = subst (λ (n : ℕ). slice_get (y ∷ ys) n ≡ Some x) (same_Some (suc j) c f) (h j refl)
 
 name_in : (r : Option Row) (x : ℕ) → option_map (λ (row : Row). row.name) r ≡ Some x → name_of r ≡ x
 name_in None x e = absurd cc
 name_in (Some row) x e = same_Some row.name x e
 
 pub named_at : (table : Table) (x c : ℕ) → constructor_named table x ≡ Some c → name_at table c ≡ x
-named_at table x c e = name_in (slice_get table.rows c) x (sym (slice_get-map (λ (row : Row). row.name) table.rows c) ∙ found_at (constructor_names table) x c e)
+named_at table x c e = name_in (slice_get table.rows c) x (sym (slice_get-map (λ (row : Row). row.name) table.rows c) ∙ place_within (constructor_names table) x c e)

@@ -19,17 +19,19 @@ use Rattle.gib_syntax.specs.Typing.{Globals, operator_type, one_type}
 use Rattle.gib_core.specs.declared.atom.Variable.{Variable}
 use Rattle.gib_core.specs.declared.atom.Atom.{Atom}
 use Rattle.gib_core.specs.declared.atom.Kind.TheVariants.{Here}
-use Rattle.gib_core.specs.Tree.{Term, Then, Write, Point, CallTerm, Give, Bind, Past, One, Prim, On, var, variables_from, prepend, FunctionTerm, CoreTree}
+use Rattle.gib_core.specs.Tree.{Term, Write, Point, CallTerm, Give, Bind, Past, One, Prim, On, var, variables_from, prepend, FunctionTerm, CoreTree}
 use Rattle.gib_core.specs.Meaning.{function_at}
 use Rattle.gib_core.specs.Inferring.{Scope, Several, ToLine, ToAtom, Code, kind_of, boxed, given, of_line, of_atom, result_of, plain_line, of_plain, several, operation_atom, call_line, call_atom, call_side, scalar_call, call_code, pointed_fields, as_atoms, make_line}
 use Rattle.gib_core.specs.Met.{Setting, Line, PastLine, SideLine, PrimLine, WriteLine, PointLine, CallLine, GiveLine, Empty, Open, at, in_side, behind, met, packed_types, field_due, result_place, stands_too}
-use Rattle.gib_core.specs.Rules.{Before, same_type, is_nowhere, is_empty, has_room, is_among, type_bound, is_type, has_type, have_types, all_usable, is_other, any_other, is_there, is_of_type, are_variables, any_cased, further, may_write, are_scalars, same_types, is_packed, gives_packed, result_fits, call_fits, rules, least, type_made, next}
+use Rattle.gib_core.specs.Rules.{Before, same_type, is_nowhere, is_empty, has_room, is_among, type_bound, is_type, has_type, have_types, all_usable, is_other, any_other, is_there, is_of_type, any_cased, further, may_write, are_scalars, same_types, is_packed, gives_packed, result_fits, call_fits, rules, least, type_made, next}
 use Rattle.gib_core.specs.Reachable.{all_reached}
 use Rattle.gib_core.specs.Ordered.{AreFit}
 use Rattle.gib_infer.proofs.Fits.{ScopeFits, all_fit_more, scope_more, variables_length}
 use Rattle.gib_infer.proofs.Ordered.{CodeOrdered, LineOrdered, AtomOrdered, SeveralOrdered, AllCodes, several_ordered}
-use Rattle.gib_infer.proofs.Ready.{CanUse, CanUseAll, Alike, alike_same, alike_more, use_all_alike, Ready, PlaceFor, behind_all, met_all, behind_all-append, met-prepend, Clean, clean_then, Runs, runs_nothing, runs_then, then_all, then_all-append, line_then, ready_behind, LineBuilt, SeveralBuilt, LineOk, SideOk, AtomOk, CodeBuilt, AllBuilt}
+use Rattle.gib_infer.proofs.Ready.{CanUse, CanUseAll, Alike, alike_same, alike_more, use_all_alike, Ready, PlaceFor, behind_all-append, met-prepend, Clean, clean_then, Runs, runs_nothing, runs_then, then_all, then_all-append, line_then, ready_behind, LineBuilt, SeveralBuilt, LineOk, SideOk, AtomOk, CodeBuilt, AllBuilt}
 use Rattle.gib_infer.proofs.Sides.{same_type-refl, bound_past, bound_here, not_bound, alike_scope, alike_bound, can_bound, alike_inside, ready_inside, place_inside, whole_inside, side_runs, side_can}
+use Rattle.gib_core.proofs.Lining.{prepend-append}
+use Rattle.gib_core.proofs.Along.{behind_all, met_all, own_atoms}
 
 -- No rule of a few is broken.
 
@@ -86,10 +88,6 @@ nowhere (Tree t) e = absurd cc
 
 pub place_same : (given : Results Ty) (s new : Setting) → new.destination ≡ s.destination → new.due ≡ s.due → PlaceFor given s → PlaceFor given new
 place_same given s new e f h = record { destination = e ∙ h.destination; due = f ∙ h.due }
-
-pub prepend-append : (xs ys : List Bind) (t : Term) → prepend (xs ++ ys) t ≡ prepend xs (prepend ys t)
-prepend-append [] ys t = refl
-prepend-append (x ∷ xs) ys t = ap (Then x) (prepend-append xs ys t)
 
 module _ (core : CoreTree) where
   -- A line that binds nothing and is on no variable.
@@ -517,10 +515,6 @@ module _ (core : CoreTree) where
 
     -- The write.
 
-    are_same : (xs : List Variable) → are_variables xs (as_atoms xs) ≡ true
-    are_same [] = refl
-    are_same (x ∷ xs) = (λ i. eq-eqb x.0 x.0 refl i && are_same xs i)
-
     none_cased : {A : Type 0} (cased : List Variable) (n : ℕ) (xs : List A) → ((x : Variable) → n ≤ x.0 → is_among cased x ≡ false) → any_cased cased (variables_from n xs) ≡ false
     none_cased cased n [] h = refl
     none_cased cased n (x ∷ xs) h = let e = h (record { 0 = n }) (omega arith) in (λ i. e i || none_cased cased (n + 1) xs (λ y lo. h y (omega (arith, lo))) i)
@@ -540,7 +534,7 @@ module _ (core : CoreTree) where
         let heads : (h.0 == h.0 && k.0 == k.0) ≡ true = (λ i. eq-eqb h.0 h.0 refl i && eq-eqb k.0 k.0 refl i) in
         let never = further_cased b.cased n ps uncased in
         let may : may_write core.table b s.destination h k (as_atoms vs) ≡ true =
-        ap (λ d. may_write core.table b d h k (as_atoms vs)) place ∙ (λ i. heads i && ((lengths i && are_same vs i) && not (never i))) in
+        ap (λ d. may_write core.table b d h k (as_atoms vs)) place ∙ (λ i. heads i && ((lengths i && own_atoms vs i) && not (never i))) in
         let scalars : are_scalars core.table b s.destination ss ≡ true = ap (λ d. are_scalars core.table b d ss) place ∙ all_have s b ss us can_scalars in
         least_four 4 5 8 9 (all_apart s b (ss ++ as_atoms vs) (us ++ ts) all) (ap not may) (ap not (all_can s b (ss ++ as_atoms vs) (us ++ ts) all)) (ap not scalars)
 

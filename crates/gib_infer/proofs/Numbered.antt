@@ -1,5 +1,5 @@
 -- Variables are numbered in the order in which the text binds them.
-use Rattle.std.proofs.Common.{◌≡◌, ℕ, suc, ◌+◌, Bool, true, false, ◌==◌, if◌then◌else◌, List, [], ◌∷◌, ◌++◌, map, length, Option, Some, None, refl, sym, ap, ◌∙◌, subst, arith}
+use Rattle.std.proofs.Common.{◌≡◌, ℕ, ◌+◌, Bool, true, false, ◌==◌, if◌then◌else◌, List, [], ◌∷◌, ◌++◌, map, length, Option, Some, None, refl, sym, ap, ◌∙◌, subst, arith}
 use Rattle.std.specs.Prelude.{pos}
 use Rattle.std.specs.List.{AllByRecursion}
 use Rattle.std.proofs.lemmas.List.{append_assoc, length-map}
@@ -26,21 +26,7 @@ use Rattle.gib_core.specs.Tree.{Term, Write, CallTerm, Give, IfTerm, Tuple, Bind
 use Rattle.gib_core.specs.Inferring.{Scope, slot, Lined, Atomed, Several, ToLine, ToAtom, Code, boxed, given, of_line, of_atom, result_of, plain_line, of_plain, several, operation_atom, call_line, call_atom, call_side, scalar_call, call_code, further_types, pointed_fields, as_atoms, make_from, make_line, let_line, par_line, if_line, part_lines, tuple_line, Bounded, several_side, bound_side, several_line, sides_line, ArmCode, with_fields, arm_for, branch_of, branches_of, numbers_from, constructors_of, first_constructor, case_line, atom_at, type_at, con_named, gives_type, infer, infer_all, infer_arms, infer_body, infer_function, infer_program}
 use Rattle.gib_core.specs.Met.{Body}
 use Rattle.gib_core.specs.Numbering.{binders, bind_binders, side_binders, part_binders, branch_binders, IsNumbered, AreNumbered}
-
--- The numbers from one on to another one, without it.
-abbrev Runs : ℕ → List ℕ → ℕ → Type 0
-Runs n [] m = n ≡ m
-Runs n (x ∷ xs) m = (x ≡ n) × Runs (n + 1) xs m
-
-runs_append : (n k m : ℕ) (xs ys : List ℕ) → Runs n xs k → Runs k ys m → Runs n (xs ++ ys) m
-runs_append n k m [] ys e h = subst (λ (j : ℕ). Runs j ys m) (sym e) h
-runs_append n k m (x ∷ xs) ys e h = (e.0, runs_append (n + 1) k m xs ys e.1 h)
-
-runs_numbers : (n m : ℕ) (xs : List ℕ) → Runs n xs m → xs ≡ numbers_from n (length xs)
-runs_numbers n m [] h = refl
-runs_numbers n m (x ∷ xs) h =
-    let next : n + 1 ≡ suc n = omega arith in
-    λ i. h.0 i ∷ (runs_numbers (n + 1) m xs h.1 ∙ ap (λ j. numbers_from j (length xs)) next) i
+use Rattle.gib_core.proofs.Runs.{Runs, runs_append, runs_numbers}
 
 -- Bindings.
 

@@ -24,7 +24,6 @@ use Rattle.gib_core.specs.declared.atom.Atom.{Atom}
 use Rattle.gib_core.specs.declared.atom.Atom.TheVariants as a
 use Rattle.gib_core.specs.declared.node.Binding.{Binding}
 use Rattle.gib_core.specs.declared.node.Binding.TheVariants as b
-use Rattle.gib_core.specs.declared.node.BoundSide.{BoundSide}
 use Rattle.gib_core.specs.declared.node.BoundSide.TheVariants as sides
 use Rattle.gib_core.specs.declared.node.Node.{Node}
 use Rattle.gib_core.specs.declared.node.Node.TheVariants as n
@@ -37,15 +36,16 @@ use Rattle.gib_core.specs.Tree as core
 use Rattle.gib_core.specs.Tree.{Term, Then, Tuple, PartTerms, NoPart, PartThen, One, Both, variables_from, prepend}
 use Rattle.gib_core.specs.Arena.{Grows, Makes, IsPartBelow, parts_from, side_from, binds_from, term_in, term_of}
 use Rattle.gib_core.specs.Inferring.{Scope, Lined, Several, Parted, Bounded, Code, ToLine, infer, several, part_lines, tuple_line, several_side, bound_side as of_names, slot, with_fields}
+use Rattle.gib_core.specs.ArenaLaws.{side_same}
 use Rattle.gib_infer.specs.declared.parts.NamedSide.{NamedSide}
 use Rattle.gib_infer.specs.declared.work.Work.{Work}
 use Rattle.gib_infer.specs.Made.{scope_of, globals_in, code_at, codes_at, AreBelow, Keeps, MakesLine, MakesAtoms, MakesParts, IsNotOne, MakesSlots, MakesSide, MakesNamed, Enters}
 use Rattle.gib_infer.proofs.Finding.{scope_of-push}
 use Rattle.gib_infer.proofs.Fits.{variables_same}
 use Rattle.gib_infer.proofs.Making.{next_of, keeps_more}
-use Rattle.gib_infer.proofs.FieldSteps.{rest-is}
 use Rattle.gib_infer.proofs.Calls.{at_fields-map, codes-each}
-use Rattle.gib_core.proofs.Fronting.{binds_same, grows_more}
+use Rattle.gib_core.proofs.Fronting.{binds_same, grows_more, parts_same}
+use Rattle.gib_check.proofs.RowLists.{rest-is}
 
 -- ---- packed parts
 
@@ -61,10 +61,6 @@ join_nothing (PartThen t ps) = ap (PartThen t) (join_nothing ps)
 parts_push : (f : ℕ → Term) (ts : List TermId) (t : TermId) (rest : PartTerms) → join_parts (parts_from f (ts ++ t ∷ [])) rest ≡ join_parts (parts_from f ts) (PartThen (f t.0) rest)
 parts_push f [] t rest = refl
 parts_push f (u ∷ ts) t rest = ap (PartThen (f u.0)) (parts_push f ts t rest)
-
-parts_same : (old new : List Node) (ts : List TermId) → Grows old new → AllByRecursion (IsPartBelow (length old)) ts → parts_from (term_of new) ts ≡ parts_from (term_of old) ts
-parts_same old new [] g h = refl
-parts_same old new (t ∷ ts) g h = (λ i. PartThen (g.same t.0 h.0 i) (parts_same old new ts g h.1 i))
 
 below_parts : (n m : ℕ) (ts : List TermId) (t : TermId) → n ≤ m → AllByRecursion (IsPartBelow n) ts → t.0 < m → AllByRecursion (IsPartBelow m) (ts ++ t ∷ [])
 below_parts n m [] t le h lt = (lt, tt)
@@ -238,10 +234,6 @@ several_named types w0 w1 w2 qs slots made first parts term ty line hs et ef h e
       fresh = λ inner. k.fresh;
     }
 
-sides_same : (old new : List Node) (x : BoundSide) → Grows old new → (term_in x).0 < length old → side_from (term_of new) x ≡ side_from (term_of old) x
-sides_same old new (sides.One x) g lt = (λ i. core.On x.kind x.variable x.ty (g.same x.term.0 lt i))
-sides_same old new (sides.Several x) g lt = (λ i. core.Several (variables_from x.first.0 (types_in x.types)) (types_in x.types) (g.same x.term.0 lt i))
-
 -- A `let` of several names.
 pub several_let : (w0 w1 w2 w3 w4 : Work) (m : ℕ) (x : NamedSide) (f : Scope → Bounded) (of : Ty) (body : ToLine) (rest term : TermId) → MakesNamed w0 w1 x f → m ≡ length w1.scope.items → Enters w1 w2 x.slots.items
     → MakesLine w2 w3 rest of (body (scope_of w2.scope.items) w2.fresh) → w4.scope.items ≡ take m w3.scope.items → w4.fresh ≡ w3.fresh → Makes w3.terms w4.terms term.0 (n.Then (b.One x.side) rest)
@@ -258,7 +250,7 @@ several_let w0 w1 w2 w3 w4 m x f of body rest term h em e h3 es4 ef4 made =
     record {
       keeps = record { grows = grows_more w0.terms w3.terms w4.terms (grows_more w0.terms w1.terms w3.terms h.keeps.grows g13) made.grows; scope = back };
       inside = made.inside;
-      term = made.term ∙ (λ i. Then (One ((sides_same w1.terms w3.terms x.side g13 h.inside ∙ h.side sc) i)) (k.term i));
+      term = made.term ∙ (λ i. Then (One ((side_same (term_of w3.terms) (term_of w1.terms) (length w1.terms) x.side h.inside g13.same ∙ h.side sc) i)) (k.term i));
       ty = k.ty;
       fresh = ef4 ∙ k.fresh;
     }
@@ -291,7 +283,7 @@ several_par w0 w1 w2 w3 w4 w5 w6 m x y f g of body rest term h1 h2 em e1 e2 h5 e
     record {
       keeps = record { grows = grows_more w0.terms w5.terms w6.terms (grows_more w0.terms w2.terms w5.terms k12.grows g25) made.grows; scope = back };
       inside = made.inside;
-      term = made.term ∙ (λ i. Then (Both Rattle.std.specs.Prelude.false ((sides_same w1.terms w5.terms x.side g15 h1.inside ∙ h1.side sc) i) ((sides_same w2.terms w5.terms y.side g25 k2.inside ∙ k2.side l.scope) i)) (k5.term i));
+      term = made.term ∙ (λ i. Then (Both Rattle.std.specs.Prelude.false ((side_same (term_of w5.terms) (term_of w1.terms) (length w1.terms) x.side h1.inside g15.same ∙ h1.side sc) i) ((side_same (term_of w5.terms) (term_of w2.terms) (length w2.terms) y.side k2.inside g25.same ∙ k2.side l.scope) i)) (k5.term i));
       ty = k5.ty;
       fresh = ef6 ∙ k5.fresh;
     }

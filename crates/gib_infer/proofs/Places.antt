@@ -19,8 +19,8 @@ use Rattle.gib_core.specs.Meaning.{Calls, value, merge, Reached, Went, from_ther
 use Rattle.gib_core.specs.Inferring.{Scope, slot, Several, ToLine, ToAtom, Code, boxed, given, of_line, of_atom, result_of, plain_line, of_plain, several, operation_atom, call_line, call_atom, call_side, scalar_call, call_code, further_types, pointed_fields, as_atoms, make_line, let_line, if_line}
 use Rattle.gib_core.proofs.Agreeing.{env_of, IsBelow, AllBelow, EachBelow, Keeps, Together, also, gather, with_all, each_of, Agree, came, halted, Collects, got, missed, Lines, Atoms, Manys, Good, AllGood}
 use Rattle.gib_core.proofs.Envs.{value_in-here, keeps_same, keeps_bind, keeps_more, keeps_less, below_less, all_below_less, each_below_less, value-keeps, values-keep, env_of-keeps, run_all-append, mean-prepend, agree_then, gives_then, with_value-Gives, collects_then, gives_all}
+use Rattle.gib_core.proofs.Lining.{prepend-append}
 use Rattle.gib_infer.proofs.Together.{fields_merged}
-use Rattle.gib_infer.proofs.Makes.{prepend-append}
 
 module _ (tb : Table) (call : Calls) where
   -- a bound side

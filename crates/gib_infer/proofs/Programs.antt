@@ -28,7 +28,7 @@ use Rattle.gib_infer.specs.declared.work.Work.{Work}
 use Rattle.gib_infer.specs.Made.{scope_of, globals_in, code_at, BindsFields, MakesLine}
 use Rattle.gib_infer.specs.Bodies.{MakesBody, MakesFunction, MakesFunctions, MakesMain}
 use Rattle.gib_core.proofs.Fronting.{grows_more, grows_none}
-use Rattle.gib_core.proofs.Inside.{functions_more}
+use Rattle.gib_core.proofs.Inside.{functions_more, functions_stay}
 
 pub body_made : (parts : Parts) (exprs : List Expr) (names : List Ident) (types : List Ty) (id : ℕ) (w0 w1 w2 w3 : Work) (xs : List Variable) (t : TermId) (of : Ty) → exprs ≡ parts.exprs → w1.terms ≡ w0.terms → w1.scope.items ≡ [] → w1.fresh ≡ 0 → BindsFields w1 w2 names types xs → MakesLine w2 w3 t of ((code_at parts exprs id).line (scope_of w2.scope.items) w2.fresh) → MakesBody w0 w3 t (infer_body (globals_in parts) names types (tree_of parts.exprs id))
 body_made parts exprs names types id w0 w1 w2 w3 xs t of ee et es ef hb h =
@@ -79,10 +79,6 @@ inside_push : (n : ℕ) (made : List CoreFunction) (x : CoreFunction) → AllByR
 inside_push n [] x h lt = (lt, tt)
 inside_push n (y ∷ made) x h lt = (h.0, inside_push n made x h.1 lt)
 
-pub functions_same : (old new : List Node) (made : List CoreFunction) → Grows old new → AllByRecursion (IsFunctionInside (length old)) made → map (function_term (term_of new)) made ≡ map (function_term (term_of old)) made
-functions_same old new [] g h = refl
-functions_same old new (x ∷ made) g h = (λ i. record { name = x.name; parameters = x.parameters.items; result = results_of x.result; body = g.same x.body.0 h.0 i } ∷ functions_same old new made g h.1 i)
-
 pub functions_next : (parts : Parts) (old now newer : Work) (made more : List CoreFunction) (x : CoreFunction) (next : ℕ) → next < length (program_of parts).functions → FunctionsSoFar parts old now made next → ((f : FunctionTree) → slice_get (program_of parts).functions next ≡ Some f → MakesFunction now newer x (infer_function (globals_in parts) f)) → more ≡ made ++ x ∷ [] → FunctionsSoFar parts old newer more (next + 1)
 functions_next parts old now newer made more x next lt h step em =
     let fs = (program_of parts).functions in
@@ -95,7 +91,7 @@ functions_next parts old now newer made more x next lt h step em =
       inside = rw em (inside_push (length newer.terms) made x (functions_more (length now.terms) (length newer.terms) made k.grows.longer h.inside) k.inside);
       are =
           (λ i. (ap (map (function_term f)) em ∙ map-append (function_term f) made (x ∷ [])) i ++ map (infer_function g) (drop (next + 1) fs))
-          ∙ (λ i. (functions_same now.terms newer.terms made k.grows h.inside i ++ k.is i ∷ []) ++ map (infer_function g) (drop (next + 1) fs))
+          ∙ (λ i. (functions_stay (term_of newer.terms) (term_of now.terms) (length now.terms) made h.inside k.grows.same i ++ k.is i ∷ []) ++ map (infer_function g) (drop (next + 1) fs))
           ∙ append_assoc (map (function_term (term_of now.terms)) made) (infer_function g found.0 ∷ []) (map (infer_function g) (drop (next + 1) fs))
           ∙ ap (λ z. map (function_term (term_of now.terms)) made ++ map (infer_function g) z) (sym (drop-at fs next found.0 found.1))
           ∙ h.are;
@@ -118,4 +114,4 @@ functions_end parts old new made next le h = record {
 pub core_made : (parts : Parts) (w0 w1 w2 : Work) (table : Table) (fs : List CoreFunction) (main : CoreMain) (offsets : List ConId) (core : CoreParts) → table ≡ table_of_program (program_of parts) → MakesFunctions w0 w1 fs (map (infer_function (globals_in parts)) (program_of parts).functions) → MakesMain w1 w2 main (infer_program (program_of parts)).main → offsets ≡ [] → core ≡ record { table = table; terms = w2.terms; functions = fs; main = main; offsets = offsets; marked = false } → core_of core ≡ infer_program (program_of parts)
 core_made parts w0 w1 w2 table fs main offsets core et hf hm eo e =
     ap core_of e
-    ∙ (λ i. record { table = et i; functions = (functions_same w1.terms w2.terms fs hm.grows hf.inside ∙ hf.are) i; main = hm.is i; offsets = eo i; marked = false })
+    ∙ (λ i. record { table = et i; functions = (functions_stay (term_of w2.terms) (term_of w1.terms) (length w1.terms) fs hf.inside hm.grows.same ∙ hf.are) i; main = hm.is i; offsets = eo i; marked = false })

@@ -22,7 +22,7 @@ use Rattle.gib_syntax.specs.Tree.{Expression, Arguments, Arms, Var, Num, Bit, Pa
 use Rattle.gib_syntax.specs.Declarations.{number_of, place_of, next_place, constructor_names, constructor_named, function_named, table_of_program, type_of_name}
 use Rattle.gib_syntax.specs.Typing as typing
 use Rattle.gib_syntax.specs.Typing.{Globals, globals_of, Has, HaveAll, HaveArms, Covers, arm_names, BindsAll, AreVariables, operator_type, parameter_types, types_of, result_types, one_type, IsTypedHere, IsTypedProgram}
-use Rattle.gib_syntax.specs.Meaning.{is_scalar, names_of}
+use Rattle.gib_syntax.specs.Meaning.{names_of}
 use Rattle.gib_core.specs.declared.atom.Variable.{Variable}
 use Rattle.gib_core.specs.declared.atom.Atom.{Atom}
 use Rattle.gib_core.specs.declared.atom.Atom.TheVariants as atomic
@@ -36,7 +36,7 @@ use Rattle.gib_core.specs.Rules.{type_bound, bound_too, is_reached, bind_fields,
 use Rattle.gib_core.specs.Reachable.{as_reached, IsReachable, AreReachable}
 use Rattle.gib_infer.proofs.Fits.{named_at, fields_fit}
 use Rattle.gib_infer.proofs.Ordered.{CodeOrdered, ordered}
-use Rattle.gib_infer.proofs.Whole.{place_below, named_listed}
+use Rattle.gib_infer.proofs.Whole.{named_listed}
 use Rattle.gib_infer.proofs.Meanings.{listed}
 use Rattle.gib_infer.proofs.Ready.{Ready, NamesTyped, CodeBuilt, AllBuilt}
 use Rattle.gib_infer.proofs.Makes.{line_built, atom_built, plain_built, operation_ok, call_built, make_built}
@@ -45,6 +45,8 @@ use Rattle.gib_infer.proofs.Severals.{NamesBound, tuple_ok, several_line_ok, sev
 use Rattle.gib_infer.proofs.Rising.{rising_variables, fields_outside, more_reached, reached_here, fields_can, binds_length}
 use Rattle.gib_infer.proofs.TypesKnown.{name_below}
 use Rattle.gib_infer.proofs.Choosing.{ArmBuilt, Taken, AllTaken, branches_type, case_ok}
+use Rattle.gib_check.proofs.Different.{place_within}
+use Rattle.gib_core.proofs.BuiltFacts.{operator_scalar}
 
 -- Constructors and arms.
 
@@ -122,7 +124,7 @@ module _ (core : CoreTree) (functions : List FunctionTree) (is : IsTable core.ta
   Own ty arms = AllByRecursion (NamedHere ty) (arm_names arms)
 
   named_within : (x c : ℕ) → constructor_named core.table x ≡ Some c → c < length core.table.rows
-  named_within x c e = let at = place_below (constructor_names core.table) x c e in let l = length-map core.table.rows (λ (r : Row). r.name) in omega arith
+  named_within x c e = let at = place_within (constructor_names core.table) x c e in let l = length-map core.table.rows (λ (r : Row). r.name) in omega arith
 
   -- The constructor that is named is k, where their names are the same.
   con_is : (j : Ident) (k ty : ℕ) → NamedHere ty (number_of j) → k < length core.table.rows → number_of j ≡ name_at core.table k → con_named g j ≡ k
@@ -188,15 +190,6 @@ module _ (core : CoreTree) (functions : List FunctionTree) (is : IsTable core.ta
 
   abbrev call_of : Ident → List Code → Code
   call_of f xs = call_code (gives_type core.table (function_named functions (number_of f))) f.name xs
-
-  operator_scalar : (f : Operator) → is_scalar (operator_type f) ≡ true
-  operator_scalar o.Add = refl
-  operator_scalar o.Subtract = refl
-  operator_scalar o.Multiply = refl
-  operator_scalar o.Equal = refl
-  operator_scalar o.Less = refl
-  operator_scalar o.Quotient = refl
-  operator_scalar o.Remainder = refl
 
   operation_built : (f : Operator) (c d : Code) (given : Results Ty) (outer : typing.Scope) (sc : Scope) → given ≡ results.One (operator_type f) → CodeOrdered g (of_atom (operation_atom f c.atom d.atom)) sc
       → Built c (results.One Whole) outer sc → Built d (results.One Whole) outer sc → Built (of_atom (operation_atom f c.atom d.atom)) given outer sc

@@ -13,23 +13,15 @@ use Rattle.gib_core.specs.declared.atom.Atom.{Atom}
 use Rattle.gib_core.specs.Tree.{Term, Bind, prepend, CoreTree}
 use Rattle.gib_core.specs.Inferring.{Scope, Lined, Atomed, Several, ToLine, ToAtom, Code, atom_at, type_at}
 use Rattle.gib_core.specs.Met.{Setting, Met, behind, met, met_bind, result_place}
-use Rattle.gib_core.specs.Rules.{Before, is_among, type_bound, type_of, is_usable, is_other, next, next_all}
+use Rattle.gib_core.specs.Rules.{Before, is_among, type_bound, type_of, is_usable, is_other, next_all}
 use Rattle.gib_core.specs.Reachable.{all_reached, LinesAreReachable}
 use Rattle.gib_core.specs.Ordered.{IsFit, AreFit}
 use Rattle.gib_core.proofs.Erases.{fit_more}
 use Rattle.gib_infer.proofs.Fits.{ScopeFits, scope_more, at_fit}
 use Rattle.gib_infer.proofs.Ordered.{CodeOrdered}
-use Rattle.gib_core.proofs.Along.{next_append}
+use Rattle.gib_core.proofs.Along.{next_append, behind_all, met_all, reachable_append}
 
 -- Lists of bindings.
-
-abbrev pub behind_all : Setting → List Bind → Setting
-behind_all s [] = s
-behind_all s (b ∷ bs) = behind_all (behind s b) bs
-
-abbrev pub met_all : Table → Setting → List Bind → List Met
-met_all table s [] = []
-met_all table s (b ∷ bs) = met_bind table s b ++ met_all table (behind s b) bs
 
 pub behind_all-append : (s : Setting) (xs ys : List Bind) → behind_all s (xs ++ ys) ≡ behind_all (behind_all s xs) ys
 behind_all-append s [] ys = refl
@@ -115,13 +107,9 @@ module _ (core : CoreTree) where
   pub clean_nothing : (n : ℕ) (b : Before) → Clean n n b []
   clean_nothing n b = record { reachable = tt; below = λ x h. refl; above = λ x h. refl; uncased = λ x h. refl }
 
-  pub reachable_append : (b : Before) (xs ys : List Met) → LinesAreReachable core b xs → LinesAreReachable core (next_all core.table b xs) ys → LinesAreReachable core b (xs ++ ys)
-  reachable_append b [] ys p q = q
-  reachable_append b (x ∷ xs) ys p q = (p.0, reachable_append (next core.table b x.line) xs ys p.1 q)
-
   pub clean_then : (n k l m : ℕ) (b : Before) (xs ys : List Met) → Clean n k b xs → Clean l m (next_all core.table b xs) ys → n ≤ l → k ≤ m → Clean n m b (xs ++ ys)
   clean_then n k l m b xs ys p q lo hi = record {
-    reachable = reachable_append b xs ys p.reachable q.reachable;
+    reachable = reachable_append core b xs ys p.reachable q.reachable;
     below = λ x h. ap (λ (z : Before). type_bound z.bound x) (next_append core.table b xs ys) ∙ q.below x (omega (arith, lo, h)) ∙ p.below x h;
     above = λ x h. ap (λ (z : Before). type_bound z.bound x) (next_append core.table b xs ys) ∙ q.above x h ∙ p.above x (omega (arith, hi, h));
     uncased = λ x h. ap (λ (z : Before). is_among z.cased x) (next_append core.table b xs ys) ∙ q.uncased x h ∙ p.uncased x (omega (arith, hi, h));

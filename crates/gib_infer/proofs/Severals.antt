@@ -19,10 +19,10 @@ use Rattle.gib_core.specs.Inferring.{Scope, slot, Code, kind_of, with_fields, se
 use Rattle.gib_core.specs.Met.{Setting, Destination, Empty, SideLine, SeveralLine, TupleLine, known, with_variables, stands_too, stands_behind, in_side, in_several, in_part, behind, behind_side, left_of, right_of, met, met_bind, met_side, met_parts, result_place}
 use Rattle.gib_core.specs.Rules.{Before, type_bound, is_reached, is_in_parts, are_declared, are_parts, are_several, bind_fields, least, rules, next, next_all}
 use Rattle.gib_core.specs.Reachable.{as_reached, all_reached}
-use Rattle.gib_core.proofs.Along.{next_append}
+use Rattle.gib_core.proofs.Along.{next_append, behind_all}
 use Rattle.gib_infer.proofs.Fits.{ScopeFits, scope_more, at_fit, fields_within, variables_length}
 use Rattle.gib_infer.proofs.Ordered.{parts_long}
-use Rattle.gib_infer.proofs.Ready.{CanUseAll, Ready, PlaceFor, Clean, clean_nothing, clean_then, then_all, behind_all, line_then, ready_behind, LineOk, CodeBuilt, AllBuilt}
+use Rattle.gib_infer.proofs.Ready.{CanUseAll, Ready, PlaceFor, Clean, clean_nothing, clean_then, then_all, line_then, ready_behind, LineOk, CodeBuilt, AllBuilt}
 use Rattle.gib_infer.proofs.Sides.{AreFrom, AreBefore, ready_left, ready_right, alike_scope, side_clean, side_type, ready_inside, place_inside, whole_inside}
 use Rattle.gib_infer.proofs.Rising.{rising_variables, fields_outside, fields_over, none_bound, variables_keep, variables_reach, fields_can}
 use Rattle.gib_infer.proofs.Makes.{least_two, least_four, all_apart, all_can, all_have, place_same, same_types-refl, several_fits, several_ok, tree_fields, scalar_fields, built_fields}

@@ -19,8 +19,8 @@ use Rattle.gib_core.specs.Rules.{Before, same_type, is_among, is_bound, type_bou
 use Rattle.gib_core.specs.Reachable.{as_reached, all_reached}
 use Rattle.gib_core.specs.Ordered.{IsFit}
 use Rattle.gib_infer.proofs.Fits.{scope_more, at_fit}
-use Rattle.gib_infer.proofs.Ready.{CanUse, Alike, Ready, PlaceFor, behind_all, Clean, Runs, then_all, clean_nothing, clean_then}
-use Rattle.gib_core.proofs.Along.{next_append}
+use Rattle.gib_infer.proofs.Ready.{CanUse, Alike, Ready, PlaceFor, Clean, Runs, then_all, clean_nothing, clean_then}
+use Rattle.gib_core.proofs.Along.{next_append, behind_all}
 
 pub same_type-refl : (ty : Ty) → same_type ty ty ≡ true
 same_type-refl Whole = refl

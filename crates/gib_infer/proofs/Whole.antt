@@ -16,7 +16,7 @@ use Rattle.gib_syntax.specs.Results as results
 use Rattle.gib_syntax.specs.Results.{Results, as_results}
 use Rattle.gib_syntax.specs.Tree as source
 use Rattle.gib_syntax.specs.Tree.{Expression, Arguments, Arms, Var, Num, Bit, Paren, Op, Call, Make, Let, Par, If, Case, LetSeveral, ParSeveral, NoArgument, Argument, LastArm, NextArm, FunctionTree, ProgramTree}
-use Rattle.gib_syntax.specs.Declarations.{number_of, place_of, next_place, constructor_names, constructor_named, function_named, table_of_program, type_of_name}
+use Rattle.gib_syntax.specs.Declarations.{number_of, constructor_names, constructor_named, function_named, table_of_program, type_of_name}
 use Rattle.gib_syntax.specs.Typing as typing
 use Rattle.gib_syntax.specs.Typing.{Globals, globals_of, Has, HaveAll, HaveArms, arm_names, BindsAll, parameter_types, types_of, IsTypedHere, IsTypedProgram}
 use Rattle.gib_syntax.specs.Meaning.{Outcome, Gives, Environment, value_in, bind, with_values, with_fields as by_fields, is_made_by, parts, tuple, made, choose, eval, eval_all, eval_arms, names_of, of_function, calls, run}
@@ -27,12 +27,14 @@ use Rattle.gib_core.specs.Meaning.{Calls, value, mean, function_at, core_calls, 
 use Rattle.gib_core.specs.Inferring.{Scope, slot, Code, atom_at, type_at, operation_atom, make_line, let_line, if_line, case_line, tuple_line, several_line, sides_line, with_fields, numbers_from, constructors_of, first_constructor, con_or, con_named, gives_type, infer, infer_all, infer_arms, infer_body, infer_function, infer_program}
 use Rattle.gib_core.proofs.Agreeing.{env_of, AllBelow, Hides, gather, with_all, each_of, Lines, Good, AllGood}
 use Rattle.gib_core.proofs.Envs.{value_in-env_of, at_below}
+use Rattle.gib_core.proofs.Erases.{not_made}
 use Rattle.gib_infer.proofs.Fits.{variables_same}
 use Rattle.gib_infer.proofs.Together.{values_all}
 use Rattle.gib_infer.proofs.Places.{line_good, atom_good, plain_good, operation_good, call_good, make_good, let_good, if_good}
 use Rattle.gib_infer.proofs.Tuples.{tuple_good, several_line_good, sides_line_good}
 use Rattle.gib_infer.proofs.Same.{eval_same, hides_bound, hides_nothing, hides_all, fields_below, fields_same}
 use Rattle.gib_infer.proofs.Meanings.{Choice, choose_on, take_choice, listed, choice_for, AllArms, alts_grow, case_gives}
+use Rattle.gib_check.proofs.Different.{place_within}
 
 -- Constructors of a type.
 
@@ -47,19 +49,10 @@ numbers_listed n (suc count) k le lt = go (n == k) refl (λ le'. numbers_listed 
     go true e more = refl
     go false e more = let ne = different n k e in more (omega (arith, ne))
 
-pub place_below : (xs : List ℕ) (x i : ℕ) → place_of xs x ≡ Some i → i < length xs
-place_below [] x i e = absurd cc
-place_below (y ∷ ys) x i e = go (y == x) (place_of ys x) (λ j f. place_below ys x j f) e
-  where
-    go : (b : Bool) (p : Option ℕ) → ((j : ℕ) → p ≡ Some j → j < length ys) → (if b then Some 0 else next_place p) ≡ Some i → i < suc (length ys)
-    go true p h f = let z = same_Some 0 i f in omega arith
-    go false None h f = absurd cc
-    go false (Some j) h f = let lt = h j refl in let z = same_Some (suc j) i f in omega arith
-
 -- A constructor with a name is one of the constructors of its type.
 pub named_listed : (table : Table) (k c : ℕ) → IsTable table → constructor_named table k ≡ Some c → listed (constructors_of table (owner_at table c)) c ≡ true
 named_listed table k c is e =
-    let within : c < length table.rows = let lt = place_below (constructor_names table) k c e in let l = length-map table.rows (λ (r : Row). r.name) in omega arith in
+    let within : c < length table.rows = let lt = place_within (constructor_names table) k c e in let l = length-map table.rows (λ (r : Row). r.name) in omega arith in
     let among = (together table (owner_at table c) c is).0 (tag_there table c within) in
     numbers_listed (first_at table (owner_at table c)) (count_at table (owner_at table c)) c among.0 among.1
 
@@ -101,15 +94,11 @@ module _ (g : Globals) (call : Calls) (is : IsTable g.table) where
   all_declared ty (NextArm k xs e arms) h = (declared_here ty k h.0, all_declared ty arms h.1)
 
   -- the source's case, by constructors
-  made_none : (o : Option ℕ) (v : Datum) → ((k : ℕ) → is_made_by (Some k) v ≡ false) → is_made_by o v ≡ false
-  made_none None v h = refl
-  made_none (Some k) v h = h k
-
   scalar_arms : (arms : Arms) (v : Datum) (env : Environment) → ((k : ℕ) → is_made_by (Some k) v ≡ false) → eval_arms g.table call arms v env ≡ Gives (whole (pos 0))
   scalar_arms (LastArm k xs e) v env h =
-      ap (λ b. choose b (eval g.table call e (bind xs (parts v) env)) (Gives (whole (pos 0)))) (made_none (constructor_named g.table (number_of k)) v h)
+      ap (λ b. choose b (eval g.table call e (bind xs (parts v) env)) (Gives (whole (pos 0)))) (not_made (constructor_named g.table (number_of k)) v h)
   scalar_arms (NextArm k xs e arms) v env h =
-      ap (λ b. choose b (eval g.table call e (bind xs (parts v) env)) (eval_arms g.table call arms v env)) (made_none (constructor_named g.table (number_of k)) v h)
+      ap (λ b. choose b (eval g.table call e (bind xs (parts v) env)) (eval_arms g.table call arms v env)) (not_made (constructor_named g.table (number_of k)) v h)
       ∙ scalar_arms arms v env h
 
   made_arms : (ty : ℕ) (arms : Arms) (k : ℕ) (vs : Data) (env : Environment) → AllDeclared ty arms → eval_arms g.table call arms (con k vs) env ≡ take_choice (choices arms) k (list_of vs) env
