@@ -1,5 +1,5 @@
 -- Offsets are stored exactly where an arm reads one.
-use Rattle.std.proofs.Common.{◌≡◌, Bool, true, false, ◌||◌, ◌==◌, if◌then◌else◌, not, List, [], ◌∷◌, ◌++◌, map, Option, Some, None, refl, sym, ap, ◌∙◌}
+use Rattle.std.proofs.Common.{◌≡◌, Bool, true, false, ◌||◌, if◌then◌else◌, List, [], ◌∷◌, ◌++◌, map, Option, refl, sym, ap, ◌∙◌}
 use Rattle.std.specs.List.{flat_map, AllByRecursion}
 use Rattle.std.proofs.lemmas.Bool.{both_ways}
 use Rattle.gib_types.specs.declared.table.ConId.{ConId}
@@ -7,18 +7,17 @@ use Rattle.gib_types.specs.declared.table.Ty.{Ty}
 use Rattle.gib_types.specs.Table.{first_type, further_types, tree_types}
 use Rattle.gib_syntax.specs.Results as results
 use Rattle.gib_core.specs.declared.atom.Variable.{Variable}
-use Rattle.gib_core.specs.declared.atom.Access.{Access}
 use Rattle.gib_core.specs.declared.atom.Access.TheVariants.{Offset, Skip, End}
 use Rattle.gib_core.specs.declared.atom.AccessMode.{AccessMode}
 use Rattle.gib_core.specs.declared.atom.AccessMode.TheVariants.{Skips, Offsets, Ends}
 use Rattle.gib_core.specs.declared.atom.Ended.{Ended}
-use Rattle.gib_core.specs.declared.scope.Known.{Known}
 use Rattle.gib_core.specs.Tree.{Term, Then, Write, Point, CallTerm, Give, CaseTerm, IfTerm, Tuple, PartTerms, NoPart, PartThen, Bind, Past, One, Both, Prim, Reach, Side, On, Several, Branches, NoBranch, BranchThen, prepend, FunctionTerm, CoreTree}
-use Rattle.gib_core.specs.Met.{Setting, Met, ReachLine, Body, known, left_of, right_of, behind, in_side, in_several, in_part, in_arm, in_branch, met, met_bind, met_side, met_parts, met_branches}
-use Rattle.gib_core.specs.Rules.{Before, least, rules, may_reach, is_among}
-use Rattle.gib_core.specs.Reachable.{as_reached, all_reached, LinesAreReachable, IsReachable, AreReachable}
+use Rattle.gib_core.specs.Met.{Setting, Met, Body, left_of, right_of, behind, in_side, in_several, in_part, in_arm, in_branch, met, met_bind, met_side, met_parts, met_branches}
+use Rattle.gib_core.specs.Rules.{Before}
+use Rattle.gib_core.specs.Reachable.{LinesAreReachable, IsReachable, AreReachable}
 use Rattle.gib_core.specs.Reaching.{Later, uses, bind_uses, uses_any, skips_from, offsets_from, untold, untold_from, reaches, ends_now, not_now, laters, in_par, packed_variables, reach, reach_bind, reach_side, reach_parts, reach_branches, reach_function, reach_core, offset_of, offsets_in, bind_offsets, side_offsets, part_offsets, branch_offsets, ended_by, all_offsets, offsets_by}
 use Rattle.gib_core.proofs.Along.{reachable_split}
+use Rattle.gib_core.proofs.Cased.{reaches_none}
 use Rattle.gib_access.specs.Stored.{is_by_offset, line_reads, read_in, bind_read, side_read, parts_read, branch_read, read_core}
 
 -- With skips no offset is stored.
@@ -109,29 +108,12 @@ arm_reads Ends es k t u (z ∷ ys) e = ap (λ (c : Bool). if c then k ∷ [] els
 
 module _ (core : CoreTree) where
   -- A core whose fields are not reached reaches none.
-  reached_once : (b : Before) (s : Setting) (ks : List Known) (y : Variable) (by : Access) → may_reach core b s (known (map as_reached ks) y) by ≡ false
-  reached_once b s [] y by = refl
-  reached_once b s (k ∷ ks) y by = go (k.variable.0 == y.0) (reached_once b s ks y by)
-    where
-      go : (c : Bool) → may_reach core b s (known (map as_reached ks) y) by ≡ false → may_reach core b s (if c then Some (as_reached k) else known (map as_reached ks) y) by ≡ false
-      go true e = refl
-      go false e = e
-
-  left_out : (a c : Bool) → c ≡ false → least ((4, a) ∷ (8, not c) ∷ []) ≡ None → ⊥
-  left_out true c e h = cc
-  left_out false true e h = cc
-  left_out false false e h = cc
-
-  reaches_none : (b : Before) (s : Setting) (y : Variable) (by : Access) → least (rules core b (all_reached s) (ReachLine y by)) ≡ None → ⊥
-  reaches_none b s y by e =
-      left_out (is_among s.others y) (may_reach core b (all_reached s) (known (map as_reached s.scope) y) by) (reached_once b (all_reached s) s.scope y by) e
-
   bind_none : (m : AccessMode) (es : List Ended) (bind : Bind) (s : Setting) (b : Before) → LinesAreReachable core b (met_bind core.table s bind) → is_by_offset (reach_bind m core.table es bind) ≡ false
   bind_none m es (Past h k) s b r = refl
   bind_none m es (One side) s b r = refl
   bind_none m es (Both fork left right) s b r = refl
   bind_none m es (Prim x f y z) s b r = refl
-  bind_none m es (Reach y by) s b r = absurd (reaches_none b s y by r.0)
+  bind_none m es (Reach y by) s b r = absurd (reaches_none core b s y by r.0)
 
   line_none : (m : AccessMode) (es : List Ended) (fs : List Later) (t : Term) (s : Setting) (b : Before) → LinesAreReachable core b (met core.table s t) → line_reads (reach m core.table es fs t) ≡ false
   line_none m es fs (Then bind t) s b r =
