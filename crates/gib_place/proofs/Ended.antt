@@ -14,21 +14,22 @@ use Rattle.gib_core.specs.declared.scope.Known.{Known}
 use Rattle.gib_core.specs.Tree.{Term, Then, Write, Bind, Past, prepend, CoreTree}
 use Rattle.gib_core.specs.Inferring.{as_atoms}
 use Rattle.gib_core.specs.Numbering.{binders}
-use Rattle.gib_core.specs.Met.{Destination, Nowhere, Empty, Open, InParts, Setting, PastLine, SideLine, WriteLine, PointLine, Met, packed_types, field_due, with_field, in_side, behind, met, met_bind}
+use Rattle.gib_core.specs.Met.{Destination, Open, Setting, PastLine, SideLine, WriteLine, PointLine, Met, packed_types, field_due, with_field, in_side, behind, met, met_bind}
 use Rattle.gib_core.specs.Rules.{Before, same_type, is_empty, is_among, type_bound, is_type, has_type, have_types, is_usable, all_usable, is_other, any_other, is_of_type, are_variables, any_cased, further, may_write, are_scalars, rules, next, next_all, type_made}
 use Rattle.gib_core.specs.Reachable.{all_reached, LinesAreReachable}
 use Rattle.gib_place.specs.declared.field.Field.{Field}
 use Rattle.gib_core.specs.Counting.{count_atom, count_in, count}
 use Rattle.gib_place.specs.Placing.{pointing, Filling, bound_in, are_fields, place_line}
-use Rattle.gib_core.proofs.Along.{none_broken, next_append, reachable_split, same_variable}
+use Rattle.gib_core.proofs.Along.{none_broken, next_append, reachable_split, same_variable, behind_all, met_all}
 use Rattle.gib_core.proofs.Cased.{has, reached_where_has, has_less}
 use Rattle.gib_place.proofs.Lays.{Lays, variables}
 use Rattle.gib_place.proofs.Counts.{occurs, binders_all, targets, ending_line, filling_line, fields_named, fields_once, counted, count_line, occurs_line, lays_occurs, line_by_steps}
 use Rattle.gib_place.proofs.Fitting.{own_count, is_told, Fit, told, fields_fit, scalars_unused}
 use Rattle.gib_place.proofs.Wider.{nums, times, none_among}
 use Rattle.gib_place.proofs.Weaken.{Scoped, Room, type_same, types_same, other_eq, any_other_eq}
-use Rattle.gib_place.proofs.Kept.{length_one, behinds, mets, met_prepend, gains_run, FieldsOk, lays_reach, shift_one, scopes_back, others_behinds, mets_cased, all_empty}
+use Rattle.gib_place.proofs.Kept.{length_one, met_prepend, gains_run, FieldsOk, lays_reach, shift_one, scopes_back, others_behinds, mets_cased, all_empty}
 use Rattle.gib_core.proofs.Dests.{usable_first}
+use Rattle.gib_core.proofs.Facts.{empty_is}
 use Rattle.gib_place.proofs.Means.{fit_none}
 
 bound_fields : (fs : List Field) → bound_in (map pointing fs) ≡ variables fs
@@ -39,16 +40,10 @@ binders_fields : (fs : List Field) → binders_all (map pointing fs) ≡ map (λ
 binders_fields [] = refl
 binders_fields (f ∷ fs) = ap (λ l. f.variable.0 ∷ l) (binders_fields fs)
 
-fields_place : (h : Variable) (k : ConId) (fs : List Field) (s : Setting) (done : List Variable) → s.destination ≡ Open h k done → (behinds s (map pointing fs)).destination ≡ Open h k (done ++ variables fs)
+fields_place : (h : Variable) (k : ConId) (fs : List Field) (s : Setting) (done : List Variable) → s.destination ≡ Open h k done → (behind_all s (map pointing fs)).destination ≡ Open h k (done ++ variables fs)
 fields_place h k [] s done e = e ∙ ap (Open h k) (sym (append-nil done))
 fields_place h k (f ∷ fs) s done e =
     fields_place h k fs (behind s (pointing f)) (done ++ f.variable ∷ []) (ap (with_field f.variable) e) ∙ ap (Open h k) (sym (shift_one done f.variable (variables fs)))
-
-are_empty : (d : Destination) → is_empty d ≡ true → d ≡ Empty
-are_empty Nowhere e = absurd cc
-are_empty Empty e = refl
-are_empty (Open h k standing) e = absurd cc
-are_empty (InParts tys) e = absurd cc
 
 first_others : (s : Setting) (xs ys : List Atom) → any_other s (xs ++ ys) ≡ false → (any_other s xs ≡ false) × (any_other s ys ≡ false)
 first_others s [] ys e = (refl, e)
@@ -95,7 +90,7 @@ module _ (core : CoreTree) (once : Variable → Bool) (h : Variable) (k : ConId)
 
   fields_ok : (hw : Variable) (kw : ConId) (ss : List Atom) (fs : List Field) (s : Setting) (b : Before) (done : List Variable) (n : ℕ) → s.destination ≡ Open h k done → n ≡ length done → s.others ≡ se.others
       → ((y : Variable) → has s.scope y ≡ true → F y ≡ false → has se.scope y ≡ true) → ((y : Variable) → has se.scope y ≡ true → type_bound b.bound y ≡ type_bound be.bound y) → ((y : Variable) → has se.scope y ≡ true → times (variables fs) y.0 ≡ 0)
-      → AllStatic fs → LinesAreReachable core b (mets core.table s (map pointing fs)) → FieldsOk core once h k hw kw ss se be n fs
+      → AllStatic fs → LinesAreReachable core b (met_all core.table s (map pointing fs)) → FieldsOk core once h k hw kw ss se be n fs
   fields_ok hw kw ss [] s b done n d c o nar ty free st r = tt
   fields_ok hw kw ss (f ∷ fs) s b done n d c o nar ty free st r =
       let line = SideLine Here f.variable f.ty in
@@ -137,11 +132,11 @@ module _ (core : CoreTree) (once : Variable → Bool) (h : Variable) (k : ConId)
   )
 
 module _ (core : CoreTree) (once : Variable → Bool) where
-  mets_scoped : (bs : List Bind) (s : Setting) (b : Before) → Scoped s.scope b → LinesAreReachable core b (mets core.table s bs) → Scoped (behinds s bs).scope (next_all core.table b (mets core.table s bs))
+  mets_scoped : (bs : List Bind) (s : Setting) (b : Before) → Scoped s.scope b → LinesAreReachable core b (met_all core.table s bs) → Scoped (behind_all s bs).scope (next_all core.table b (met_all core.table s bs))
   mets_scoped [] s b sc r y m = sc y m
   mets_scoped (bd ∷ bs) s b sc r y m =
-      let rs = reachable_split core b (met_bind core.table s bd) (mets core.table (behind s bd) bs) r in
-      let e = ap (λ (z : Before). occurs (nums z.bound) y.0) (next_append core.table b (met_bind core.table s bd) (mets core.table (behind s bd) bs)) in
+      let rs = reachable_split core b (met_bind core.table s bd) (met_all core.table (behind s bd) bs) r in
+      let e = ap (λ (z : Before). occurs (nums z.bound) y.0) (next_append core.table b (met_bind core.table s bd) (met_all core.table (behind s bd) bs)) in
       let q = mets_scoped bs (behind s bd) (next_all core.table b (met_bind core.table s bd)) (Rattle.gib_place.proofs.Weaken.scoped_after core bd s b sc rs.0) rs.1 y m in
       omega arith
 
@@ -174,17 +169,17 @@ module _ (core : CoreTree) (once : Variable → Bool) where
       let F = told once l named few differs in
       let fit = fields_fit once l named few differs in
       let rest = Then (Past h k) (ending_line l.ending) in
-      let se = behinds s l.run in
-      let be = next_all tb b (mets tb s l.run) in
-      let rs = reachable_split core b (mets tb s l.run) (met tb se rest) (subst (λ (ms : List Met). LinesAreReachable core b ms) (met_prepend core l.run rest s) r) in
+      let se = behind_all s l.run in
+      let be = next_all tb b (met_all tb s l.run) in
+      let rs = reachable_split core b (met_all tb s l.run) (met tb se rest) (subst (λ (ms : List Met). LinesAreReachable core b ms) (met_prepend core l.run rest s) r) in
       let s1 = behind se (Past h k) in
       let b1 = next tb be (PastLine h k) in
       let pf = none_broken (rules core be (all_reached se) (PastLine h k)) rs.1.0 in
       let opening = and_parts (is_empty se.destination) (is_of_type tb k se.due) (not-false (is_empty se.destination && is_of_type tb k se.due) pf.0) in
       let write = Write hw kw ss ps in
-      let r2 = reachable_split core b1 (mets tb s1 (map pointing fs)) (met tb (behinds s1 (map pointing fs)) write) (subst (λ (ms : List Met). LinesAreReachable core b1 ms) (met_prepend core (map pointing fs) write s1) rs.1.1) in
-      let sE = behinds s1 (map pointing fs) in
-      let bE = next_all tb b1 (mets tb s1 (map pointing fs)) in
+      let r2 = reachable_split core b1 (met_all tb s1 (map pointing fs)) (met tb (behind_all s1 (map pointing fs)) write) (subst (λ (ms : List Met). LinesAreReachable core b1 ms) (met_prepend core (map pointing fs) write s1) rs.1.1) in
+      let sE = behind_all s1 (map pointing fs) in
+      let bE = next_all tb b1 (met_all tb s1 (map pointing fs)) in
       let wf = none_broken (rules core bE (all_reached sE) (WriteLine hw kw ss ps)) r2.1.0 in
       let dest : sE.destination ≡ Open h k (variables fs) = fields_place h k fs s1 [] refl in
       let may = not-false (may_write tb bE sE.destination hw kw ps) wf.1.0 in
@@ -245,7 +240,7 @@ module _ (core : CoreTree) (once : Variable → Bool) where
         stand = record { there = λ y m. absurd cc; others = λ y m. absurd cc; uncased = λ y m. absurd cc };
         closed = refl;
       }) refl in
-      subst (λ (d : Destination). LinesAreReachable core b (met core.table (record s { destination = d }) (prepend cs (Write hw kw ss (as_atoms xs))))) (sym (are_empty s.destination start)) laid
+      subst (λ (d : Destination). LinesAreReachable core b (met core.table (record s { destination = d }) (prepend cs (Write hw kw ss (as_atoms xs))))) (sym (empty_is s.destination start)) laid
 
   pub line_keeps : (t : Term) → KeepsIt t (place_line once t)
   line_keeps t = line_by_steps once KeepsIt (λ z s b sc ro us r. r) laid_keeps t

@@ -19,31 +19,24 @@ use Rattle.gib_core.specs.Tree.{Term, Then, Write, Bind, Past, One, Both, Prim, 
 use Rattle.gib_core.specs.Inferring.{as_atoms}
 use Rattle.gib_core.specs.Numbering.{binders, bind_binders, side_binders}
 use Rattle.gib_core.specs.Met.{Destination, Nowhere, Empty, Open, InParts, Setting, PastLine, SideLine, PrimLine, WriteLine, PointLine, Met, reached, known, packed_types, stands_too, stands_behind, with_variables, in_side, behind, behind_side, calls_behind, left_of, right_of, met, met_bind, met_side}
-use Rattle.gib_core.specs.Rules.{Before, same_type, is_empty, has_room, is_among, is_bound, type_bound, type_of, is_type, has_type, have_types, is_usable, all_usable, is_other, any_other, is_of_type, are_variables, any_cased, further, rules, next, next_all, type_made}
+use Rattle.gib_core.specs.Rules.{Before, same_type, is_empty, has_room, is_among, is_bound, type_bound, type_of, is_type, has_type, have_types, is_usable, all_usable, is_other, any_other, is_of_type, any_cased, further, rules, next, next_all, type_made}
 use Rattle.gib_core.specs.Reachable.{all_reached, LinesAreReachable}
 use Rattle.gib_place.specs.declared.field.Field.{Field}
 use Rattle.gib_core.specs.Counting.{count}
 use Rattle.gib_place.specs.Placing.{bound_by, bound_in, is_one}
-use Rattle.gib_core.proofs.Along.{none_broken, least_none, next_append, reachable_split, same_variable}
+use Rattle.gib_core.proofs.Along.{none_broken, least_none, next_append, reachable_split, same_variable, behind_all, met_all, own_atoms, reachable_append}
 use Rattle.gib_core.proofs.Cased.{has, reached_where_has, has_variables, reaches_none, has_less}
 use Rattle.gib_place.proofs.Lays.{Lays, ends, opens, puts, stays, one, left, right, both, variables}
 use Rattle.gib_place.proofs.Counts.{occurs, occurs_append, binders_all}
 use Rattle.gib_place.proofs.Fitting.{not_among}
 use Rattle.gib_place.proofs.Wider.{nums, times, new_there, own_time, Gains, gains_none, gains_both, gains_term, gains_bind, gains_side}
-use Rattle.gib_place.proofs.Weaken.{scoped, Scoped, Room, Wider, Ahead, ahead_less, ahead_first, likes_itself, ahead_side, all_usable_more, types_same, other_eq, any_other_eq, reachable_append, ahead_behind, wider_side, wider_bind}
+use Rattle.gib_place.proofs.Weaken.{Scoped, Room, Wider, Ahead, ahead_less, ahead_first, likes_itself, ahead_side, all_usable_more, types_same, other_eq, any_other_eq, ahead_behind, wider_side, wider_bind}
 use Rattle.gib_core.proofs.Facts.{same_type_is}
-use Rattle.gib_core.proofs.Suited.{others_behind}
+use Rattle.gib_core.proofs.Suited.{others_behind, has_all}
+use Rattle.gib_core.proofs.Kept.{scoped}
 
 abbrev pub opened : Setting → Destination → List Known → Bool → Setting
 opened s d ks w = record s { destination = d; scope = ks; whole = w }
-
-abbrev pub behinds : Setting → List Bind → Setting
-behinds s [] = s
-behinds s (b ∷ bs) = behinds (behind s b) bs
-
-abbrev pub mets : Table → Setting → List Bind → List Met
-mets tb s [] = []
-mets tb s (b ∷ bs) = met_bind tb s b ++ mets tb (behind s b) bs
 
 usable_eq : (s z : Setting) (x : Atom) → s.scope ≡ z.scope → is_usable s x ≡ is_usable z x
 usable_eq s z (a.Variable x) e = ap (λ o. Rattle.gib_core.specs.Rules.is_reached (known o x)) e
@@ -61,10 +54,6 @@ others_two s (x ∷ xs) ys e f = let p = or_parts (is_other s x) (any_other s xs
 usable_two : (s : Setting) (xs ys : List Atom) → all_usable s xs ≡ true → all_usable s ys ≡ true → all_usable s (xs ++ ys) ≡ true
 usable_two s [] ys e f = f
 usable_two s (x ∷ xs) ys e f = let p = and_parts (is_usable s x) (all_usable s xs) e in λ i. p.0 i && usable_two s xs ys p.1 f i
-
-named_there : (xs : List Variable) → are_variables xs (as_atoms xs) ≡ true
-named_there [] = refl
-named_there (x ∷ xs) = λ i. eq-eqb x.0 x.0 refl i && named_there xs i
 
 pub length_one : {A : Type 0} (xs : List A) (x : A) → length (xs ++ x ∷ []) ≡ suc (length xs)
 length_one [] x = refl
@@ -98,20 +87,20 @@ module _ (core : CoreTree) where
   abbrev pub R : Before → List Met → Type 0
   R b ms = LinesAreReachable core b ms
 
-  pub met_prepend : (bs : List Bind) (t : Term) (s : Setting) → met core.table s (prepend bs t) ≡ mets core.table s bs ++ met core.table (behinds s bs) t
+  pub met_prepend : (bs : List Bind) (t : Term) (s : Setting) → met core.table s (prepend bs t) ≡ met_all core.table s bs ++ met core.table (behind_all s bs) t
   met_prepend [] t s = refl
-  met_prepend (b ∷ bs) t s = ap (λ l. met_bind core.table s b ++ l) (met_prepend bs t (behind s b)) ∙ sym (append_assoc (met_bind core.table s b) (mets core.table (behind s b) bs) (met core.table (behinds (behind s b) bs) t))
+  met_prepend (b ∷ bs) t s = ap (λ l. met_bind core.table s b ++ l) (met_prepend bs t (behind s b)) ∙ sym (append_assoc (met_bind core.table s b) (met_all core.table (behind s b) bs) (met core.table (behind_all (behind s b) bs) t))
 
-  pub gains_run : (bs : List Bind) (s : Setting) (b : Before) → Gains b (next_all core.table b (mets core.table s bs)) (binders_all bs)
+  pub gains_run : (bs : List Bind) (s : Setting) (b : Before) → Gains b (next_all core.table b (met_all core.table s bs)) (binders_all bs)
   gains_run [] s b = gains_none b
   gains_run (bd ∷ bs) s b =
       let ls = met_bind core.table s bd in
-      gains_both core.table b ls (mets core.table (behind s bd) bs) (bind_binders bd) (binders_all bs) (gains_bind core.table bd s b) (gains_run bs (behind s bd) (next_all core.table b ls))
+      gains_both core.table b ls (met_all core.table (behind s bd) bs) (bind_binders bd) (binders_all bs) (gains_bind core.table bd s b) (gains_run bs (behind s bd) (next_all core.table b ls))
 
-  pub mets_cased : (bs : List Bind) (s : Setting) (b : Before) (y : Variable) → times (next_all core.table b (mets core.table s bs)).cased y.0 ≤ times b.cased y.0 + Rattle.gib_place.proofs.Counts.count_all bs y
+  pub mets_cased : (bs : List Bind) (s : Setting) (b : Before) (y : Variable) → times (next_all core.table b (met_all core.table s bs)).cased y.0 ≤ times b.cased y.0 + Rattle.gib_place.proofs.Counts.count_all bs y
   mets_cased [] s b y = omega arith
   mets_cased (bd ∷ bs) s b y =
-      let e = ap (λ (z : Before). times z.cased y.0) (next_append core.table b (met_bind core.table s bd) (mets core.table (behind s bd) bs)) in
+      let e = ap (λ (z : Before). times z.cased y.0) (next_append core.table b (met_bind core.table s bd) (met_all core.table (behind s bd) bs)) in
       let p = ap (λ c. times c y.0) (Rattle.gib_place.proofs.Wider.bind_cased_after core.table bd s b) in
       let q = Rattle.gib_place.proofs.Wider.bind_casing_counts bd b.cased y in
       let r = mets_cased bs (behind s bd) (next_all core.table b (met_bind core.table s bd)) y in
@@ -137,7 +126,7 @@ module _ (core : CoreTree) where
   was_empty (Prim x f v w) s e = e
   was_empty (Reach y by) s e = e
 
-  pub all_empty : (bs : List Bind) (s : Setting) → is_empty (behinds s bs).destination ≡ true → is_empty s.destination ≡ true
+  pub all_empty : (bs : List Bind) (s : Setting) → is_empty (behind_all s bs).destination ≡ true → is_empty s.destination ≡ true
   all_empty [] s e = e
   all_empty (bd ∷ bs) s e = was_empty bd s (all_empty bs (behind s bd) e)
 
@@ -150,9 +139,6 @@ module _ (core : CoreTree) where
   has_back : (xs : List Variable) (ks : List Known) (y : Variable) → is_among xs y ≡ false → has (with_variables xs ks) y ≡ true → has ks y ≡ true
   has_back xs ks y o m = sym (ap (λ c. c || has ks y) o) ∙ (sym (has_variables xs ks y) ∙ m)
 
-  still_has : (xs : List Variable) (ks : List Known) (y : Variable) → has ks y ≡ true → has (with_variables xs ks) y ≡ true
-  still_has xs ks y m = has_variables xs ks y ∙ or_right (is_among xs y) (has ks y) m
-
   -- What is in scope behind a run, and is not bound by it, was in scope.
   scope_back : (bd : Bind) (s : Setting) (b : Before) (y : Variable) → R b (met_bind core.table s bd) → has (behind s bd).scope y ≡ true → is_among (bound_by bd) y ≡ false → has s.scope y ≡ true
   scope_back (Past h k) s b y r m o = m
@@ -163,10 +149,10 @@ module _ (core : CoreTree) where
   scope_back (Prim x f v w) s b y r m o = has_less x s.scope y (or_parts (x.0 == y.0) false o).0 m
   scope_back (Reach x by) s b y r m o = absurd (reaches_none core b s x by r.0)
 
-  pub scopes_back : (bs : List Bind) (s : Setting) (b : Before) (y : Variable) → R b (mets core.table s bs) → has (behinds s bs).scope y ≡ true → is_among (bound_in bs) y ≡ false → has s.scope y ≡ true
+  pub scopes_back : (bs : List Bind) (s : Setting) (b : Before) (y : Variable) → R b (met_all core.table s bs) → has (behind_all s bs).scope y ≡ true → is_among (bound_in bs) y ≡ false → has s.scope y ≡ true
   scopes_back [] s b y r m o = m
   scopes_back (bd ∷ bs) s b y r m o =
-      let rs = reachable_split core b (met_bind core.table s bd) (mets core.table (behind s bd) bs) r in
+      let rs = reachable_split core b (met_bind core.table s bd) (met_all core.table (behind s bd) bs) r in
       let p = not_among (bound_by bd) (bound_in bs) y o in
       scope_back bd s b y rs.0 (scopes_back bs (behind s bd) (next_all core.table b (met_bind core.table s bd)) y rs.1 m p.1) p.0
 
@@ -383,7 +369,7 @@ module _ (core : CoreTree) where
           least_none (rules core b' (all_reached so) line) (
             others_two (all_reached so) ss (as_atoms done) (any_other_eq (all_reached so) (all_reached s) ss refl ∙ end.others) (others_none (all_reached so) done st.others),
             (
-              ap not (λ i. end.heads i && ((eq-eqb (length done) (length (packed_types core.table k)) size i && named_there done i) && not (mine i))),
+              ap not (λ i. end.heads i && ((eq-eqb (length done) (length (packed_types core.table k)) size i && own_atoms done i) && not (mine i))),
               (
                 ap not (usable_two (all_reached so) ss (as_atoms done) (all_usable_eq (all_reached so) (all_reached (scoped s ks)) ss refl ∙ all_usable_more s b b' ks ss wd end.usable) (usable_each so done st.there)),
                 (ap not (types_same s b b' ss (scalar_types (fields_at core.table k.0)) wd.types end.usable ∙ end.typed), tt),
@@ -394,13 +380,13 @@ module _ (core : CoreTree) where
         )
 
     -- The value that a field points to has its type where it is put.
-    pointed : (s : Setting) (b : Before) (ks : List Known) (b' : Before) (bs : List Bind) (x : Atom) → Wider s.scope b ks b' → Scoped s.scope b → Room b (binders_all bs) → R b (mets core.table s bs)
-        → is_usable (all_reached (behinds s bs)) x ≡ true → is_one (bound_in bs) x ≡ false
-        → (is_usable (all_reached (scoped s ks)) x ≡ true) × (type_of b' x ≡ type_of (next_all core.table b (mets core.table s bs)) x)
+    pointed : (s : Setting) (b : Before) (ks : List Known) (b' : Before) (bs : List Bind) (x : Atom) → Wider s.scope b ks b' → Scoped s.scope b → Room b (binders_all bs) → R b (met_all core.table s bs)
+        → is_usable (all_reached (behind_all s bs)) x ≡ true → is_one (bound_in bs) x ≡ false
+        → (is_usable (all_reached (scoped s ks)) x ≡ true) × (type_of b' x ≡ type_of (next_all core.table b (met_all core.table s bs)) x)
     pointed s b ks b' bs (a.Whole z) w sc ro r u o = (refl, refl)
     pointed s b ks b' bs (a.Truth t) w sc ro r u o = (refl, refl)
     pointed s b ks b' bs (a.Variable y) w sc ro r u o =
-        let m = scopes_back bs s b y r (sym (reached_where_has (behinds s bs).scope y) ∙ u) o in
+        let m = scopes_back bs s b y r (sym (reached_where_has (behind_all s bs).scope y) ∙ u) o in
         let n = sc y m in let q = ro y.0 in
         (reached_where_has ks y ∙ w.scope y m, w.types y m ∙ sym ((gains_run bs s b).types y (omega arith)))
 
@@ -410,24 +396,24 @@ module _ (core : CoreTree) where
 
     -- What holds where a run and fields are left, and these stand: of the line, and of what it is laid out as.
     pub record Pre (o : Bool) (bs : List Bind) (fs : List Field) (cs : List Bind) (s : Setting) (b : Before) (ks : List Known) (b' : Before) (done : List Variable) (n : ℕ) (be : Before) : Type 0 where
-      pub is : be ≡ next_all core.table b (mets core.table s bs)
-      pub empty : is_empty (behinds s bs).destination ≡ true
+      pub is : be ≡ next_all core.table b (met_all core.table s bs)
+      pub empty : is_empty (behind_all s bs).destination ≡ true
       pub wider : Wider s.scope b ks b'
       pub scoped : Scoped s.scope b
       pub rooms : (y : ℕ) → occurs (nums b.bound) y + (occurs (binders_all bs) y + (times (variables fs) y + occurs (heads_left o) y)) ≤ 1
       pub room : Room b' (binders_all cs)
-      pub lines : R b (mets core.table s bs)
-      pub end : EndOk (behinds s bs) be
-      pub fields : FieldsOk (behinds s bs) be n fs
+      pub lines : R b (met_all core.table s bs)
+      pub end : EndOk (behind_all s bs) be
+      pub fields : FieldsOk (behind_all s bs) be n fs
       pub count : n ≡ length done
       pub size : n + length fs ≡ length (packed_types core.table k)
-      pub stand : Stand (behinds s bs) be ks done
+      pub stand : Stand (behind_all s bs) be ks done
       pub closed : Closed o done
 
     has_behind : (bd : Bind) (s : Setting) (b : Before) (ks : List Known) (y : Variable) → R b (met_bind core.table s bd) → has ks y ≡ true → has (behind (scoped s ks) bd).scope y ≡ true
     has_behind (Past c j) s b ks y r m = m
-    has_behind (One side) s b ks y r m = still_has (variables_of side) ks y m
-    has_behind (Both fork l rt) s b ks y r m = still_has (variables_of rt) (with_variables (variables_of l) ks) y (still_has (variables_of l) ks y m)
+    has_behind (One side) s b ks y r m = has_all (variables_of side) ks y m
+    has_behind (Both fork l rt) s b ks y r m = has_all (variables_of rt) (with_variables (variables_of l) ks) y (has_all (variables_of l) ks y m)
     has_behind (Prim x g v w) s b ks y r m = or_right (x.0 == y.0) (has ks y) m
     has_behind (Reach x by) s b ks y r m = absurd (reaches_none core b s x by r.0)
 
@@ -438,11 +424,11 @@ module _ (core : CoreTree) where
     due_behind (Prim x g v w) s = refl
     due_behind (Reach y by) s = refl
 
-    pub others_behinds : (bs : List Bind) (s : Setting) → (behinds s bs).others ≡ s.others
+    pub others_behinds : (bs : List Bind) (s : Setting) → (behind_all s bs).others ≡ s.others
     others_behinds [] s = refl
     others_behinds (bd ∷ bs) s = others_behinds bs (behind s bd) ∙ others_behind bd s
 
-    due_behinds : (bs : List Bind) (s : Setting) → (behinds s bs).due ≡ s.due
+    due_behinds : (bs : List Bind) (s : Setting) → (behind_all s bs).due ≡ s.due
     due_behinds [] s = refl
     due_behinds (bd ∷ bs) s = due_behinds bs (behind s bd) ∙ due_behind bd s
 
@@ -457,14 +443,14 @@ module _ (core : CoreTree) where
 
     -- Behind a binding that was laid.
     pre_after : (o : Bool) (bd bd' : Bind) (bs : List Bind) (fs gs : List Field) (cs : List Bind) (s : Setting) (b : Before) (ks : List Known) (b' : Before) (done more : List Variable) (n m : ℕ) (be : Before) → Pre o (bd ∷ bs) fs (bd' ∷ cs) s b ks b' done n be
-        → bind_binders bd' ≡ bind_binders bd → ((y : ℕ) → times (variables gs) y ≤ times (variables fs) y) → FieldsOk (behinds s (bd ∷ bs)) be m gs → m ≡ length more → m + length gs ≡ length (packed_types core.table k)
-        → Stand (behinds s (bd ∷ bs)) be (behind (scoped s ks) bd).scope more → Closed o more
+        → bind_binders bd' ≡ bind_binders bd → ((y : ℕ) → times (variables gs) y ≤ times (variables fs) y) → FieldsOk (behind_all s (bd ∷ bs)) be m gs → m ≡ length more → m + length gs ≡ length (packed_types core.table k)
+        → Stand (behind_all s (bd ∷ bs)) be (behind (scoped s ks) bd).scope more → Closed o more
         → Pre o bs gs cs (behind s bd) (next_all core.table b (met_bind core.table s bd)) (behind (scoped s ks) bd).scope (next_all core.table b' (met_bind core.table (scoped s ks) bd)) more m be
     pre_after o bd bd' bs fs gs cs s b ks b' done more n m be p same fewer fields count size stand closed =
-        let rs = reachable_split core b (met_bind core.table s bd) (mets core.table (behind s bd) bs) p.lines in
+        let rs = reachable_split core b (met_bind core.table s bd) (met_all core.table (behind s bd) bs) p.lines in
         let ahead = ahead_behind core bd [] s b ks b' (ahead_less (bind_ahead p same) (λ y. let q = occurs_append (bind_binders bd) [] y in omega arith)) rs.0 in
         record {
-          is = p.is ∙ next_append core.table b (met_bind core.table s bd) (mets core.table (behind s bd) bs);
+          is = p.is ∙ next_append core.table b (met_bind core.table s bd) (met_all core.table (behind s bd) bs);
           empty = p.empty;
           wider = ahead.wider;
           scoped = ahead.scoped;
@@ -502,26 +488,26 @@ module _ (core : CoreTree) where
     type_new b b' (a.Whole z) v ty old n = refl
     type_new b b' (a.Truth t) v ty old n = refl
 
-    is_old : (s : Setting) (b : Before) (bs : List Bind) (x : Atom) → Scoped s.scope b → R b (mets core.table s bs) → is_usable (all_reached (behinds s bs)) x ≡ true → is_one (bound_in bs) x ≡ false → (y : Variable) → x ≡ a.Variable y → 1 ≤ occurs (nums b.bound) y.0
+    is_old : (s : Setting) (b : Before) (bs : List Bind) (x : Atom) → Scoped s.scope b → R b (met_all core.table s bs) → is_usable (all_reached (behind_all s bs)) x ≡ true → is_one (bound_in bs) x ≡ false → (y : Variable) → x ≡ a.Variable y → 1 ≤ occurs (nums b.bound) y.0
     is_old s b bs x sc r u o y e =
-        sc y (scopes_back bs s b y r (sym (reached_where_has (behinds s bs).scope y) ∙ (sym (ap (is_usable (all_reached (behinds s bs))) e) ∙ u)) (sym (ap (is_one (bound_in bs)) e) ∙ o))
+        sc y (scopes_back bs s b y r (sym (reached_where_has (behind_all s bs).scope y) ∙ (sym (ap (is_usable (all_reached (behind_all s bs))) e) ∙ u)) (sym (ap (is_one (bound_in bs)) e) ∙ o))
 
     -- Types at the end of a line.
     side_type : (x : Variable) (ty : Ty) (t : Term) (s : Setting) (b : Before) → occurs (binders t) x.0 ≡ 0 → type_bound (next_all core.table b (met_side core.table s (On Region x ty t))).bound x ≡ Some ty
     side_type x ty t s b o = (gains_term core.table t (in_side core.table s Region ty) (next core.table b (SideLine Region x ty))).types x o ∙ here_type x ty b.bound
 
-    bind_type : (bd : Bind) (x : Variable) (ty : Ty) (bs : List Bind) (s : Setting) (b be : Before) → be ≡ next_all core.table b (mets core.table s (bd ∷ bs)) → occurs (binders_all bs) x.0 ≡ 0
+    bind_type : (bd : Bind) (x : Variable) (ty : Ty) (bs : List Bind) (s : Setting) (b be : Before) → be ≡ next_all core.table b (met_all core.table s (bd ∷ bs)) → occurs (binders_all bs) x.0 ≡ 0
         → type_bound (next_all core.table b (met_bind core.table s bd)).bound x ≡ Some ty → type_bound be.bound x ≡ Some ty
     bind_type bd x ty bs s b be e o h =
-        ap (λ (z : Before). type_bound z.bound x) (e ∙ next_append core.table b (met_bind core.table s bd) (mets core.table (behind s bd) bs))
+        ap (λ (z : Before). type_bound z.bound x) (e ∙ next_append core.table b (met_bind core.table s bd) (met_all core.table (behind s bd) bs))
         ∙ ((gains_run bs (behind s bd) (next_all core.table b (met_bind core.table s bd))).types x o ∙ h)
 
-    one_type : (x : Variable) (ty : Ty) (t : Term) (bs : List Bind) (s : Setting) (b be : Before) → be ≡ next_all core.table b (mets core.table s (One (On Region x ty t) ∷ bs)) → Room b ((x.0 ∷ binders t) ++ binders_all bs) → type_bound be.bound x ≡ Some ty
+    one_type : (x : Variable) (ty : Ty) (t : Term) (bs : List Bind) (s : Setting) (b be : Before) → be ≡ next_all core.table b (met_all core.table s (One (On Region x ty t) ∷ bs)) → Room b ((x.0 ∷ binders t) ++ binders_all bs) → type_bound be.bound x ≡ Some ty
     one_type x ty t bs s b be e ro =
         let q = occurs_append (x.0 ∷ binders t) (binders_all bs) x.0 in let o = ro x.0 in let m = own_time x in
         bind_type (One (On Region x ty t)) x ty bs s b be e (omega arith) (side_type x ty t s b (omega arith))
 
-    both_type_left : (fork : Bool) (x : Variable) (ty : Ty) (t : Term) (r : Side) (bs : List Bind) (s : Setting) (b be : Before) → be ≡ next_all core.table b (mets core.table s (Both fork (On Region x ty t) r ∷ bs)) → Room b (((x.0 ∷ binders t) ++ side_binders r) ++ binders_all bs) → type_bound be.bound x ≡ Some ty
+    both_type_left : (fork : Bool) (x : Variable) (ty : Ty) (t : Term) (r : Side) (bs : List Bind) (s : Setting) (b be : Before) → be ≡ next_all core.table b (met_all core.table s (Both fork (On Region x ty t) r ∷ bs)) → Room b (((x.0 ∷ binders t) ++ side_binders r) ++ binders_all bs) → type_bound be.bound x ≡ Some ty
     both_type_left fork x ty t r bs s b be e ro =
         let L = met_side core.table (left_of s r) (On Region x ty t) in
         let q = occurs_append ((x.0 ∷ binders t) ++ side_binders r) (binders_all bs) x.0 in let q' = occurs_append (x.0 ∷ binders t) (side_binders r) x.0 in let o = ro x.0 in let m = own_time x in
@@ -529,7 +515,7 @@ module _ (core : CoreTree) where
         (ap (λ (z : Before). type_bound z.bound x) (next_append core.table b L (met_side core.table (right_of s (On Region x ty t)) r))
         ∙ ((gains_side core.table r (right_of s (On Region x ty t)) (next_all core.table b L)).types x (omega arith) ∙ side_type x ty t (left_of s r) b (omega arith)))
 
-    both_type_right : (fork : Bool) (l : Side) (x : Variable) (ty : Ty) (t : Term) (bs : List Bind) (s : Setting) (b be : Before) → be ≡ next_all core.table b (mets core.table s (Both fork l (On Region x ty t) ∷ bs)) → Room b ((side_binders l ++ (x.0 ∷ binders t)) ++ binders_all bs) → type_bound be.bound x ≡ Some ty
+    both_type_right : (fork : Bool) (l : Side) (x : Variable) (ty : Ty) (t : Term) (bs : List Bind) (s : Setting) (b be : Before) → be ≡ next_all core.table b (met_all core.table s (Both fork l (On Region x ty t) ∷ bs)) → Room b ((side_binders l ++ (x.0 ∷ binders t)) ++ binders_all bs) → type_bound be.bound x ≡ Some ty
     both_type_right fork l x ty t bs s b be e ro =
         let r = On Region x ty t in
         let L = met_side core.table (left_of s r) l in
@@ -547,7 +533,7 @@ module _ (core : CoreTree) where
     here_has x ks = or_left (x.0 == x.0) (has ks x) (eq-eqb x.0 x.0 refl)
 
     left_has : (fork : Bool) (x : Variable) (ty : Ty) (t : Term) (r : Side) (s : Setting) (ks : List Known) → has (behind (scoped s ks) (Both fork (On Region x ty t) r)).scope x ≡ true
-    left_has fork x ty t r s ks = still_has (variables_of r) (reached x ∷ ks) x (here_has x ks)
+    left_has fork x ty t r s ks = has_all (variables_of r) (reached x ∷ ks) x (here_has x ks)
 
     right_has : (fork : Bool) (l : Side) (z : Variable) (uy : Ty) (u : Term) (s : Setting) (ks : List Known) → has (behind (scoped s ks) (Both fork l (On Region z uy u))).scope z ≡ true
     right_has fork l z uy u s ks = here_has z (with_variables (variables_of l) ks)
@@ -560,7 +546,7 @@ module _ (core : CoreTree) where
         → ((s1 : Setting) (b1 : Before) (ks1 : List Known) (c1 : Before) (n1 : ℕ) → Pre true bs fs cs s1 b1 ks1 c1 (done ++ x ∷ []) n1 be → R c1 (met core.table (opened s1 (Open h k (done ++ x ∷ [])) ks1 false) (prepend cs (Write hw kw ss (as_atoms all)))))
         → R b' (met core.table (opened s (Open h k done) ks w) (prepend (bd' ∷ cs) (Write hw kw ss (as_atoms all))))
     one_more bd bd' x ty {bs} {f} {fs} {cs} u g like s b ks b' w done all n be p empty type_x there new further =
-        let rs = reachable_split core b (met_bind core.table s bd) (mets core.table (behind s bd) bs) p.lines in
+        let rs = reachable_split core b (met_bind core.table s bd) (met_all core.table (behind s bd) bs) p.lines in
         let fo = p.fields.0 in
         let same = same_due n (length done) ty p.count (region_type be n f x ty fo.typed g type_x) in
         let less : length done < length (packed_types core.table k) = let i = p.count in let j = p.size in omega arith in
@@ -568,7 +554,7 @@ module _ (core : CoreTree) where
         go_on s b ks b' (Open h k done) (Open h k (done ++ x ∷ [])) w bd bd' (prepend cs (Write hw kw ss (as_atoms all))) (new less same rs.0)
         (further (behind s bd) (next_all core.table b (met_bind core.table s bd)) ks1 (next_all core.table b' (met_bind core.table (scoped s ks) bd)) (suc n)
         (pre_after true bd bd' bs (f ∷ fs) fs cs s b ks b' done (done ++ x ∷ []) n (suc n) be p like (λ y. omega arith) p.fields.1 (ap suc p.count ∙ sym (length_one done x)) (let i = p.size in omega arith)
-        (placed_stands (behinds s (bd ∷ bs)) be ks ks1 done n f x u g fo (λ y m. has_behind bd s b ks y rs.0 m) there p.stand) tt))
+        (placed_stands (behind_all s (bd ∷ bs)) be ks ks1 done n f x u g fo (λ y m. has_behind bd s b ks y rs.0 m) there p.stand) tt))
 
     pub lays_reach : {o : Bool} {bs : List Bind} {fs : List Field} {cs : List Bind} {xs : List Variable} → Lays once (Past h k) o bs fs cs xs
         → (s : Setting) (b : Before) (ks : List Known) (b' : Before) (w : Bool) (done all : List Variable) (n : ℕ) (be : Before) → Pre o bs fs cs s b ks b' done n be → all ≡ done ++ xs
@@ -602,7 +588,7 @@ module _ (core : CoreTree) where
             fields = p.fields;
             count = p.count ∙ ap length p.closed;
             size = p.size;
-            stand = subst (λ (d : List Variable). Stand (behinds s bs) be ks d) p.closed p.stand;
+            stand = subst (λ (d : List Variable). Stand (behind_all s bs) be ks d) p.closed p.stand;
             closed = tt;
           }) (e ∙ ap (λ d. d ++ xs) p.closed),
         )
@@ -613,7 +599,7 @@ module _ (core : CoreTree) where
         let line = SideLine Here v f.ty in
         let bf = next core.table b' line in
         let si = in_side core.table so Here f.ty in
-        let se = behinds s bs in
+        let se = behind_all s bs in
         let room_b = line_room true bs (f ∷ fs) b p.rooms in
         let pt = pointed s b ks b' bs f.target p.wider p.scoped room_b p.lines fo.usable late in
         let new_f : occurs (nums b.bound) v.0 ≡ 0 = let q = p.rooms v.0 in let m = own_time v in omega arith in
@@ -652,12 +638,12 @@ module _ (core : CoreTree) where
         )
     lays_reach (stays {o = o} {b = bd} {bs = bs} {fs = fs} {cs = cs} {xs = xs} l) s b ks b' w done all n be p e =
         let ks1 = (behind (scoped s ks) bd).scope in
-        let rs = reachable_split core b (met_bind core.table s bd) (mets core.table (behind s bd) bs) p.lines in
+        let rs = reachable_split core b (met_bind core.table s bd) (met_all core.table (behind s bd) bs) p.lines in
         let d = place_of o done in
         go_on s b ks b' d d w bd bd (prepend cs (Write hw kw ss (as_atoms all)))
         (bind_stays bd s b ks b' d w (all_empty (bd ∷ bs) s p.empty) (all_empty bs (behind s bd) p.empty) (bind_ahead p refl) rs.0)
         (lays_reach l (behind s bd) (next_all core.table b (met_bind core.table s bd)) ks1 (next_all core.table b' (met_bind core.table (scoped s ks) bd)) false done all n be
-        (pre_after o bd bd bs fs fs cs s b ks b' done done n n be p refl (λ y. omega arith) p.fields p.count p.size (stand_more (behinds s (bd ∷ bs)) be ks ks1 done (λ y m. has_behind bd s b ks y rs.0 m) p.stand) p.closed) e)
+        (pre_after o bd bd bs fs fs cs s b ks b' done done n n be p refl (λ y. omega arith) p.fields p.count p.size (stand_more (behind_all s (bd ∷ bs)) be ks ks1 done (λ y m. has_behind bd s b ks y rs.0 m) p.stand) p.closed) e)
     lays_reach (one {x = x} {ty = ty} {t = t} {bs = bs} {f = f} {fs = fs} {cs = cs} {xs = xs} u g l) s b ks b' w done all n be p e =
         let bd : Bind = One (On Region x ty t) in
         one_more bd (One (On Here x ty t)) x ty u g refl s b ks b' w done all n be p (all_empty (bd ∷ bs) s p.empty) (one_type x ty t bs s b be p.is (line_room true (bd ∷ bs) (f ∷ fs) b p.rooms)) (here_has x ks)
@@ -677,7 +663,7 @@ module _ (core : CoreTree) where
         let bd : Bind = Both fork (On Region x ty t) (On Region z uy v) in
         let bd' : Bind = Both fork (On Here x ty t) (On Here z uy v) in
         let ks1 = (behind (scoped s ks) bd).scope in
-        let rs = reachable_split core b (met_bind core.table s bd) (mets core.table (behind s bd) bs) p.lines in
+        let rs = reachable_split core b (met_bind core.table s bd) (met_all core.table (behind s bd) bs) p.lines in
         let fo = p.fields.0 in
         let fo' = p.fields.1.0 in
         let ro = line_room true (bd ∷ bs) (f ∷ f' ∷ fs) b p.rooms in
@@ -689,6 +675,6 @@ module _ (core : CoreTree) where
         (lays_reach l (behind s bd) (next_all core.table b (met_bind core.table s bd)) ks1 (next_all core.table b' (met_bind core.table (scoped s ks) bd)) false ((done ++ x ∷ []) ++ z ∷ []) all (suc (suc n)) be
         (pre_after true bd bd' bs (f ∷ f' ∷ fs) fs cs s b ks b' done ((done ++ x ∷ []) ++ z ∷ []) n (suc (suc n)) be p refl (λ y. omega arith) p.fields.1.1
         (ap suc (ap suc p.count ∙ sym (length_one done x)) ∙ sym (length_one (done ++ x ∷ []) z)) (let i = p.size in omega arith)
-        (placed_stands (behinds s (bd ∷ bs)) be ks1 ks1 (done ++ x ∷ []) (suc n) f' z u' g' fo' (λ y m. m) (here_has z (reached x ∷ ks))
-        (placed_stands (behinds s (bd ∷ bs)) be ks ks1 done n f x u g fo (λ y m. has_behind bd s b ks y rs.0 m) (or_right (z.0 == x.0) (x.0 == x.0 || has ks x) (here_has x ks)) p.stand)) tt)
+        (placed_stands (behind_all s (bd ∷ bs)) be ks1 ks1 (done ++ x ∷ []) (suc n) f' z u' g' fo' (λ y m. m) (here_has z (reached x ∷ ks))
+        (placed_stands (behind_all s (bd ∷ bs)) be ks ks1 done n f x u g fo (λ y m. has_behind bd s b ks y rs.0 m) (or_right (z.0 == x.0) (x.0 == x.0 || has ks x) (here_has x ks)) p.stand)) tt)
         (e ∙ (shift_one done x (z ∷ xs) ∙ shift_one (done ++ x ∷ []) z xs)))

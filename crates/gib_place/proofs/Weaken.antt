@@ -18,17 +18,15 @@ use Rattle.gib_core.specs.Inferring.{first_type, further_types}
 use Rattle.gib_core.specs.Tree.{Term, Then, Write, Point, CallTerm, Give, CaseTerm, IfTerm, Tuple, PartTerms, NoPart, PartThen, parts_count, Bind, Past, One, Both, Prim, Reach, Side, On, Several, Branches, NoBranch, BranchThen, variables_of, FunctionTerm, CoreTree}
 use Rattle.gib_core.specs.Meaning.{function_at}
 use Rattle.gib_core.specs.Numbering.{binders, bind_binders, side_binders, part_binders}
-use Rattle.gib_core.specs.Met.{Destination, Nowhere, Empty, Open, InParts, Setting, PastLine, SideLine, PrimLine, WriteLine, PointLine, CallLine, GiveLine, CaseLine, IfLine, SeveralLine, TupleLine, Met, reached, in_side, in_several, in_part, with_variables, behind, left_of, right_of, with_arm, in_arm, in_branch, arms_of, met, met_bind, met_side, met_parts, met_branches}
+use Rattle.gib_core.specs.Met.{Destination, Nowhere, Empty, Open, InParts, Setting, PastLine, SideLine, PrimLine, WriteLine, PointLine, CallLine, GiveLine, CaseLine, IfLine, SeveralLine, TupleLine, reached, in_side, in_several, in_part, with_variables, behind, left_of, right_of, with_arm, in_arm, in_branch, arms_of, met, met_bind, met_side, met_parts, met_branches}
 use Rattle.gib_core.specs.Rules.{Before, same_types, are_declared, are_parts, result_fits, is_among, is_bound, type_bound, type_of, is_type, have_types, is_usable, all_usable, is_other, any_other, may_write, are_scalars, call_fits, cover, bind_fields, any_bound, arm_variables, rules, least, cases_on, next, next_all, type_made}
 use Rattle.gib_core.specs.Reachable.{all_reached, LinesAreReachable}
-use Rattle.gib_core.proofs.Along.{none_broken, least_none, next_append, reachable_split}
+use Rattle.gib_core.proofs.Along.{none_broken, least_none, next_append, reachable_split, reachable_append}
 use Rattle.gib_core.proofs.Cased.{has, reached_where_has, has_arm, has_variables, in_side_scope, reaches_none, has_less}
 use Rattle.gib_place.proofs.Counts.{occurs, occurs_append}
 use Rattle.gib_place.proofs.Wider.{nums, times, new_there, times_among, none_among, own_time, branch_occurs, fields_types, arms_types, case_nums, branch_terms, casing, Gains, gains_one, gains_all, gains_then, gains_term, cased_after}
 use Rattle.gib_core.proofs.Orders.{usable_apart}
-
-abbrev pub scoped : Setting → List Known → Setting
-scoped s ks = record s { scope = ks }
+use Rattle.gib_core.proofs.Kept.{scoped}
 
 -- What is in scope was bound.
 abbrev pub Scoped : List Known → Before → Type 0
@@ -254,10 +252,6 @@ module _ (tb : Table) where
     ahead_bound (Several vs tys t) (Several vs' tys' u) xs s z (same_several like) a = ahead_all vs tys t u xs (in_several s tys) (in_several z tys) like a
 
 module _ (core : CoreTree) where
-  pub reachable_append : (b : Before) (xs ys : List Met) → LinesAreReachable core b xs → LinesAreReachable core (next_all core.table b xs) ys → LinesAreReachable core b (xs ++ ys)
-  reachable_append b [] ys h k = k
-  reachable_append b (m ∷ xs) ys h k = (h.0, reachable_append (next core.table b m.line) xs ys h.1 k)
-
   -- What is in scope behind a binding was bound.
   pub scoped_after : (bind : Bind) (s : Setting) (b : Before) → Scoped s.scope b → LinesAreReachable core b (met_bind core.table s bind) → Scoped (behind s bind).scope (next_all core.table b (met_bind core.table s bind))
   scoped_after (Past h k) s b sc r y m = let e = sc y m in omega arith
@@ -358,7 +352,7 @@ module _ (core : CoreTree) where
       let L = met_side core.table (left_of s right) left in
       let L' = met_side core.table (left_of (scoped s ks) right) left in
       let rs = reachable_split core b L (met_side core.table (right_of s left) right) r in
-      reachable_append b' L' (met_side core.table (right_of (scoped s ks) left) right)
+      reachable_append core b' L' (met_side core.table (right_of (scoped s ks) left) right)
       (more_left (left_of s right) b ks b' (ahead_first (side_binders left) (side_binders right) a) rs.0)
       (more_right (right_of s left) (next_all core.table b L) ks (next_all core.table b' L') (ahead_side core.table left left (side_binders right) (left_of s right) (left_of (scoped s ks) right) (likes_itself left) a) rs.1)
 
@@ -368,7 +362,7 @@ module _ (core : CoreTree) where
         let xs = met_bind core.table s bind in
         let ys = met core.table (behind s bind) rest in
         let rs = reachable_split core b xs ys r in
-        reachable_append b' (met_bind core.table (scoped s ks) bind) (met core.table (behind (scoped s ks) bind) rest)
+        reachable_append core b' (met_bind core.table (scoped s ks) bind) (met core.table (behind (scoped s ks) bind) rest)
         (wider_bind bind s b ks b' (ahead_first (bind_binders bind) (binders rest) a) rs.0)
         (subst (λ (z : Setting). LinesAreReachable core (next_all core.table b' (met_bind core.table (scoped s ks) bind)) (met core.table z rest)) (sym (scoped_behind core.table bind s ks))
         (wider_term rest (behind s bind) (next_all core.table b xs) (behind (scoped s ks) bind).scope (next_all core.table b' (met_bind core.table (scoped s ks) bind)) (ahead_behind bind (binders rest) s b ks b' a rs.0) rs.1))
@@ -418,7 +412,7 @@ module _ (core : CoreTree) where
         let ys = met core.table (in_branch s) u in
         let rs = reachable_split core b xs ys r.1 in (
           least_none (rules core b' (all_reached (scoped s ks)) (IfLine x)) (other_eq (all_reached (scoped s ks)) (all_reached s) x refl ∙ f.0, (ap not (usable_more s b b' ks x a.wider us), (ap (λ o. not (is_type o Truth)) (type_same s b b' x a.wider.types us) ∙ f.1.1.0, tt))),
-          reachable_append b' (met core.table (in_branch (scoped s ks)) t) (met core.table (in_branch (scoped s ks)) u)
+          reachable_append core b' (met core.table (in_branch (scoped s ks)) t) (met core.table (in_branch (scoped s ks)) u)
               (wider_term t (in_branch s) b ks b' (ahead_first (binders t) (binders u) a) rs.0)
               (wider_term u (in_branch s) (next_all core.table b xs) ks (next_all core.table b' (met core.table (in_branch (scoped s ks)) t)) (ahead_term core.table t t (binders u) (in_branch s) (in_branch (scoped s ks)) (like_itself t) a) rs.1),
         )
@@ -438,7 +432,7 @@ module _ (core : CoreTree) where
         let xs' = met core.table inner' t in
         let rs = reachable_split core b xs (met_parts core.table s (further_types tys) ps) r.1 in (
           refl,
-          reachable_append b' xs' (met_parts core.table (scoped s ks) (further_types tys) ps)
+          reachable_append core b' xs' (met_parts core.table (scoped s ks) (further_types tys) ps)
               (wider_term t inner b ks b' (ahead_first (binders t) (part_binders ps) a) rs.0)
               (wider_parts ps (further_types tys) s (next_all core.table b xs) ks (next_all core.table b' xs') (ahead_term core.table t t (part_binders ps) inner inner' (like_itself t) a) rs.1),
         )
@@ -487,7 +481,7 @@ module _ (core : CoreTree) where
         λ y m. ⊎_elim (λ n. inl (Rattle.gib_core.proofs.Along.among_append vs later y ∙ or_left (is_among vs y) (is_among later y) n)) (λ n. inr n) (or_cases (is_among vs y) (has s.scope y) (sym (has_arm k vs types None s.scope y) ∙ m)) in
         let further : (y : Variable) → (is_among later y ≡ true) ⊎ (has s.scope y ≡ true) → (is_among (vs ++ later) y ≡ true) ⊎ (has s.scope y ≡ true) =
         λ y m. ⊎_elim (λ n. inl (Rattle.gib_core.proofs.Along.among_append vs later y ∙ or_right (is_among vs y) (is_among later y) n)) (λ n. inr n) m in
-        reachable_append b' xs' (met_branches core.table (scoped s ks) rest)
+        reachable_append core b' xs' (met_branches core.table (scoped s ks) rest)
         (wider_term t inner b (with_arm k vs types None ks) b' (record {
           wider = record {
             scope = λ y m. has_arm k vs types None ks y ∙ ⊎_elim (λ n. or_left (is_among vs y) (has ks y) n) (λ n. or_right (is_among vs y) (has ks y) (more y n)) (or_cases (is_among vs y) (has s.scope y) (sym (has_arm k vs types None s.scope y) ∙ m));
