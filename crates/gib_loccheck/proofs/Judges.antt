@@ -1,6 +1,5 @@
 -- Some lines behind others.
 use Rattle.std.proofs.Common.{◌≡◌, ℕ, ◌+◌, List, [], ◌∷◌, ◌++◌, Option, Some, None, refl, sym, ap, ◌∙◌, reverse, map, arith, length, length-append}
-use Rattle.gib_types.specs.Table.{Table}
 use Rattle.gib_core.specs.Tree.{CoreTree}
 use Rattle.gib_core.specs.Met.{Met}
 use Rattle.gib_core.specs.Rules.{Before, Broken, or_later, or_else, least, rules, next, next_all, broken_from}
@@ -11,6 +10,7 @@ use Rattle.gib_loccheck.specs.declared.fault.LocFault.TheVariants as fault
 use Rattle.gib_loccheck.specs.Views.{before_of, setting_of, call_of}
 use Rattle.std.specs.Prelude.{Result, Ok, Err}
 use Rattle.gib_loccheck.specs.Judging.{Passes, Blames, Kept, Checks, Stays}
+use Rattle.gib_core.proofs.Along.{next_append}
 
 or_later-else : (r : Option ℕ) (p : ℕ) (a b : Broken) → or_later r p (or_else a b) ≡ or_else (or_later r p a) b
 or_later-else None p a b = refl
@@ -28,10 +28,6 @@ module _ (core : CoreTree) where
       ∙ or_later-else (least (rules core b x.with x.line)) p (broken_from core (p + 1) (next core.table b x.line) xs) (broken_from core (p + 1 + length xs) (next_all core.table (next core.table b x.line) xs) ys)
       ∙ ap (λ (q : ℕ). or_else (or_later (least (rules core b x.with x.line)) p (broken_from core (p + 1) (next core.table b x.line) xs)) (broken_from core q (next_all core.table (next core.table b x.line) xs) ys)) (omega arith)
 
-  pub next_all-append : (table : Table) (b : Before) (xs ys : List Met) → next_all table b (xs ++ ys) ≡ next_all table (next_all table b xs) ys
-  next_all-append table b [] ys = refl
-  next_all-append table b (x ∷ xs) ys = next_all-append table (next table b x.line) xs ys
-
   -- Behind lines that pass, the first broken one of what follows is the first broken one of all.
   later : (a b : Walk) (xs ys : List Met) → Passes core a b xs → broken_from core a.place (before_of a) (xs ++ ys) ≡ broken_from core b.place (before_of b) ys
   later a b xs ys p =
@@ -42,7 +38,7 @@ module _ (core : CoreTree) where
   pub passes_then : (a b c : Walk) (xs ys : List Met) → Passes core a b xs → Passes core b c ys → Passes core a c (xs ++ ys)
   passes_then a b c xs ys p q = record {
     unbroken = later a b xs ys p ∙ q.unbroken;
-    before = q.before ∙ ap (λ z. next_all core.table z ys) p.before ∙ sym (next_all-append core.table (before_of a) xs ys);
+    before = q.before ∙ ap (λ z. next_all core.table z ys) p.before ∙ sym (next_append core.table (before_of a) xs ys);
     place = omega (arith, p.place, q.place, length-append xs ys);
   }
 
