@@ -17,7 +17,7 @@ use Rattle.gib_weave.specs.Places.{Owned, put_all, with_chunk, IsSmall}
 use Rattle.gib_weave.specs.Sound.{Safe, SideSafe, IsAnswer, After, Forks, Meets, Others}
 use Rattle.gib_weave.proofs.Basics.{by_test}
 use Rattle.gib_weave.proofs.Bills.{bill_goes_on, bill_forks, bill_takes, bill_joins, side_bill}
-use Rattle.gib_weave.proofs.Places.{IsSided, zero_or_one, open-outside, open-inside}
+use Rattle.gib_weave.proofs.Places.{IsSided, zero_or_one, open-outside}
 use Rattle.gib_weave.proofs.Memories.{draws_new, puts_cells}
 use Rattle.gib_weave.proofs.Others.{safe-others, answer-grows}
 use Rattle.gib_weave.proofs.Step.{step_keeps}
@@ -30,6 +30,7 @@ use Rattle.gib_pool.specs.Turn.{AreThere, IsLent, AreLent, owing, Works, Pays, W
 use Rattle.gib_pool.proofs.Paid.{bill_stays, paid_of, safe_free, taken_out}
 use Rattle.gib_weave.proofs.Cells.{fresh_absent, byte_absent}
 use Rattle.gib_weave.proofs.Grow.{grows_same, side_grows}
+use Rattle.gib_mem.proofs.Puts.{open_in}
 
 pub begins : (l : LoweredParts) (d : Debt) (s : Store) (w : Waiting) → IsSmall s → SideSafe (core_of l.core) l.code d s w → Works l d s 0 (side_start l.code w) []
 begins l d s w sm h = record { own = λ q. 0; bill = new_share d.most; sides = []; safe = h.safe s (grows_same s) sm; there = record { there = λ q z e. absurd (omega (arith, z)) }; debts = tt; paid = side_bill d }
@@ -84,7 +85,7 @@ there_draw own s c t = record { there = λ q h e. go q h e (zero_or_one (4096 * 
   where
     go : (q : ℕ) → 0 < with_chunk own c q → open_chunk s c q ≡ absent → IsSided (4096 * c) 4096 q → ⊥
     go q h e (inl z) = t.there q (omega (arith, h, z)) (sym (open-outside s c q z) ∙ e)
-    go q h e (inr i) = fresh_absent (sym (open-inside s c q i.1 i.2) ∙ e)
+    go q h e (inr i) = fresh_absent (sym (open_in s c q i.1 i.2) ∙ e)
 
 module _ (l : LoweredParts) (d : Debt) where
   pub pays : (s : Store) (n : ℕ) (m : State) (lent : List (Option Due)) → Works l d s n m lent → Pays l d.most n lent

@@ -9,6 +9,7 @@ use Rattle.gib_weave.specs.EndWords.{WithEnd, both}
 use Rattle.gib_core.specs.Fits.{put}
 use Rattle.gib_weave.specs.Places.{within, IsSmall, Owned, put_all, AllFresh}
 use Rattle.gib_weave.proofs.Cells.{byte_fresh, absent_fresh}
+use Rattle.gib_mem.proofs.Puts.{set_same}
 
 -- to prove something of a test, prove it in both cases
 pub by_test : (y x : ℕ) (P : Bool → Type 0) → (y ≡ x → P true) → ((y ≡ x → ⊥) → P false) → P (eqb y x)
@@ -83,9 +84,6 @@ within-split a k n q = grind (arith, nat_tests)
 pub within-zero : (a q : ℕ) → within a 0 q ≡ 0
 within-zero a q = grind (arith, nat_tests)
 
-pub cell-same : (s : Store) (a : ℕ) (c : Cell) → set_cell s a c a ≡ c
-cell-same s a c = put-same s a c
-
 pub cell-other : (s : Store) (a q : ℕ) (c : Cell) → (q ≡ a → ⊥) → set_cell s a c q ≡ s q
 cell-other s a q c ne = put-other s a q c ne
 
@@ -103,7 +101,7 @@ put_all-outside s a (b ∷ bs) q h =
 pub put_all-holds : (s : Store) (a : ℕ) (bs : List ℕ) → Holds (put_all s a bs) a bs
 put_all-holds s a [] = none
 put_all-holds s a (b ∷ bs) =
-    more (put_all-outside (set_cell s a (byte b)) (a + 1) bs a (grind (arith, nat_tests)) ∙ cell-same s a (byte b)) (put_all-holds (set_cell s a (byte b)) (a + 1) bs)
+    more (put_all-outside (set_cell s a (byte b)) (a + 1) bs a (grind (arith, nat_tests)) ∙ set_same s a (byte b)) (put_all-holds (set_cell s a (byte b)) (a + 1) bs)
 
 pub outside : (a n q : ℕ) → ((a ≤ q) → (q < a + n) → ⊥) → within a n q ≡ 0
 outside a n q h = go (nat_le a q) (nat_lt q (a + n)) refl refl

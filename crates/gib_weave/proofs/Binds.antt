@@ -57,7 +57,9 @@ use Rattle.gib_weave.proofs.Basics.{put-other, set-other, end-other}
 use Rattle.gib_core.specs.Ending.{Within, within_function, ended, has_ended}
 use Rattle.gib_core.specs.Tree as term
 use Rattle.gib_weave.proofs.Ends.{first_at, rest_at, Led, led_less, overs_move, gots_all, told_side, unwound_safe, lefts_sides, lefts_rest, at_rest, step_is, silently, Resumes, comes, heads_less}
+use Rattle.gib_weave.proofs.Roots.{no_parts}
 use Rattle.gib_core.proofs.Fine.{no_call}
+use Rattle.gib_machine.proofs.Windows.{words_long}
 
 -- a tree's slot
 has_tree : (laid : LaidOut) (s : Store) (c : Ctx) (so : Sort) (t w : ℕ) (v : Datum) (at hd : ℕ) → tree_type so ≡ Some t → Has laid s c so w v at hd → StandsAt laid s t w v
@@ -72,8 +74,6 @@ has_tree laid s c (Field u z x k p) t w v at hd e h = absurd (none-some _ e)
 
 pub tree_of : (laid : LaidOut) (s : Store) (sl : Slots) (c : Ctx) (x t : ℕ) → HasAll laid s sl c → tree_type (c.scope x) ≡ Some t → StandsAt laid s t (slot sl x) (value_in c.env x)
 tree_of laid s sl c x t h e = has_tree laid s c (c.scope x) t (slot sl x) (value_in c.env x) (c.pl x) (c.hd x) e (h.has x)
-
--- Code that stands one instruction after another.
 
 -- Answers.
 
@@ -90,11 +90,6 @@ packed_scalar : (t : ℕ) (ty : Ty) → is_scalar ty ≡ true → Tree (record {
 packed_scalar t ty h e = true≢false (sym h ∙ sym (ap is_scalar e))
 
 -- The frame of a call.
-
-pub frame-length : (n : ℕ) (ws : List ℕ) → length (frame_words n ws) ≡ n
-frame-length zero ws = refl
-frame-length (suc n) [] = ap suc (frame-length n [])
-frame-length (suc n) (w ∷ ws) = ap suc (frame-length n ws)
 
 pub no_slot : (n : ℕ) (ps : List Ty) (y : ℕ) → has_slot (body_scope n ps y) ≡ true → y < n
 no_slot zero ps y h = absurd (true≢false (sym h))
@@ -205,9 +200,9 @@ body_vars wi laid s sl c n ps xs d a h e = record {
   has = λ y. let z : 0 + y ≡ y = omega arith in
       subst (λ (q : ℕ). Has laid s (body_line wi n ps (map (value c.env) xs) (frame n (words sl (operands xs))) d a) (body_scope n ps y) (slot (frame n (words sl (operands xs))) y) (value_in (bind (variables_from 0 ps) (map (value c.env) xs) []) q) (slot (frame n (words sl (operands xs))) y) 0) z
       (arguments_have laid s sl c (body_line wi n ps (map (value c.env) xs) (frame n (words sl (operands xs))) d a) h n ps xs 0 [] y e);
-  wide = λ y g. subst (λ (q : ℕ). y < q) (sym (frame-length n (words sl (operands xs)))) (no_slot n ps y g);
+  wide = λ y g. subst (λ (q : ℕ). y < q) (sym (words_long n (words sl (operands xs)))) (no_slot n ps y g);
   ends = λ y. body_end laid s n ps y (words sl (operands xs)) _;
-  even = frame-length n [] ∙ sym (frame-length n (words sl (operands xs)));
+  even = words_long n [] ∙ sym (words_long n (words sl (operands xs)));
   told = λ q e. absurd (false≢true e);
   closes = tt;
 }
@@ -356,9 +351,6 @@ or_mono : (a b c : Bool) → (b ≡ true → c ≡ true) → (a || b) ≡ true �
 or_mono true b c f e = refl
 or_mono false b c f e = f e
 
-one_several : (xt : Ty) (tys : List Ty) → results.One xt ≡ results.Several tys → ⊥
-one_several xt tys e = absurd cc
-
 given : (c : Ctx) (xt : Ty) (k : Kont) → c.dest ≡ Nowhere xt → dest_type c.dest ≡ due k → results.One xt ≡ due k
 given c xt k e h = sym (ap dest_type e) ∙ h
 
@@ -397,7 +389,7 @@ module _ (core : CoreTree) (code : CodeTree) (owed : Owed) (own : Owned) (sh : S
       (rests (at_term (scalar_comes core code owed own sh {m = record m { ip = l; words = set m.words y w; frames = fs; doing = Ready }} w (value c.env x) wt refl l1
       (record { ready = refl; stack = l1.stack; group = at.line.stack.3; memory = heads_less (λ q. kont_less code.laid c.head c.dest (KScalar l y yt u o k) q) at.memory; ties = at.ties; owes = at.owes; counted = goes_on_counted (record { regions = omega arith; items = omega arith }) at.counted; room = at.room.all_room })))))
   does_give (KPart l i t tys ss vs ps o k) fs m {c = c} x z e at = absurd (packed_scalar t at.fits.0 at.fits.2 (ap one_type (sym (given c at.fits.0 (KPart l i t tys ss vs ps o k) at.fits.1 at.line.kind))))
-  does_give (KSeveral l xs tys u o k) fs m {c = c} x z e at = absurd (one_several at.fits.0 tys (given c at.fits.0 (KSeveral l xs tys u o k) at.fits.1 at.line.kind))
+  does_give (KSeveral l xs tys u o k) fs m {c = c} x z e at = absurd (no_parts at.fits.0 tys (given c at.fits.0 (KSeveral l xs tys u o k) at.fits.1 at.line.kind))
   does_give (KCall gs wc k) [] m x z e at = absurd at.line.stack
   does_give (KCall gs wc k) (f ∷ fs) m {c = c} x z e at = absurd (true≢false (sym at.fits.2 ∙ ap one_scalar (given c at.fits.0 (KCall gs wc k) at.fits.1 at.line.kind) ∙ at.line.stack.5))
   does_give (KCallScalar y yt gs u o k) [] m x z e at = absurd at.line.stack

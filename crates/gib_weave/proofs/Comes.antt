@@ -1,5 +1,5 @@
 -- The parts of several variables come.
-use Rattle.std.proofs.Common.{◌≡◌, ℕ, ◌≤◌, ◌||◌, Bool, true, false, cond, List, [], ◌∷◌, length, map, refl, sym, ap, subst, ◌∙◌, arith}
+use Rattle.std.proofs.Common.{◌≡◌, ℕ, ◌≤◌, false, cond, List, [], ◌∷◌, length, map, refl, sym, ap, subst, ◌∙◌, arith}
 use Rattle.std.proofs.lemmas.Bool.{true≢false}
 use Rattle.gib_types.specs.declared.table.Ty.{Ty}
 use Rattle.gib_types.specs.declared.table.Ty.TheVariants.{Whole, Truth, Tree}
@@ -32,7 +32,7 @@ use Rattle.gib_weave.proofs.Lines.{new_less}
 use Rattle.gib_weave.proofs.Scalars.{scalar_word}
 use Rattle.gib_weave.proofs.Uses.{sides_bound}
 use Rattle.gib_weave.proofs.Filling.{slots_many}
-use Rattle.gib_weave.proofs.Ends.{at_rest, held_end}
+use Rattle.gib_weave.proofs.Ends.{at_rest, held_end, or_none}
 
 -- Words for the scalar parts, with their values.
 abbrev pub AreScalars : List Ty → List ℕ → List Datum → Type 0
@@ -89,14 +89,10 @@ packed_set laid s sl sc x w (Tree t ∷ tys) (y ∷ xs) (v ∷ vs) h n p =
 new_but : (sc : Scope) (x : ℕ) (so : Sort) (y : ℕ) → put sc x Held y ≡ Absent → put sc x so y ≡ Absent
 new_but sc x so y = by_test y x (λ b. cond b Held (sc y) ≡ Absent → cond b so (sc y) ≡ Absent) (λ e h. absurd (true≢false (ap is_there h))) (λ e h. h)
 
-no_field : (ty : Ty) → is_field (param_sort ty) ≡ false
+pub no_field : (ty : Ty) → is_field (param_sort ty) ≡ false
 no_field Whole = refl
 no_field Truth = refl
 no_field (Tree t) = refl
-
-or_none_of : (a : Bool) → (a || false) ≡ true → a ≡ true
-or_none_of true e = refl
-or_none_of false e = e
 
 module _ (core : CoreTree) (code : CodeTree) (owed : Owed) (own : Owned) (sh : Share) (s : Store) (m : State) (ip : ℕ) (u : Rest) (k : Kont) where
   -- What a task has for a line that goes on at ip, whichever of its variables are bound: these are not.
@@ -157,7 +153,7 @@ module _ (core : CoreTree) (code : CodeTree) (owed : Owed) (own : Owned) (sh : S
     fits = g.waits.fits;
     line = record {
       kind = g.waits.kind;
-      matches = Matches-line (tell_line none_of c.line) (λ q e. g.waits.matches.vars.told q (or_none_of (c.line.told q) e)) g.waits.matches.vars.closes g.waits.matches;
+      matches = Matches-line (tell_line none_of c.line) (λ q e. g.waits.matches.vars.told q (or_none (c.line.told q) e)) g.waits.matches.vars.closes g.waits.matches;
       stack = g.stack;
       under = g.waits.under;
       given = g.waits.given;

@@ -5,8 +5,9 @@ use Rattle.gib_types.specs.Tree.{Datum}
 use Rattle.gib_syntax.specs.Meaning.{value_in}
 use Rattle.gib_core.specs.Tree.{CoreTree}
 use Rattle.gib_mem.specs.Memory.{Store, Grows}
-use Rattle.gib_packed.specs.Decoding.{Dec}
 use Rattle.gib_packed.proofs.Grow as g
+use Rattle.gib_packed.proofs.Grow.{Dec-grows}
+use Rattle.gib_packed.proofs.WalkLaws.{Turns-grows}
 use Rattle.gib_code.specs.Program.{CodeTree}
 use Rattle.gib_machine.specs.State.{end_at, Slots, slot, Frame, Open as OpenRegion, sink}
 use Rattle.gib_machine.specs.Sides.{Waiting}
@@ -14,7 +15,7 @@ use Rattle.gib_core.specs.Fits.{Sort, Outside, Absent, Scalar, Held, Placed, Loo
 use Rattle.gib_core.specs.Low.{Over, packed_slots}
 use Rattle.gib_weave.specs.Environment.{AllClose, Ctx, StandsAt, Has, HasAll, Fields, none, field, IsDest, Matches}
 use Rattle.gib_weave.specs.EndWords.{EndWord, HasEnd}
-use Rattle.gib_packed.specs.Reaching.{Turns, there, turn}
+use Rattle.gib_packed.specs.Reaching.{there}
 use Rattle.gib_weave.specs.Continuing.{Rest, KSide, KLast, Kont, KEnd, KHere, KRegion, KScalar, KCall, KCallScalar, KPart, KSeveral, made}
 use Rattle.gib_weave.specs.Groups.{unused}
 use Rattle.gib_weave.proofs.Groups.{Group-grows}
@@ -34,15 +35,8 @@ grows_on g h = record { kept = λ a b e. h.kept a b (g.kept a b e) }
 pub side_grows : {core : CoreTree} {code : CodeTree} {d : Debt} {s r : Store} {x : Waiting} → Grows s r → SideSafe core code d s x → SideSafe core code d r x
 side_grows g h = record { safe = λ q k sm. h.safe q (grows_on g k) sm }
 
-pub Dec-grows : {laid : LaidOut} {s r : Store} {a t z : ℕ} {v : Datum} → Grows s r → Dec laid s a t v z → Dec laid r a t v z
-Dec-grows h d = g.Dec-grows h d
-
 pub StandsAt-grows : {laid : LaidOut} {s r : Store} {t a : ℕ} {v : Datum} → Grows s r → StandsAt laid s t a v → StandsAt laid r t a v
 StandsAt-grows g d = record { end = d.end; dec = Dec-grows g d.dec }
-
-pub Turns-grows : {s r : Store} {a b : ℕ} → Grows s r → Turns s a b → Turns r a b
-Turns-grows h there = there
-Turns-grows h (turn p l) = turn (g.Points-grows h p) (Turns-grows h l)
 
 pub EndWord-grows : {laid : LaidOut} {s r : Store} {t pl w e : ℕ} {v : Datum} → Grows s r → EndWord laid s t pl w e v → EndWord laid r t pl w e v
 EndWord-grows g h = record { near = λ q. Turns-grows g (h.near q); ends = λ p. Dec-grows g (h.ends p) }

@@ -46,7 +46,6 @@ use Rattle.gib_weave.specs.Stacks.{Waits, no_tree}
 use Rattle.gib_machine.specs.Levels.{lefts}
 use Rattle.gib_weave.specs.Sound.{AtRest, IsUnwinding, Meets, IsAnswer, PartsAnswer, at_term, Safe, rests, moves, IsTied, means_why, ties_of}
 use Rattle.gib_weave.proofs.Basics.{both-same}
-use Rattle.gib_weave.proofs.Grow.{Dec-grows}
 use Rattle.gib_weave.proofs.Turns.{some_region, Stack-turn, due-packed}
 use Rattle.gib_weave.proofs.Readings.{dec_small}
 use Rattle.gib_weave.proofs.EndWords.{turns_dec}
@@ -56,6 +55,7 @@ use Rattle.gib_weave.proofs.Filling.{not_one, same_types}
 use Rattle.gib_weave.proofs.SideParts.{owed_binds, owes_none}
 use Rattle.gib_weave.proofs.Comes.{answer_comes as parts_come}
 use Rattle.gib_code.specs.declared.answer.Reason.{Reason}
+use Rattle.gib_packed.proofs.Grow.{Dec-grows}
 
 packed_scalar : (t : ℕ) (xt : Ty) → is_scalar xt ≡ true → xt ≡ Tree (record { 0 = t }) → ⊥
 packed_scalar t xt h e = true≢false (sym h ∙ ap is_scalar e)

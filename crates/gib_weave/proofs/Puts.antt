@@ -14,13 +14,14 @@ use Rattle.gib_weave.specs.Weave as ev
 use Rattle.gib_weave.specs.Weave.{Running, Weave, Event, task, Next, Sound, IsCareful, asks, Legal, none, more}
 use Rattle.gib_weave.specs.Bytes.{HasByte, GetsAt, PutsAt, Gets, Puts, ArePut, first, later}
 use Rattle.gib_weave.proofs.Basics.{put_all-holds, put_all-grows, put_all-outside}
-use Rattle.gib_weave.proofs.Places.{IsSided, zero_or_one, open-outside, open-inside, open-grows}
+use Rattle.gib_weave.proofs.Places.{IsSided, zero_or_one, open-outside, open-grows}
 use Rattle.gib_weave.proofs.Memories.{after_puts_is, draws_new}
 use Rattle.gib_weave.proofs.Grow.{grows_on, grows_same}
 use Rattle.gib_weave.proofs.Acts.{owes_next}
 use Rattle.gib_weave.proofs.Events.{event_keeps}
 use Rattle.gib_weave.proofs.Progress.{careful, run_keeps}
 use Rattle.gib_weave.proofs.Cells.{fresh_byte}
+use Rattle.gib_mem.proofs.Puts.{open_in}
 
 -- each of the bytes that stand from a on
 holds_at : {s : Store} {a : ℕ} {bs : List ℕ} (q : ℕ) → Holds s a bs → a ≤ q → q < a + length bs → HasByte s q
@@ -47,7 +48,7 @@ byte_from code w _ _ q (ev.draws {i = i} {c = c} {k = then} on e dr) k = go (zer
   where
     go : IsSided (4096 * c) 4096 q → HasByte w.memory.cells q ⊎ PutsAt (asks code w i) q
     go (inl z) = inl (k.0, sym (open-outside w.memory.cells c q z) ∙ k.1)
-    go (inr o) = absurd (fresh_byte (sym (open-inside w.memory.cells c q o.1 o.2) ∙ k.1))
+    go (inr o) = absurd (fresh_byte (sym (open_in w.memory.cells c q o.1 o.2) ∙ k.1))
 byte_from code w _ _ q (ev.forks on e) k = inl k
 byte_from code w _ _ q (ev.steals on few st) k = inl k
 byte_from code w _ _ q (ev.takes_it on e x) k = inl k

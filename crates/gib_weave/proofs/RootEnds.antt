@@ -1,6 +1,6 @@
 -- How the root's run ends.
 use Rattle.std.proofs.Common.{◌≡◌, inr, ℕ, zero, suc, ◌≤◌, ◌-◌, List, [], ◌∷◌, length, get_or, true, Option, Some, None, refl, sym, ap, subst, ◌∙◌, arith}
-use Rattle.std.specs.Prelude.{Result, Ok, Err, IfOk}
+use Rattle.std.specs.Prelude.{Result}
 use Rattle.gib_types.specs.declared.table.Ty.{Ty}
 use Rattle.gib_types.specs.Layout.{LaidOut}
 use Rattle.gib_types.specs.Tree.{Datum}
@@ -137,10 +137,6 @@ made_is_root core code code' label w w' depth level m lo ce le we me tails =
     ∙ ap (λ (q : ℕ). with_tails (started code q (w ∷ []) depth level) tails) le
     ∙ ap (λ (q : ℕ). with_tails (started code (start_at code.functions (length core.functions)) (q ∷ []) depth level) tails) we
     ∙ made_root core code w' depth level tails lo
-
-pub if_ok : {A B : Type 0} {P Q : A → Type 0} (r : Result A B) → ((x : A) → P x → Q x) → IfOk r P → IfOk r Q
-if_ok (Ok x) f h = f x h
-if_ok (Err e) f h = tt {0}
 
 outcome_wants : (code : CodeTree) (s : State) (v : Memory) (steps : ℕ) (s' : State) (v' : Memory) (r : Option Turn) (o : Result Answer RunFault) → IsOutcome code s' r o → Walked code s v steps s' v' r → WantsMemory code s v steps v' o
 outcome_wants code s v steps s' v' None o e w = subst (WantsMemory code s v steps v') (sym e) (inr (s', w))

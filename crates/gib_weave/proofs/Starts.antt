@@ -37,22 +37,19 @@ use Rattle.gib_weave.proofs.Groups.{result_group}
 use Rattle.gib_weave.proofs.Move.{is_field}
 use Rattle.gib_weave.proofs.Places.{Apart-less, Apart-open, open-grows, open-small, SplitsAt, splits}
 use Rattle.gib_weave.proofs.Grow.{StandsAt-grows}
-use Rattle.gib_weave.proofs.Binds.{frame-length, body_end, no_slot, nothing_bound, result_dest, result_type, no_result_cover}
+use Rattle.gib_weave.proofs.Binds.{body_end, no_slot, nothing_bound, result_dest, result_type, no_result_cover}
 use Rattle.gib_weave.proofs.Nests.{nests_within}
 use Rattle.gib_weave.proofs.Ends.{heads_less}
+use Rattle.gib_weave.proofs.Comes.{no_field}
+use Rattle.gib_machine.proofs.Windows.{words_long}
 
 -- No field is in scope where a body begins.
-
-param_field : (p : Ty) → is_field (param_sort p) ≡ false
-param_field Whole = refl
-param_field Truth = refl
-param_field (Tree t) = refl
 
 body_field : (n : ℕ) (ps : List Ty) (y : ℕ) → is_field (body_scope n ps y) ≡ false
 body_field zero ps y = refl
 body_field (suc n) [] zero = refl
 body_field (suc n) [] (suc y) = body_field n [] y
-body_field (suc n) (p ∷ ps) zero = param_field p
+body_field (suc n) (p ∷ ps) zero = no_field p
 body_field (suc n) (p ∷ ps) (suc y) = body_field n ps y
 
 no_fields : (fs : List StoredField) (n : ℕ) (ps : List Ty) → Agrees fs (body_scope n ps)
@@ -129,7 +126,7 @@ main_has laid s c (suc n) p w v zero h = argument_has laid s c p w v h
 main_has laid s c (suc n) p w v (suc y) h = nothing_bound laid s c n y (slot (frame n []) y) (slot (frame n []) y) 0 _
 
 main_vars : (wi : Within) (laid : LaidOut) (s : Store) (n : ℕ) (p : Ty) (w : ℕ) (v : Datum) (d : Dest) (a : ℕ) → IsArgument laid s p w v → HasAll laid s (frame n (w ∷ [])) (main_line wi n p w v d a)
-main_vars wi laid s n p w v d a h = record { has = λ y. main_has laid s (main_line wi n p w v d a) n p w v y h; wide = λ y g. subst (λ (q : ℕ). y < q) (sym (frame-length n (w ∷ []))) (no_slot n (p ∷ []) y g); ends = λ y. body_end laid s n (p ∷ []) y (w ∷ []) _; even = frame-length n [] ∙ sym (frame-length n (w ∷ [])); told = λ q e. absurd (false≢true e); closes = tt }
+main_vars wi laid s n p w v d a h = record { has = λ y. main_has laid s (main_line wi n p w v d a) n p w v y h; wide = λ y g. subst (λ (q : ℕ). y < q) (sym (words_long n (w ∷ []))) (no_slot n (p ∷ []) y g); ends = λ y. body_end laid s n (p ∷ []) y (w ∷ []) _; even = words_long n [] ∙ sym (words_long n (w ∷ [])); told = λ q e. absurd (false≢true e); closes = tt }
 
 root_of : (ty : Ty) (a : ℕ) → IsRoot ty a (record { start = a; cur = a } ∷ [])
 root_of Whole a = tt

@@ -14,10 +14,11 @@ use Rattle.gib_weave.specs.Places.{Owned, with_chunk, IsNew, put_all, AllFresh}
 use Rattle.gib_weave.specs.Sound.{Leads}
 use Rattle.gib_weave.specs.Weave.{Running, Weave, task, moved, Sound}
 use Rattle.gib_weave.proofs.Acts.{Acts, Pays, owing, owing_like, acts_here, runs_on, running_sound}
-use Rattle.gib_weave.proofs.Places.{IsSided, zero_or_one, open-outside, open-inside}
+use Rattle.gib_weave.proofs.Places.{IsSided, zero_or_one, open-outside}
 use Rattle.gib_weave.proofs.Memories.{after_all, bounded_small, bounded_puts, bounded_draw, draws_new}
 use Rattle.gib_weave.proofs.Others.{puts_is_others, open_is_others}
 use Rattle.gib_weave.proofs.Cells.{fresh_absent}
+use Rattle.gib_mem.proofs.Puts.{open_in}
 
 no_more : (n : ℕ) → (0 < n → ⊥) → n ≡ 0
 no_more zero h = refl
@@ -92,4 +93,4 @@ module _ (core : CoreTree) (code : CodeTree) (ty : Ty) (o : Outcome) (whole : Co
 
       drawn : (q : ℕ) → IsSided (4096 * c) 4096 q → 0 < with_chunk (sd.family i).own c q → open_chunk w.memory.cells c q ≡ absent → ⊥
       drawn q (inl z) x e = sd.drawn i q (omega (arith, x, z)) (sym (open-outside w.memory.cells c q z) ∙ e)
-      drawn q (inr k) x e = fresh_absent (sym (open-inside w.memory.cells c q k.1 k.2) ∙ e)
+      drawn q (inr k) x e = fresh_absent (sym (open_in w.memory.cells c q k.1 k.2) ∙ e)

@@ -139,15 +139,16 @@ pub data Rests (core : CoreTree) (code : CodeTree) (owed : Owed) (own : Owned) (
   -- no side is left
   over : {a : Answer} → m.doing ≡ Over a → owed.sides ≡ [] → IsAnswer code.laid s owed.ty owed.all a → Rests core code owed own sh s m
 
--- Whatever the memory answers, the running instruction gets what is known, puts what is fresh, pays for what it does, and comes
--- to rest.
 mutual
+  -- Whatever the memory answers, the running instruction gets what is known, puts what is fresh, pays for what it does, and comes
+  -- to rest.
   pub data Safe (core : CoreTree) (code : CodeTree) (owed : Owed) : Owned → Share → Store → State → Type 0 where
     rests : {own : Owned} {sh : Share} {s : Store} {m : State} → Rests core code owed own sh s m → Safe core code owed own sh s m
     -- what was done so far, or is left, is counted anew
     counts : {own : Owned} {sh sh' : Share} {s : Store} {m : State} → Spends sh sh' 0 → Safe core code owed own sh' s m → Safe core code owed own sh s m
     moves : {own : Owned} {sh : Share} {s : Store} {m : State} → Moves core code owed own sh s m → Safe core code owed own sh s m
 
+  -- What it does next is safe, whatever the memory answers.
   pub data Moves (core : CoreTree) (code : CodeTree) (owed : Owed) : Owned → Share → Store → State → Type 0 where
     silent : {own : Owned} {sh : Share} {s : Store} {m m' : State} → next code m ≡ Silent m' → Safe core code owed own sh s m' → Moves core code owed own sh s m
     get : {own : Owned} {sh : Share} {s : Store} {m : State} {a n x : ℕ} {k : ℕ → State} → next code m ≡ Get a n k → Reads s a (suc n) x → Safe core code owed own sh s (k x) → Moves core code owed own sh s m
