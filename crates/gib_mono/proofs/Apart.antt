@@ -4,7 +4,7 @@ use Rattle.std.specs.Prelude.{slice_get}
 use Rattle.std.specs.Option.{option_map}
 use Rattle.std.specs.List.{AllByRecursion}
 use Rattle.std.proofs.lemmas.Option.{same_Some, slice_get-map}
-use Rattle.std.proofs.lemmas.Bool.{eqb-true, eq-eqb}
+use Rattle.std.proofs.lemmas.Bool.{eqb-true, eq-eqb, both_ways}
 use Rattle.gib_syntax.specs.Tree.{FunctionTree}
 use Rattle.gib_syntax.specs.Declarations.{number_of, place_of, AreDifferent, function_named}
 use Rattle.gib_syntax.specs.Forms.{Forms}
@@ -15,7 +15,8 @@ use Rattle.gib_mono.specs.Copied.{Item}
 use Rattle.gib_mono.specs.Walk.{Copy, DataOf, FunctionOf, is_found, DataCopy, FunctionCopy, datas_in, function_copies, Made, made_of, made_from, IsNaming}
 use Rattle.gib_mono.specs.Closed.{AreApart, IsDeclared}
 use Rattle.gib_mono.proofs.Here.{map_found}
-use Rattle.gib_mono.proofs.Tables.{absent_from, place_some, none_some, different_both, different_front, different_back, map_both, made_found, data_in_found, function_in_found, true_false, rows_at, one_row}
+use Rattle.gib_mono.proofs.Tables.{absent_from, place_some, none_some, different_both, different_back, map_both, made_found, data_in_found, function_in_found, rows_at, one_row}
+use Rattle.gib_check.proofs.DataRules.{different_front}
 
 -- the numbers of names of copies
 abbrev pub type_key : Naming → DataCopy → ℕ
@@ -70,7 +71,7 @@ types_different nm names (DataOf d ts ∷ cs) is h = (
       let a = is.types 0 (record { decl = d; types = ts }) refl in
       let b = is.types (suc i) c.0 c.1 in
       let same = is.types_apart a.0 b.0 (record { name = number_of d.name; types = ts }) (record { name = number_of (c.0).decl.name; types = (c.0).types }) a.1 b.1 c.2 in
-      true_false (is_found cs (DataOf d ts)) (data_in_found cs i c.0 d ts c.1 (ap (λ (u : Item). u.name) (sym same)) (ap (λ (u : Item). u.types) (sym same))) h.0),
+      both_ways (is_found cs (DataOf d ts)) h.0 (data_in_found cs i c.0 d ts c.1 (ap (λ (u : Item). u.name) (sym same)) (ap (λ (u : Item). u.types) (sym same)))),
   types_different nm names cs (naming_tail nm names (DataOf d ts) cs is) h.1,
 )
 types_different nm names (FunctionOf f ts ∷ cs) is h = types_different nm names cs (naming_tail nm names (FunctionOf f ts) cs is) h.1
@@ -84,7 +85,7 @@ functions_different nm names (FunctionOf f ts ∷ cs) is h = (
       let a = is.functions 0 (record { function = f; types = ts }) refl in
       let b = is.functions (suc i) c.0 c.1 in
       let same = is.functions_apart a.0 b.0 (record { name = number_of f.name; types = ts }) (record { name = number_of (c.0).function.name; types = (c.0).types }) a.1 b.1 c.2 in
-      true_false (is_found cs (FunctionOf f ts)) (function_in_found cs i c.0 f ts c.1 (ap (λ (u : Item). u.name) (sym same)) (ap (λ (u : Item). u.types) (sym same))) h.0),
+      both_ways (is_found cs (FunctionOf f ts)) h.0 (function_in_found cs i c.0 f ts c.1 (ap (λ (u : Item). u.name) (sym same)) (ap (λ (u : Item). u.types) (sym same)))),
   functions_different nm names cs (naming_tail nm names (FunctionOf f ts) cs is) h.1,
 )
 
@@ -146,7 +147,7 @@ constructors_different p nm names (DataOf d ts ∷ cs) n typed is h own =
     let other = rows_at p (m.0).copy.decl made.place (m.0).constructor (data_declared (globals_of_generic p) cs made.index (m.0).copy own.1 made.copied) made.there in
     let place : mine.0 ≡ other.0 = one_row p typed mine.0 other.0 (row_of d k.0) (row_of (m.0).copy.decl (m.0).constructor) mine.1 other.1 (ap (λ (u : Item). u.name) same) in
     let row : row_of d k.0 ≡ row_of (m.0).copy.decl (m.0).constructor = same_Some (row_of d k.0) (row_of (m.0).copy.decl (m.0).constructor) (sym mine.1 ∙ ap (slice_get (rows_of p.datas)) place ∙ other.1) in
-    true_false (is_found cs (DataOf d ts)) (data_in_found cs made.index (m.0).copy d ts made.copied (ap (λ (u : GenericRow). u.owner) (sym row)) (ap (λ (u : Item). u.types) (sym same))) h.0))
+    both_ways (is_found cs (DataOf d ts)) h.0 (data_in_found cs made.index (m.0).copy d ts made.copied (ap (λ (u : GenericRow). u.owner) (sym row)) (ap (λ (u : Item). u.types) (sym same)))))
 constructors_different p nm names (FunctionOf f ts ∷ cs) n typed is h own = constructors_different p nm names cs n typed (naming_tail nm names (FunctionOf f ts) cs is) h.1 own.1
 
 -- a function is found by its name where names are different

@@ -2,7 +2,7 @@
 use Rattle.std.proofs.Common.{◌≡◌, ℕ, suc, Bool, true, false, ◌==◌, ◌&&◌, ◌||◌, if◌then◌else◌, List, [], ◌∷◌, ◌++◌, map, Option, Some, refl, ap, ◌∙◌, subst}
 use Rattle.std.specs.Prelude.{slice_get}
 use Rattle.std.specs.List.{AllByRecursion}
-use Rattle.std.proofs.lemmas.Bool.{eqb-true}
+use Rattle.std.proofs.lemmas.Bool.{eqb-true, and_parts}
 use Rattle.gib_syntax.specs.declared.tree.Ident.{Ident}
 use Rattle.gib_syntax.specs.Declarations.{number_of}
 use Rattle.gib_syntax.specs.Typing.{Globals}
@@ -17,7 +17,7 @@ use Rattle.gib_mono.specs.Walk.{Ask, Copy, DataOf, FunctionOf, is_found, written
 use Rattle.gib_mono.specs.Closed.{IsThere, AreAnswered}
 use Rattle.gib_mono.proofs.Scopes.{owner_is}
 use Rattle.gib_types.proofs.SameForms.{same_forms_are}
-use Rattle.gib_mono.proofs.Closing.{and_both, data_has_name, function_has_name}
+use Rattle.gib_mono.proofs.Closing.{data_has_name, function_has_name}
 use Rattle.gib_mono.proofs.Copies.{answered_split}
 
 -- Items
@@ -30,7 +30,7 @@ type_item [] d ts h = absurd cc
 type_item (DataOf e us ∷ cs) d ts h = step ((number_of e.name == number_of d.name) && same_forms us ts) refl (λ k. type_item cs d ts k) h where
   step : (b : Bool) → ((number_of e.name == number_of d.name) && same_forms us ts) ≡ b → (is_found cs (DataOf d ts) ≡ true → IsItem (type_items cs) (number_of d.name) ts) → (b || is_found cs (DataOf d ts)) ≡ true → IsItem (record { name = number_of e.name; types = us } ∷ type_items cs) (number_of d.name) ts
   step true is go h =
-      let both = and_both (number_of e.name == number_of d.name) (same_forms us ts) is in
+      let both = and_parts (number_of e.name == number_of d.name) (same_forms us ts) is in
       (0, ap (λ (n : ℕ). Some (record { name = n; types = us })) (eqb-true (number_of e.name) (number_of d.name) both.0) ∙ ap (λ (vs : Forms). Some (record { name = number_of d.name; types = vs })) (same_forms_are us ts both.1))
   step false is go h = item_next (type_items cs) (record { name = number_of e.name; types = us }) (number_of d.name) ts (go h)
 type_item (FunctionOf f us ∷ cs) d ts h = type_item cs d ts h
@@ -41,7 +41,7 @@ function_item (DataOf e us ∷ cs) f ts h = function_item cs f ts h
 function_item (FunctionOf e us ∷ cs) f ts h = step ((number_of e.name == number_of f.name) && same_forms us ts) refl (λ k. function_item cs f ts k) h where
   step : (b : Bool) → ((number_of e.name == number_of f.name) && same_forms us ts) ≡ b → (is_found cs (FunctionOf f ts) ≡ true → IsItem (function_items cs) (number_of f.name) ts) → (b || is_found cs (FunctionOf f ts)) ≡ true → IsItem (record { name = number_of e.name; types = us } ∷ function_items cs) (number_of f.name) ts
   step true is go h =
-      let both = and_both (number_of e.name == number_of f.name) (same_forms us ts) is in
+      let both = and_parts (number_of e.name == number_of f.name) (same_forms us ts) is in
       (0, ap (λ (n : ℕ). Some (record { name = n; types = us })) (eqb-true (number_of e.name) (number_of f.name) both.0) ∙ ap (λ (vs : Forms). Some (record { name = number_of f.name; types = vs })) (same_forms_are us ts both.1))
   step false is go h = item_next (function_items cs) (record { name = number_of e.name; types = us }) (number_of f.name) ts (go h)
 

@@ -1,7 +1,8 @@
 -- The plain expressions, types and declarations of a program without type parameters.
-use Rattle.std.proofs.Common.{◌≡◌, ℕ, zero, suc, ◌<◌, ◌≤◌, List, [], ◌∷◌, ◌++◌, map, length, drop, Some, Result, Ok, Err, OnOk, slice_get, refl, sym, ap, ap₂, ◌∙◌, subst, arith, ◌⊎◌, inl, inr, ⊎_elim}
+use Rattle.std.proofs.Common.{◌≡◌, ℕ, zero, suc, ◌<◌, ◌≤◌, List, [], ◌∷◌, ◌++◌, map, length, drop, Some, slice_get, refl, sym, ap, ap₂, ◌∙◌, subst, arith, ◌⊎◌, inl, inr, ⊎_elim}
 use Rattle.std.specs.List.{AllByRecursion}
 use Rattle.std.proofs.lemmas.List.{append_assoc}
+use Rattle.std.proofs.lemmas.Option.{slice_get_within}
 use Rattle.gib_base.specs.declared.Span.{Span}
 use Rattle.gib_syntax.specs.declared.exprs.Arm.{Arm}
 use Rattle.gib_syntax.specs.declared.exprs.ExprId.{ExprId}
@@ -36,6 +37,8 @@ use Rattle.gib_mono.specs.Copied.{Item}
 use Rattle.gib_mono.specs.Declaring.{own_entry}
 use Rattle.gib_mono.specs.Naming.{copy_entries, entries, entry, listed_entries, with_entries, with_entry}
 use Rattle.gib_mono.specs.Walk.{Copy, plain_copies, plain_data, plain_datas, plain_function, plain_functions}
+use Rattle.gib_check.proofs.Read.{places_onto}
+use Rattle.gib_mono.proofs.Making.{all_inside}
 
 -- Nodes over the same parts
 
@@ -71,10 +74,6 @@ layer_bare f h words b (g.Tuple p xs) e l one = absurd one
 layer_bare f h words b (g.LetSeveral p xs a c) e l one = absurd one
 layer_bare f h words b (g.ParSeveral p xs a ys c d) e l one = absurd one
 
-ids_below : (b c : ℕ) (ids : List ExprId) → b ≤ c → AllByRecursion (λ (a : ExprId). a.0 < b) ids → AllByRecursion (λ (a : ExprId). a.0 < c) ids
-ids_below b c [] le h = tt {0}
-ids_below b c (i ∷ ids) le h = ((let l = h.0 in omega (arith, l, le)), ids_below b c ids le h.1)
-
 arms_below : (b c : ℕ) (arms : List Arm) → b ≤ c → AllByRecursion (GenericArmBelow b) arms → AllByRecursion (IsArmBelow c) arms
 arms_below b c [] le h = tt {0}
 arms_below b c (arm ∷ arms) le h = ((let l = h.0 in omega (arith, l, le)), arms_below b c arms le h.1)
@@ -89,8 +88,8 @@ parts_below b c (g.Whole p v) le h one = h
 parts_below b c (g.Truth p t) le h one = tt {0}
 parts_below b c (g.Paren p a) le h one = omega (arith, h, le)
 parts_below b c (g.Operation p o x y) le h one = let (l, k) = h in (omega (arith, l, le), omega (arith, k, le))
-parts_below b c (g.Call x ws ids) le h one = ids_below b c ids.items le h
-parts_below b c (g.Make x ws ids) le h one = ids_below b c ids.items le h
+parts_below b c (g.Call x ws ids) le h one = all_inside b c ids.items le h
+parts_below b c (g.Make x ws ids) le h one = all_inside b c ids.items le h
 parts_below b c (g.Let p x y z) le h one = let l = h.0 in let k = h.1 in (omega (arith, l, le), omega (arith, k, le))
 parts_below b c (g.LetPar p x a y d e) le h one = let l = h.0 in let k = h.1 in let m = h.2 in (omega (arith, l, le), omega (arith, k, le), omega (arith, m, le))
 parts_below b c (g.If p x y z) le h one = let l = h.0 in let k = h.1 in let m = h.2 in (omega (arith, l, le), omega (arith, k, le), omega (arith, m, le))
@@ -142,13 +141,8 @@ node_single words f (g.Tuple p xs) h = absurd h
 node_single words f (g.LetSeveral p xs x y) h = absurd h
 node_single words f (g.ParSeveral p xs x ys y z) h = absurd h
 
-inside : {X : Type 0} (xs : List X) (n : ℕ) (x : X) → slice_get xs n ≡ Some x → n < length xs
-inside [] n x e = absurd cc
-inside (y ∷ xs) zero x e = omega arith
-inside (y ∷ xs) (suc n) x e = let l = inside xs n x e in omega (arith, l)
-
 single_at : (a : Arena) (i : ℕ) (node : GenericNode) → IsArena a → AreSingleTrees a → slice_get a.nodes i ≡ Some node → IsSingleNode node
-single_at a i node arena h e = node_single a.words (generic_of a) node (subst IsSingle (tree_of-node a i node arena e) (h i (inside a.nodes i node e)))
+single_at a i node arena h e = node_single a.words (generic_of a) node (subst IsSingle (tree_of-node a i node arena e) (h i (slice_get_within a.nodes i node e)))
 
 pub next_below : (a : Arena) (next : ℕ) (nodes : List Node) (left after : List GenericNode) (node : GenericNode) → IsArena a → AreSingleTrees a → BareSoFar a next nodes left → left ≡ node ∷ after → PartsBelow (bare_node node) (length nodes)
 next_below a next nodes left after node arena single h e =
@@ -193,30 +187,23 @@ bare_left zero st = refl
 bare_left (suc n) [] = refl
 bare_left (suc n) (x ∷ st) = bare_left n st
 
-pub on_ok : {A E : Type 0} {P Q : Type 0} (r : Result A E) → OnOk r P → (P → Q) → OnOk r Q
-on_ok (Ok x) h f = f h
-on_ok (Err e) h f = h
-
 -- The name of a declared type stands in for its arguments.
 pub data_bare : (word : Word) (p : Span) (x : Ident) (n : ℕ) (old mid new : List TypeName) → word ≡ w.Data p x n → mid ≡ drop n old → new ≡ ty.Declared (record { name = x.name; span = p }) ∷ mid → (types : List WrittenType) → old ≡ map bare_written types → new ≡ map bare_written (read_word word types)
 data_bare word p x n old mid new e m q types h =
     q ∙ ap (λ l. ty.Declared (record { name = x.name; span = p }) ∷ l) (m ∙ ap (drop n) h ∙ bare_left n types) ∙ ap (λ z. map bare_written (read_word z types)) (sym e)
 
 -- Some of the words were looked at, from the last one on.
-abbrev pub onto : List Word → List WrittenType → List WrittenType
-onto [] st = st
-onto (x ∷ xs) st = read_word x (onto xs st)
 
 pub record TypesSoFar (words rest : List Word) (names : List TypeName) : Type 0 where
   pub types : List WrittenType
   pub are : names ≡ map bare_written types
-  pub whole : onto rest types ≡ stack_of words
+  pub whole : places_onto rest types ≡ stack_of words
 
-onto_last : (ws : List Word) (x : Word) (st : List WrittenType) → onto (ws ++ x ∷ []) st ≡ onto ws (read_word x st)
+onto_last : (ws : List Word) (x : Word) (st : List WrittenType) → places_onto (ws ++ x ∷ []) st ≡ places_onto ws (read_word x st)
 onto_last [] x st = refl
 onto_last (y ∷ ws) x st = ap (read_word y) (onto_last ws x st)
 
-onto_none : (ws : List Word) → onto ws [] ≡ stack_of ws
+onto_none : (ws : List Word) → places_onto ws [] ≡ stack_of ws
 onto_none [] = refl
 onto_none (x ∷ ws) = ap (read_word x) (onto_none ws)
 
@@ -227,11 +214,11 @@ pub types_next : (words rest before : List Word) (x : Word) (names more : List T
 types_next words rest before x names more h e step = record {
   types = read_word x h.types;
   are = step h.types h.are;
-  whole = sym (onto_last before x h.types) ∙ ap (λ ws. onto ws h.types) (sym e) ∙ h.whole;
+  whole = sym (onto_last before x h.types) ∙ ap (λ ws. places_onto ws h.types) (sym e) ∙ h.whole;
 }
 
 pub types_end : (words rest : List Word) (names : List TypeName) → TypesSoFar words rest names → rest ≡ [] → names ≡ map bare_written (stack_of words)
-types_end words rest names h e = h.are ∙ ap (map bare_written) (ap (λ ws. onto ws h.types) (sym e) ∙ h.whole)
+types_end words rest names h e = h.are ∙ ap (map bare_written) (ap (λ ws. places_onto ws h.types) (sym e) ∙ h.whole)
 
 -- Declarations without type variables
 
@@ -297,9 +284,9 @@ gives_single words (result.One run) h = (type_in words run, refl)
 gives_single words (result.Several runs) h = absurd h
 
 functions_single : (a : Arena) (fs : List GenericFunction) → AreSingleTrees a → AllByRecursion (GenericFunctionInside a) fs → AllByRecursion IsPlainHere fs → AllByRecursion IsSingleFunction (map (function_in a) fs)
-functions_single a [] single inside h = tt {0}
-functions_single a (f ∷ fs) single inside h =
-    ((gives_single a.words f.result h.0.1, single f.body.0 inside.0.2), functions_single a fs single inside.1 h.1)
+functions_single a [] single slice_get_within h = tt {0}
+functions_single a (f ∷ fs) single slice_get_within h =
+    ((gives_single a.words f.result h.0.1, single f.body.0 slice_get_within.0.2), functions_single a fs single slice_get_within.1 h.1)
 
 -- a function of one thing whose type variables are none is so where it is kept
 one_given : (words : List Word) (r : ResultRuns) (t : WrittenType) → results_in words r ≡ One t → GivesOne r
@@ -311,11 +298,11 @@ functions_here a [] h s = tt {0}
 functions_here a (f ∷ fs) h s = ((h.0, one_given a.words f.result s.0.0.0 s.0.0.1), functions_here a fs h.1 s.1)
 
 pub program_plain : (p : GenericParts) → GenericInside p → AllByRecursion IsPlainKept p.datas → AllByRecursion IsPlainHere p.functions → AreSingleTrees p.exprs → IsPlainProgram (generic_program_of p)
-program_plain p inside h k single = record {
+program_plain p slice_get_within h k single = record {
   datas = datas_plain p.exprs.words p.datas h;
   functions = functions_plain p.exprs p.functions k;
-  singles = functions_single p.exprs p.functions single inside.functions k;
-  main = single p.main.body.0 inside.main;
+  singles = functions_single p.exprs p.functions single slice_get_within.functions k;
+  main = single p.main.body.0 slice_get_within.main;
 }
 
 -- Each copied type has a constructor
@@ -346,7 +333,7 @@ pub record Bares (p : GenericParts) (made : Parts) : Type 0 where
   pub exprs : AreBare p.exprs (length p.exprs.nodes) made.exprs
   pub datas : map data_tree made.data_decls ≡ map bare_data (map (data_in p.exprs.words) p.datas)
   pub functions : map (function_tree (bare_tree p.exprs)) made.functions ≡ map bare_function (map (function_in p.exprs) p.functions)
-  pub inside : AllByRecursion (IsFunctionInside (length p.exprs.nodes)) made.functions
+  pub slice_get_within : AllByRecursion (IsFunctionInside (length p.exprs.nodes)) made.functions
   pub main : main_tree (bare_tree p.exprs) made.main ≡ bare_main (main_in p.exprs p.main)
   pub body : made.main.body ≡ p.main.body
 
@@ -354,31 +341,31 @@ pub record Bares (p : GenericParts) (made : Parts) : Type 0 where
 pub bares_of : (p : GenericParts) (made : Parts) (a b c d : Arena) (ds : List GenericData) (fs : List GenericFunction) (m : GenericMain) → a ≡ p.exprs → b ≡ p.exprs → c ≡ p.exprs → d ≡ p.exprs → ds ≡ p.datas → fs ≡ p.functions → m ≡ p.main
     → AreBare d (length d.nodes) made.exprs → map data_tree made.data_decls ≡ map bare_data (map (data_in a.words) ds) → map (function_tree (bare_tree b)) made.functions ≡ map bare_function (map (function_in b) fs) → AllByRecursion (IsFunctionInside (length b.nodes)) made.functions
     → main_tree (bare_tree c) made.main ≡ bare_main (main_in c m) → made.main.body ≡ m.body → Bares p made
-bares_of p made a b c d ds fs m ea eb ec ed eds efs em exprs datas functions inside main body = record {
+bares_of p made a b c d ds fs m ea eb ec ed eds efs em exprs datas functions slice_get_within main body = record {
   exprs = subst (λ (z : Arena). AreBare z (length z.nodes) made.exprs) ed exprs;
   datas = datas ∙ ap₂ (λ (z : Arena) (l : List GenericData). map bare_data (map (data_in z.words) l)) ea eds;
   functions = subst (λ (z : Arena). map (function_tree (bare_tree z)) made.functions ≡ map bare_function (map (function_in z) p.functions)) eb (functions ∙ ap (λ (l : List GenericFunction). map bare_function (map (function_in b) l)) efs);
-  inside = subst (λ (z : Arena). AllByRecursion (IsFunctionInside (length z.nodes)) made.functions) eb inside;
+  slice_get_within = subst (λ (z : Arena). AllByRecursion (IsFunctionInside (length z.nodes)) made.functions) eb slice_get_within;
   main = subst (λ (z : Arena). main_tree (bare_tree z) made.main ≡ bare_main (main_in z p.main)) ec (main ∙ ap (λ (f : GenericMain). bare_main (main_in c f)) em);
   body = body ∙ ap (λ (f : GenericMain). f.body) em;
 }
 
 main_below : (p : GenericParts) (made : Parts) → GenericInside p → Bares p made → made.main.body.0 < length p.exprs.nodes
-main_below p made inside h = subst (λ (i : ExprId). i.0 < length p.exprs.nodes) (sym h.body) inside.main
+main_below p made slice_get_within h = subst (λ (i : ExprId). i.0 < length p.exprs.nodes) (sym h.body) slice_get_within.main
 
 pub parts_inside : (p : GenericParts) (made : Parts) → GenericInside p → Bares p made → AreInside made
-parts_inside p made inside h = record {
+parts_inside p made slice_get_within h = record {
   functions = functions_inside p.exprs made.exprs made.functions h.exprs h.inside;
-  main = (let l = main_below p made inside h in let m = h.exprs.many in omega (arith, l, m));
-  constructors = subst (AllByRecursion Rattle.gib_syntax.specs.Fine.HasConstructor) (sym h.datas) (have_constructors (map (data_in p.exprs.words) p.datas) inside.constructors);
+  main = (let l = main_below p made slice_get_within h in let m = h.exprs.many in omega (arith, l, m));
+  constructors = subst (AllByRecursion Rattle.gib_syntax.specs.Fine.HasConstructor) (sym h.datas) (have_constructors (map (data_in p.exprs.words) p.datas) slice_get_within.constructors);
 }
 
 pub whole_bare : (p : GenericParts) (made : Parts) → GenericInside p → Bares p made → program_of made ≡ bare_program (generic_program_of p)
-whole_bare p made inside h =
+whole_bare p made slice_get_within h =
     ap (λ (a : List DataTree). let t : ProgramTree = record { datas = a; functions = map (function_tree (tree_of made.exprs)) made.functions; main = main_tree (tree_of made.exprs) made.main } in t) h.datas
     ∙ ap₂ (λ (b : List FunctionTree) (c : MainTree). let t : ProgramTree = record { datas = map bare_data (map (data_in p.exprs.words) p.datas); functions = b; main = c } in t)
     (functions_there p.exprs made.exprs made.functions h.exprs h.inside ∙ h.functions)
-    (ap (λ (b : Expression). let t : MainTree = record { parameter = made.main.parameter; result = made.main.result; body = b } in t) (h.exprs.trees made.main.body.0 (main_below p made inside h)) ∙ h.main)
+    (ap (λ (b : Expression). let t : MainTree = record { parameter = made.main.parameter; result = made.main.result; body = b } in t) (h.exprs.trees made.main.body.0 (main_below p made slice_get_within h)) ∙ h.main)
 
 -- The names of its copies
 

@@ -3,7 +3,7 @@ use Rattle.std.proofs.Common.{◌≡◌, ◌≢◌, ℕ, zero, suc, ◌+◌, ◌
 use Rattle.std.specs.Prelude.{slice_get, nat_lt, Result, Ok, Err}
 use Rattle.std.specs.List.{AllByRecursion}
 use Rattle.std.proofs.lemmas.Option.{same_Some}
-use Rattle.std.proofs.lemmas.Bool.{ltb-true, eqb-true, eq-eqb, or_parts, or_from, or_left, or_right, and_from}
+use Rattle.std.proofs.lemmas.Bool.{ltb-true, eqb-true, eq-eqb, or_parts, or_from, or_left, or_right, and_from, and_parts}
 use Rattle.gib_base.specs.declared.Span.{Span}
 use Rattle.gib_syntax.specs.Declarations.{number_of, place_of, next_place, AreDifferent}
 use Rattle.gib_syntax.specs.Forms.{Form, Forms, WholeForm, TruthForm, VariableForm, DataForm, NoForm, MoreForms}
@@ -17,21 +17,17 @@ use Rattle.gib_mono.specs.Closed.{IsThere, AreAnswered, IsDeclared, AreApart, Is
 
 -- Types that are the same
 
-pub and_both : (x y : Bool) → (x && y) ≡ true → (x ≡ true) × (y ≡ true)
-and_both true y h = (refl, h)
-and_both false y h = absurd cc
-
 pub parts_same : (x y : ℕ) (fs gs : Forms) → x ≡ y → fs ≡ gs → ((x == y) && same_forms fs gs) ≡ true
 parts_same x y fs gs e h = and_from (x == y) (same_forms fs gs) (eq-eqb x y e) (subst (λ (us : Forms). same_forms fs us ≡ true) h (same_forms_own fs))
 
 pub copy_turned : (b c : Copy) → same_copy b c ≡ true → same_copy c b ≡ true
 copy_turned (DataOf d ts) (DataOf e us) h =
-    let both = and_both (number_of d.name == number_of e.name) (same_forms ts us) h in
+    let both = and_parts (number_of d.name == number_of e.name) (same_forms ts us) h in
     parts_same (number_of e.name) (number_of d.name) us ts (sym (eqb-true (number_of d.name) (number_of e.name) both.0)) (sym (same_forms_are ts us both.1))
 copy_turned (DataOf d ts) (FunctionOf f us) h = h
 copy_turned (FunctionOf f ts) (DataOf d us) h = h
 copy_turned (FunctionOf f ts) (FunctionOf h us) k =
-    let both = and_both (number_of f.name == number_of h.name) (same_forms ts us) k in
+    let both = and_parts (number_of f.name == number_of h.name) (same_forms ts us) k in
     parts_same (number_of h.name) (number_of f.name) us ts (sym (eqb-true (number_of f.name) (number_of h.name) both.0)) (sym (same_forms_are ts us both.1))
 
 copy_own : (c : Copy) → same_copy c c ≡ true
@@ -211,7 +207,7 @@ few_bound g (FunctionOf f ts ∷ cs) h = let rest = few_bound g cs h.1 in omega 
 
 few_length : (g : GenericGlobals) (found : List Copy) → IsGood g found → length found ≤ 1200
 few_length g found good =
-    let both = and_both (nat_lt (constructors_in found) 201) (nat_lt (functions_in found) 1001) good.few in
+    let both = and_parts (nat_lt (constructors_in found) 201) (nat_lt (functions_in found) 1001) good.few in
     let a = ltb-true (constructors_in found) 201 both.0 in
     let b = ltb-true (functions_in found) 1001 both.1 in
     let c = few_bound g found good.declared in

@@ -12,14 +12,11 @@ use Rattle.gib_syntax.specs.Declarations.{number_of, place_of, next_place, AreDi
 use Rattle.gib_syntax.specs.Typing.{Covers, arm_names}
 use Rattle.gib_syntax.proofs.Soundness.{place_within}
 use Rattle.gib_syntax.specs.Forms.{Forms, DataForm, Meant}
-use Rattle.gib_syntax.specs.GenericTree.{GenericArms, GenericLastArm, GenericNextArm, GenericRow, GenericGlobals, place_named}
+use Rattle.gib_syntax.specs.GenericTree.{GenericArms, GenericLastArm, GenericNextArm, GenericRow, GenericGlobals}
 use Rattle.gib_syntax.specs.GenericTyping.{FormScope, generic_arm_names, CoversType}
 use Rattle.gib_mono.specs.Copying.{Naming, copy_arms}
 use Rattle.gib_mono.specs.Copied.{IsItem, Setting, plain, IsCopyOf, IsCopied}
-
--- the constructor of a name, of this type
-abbrev pub IsOwn : List GenericRow → ℕ → ℕ → Type 0
-IsOwn rows t k = (c : ℕ) × (row : GenericRow) × (place_named rows k ≡ Some c) × (slice_get rows c ≡ Some row) × (row.owner ≡ t)
+use Rattle.gib_check.proofs.Steps.{IsOwn}
 
 -- a constructor of this type has its copy
 pub own_copy : (s : Setting) (t : ℕ) (ts : Forms) (k : ℕ) → IsCopied s → IsItem s.types t ts → (own : IsOwn s.from.rows t k) → (d : ℕ) × IsCopyOf s own.0 own.1 ts k d
@@ -82,7 +79,7 @@ different_copied : (s : Setting) (t : ℕ) (ts : Forms) (ks : List ℕ) → IsCo
 different_copied s t ts [] copied item all h = tt {0}
 different_copied s t ts (k ∷ ks) copied item all h = (absent_copied s t ts ks k copied item all.1 all.0 h.0, different_copied s t ts ks copied item all.1 h.1)
 
-same_tree : (i j : ℕ) → Tree (record { 0 = i }) ≡ Tree (record { 0 = j }) → i ≡ j
+pub same_tree : (i j : ℕ) → Tree (record { 0 = i }) ≡ Tree (record { 0 = j }) → i ≡ j
 same_tree i j e = ap (λ (t : Ty). tree_number t) e where
   tree_number : Ty → ℕ
   tree_number Whole = 0

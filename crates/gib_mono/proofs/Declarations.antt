@@ -4,7 +4,6 @@ use Rattle.std.specs.List.{AllByRecursion}
 use Rattle.std.specs.Global.{Vec}
 use Rattle.std.proofs.lemmas.Option.{same_Some}
 use Rattle.std.proofs.lemmas.List.{map-append}
-use Rattle.gib_mono.proofs.Sourcing.{get_map}
 use Rattle.gib_base.specs.declared.Span.{Span}
 use Rattle.gib_types.specs.declared.types.TypeId.{TypeId}
 use Rattle.gib_types.specs.Form.{Form, Forms, NoForm, Meant}
@@ -53,9 +52,11 @@ use Rattle.gib_mono.specs.Reading.{listed}
 use Rattle.gib_mono.specs.Scenes.{Scenery, forms, meaning, scope_in, names_in, Keeps, ReadsIn}
 use Rattle.gib_mono.specs.Sources.{globals_in}
 use Rattle.gib_mono.specs.Walk.{Copy, DataOf, FunctionOf, DataCopy, FunctionCopy, data_asked, function_asked, datas_in, function_copies}
-use Rattle.gib_mono.proofs.Making.{stays_same, stays_on, parts_same, parts_on, grows_same, grows_on as nodes_grow_on, same₃, naming_stays, types_below}
-use Rattle.gib_mono.proofs.Meeting.{with_scene, scene_stays}
-use Rattle.gib_mono.proofs.Read.{grows_none, grows_on, forms_grow, below_more}
+use Rattle.gib_mono.proofs.Making.{stays_same, stays_on, parts_same, parts_on, grows_same, grows_on as nodes_grow_on, naming_stays, types_below}
+use Rattle.gib_mono.proofs.Meeting.{with_scene, scene_stays, first_formed}
+use Rattle.gib_mono.proofs.Read.{grows_none, grows_on, forms_grow, ap₃}
+use Rattle.gib_check.proofs.Growing.{below_more}
+use Rattle.gib_check.proofs.RowRules.{get_map}
 
 -- types
 
@@ -99,23 +100,19 @@ pub types_written : (s : Copier) (k : Scenery) (words : List Word) (r : Reading)
     → names ≡ named_forms (naming (with_scene s k)) places (listed (forms k) types) → WritesAll s (with_scene s k) names (map (copy_written (naming s) (meaning s.scene)) (stack_of words))
 types_written s k words r places types names read e f is = record {
   stays = scene_stays s k read.keeps;
-  is = is ∙ same₃ named_forms (naming_scene s k read.keeps) (e ∙ read.places) (ap (listed (forms k)) f ∙ read.types) ∙ all_written (naming s) (meaning s.scene) (stack_of words);
+  is = is ∙ ap₃ named_forms (naming_scene s k read.keeps) (e ∙ read.places) (ap (listed (forms k)) f ∙ read.types) ∙ all_written (naming s) (meaning s.scene) (stack_of words);
 }
 
 first_written : (st : List WrittenType) → first_span (map written_place st) ≡ written_place (first_type st)
 first_written [] = refl
 first_written (w ∷ st) = refl
 
-first_formed : (m : Meant) (st : List WrittenType) → first_form (map (formed m) st) ≡ formed m (first_type st)
-first_formed m [] = refl
-first_formed m (w ∷ st) = refl
-
 pub type_written : (s0 s2 : Copier) (k : Scenery) (words : List Word) (r : Reading) (span : Span) (ty : TypeId) (name : TypeName) → ReadsIn s0.scene k (meaning s0.scene) words r → span ≡ first_span r.places → Meets (with_scene s0 k) s2 ty (first_form (listed (forms k) r.types))
     → name ≡ name_of_form (naming s2) span (form_at (forms s2.scene) ty.0) → Writes s0 s2 (record { name = name; ty = ty }) (first_type (stack_of words))
 type_written s0 s2 k words r span ty name read at m is =
     let stays = stays_on s0 (with_scene s0 k) s2 (scene_stays s0 k read.keeps) m.stays in
     let form = m.form ∙ ap first_form read.types ∙ first_formed (meaning s0.scene) (stack_of words) in
-    record { stays = stays; below = m.below; form = form; name = is ∙ same₃ name_of_form (naming_stays s0 s2 stays) (at ∙ ap first_span read.places ∙ first_written (stack_of words)) form }
+    record { stays = stays; below = m.below; form = form; name = is ∙ ap₃ name_of_form (naming_stays s0 s2 stays) (at ∙ ap first_span read.places ∙ first_written (stack_of words)) form }
 
 -- constructors
 
@@ -147,7 +144,7 @@ constructors_next words old now new ids made more rest after all k c e h one m =
     let same : forms_at (forms now.scene) ids ≡ ts = forms_grow old.scene.types now.scene.types ids h.stays.keeps.grows h.below in
     let here : constructor_tree c ≡ f (constructor_in words k) =
     head_is (constructor_tree c) (copy_constructor (naming now) (meaning now.scene) (forms_at (forms now.scene) ids) (constructor_in words k)) one.is
-    ∙ same₃ (λ nm q us. copy_constructor nm q us (constructor_in words k)) (naming_stays old now h.stays) h.stays.keeps.meaning same in
+    ∙ ap₃ (λ nm q us. copy_constructor nm q us (constructor_in words k)) (naming_stays old now h.stays) h.stays.keeps.meaning same in
     record {
       stays = stays_on old now new h.stays one.stays;
       below = h.below;
@@ -204,7 +201,7 @@ data_made p s0 s2 k place decl d ids meant variables cs x made there at vs ms es
     let ts = forms_at (forms s0.scene) ids in
     let inner : map constructor_tree made.items ≡ map (copy_constructor (naming s0) (assign decl.variables.items ts) ts) (map (constructor_in p.exprs.words) decl.constructors.items) =
     h.is ∙ ap (λ (q : Scenery). map (copy_constructor (naming (with_scene s0 q)) (meaning q) (forms_at (forms q) ids)) (map (constructor_in p.exprs.words) cs)) e
-    ∙ same₃ (λ v m l. map (copy_constructor (naming s0) (assign v (forms_at (forms s0.scene) m)) ts) (map (constructor_in p.exprs.words) l)) vs ms es in
+    ∙ ap₃ (λ v m l. map (copy_constructor (naming s0) (assign v (forms_at (forms s0.scene) m)) ts) (map (constructor_in p.exprs.words) l)) vs ms es in
     record {
       goes = from_entered s0 s2 k variables meant e (stays_goes (with_scene s0 k) s2 h.stays);
       is = ap₂ (λ (y : Ident) (l : List ConstructorTree). record { name = y; constructors = l }) n inner ∙ ap (λ (y : GenericDataTree). copy_data (naming s0) y ts) is;
@@ -246,7 +243,7 @@ parameters_next words old now mid new made more rest after all q text w e f h on
     let nm = naming_goes old now (binds_goes old now h.inner h.binds) in
     let sure : first_type (stack_of text) ≡ type_in words q.ty = ap (λ t. first_type (stack_of t)) f in
     let form : form_at (forms mid.scene) w.ty.0 ≡ formed (meaning old.scene) (type_in words q.ty) = one.form ∙ ap₂ formed h.binds.meaning sure in
-    let name : w.name ≡ copy_written (naming old) (meaning old.scene) (type_in words q.ty) = one.name ∙ same₃ copy_written nm h.binds.meaning sure in
+    let name : w.name ≡ copy_written (naming old) (meaning old.scene) (type_in words q.ty) = one.name ∙ ap₃ copy_written nm h.binds.meaning sure in
     let g = copy_parameter (naming old) (meaning old.scene) in
     record {
       inner = form_bound q.name (formed (meaning old.scene) (type_in words q.ty)) h.inner;
@@ -278,7 +275,7 @@ pub written_next : (words : List Word) (old now mid : Copier) (made more : List 
     → Writes now mid w (first_type (stack_of text)) → more ≡ made ++ w.name ∷ [] → WrittenSoFar words old mid more after all
 written_next words old now mid made more rest after all run text w e f h one m =
     let g = copy_written (naming old) (meaning old.scene) in
-    let name : w.name ≡ g (type_in words run) = one.name ∙ same₃ copy_written (naming_stays old now h.stays) h.stays.keeps.meaning (ap (λ t. first_type (stack_of t)) f) in
+    let name : w.name ≡ g (type_in words run) = one.name ∙ ap₃ copy_written (naming_stays old now h.stays) h.stays.keeps.meaning (ap (λ t. first_type (stack_of t)) f) in
     record {
       stays = stays_on old now mid h.stays one.stays;
       is = ap (λ l. l ++ map g (map (type_in words) after)) (m ∙ ap (λ (t : TypeName). made ++ t ∷ []) name)
@@ -306,7 +303,7 @@ parts_made g s0 s1 s2 s3 ps qs types gives c e h one body =
       parameters = h.is;
       result = one.is ∙ ap₂ (λ nm m. map_results (copy_written nm m) gives) (naming_goes s0 s1 to1) h.binds.meaning;
       inside = body.inside;
-      body = body.expr ∙ same₃ (λ nm m sc. copy g nm m sc e) (naming_goes s0 s2 to2) (one.stays.keeps.meaning ∙ h.binds.meaning) (one.stays.keeps.scope ∙ h.binds.scope);
+      body = body.expr ∙ ap₃ (λ nm m sc. copy g nm m sc e) (naming_goes s0 s2 to2) (one.stays.keeps.meaning ∙ h.binds.meaning) (one.stays.keeps.scope ∙ h.binds.scope);
     }
 
 pub function_made : (p : GenericParts) (s0 s2 : Copier) (k : Scenery) (place : ℕ) (decl : GenericFunction) (f : GenericFunctionTree) (ids meant : List TypeId) (variables : List Ident) (qs : List GenericParameter) (x : Ident) (c : CopiedParts) → slice_get (globals_in p).functions place ≡ Some f
@@ -321,17 +318,17 @@ function_made p s0 s2 k place decl f ids meant variables qs x c there at vs ms e
     let tree = map (parameter_in p.exprs.words) decl.parameters.items in
     let ps : c.parameters.items ≡ map (copy_parameter (naming s0) m) tree =
     h.parameters ∙ ap (λ (q : Scenery). map (copy_parameter (naming (with_scene s0 q)) (meaning q)) (map (parameter_in p.exprs.words) qs)) e
-    ∙ same₃ (λ v l r. map (copy_parameter (naming s0) (assign v (forms_at (forms s0.scene) l))) (map (parameter_in p.exprs.words) r)) vs ms es in
+    ∙ ap₃ (λ v l r. map (copy_parameter (naming s0) (assign v (forms_at (forms s0.scene) l))) (map (parameter_in p.exprs.words) r)) vs ms es in
     let r : results_tree c.result ≡ map_results (copy_written (naming s0) m) (results_in p.exprs.words decl.result) =
     h.result ∙ ap (λ (q : Scenery). map_results (copy_written (naming (with_scene s0 q)) (meaning q)) (results_in p.exprs.words decl.result)) e
     ∙ ap₂ (λ v l. map_results (copy_written (naming s0) (assign v (forms_at (forms s0.scene) l))) (results_in p.exprs.words decl.result)) vs ms in
     let b : tree_of s2.exprs c.body.0 ≡ copy (globals_in p) (naming s0) m (parameters_bound m tree []) (generic_of p.exprs decl.body.0) =
     h.body ∙ ap (λ (q : Scenery). copy (globals_in p) (naming (with_scene s0 q)) (meaning q) (parameters_bound (meaning q) (map (parameter_in p.exprs.words) qs) (scope_in q)) (generic_of p.exprs decl.body.0)) e
-    ∙ same₃ (λ v l r. copy (globals_in p) (naming s0) (assign v (forms_at (forms s0.scene) l)) (parameters_bound (assign v (forms_at (forms s0.scene) l)) (map (parameter_in p.exprs.words) r) []) (generic_of p.exprs decl.body.0)) vs ms es in
+    ∙ ap₃ (λ v l r. copy (globals_in p) (naming s0) (assign v (forms_at (forms s0.scene) l)) (parameters_bound (assign v (forms_at (forms s0.scene) l)) (map (parameter_in p.exprs.words) r) []) (generic_of p.exprs decl.body.0)) vs ms es in
     record {
       goes = from_entered s0 s2 k variables meant e h.goes;
       inside = h.inside;
-      is = same₃ (λ (y : Ident) (l : List Parameter) (t : Results TypeName). record { name = y; parameters = l; result = t; body = tree_of s2.exprs c.body.0 }) n ps r
+      is = ap₃ (λ (y : Ident) (l : List Parameter) (t : Results TypeName). record { name = y; parameters = l; result = t; body = tree_of s2.exprs c.body.0 }) n ps r
           ∙ ap (λ (z : Expression). record {
             name = renamed decl.name (number_with s0.base (names_in s0.scene) (number_of decl.name) ts);
             parameters = map (copy_parameter (naming s0) m) tree;
@@ -364,7 +361,7 @@ main_made p s0 s2 k variables meant main qs made name body listed_ones d vs ms m
     record {
       goes = from_entered s0 s2 k variables meant e h.goes;
       inside = h.inside;
-      is = same₃ (λ (y : Parameter) (t : TypeName) (z : Expression). record { parameter = y; result = t; body = z }) (ap (λ (l : List Parameter). get_or l 0 d) (same ∙ ps)) r b
+      is = ap₃ (λ (y : Parameter) (t : TypeName) (z : Expression). record { parameter = y; result = t; body = z }) (ap (λ (l : List Parameter). get_or l 0 d) (same ∙ ps)) r b
           ∙ ap (λ (z : GenericMain). copy_main (globals_in p) (naming s0) (main_in p.exprs z)) mm;
     }
 
@@ -394,11 +391,11 @@ function_declared g s0 s1 ds fs more c f ts cs h m e = subst (Declares g s0 s1 d
   functions_are = ap (λ x. x ∷ []) h.is;
 })
 
-functions_stay : (xs ys : List Node) (fs : List FunctionDecl) → Grows xs ys → AllByRecursion (IsFunctionInside (length xs)) fs → AllByRecursion (IsFunctionInside (length ys)) fs
+pub functions_stay : (xs ys : List Node) (fs : List FunctionDecl) → Grows xs ys → AllByRecursion (IsFunctionInside (length xs)) fs → AllByRecursion (IsFunctionInside (length ys)) fs
 functions_stay xs ys [] g h = tt
 functions_stay xs ys (f ∷ fs) g h = ((let l = h.0 in let m = g.longer in omega (arith, l, m)), functions_stay xs ys fs g h.1)
 
-functions_same : (xs ys : List Node) (fs : List FunctionDecl) → Grows xs ys → AllByRecursion (IsFunctionInside (length xs)) fs → map (function_tree (tree_of ys)) fs ≡ map (function_tree (tree_of xs)) fs
+pub functions_same : (xs ys : List Node) (fs : List FunctionDecl) → Grows xs ys → AllByRecursion (IsFunctionInside (length xs)) fs → map (function_tree (tree_of ys)) fs ≡ map (function_tree (tree_of xs)) fs
 functions_same xs ys [] g h = refl
 functions_same xs ys (f ∷ fs) g h =
     ap₂ (λ (x : FunctionTree) (l : List FunctionTree). x ∷ l) (ap (λ (b : Expression). record { name = f.name; parameters = f.parameters.items; result = results_tree f.result; body = b }) (g.same f.body.0 h.0)) (functions_same xs ys fs g h.1)

@@ -1,5 +1,5 @@
 -- The copied program, from its copied declarations.
-use Rattle.std.proofs.Common.{◌≡◌, ℕ, List, [], ◌∷◌, length, map, Ok, Err, refl, sym, ap, ap₂, ◌∙◌, arith, subst}
+use Rattle.std.proofs.Common.{◌≡◌, ℕ, List, [], ◌∷◌, length, map, Ok, Err, refl, sym, ap, ap₂, ◌∙◌, subst}
 use Rattle.std.specs.List.{AllByRecursion}
 use Rattle.gib_base.specs.declared.Span.{Span}
 use Rattle.gib_types.specs.Form.{Forms}
@@ -7,11 +7,10 @@ use Rattle.gib_types.specs.Types.{forms_of}
 use Rattle.gib_syntax.specs.declared.tree.DataDecl.{DataDecl}
 use Rattle.gib_syntax.specs.declared.tree.FunctionDecl.{FunctionDecl}
 use Rattle.gib_syntax.specs.declared.tree.MainDecl.{MainDecl}
-use Rattle.gib_syntax.specs.declared.exprs.Node.{Node}
-use Rattle.gib_syntax.specs.Tree.{DataTree, FunctionTree, MainTree, ProgramTree, Expression}
-use Rattle.gib_syntax.specs.Arena.{tree_of, Grows}
+use Rattle.gib_syntax.specs.Tree.{DataTree, FunctionTree, MainTree, ProgramTree}
+use Rattle.gib_syntax.specs.Arena.{tree_of}
 use Rattle.gib_syntax.specs.Fine.{HasConstructor}
-use Rattle.gib_syntax.specs.Parts.{AreInside, program_of, data_tree, results_tree, function_tree, IsFunctionInside}
+use Rattle.gib_syntax.specs.Parts.{AreInside, program_of, data_tree, function_tree, IsFunctionInside}
 use Rattle.gib_syntax.specs.Typing.{IsTypedProgram}
 use Rattle.gib_syntax.specs.GenericFine.{HasGenericConstructor}
 use Rattle.gib_syntax.specs.GenericParts.{GenericParts, generic_program_of}
@@ -36,8 +35,9 @@ use Rattle.gib_mono.proofs.Below.{copies_below}
 use Rattle.gib_mono.proofs.Copies.{copies_closed}
 use Rattle.gib_mono.proofs.Named.{keys_inside, keys_copies}
 use Rattle.gib_mono.proofs.Names.{named}
-use Rattle.gib_mono.proofs.Read.{many}
 use Rattle.gib_mono.proofs.Theorem.{set_made, copied_typed}
+use Rattle.gib_mono.proofs.Declarations.{functions_stay, functions_same}
+use Rattle.gib_check.proofs.Growing.{many}
 
 pub keys_there : (p : GenericParts) (asked : Asked) (s : Copier) (keys : List CopyKey) → keys ≡ asked.found.keys → s.scene.types ≡ asked.context.types → Finds p asked → AreKeysInside (globals_in p) (length s.scene.types) keys
 keys_there p asked s keys e t h =
@@ -58,15 +58,6 @@ have_constructors : (g : GenericGlobals) (nm : Naming) (cs : List Copy) → AllB
 have_constructors g nm [] h = tt
 have_constructors g nm (DataOf d ts ∷ cs) h = (copied_constructors nm ts _ d.constructors h.0.1, have_constructors g nm cs h.1)
 have_constructors g nm (FunctionOf f ts ∷ cs) h = have_constructors g nm cs h.1
-
-functions_stay : (xs ys : List Node) (fs : List FunctionDecl) → Grows xs ys → AllByRecursion (IsFunctionInside (length xs)) fs → AllByRecursion (IsFunctionInside (length ys)) fs
-functions_stay xs ys [] g h = tt
-functions_stay xs ys (f ∷ fs) g h = ((let l = h.0 in let m = g.longer in omega (arith, l, m)), functions_stay xs ys fs g h.1)
-
-functions_same : (xs ys : List Node) (fs : List FunctionDecl) → Grows xs ys → AllByRecursion (IsFunctionInside (length xs)) fs → map (function_tree (tree_of ys)) fs ≡ map (function_tree (tree_of xs)) fs
-functions_same xs ys [] g h = refl
-functions_same xs ys (f ∷ fs) g h =
-    ap₂ (λ (x : FunctionTree) (l : List FunctionTree). x ∷ l) (ap (λ (b : Expression). record { name = f.name; parameters = f.parameters.items; result = results_tree f.result; body = b }) (g.same f.body.0 h.0)) (functions_same xs ys fs g h.1)
 
 -- all that the end needs
 pub record Ends (p : GenericParts) (base : ℕ) (s : Copier) (ds : List DataDecl) (fs : List FunctionDecl) (main : MainDecl) : Type 0 where

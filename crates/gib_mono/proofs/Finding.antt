@@ -4,7 +4,6 @@ use Rattle.std.specs.Prelude.{Result, Ok, Err}
 use Rattle.std.specs.List.{AllByRecursion}
 use Rattle.std.specs.Global.{Vec}
 use Rattle.std.proofs.lemmas.Option.{same_Some}
-use Rattle.gib_mono.proofs.Sourcing.{get_map}
 use Rattle.gib_base.specs.declared.Span.{Span}
 use Rattle.gib_types.specs.declared.types.TypeId.{TypeId}
 use Rattle.gib_types.specs.Form.{Form, Forms, NoForm, Meant}
@@ -37,6 +36,7 @@ use Rattle.gib_syntax.proofs.Reading.{read_stack}
 use Rattle.gib_mono.specs.Sources.{globals_in, asks_in}
 use Rattle.gib_mono.proofs.Seeking.{asks_then, AskedSoFar, asked_start, asked_next, asked_end, asks_both, asks_same}
 use Rattle.gib_mono.proofs.Walking.{split_is, empty_is}
+use Rattle.gib_check.proofs.RowRules.{get_map, all_at}
 
 -- the copy of a key's place
 
@@ -70,11 +70,6 @@ pub all_both : (g : GenericGlobals) (old mid new : Search) (xs ys : List Ask) �
 all_both g old mid new xs ys a b = record { on = λ r at. subst (IsAt g new) (asks_then g r xs ys) (b.on (with_found r (λ found. add_asks g found xs)) (a.on r at)) }
 
 -- at most 1,200 copies
-
-all_at : {A : Type 0} (P : A → Type 0) (xs : List A) (i : ℕ) (x : A) → AllByRecursion P xs → slice_get xs i ≡ Some x → P x
-all_at P [] i x h e = absurd cc
-all_at P (y ∷ xs) zero x h e = subst P (same_Some y x e) h.0
-all_at P (y ∷ xs) (suc i) x h e = all_at P xs i x h.1 e
 
 one_there : (d : GenericDataTree) → HasGenericConstructor d → 1 ≤ length d.constructors
 one_there d h = by d.constructors refl where

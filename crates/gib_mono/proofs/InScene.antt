@@ -19,8 +19,9 @@ use Rattle.gib_mono.specs.Entries.{item_of, AreEntriesBelow, with_key, place_in}
 use Rattle.gib_mono.specs.Naming.{number_with, entry_place}
 use Rattle.gib_mono.specs.Scenes.{Scenery, AreInScopeBelow, IsScenery, forms, meaning, scope_onto, scope_in, names_in, Keeps, MakesIn, NamesIn, ReadsIn}
 use Rattle.gib_mono.specs.Reading.{HasRead}
-use Rattle.gib_mono.proofs.Read.{below_more, forms_grow, form_grows, grows_none, grows_on, many}
+use Rattle.gib_mono.proofs.Read.{forms_grow, form_grows, grows_none, grows_on}
 use Rattle.gib_mono.proofs.Entered.{with_item, with_below, place_item}
+use Rattle.gib_check.proofs.Growing.{many, below_more}
 
 pub scope_grows : (old new : List TypeNode) (bs : List InScope) (scope : FormScope) → GrowsTo (forms_of old) (forms_of new) → AreInScopeBelow (length old) bs → scope_onto (forms_of new) bs scope ≡ scope_onto (forms_of old) bs scope
 scope_grows old new [] scope g h = refl
@@ -152,10 +153,6 @@ below_front n (suc m) (b ∷ bs) h = (h.0, below_front n m bs h.1)
 pub either : {A E : Type 0} {P Q : Type 0} (C : Type 0) (r : Result A E) → OnOk r P → OnErr r Q → (P → C) → (Q → C) → C
 either C (Ok a) h k f g = f h
 either C (Err e) h k f g = g k
-
-pub if_put : {A E : Type 0} {P Q : Type 0} (r : Result A E) → OnOk r P → (P → Q) → OnOk r Q
-if_put (Ok a) h f = f h
-if_put (Err e) h f = tt
 
 pub entries_put : (k : Scenery) (es : List Entry) (e : Entry) → IsScenery k → AreBelow (length k.types) e.types.items → es ≡ with_key k.entries e → AreEntriesBelow (length k.types) es
 entries_put k es e h b is = subst (AreEntriesBelow (length k.types)) (sym is) (with_below (length k.types) k.entries e h.entries b)

@@ -4,7 +4,7 @@ use borrow.Author.Tests.{lt-ltb}
 use Rattle.std.specs.List.{list_any, position_or_len}
 use Rattle.std.proofs.lemmas.Bool.{eqb-true, eq-eqb}
 use Rattle.std.proofs.lemmas.List.Quantifiers.{position-Some}
-use Rattle.std.proofs.lemmas.Option.{slice_get-get_or, same_Some}
+use Rattle.std.proofs.lemmas.Option.{slice_get-get_or, same_Some, none-some}
 use Rattle.indexmap.specs.IndexSet.{insert_key}
 use Rattle.gib_syntax.specs.Declarations.{number_of}
 use Rattle.gib_types.specs.declared.types.TypeId.{TypeId}
@@ -19,6 +19,7 @@ use Rattle.gib_syntax.specs.GenericTree.{GenericDataTree, GenericFunctionTree, G
 use Rattle.gib_types.specs.SameForm.{same_forms}
 use Rattle.gib_mono.specs.Walk.{Copy, DataOf, FunctionOf, data_asked, function_asked, same_copy, is_found, constructors_in, functions_in, are_few}
 use Rattle.gib_types.proofs.SameForms.{same_forms_are, same_forms_own}
+use Rattle.gib_check.proofs.Growing.{below_more}
 
 abbrev pub key_eq : CopyKey → CopyKey → Bool
 key_eq = (Rattle.gib_mono.specs.contracts.found.CopyKeyPartialEq.TheImpl.eq-value).it
@@ -130,11 +131,8 @@ any_below p (x ∷ ks) e = below_at p x ks (p x) refl e (any_below p ks)
 some_at : (p : CopyKey → Bool) (ks : List CopyKey) → position_or_len p ks < length ks → position p ks ≡ Some (position_or_len p ks)
 some_at p ks l = rw (lt-ltb _ _ l) refl
 
-not_none : {A : Type 0} (x : A) → Rattle.std.proofs.Common.None ≡ Some x → ⊥
-not_none x e = absurd cc
-
 absent_by : (p : CopyKey → Bool) (ks : List CopyKey) (b : Bool) → list_any p ks ≡ b → position p ks ≡ None → b ≡ false
-absent_by p ks true e f = absurd (not_none (position_or_len p ks) (sym f ∙ some_at p ks (any_below p ks e)))
+absent_by p ks true e f = absurd (none-some (position_or_len p ks) (sym f ∙ some_at p ks (any_below p ks e)))
 absent_by p ks false e f = refl
 
 pub absent_any : (ks : List CopyKey) (a : CopyKey) → position (key_eq a) ks ≡ None → IsNewKey ks a
@@ -192,17 +190,13 @@ found_same g fs found ks ks' n n' m m' e f h i = rw (e, f, h) i
 ids_grow : (fs more : List Form) (is : List TypeId) → AreBelow (length fs) is → forms_at (fs ++ more) is ≡ forms_at fs is
 ids_grow fs more is h = forms_more fs more (length fs) is h (omega arith)
 
-below_grow : (n m : ℕ) (is : List TypeId) → n ≤ m → AreBelow n is → AreBelow m is
-below_grow n m [] l h = h
-below_grow n m (i ∷ is) l h = ((let k = h.0 in omega (arith, k, l)), below_grow n m is l h.1)
-
 key_grows : (g : GenericGlobals) (fs more : List Form) (a : CopyKey) → KeyBelow (length fs) a → copy_from g (fs ++ more) a ≡ copy_from g fs a
 key_grows g fs more (k.Data i is) h = ap (data_asked (slice_get g.datas i)) (ids_grow fs more is.items h)
 key_grows g fs more (k.Function i is) h = ap (function_asked (slice_get g.functions i)) (ids_grow fs more is.items h)
 
 key_below : (n m : ℕ) (a : CopyKey) → n ≤ m → KeyBelow n a → KeyBelow m a
-key_below n m (k.Data i is) l h = below_grow n m is.items l h
-key_below n m (k.Function i is) l h = below_grow n m is.items l h
+key_below n m (k.Data i is) l h = below_more n m is.items l h
+key_below n m (k.Function i is) l h = below_more n m is.items l h
 
 copies_grow : (g : GenericGlobals) (fs more : List Form) (ks : List CopyKey) (found : List Copy) → AreCopies g fs ks found → AreCopies g (fs ++ more) ks found
 copies_grow g fs more [] [] h = h

@@ -10,7 +10,8 @@ use Rattle.gib_syntax.specs.Forms.{assign}
 use Rattle.gib_mono.specs.declared.reading.Reading.{Reading}
 use Rattle.gib_mono.specs.Contexts.{Known, IsKnown, meaning, Keeps, ReadsIn}
 use Rattle.gib_mono.specs.Reading.{HasRead}
-use Rattle.gib_mono.proofs.Read.{below_more, forms_grow}
+use Rattle.gib_mono.proofs.Read.{forms_grow}
+use Rattle.gib_check.proofs.Growing.{below_more}
 
 -- with these types in place of those before
 abbrev pub with_types : Known → List TypeNode → Known

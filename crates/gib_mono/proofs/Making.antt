@@ -1,5 +1,5 @@
 -- Copied expressions, from their copied parts.
-use Rattle.std.proofs.Common.{◌≡◌, ℕ, zero, suc, ◌+◌, ◌-◌, append_assoc, ◌<◌, ◌≤◌, List, [], ◌∷◌, ◌++◌, length, map, take, drop, Some, refl, sym, ap, ap₂, ◌∙◌, arith, subst}
+use Rattle.std.proofs.Common.{◌≡◌, ℕ, ◌+◌, ◌-◌, append_assoc, ◌<◌, ◌≤◌, List, [], ◌∷◌, ◌++◌, length, map, take, drop, Some, refl, sym, ap, ap₂, ◌∙◌, arith, subst}
 use Rattle.std.proofs.lemmas.List.{append-nil, length-append}
 use Rattle.std.specs.List.{AllByRecursion}
 use Rattle.std.specs.Global.{Vec}
@@ -37,7 +37,9 @@ use Rattle.gib_mono.specs.Scenes.{Scenery, IsScenery, forms, meaning, scope_onto
 use Rattle.gib_mono.specs.Reading.{listed}
 use Rattle.gib_mono.specs.Made.{naming, run_of, forms_given, AreMet, MoreParts, Stays, Meets, Gives, MeetsAll, Puts, Copies, CopiesAll, CopiesTuple, CopiesArm, CopiesArms, ArmIs, ArmsAre, arm_scope, Binds, Leaves}
 use Rattle.gib_mono.proofs.InScene.{keeps_same, keeps_on, scope_grows}
-use Rattle.gib_mono.proofs.Read.{form_grows, forms_grow, listed_grow, below_more, grows_on as types_grow_on}
+use Rattle.gib_mono.proofs.Read.{form_grows, forms_grow, listed_grow, grows_on as types_grow_on, ap₃}
+use Rattle.gib_check.proofs.Growing.{below_more, run_more}
+use Rattle.gib_check.proofs.Singles.{listed_push, below_push}
 
 pub grows_same : (xs : List Node) → Grows xs xs
 grows_same xs = record { longer = omega arith; same = λ i l. refl }
@@ -55,16 +57,6 @@ parts_same a b e = record { more = []; is = ap (λ (v : Vec TypeId). v.items) e 
 pub parts_on : (a b c : Copier) → MoreParts a b → MoreParts b c → MoreParts a c
 parts_on a b c h k = record { more = h.more ++ k.more; is = k.is ∙ ap (λ l. l ++ k.more) h.is ∙ append_assoc a.parts.items h.more k.more }
 
-take_more : (n : ℕ) (xs ys : List TypeId) → n ≤ length xs → take n (xs ++ ys) ≡ take n xs
-take_more zero xs ys l = refl
-take_more (suc n) [] ys l = absurd (omega (arith, l))
-take_more (suc n) (x ∷ xs) ys l = ap (λ z. x ∷ z) (take_more n xs ys (omega (arith, l)))
-
-run_more : (start count : ℕ) (xs ys : List TypeId) → start + count ≤ length xs → take count (drop start (xs ++ ys)) ≡ take count (drop start xs)
-run_more zero count xs ys l = take_more count xs ys (omega (arith, l))
-run_more (suc start) count [] ys l = absurd (omega (arith, l))
-run_more (suc start) count (x ∷ xs) ys l = run_more start count xs ys (omega (arith, l))
-
 run_stays : (a b : Copier) (start count : ℕ) → MoreParts a b → start + count ≤ length a.parts.items → run_of b start count ≡ run_of a start count
 run_stays a b start count m l = ap (λ (ps : List TypeId). take count (drop start ps)) m.is ∙ run_more start count a.parts.items m.more l
 
@@ -76,9 +68,6 @@ stays_on a b c h k = record { keeps = keeps_on a.scene b.scene c.scene h.keeps k
 
 pub naming_stays : (a b : Copier) → Stays a b → naming b ≡ naming a
 naming_stays a b h = ap₂ naming_of h.base h.keeps.names
-
-pub same₃ : {A B C D : Type 0} (f : A → B → C → D) {x y : A} {u v : B} {s t : C} → x ≡ y → u ≡ v → s ≡ t → f x u s ≡ f y v t
-same₃ f {x} {y} {u} {v} {s} {t} e g h = ap (λ a. f a u s) e ∙ ap (λ b. f y b s) g ∙ ap (f y v) h
 
 -- what was given stays
 pub given_stays : (a b : Copier) (r : ResultIds) → Stays a b → AreMet a r → forms_given b r ≡ forms_given a r
@@ -112,7 +101,7 @@ copied_from g old mid new c e s h = record {
   stays = stays_on old mid new s h.stays;
   inside = h.inside;
   met = h.met;
-  expr = h.expr ∙ same₃ (λ nm m sc. copy g nm m sc e) (naming_stays old mid s) s.keeps.meaning s.keeps.scope;
+  expr = h.expr ∙ ap₃ (λ nm m sc. copy g nm m sc e) (naming_stays old mid s) s.keeps.meaning s.keeps.scope;
   forms = h.forms ∙ ap₂ (λ m sc. results_of g m sc e) s.keeps.meaning s.keeps.scope;
 }
 
@@ -174,7 +163,7 @@ if_made g s0 s1 s2 s3 s4 id c t o p a b d h i j w =
     let first = copied_stays g s0 s1 s3 c a h (stays_on s1 s2 s3 i.stays j.stays) in
     let second = copied_stays g s0 s2 s3 t b (copied_from g s0 s1 s2 t b h.stays i) j.stays in
     let third = copied_from g s0 s2 s3 o d (stays_on s0 s1 s2 h.stays i.stays) j in
-    node_made g s0 s3 s4 id (n.If p c.expr t.expr o.expr) t.given (GenericIf p a b d) third.stays w (same₃ (If p) first.expr second.expr third.expr) second.met second.forms
+    node_made g s0 s3 s4 id (n.If p c.expr t.expr o.expr) t.given (GenericIf p a b d) third.stays w (ap₃ (If p) first.expr second.expr third.expr) second.met second.forms
 
 -- variables in scope, and out of it again
 
@@ -240,7 +229,7 @@ let_made g s0 s1 s2 s3 s4 s5 s6 len id v c t p x a b h one known is binds i e w 
     let m = binds.meaning ∙ there.keeps.meaning in
     let sc = binds.scope ∙ ap₂ (λ f sc. form_bound x f sc) (one_met g s0 s1 s2 v a t h one) there.keeps.scope in
     node_made g s0 s5 s6 id (n.Let p x v.expr c.expr) c.given (GenericLet p x a b) first.stays w
-    (ap₂ (Let p x) first.expr (left_tree s4 s5 len c.expr e ∙ i.expr ∙ same₃ (λ k q r. copy g k q r b) nm m sc))
+    (ap₂ (Let p x) first.expr (left_tree s4 s5 len c.expr e ∙ i.expr ∙ ap₃ (λ k q r. copy g k q r b) nm m sc))
     (left_met s4 s5 len c.given e i.met) (left_given s4 s5 len c.given e ∙ i.forms ∙ ap₂ (λ q r. results_of g q r b) m sc)
 
 -- two variables, one after the other
@@ -301,9 +290,9 @@ let_par_made g s0 s1 s2 s3 s4 s5 s6 s7 s8 len id v w c t u p x y a b q h i one t
     let right_form : form_at (forms s4.scene) u.0 ≡ form_of g (meaning s0.scene) (scope_in s0.scene) b = one_met g s0 s3 s4 w b u right_there two in
     let nm = naming_binds s4 s5 inner binds ∙ naming_stays s0 s4 there in
     let m = binds.meaning ∙ there.keeps.meaning in
-    let sc = binds.scope ∙ same₃ (λ f k r. form_bound y f (form_bound x k r)) right_form left_form there.keeps.scope in
+    let sc = binds.scope ∙ ap₃ (λ f k r. form_bound y f (form_bound x k r)) right_form left_form there.keeps.scope in
     node_made g s0 s7 s8 id (n.LetPar p x v.expr y w.expr c.expr) c.given (GenericPar p x a y b q) first.stays makes
-    (same₃ (λ k l r. Par p x k y l r) first.expr second.expr (left_tree s6 s7 len c.expr e ∙ j.expr ∙ same₃ (λ k l r. copy g k l r q) nm m sc))
+    (ap₃ (λ k l r. Par p x k y l r) first.expr second.expr (left_tree s6 s7 len c.expr e ∙ j.expr ∙ ap₃ (λ k l r. copy g k l r q) nm m sc))
     (left_met s6 s7 len c.given e j.met) (left_given s6 s7 len c.given e ∙ j.forms ∙ ap₂ (λ l r. results_of g l r q) m sc)
 
 -- bindings of parts
@@ -320,7 +309,7 @@ let_several_made g s0 s1 s2 s3 s4 s5 len id v c ts qs p xs a b h types names kno
     let m = binds.meaning ∙ h.stays.keeps.meaning in
     let sc = binds.scope ∙ ap₂ (bind_forms xs) bound h.stays.keeps.scope in
     node_made g s0 s4 s5 id (n.LetSeveral p qs v.expr c.expr) c.given (GenericLetSeveral p xs a b) first.stays w
-    (same₃ (LetSeveral p) (names ∙ ap₂ (λ k l. copy_variables k xs l) (naming_stays s0 s1 h.stays) bound) first.expr (left_tree s3 s4 len c.expr e ∙ i.expr ∙ same₃ (λ k q r. copy g k q r b) nm m sc))
+    (ap₃ (LetSeveral p) (names ∙ ap₂ (λ k l. copy_variables k xs l) (naming_stays s0 s1 h.stays) bound) first.expr (left_tree s3 s4 len c.expr e ∙ i.expr ∙ ap₃ (λ k q r. copy g k q r b) nm m sc))
     (left_met s3 s4 len c.given e i.met) (left_given s3 s4 len c.given e ∙ i.forms ∙ ap₂ (λ q r. results_of g q r b) m sc)
 
 pub par_several_made : (g : GenericGlobals) (s0 s1 s2 s3 s4 s5 s6 s7 : Copier) (len : ℕ) (id : ExprId) (v w c : Copied) (ts us : List TypeId) (qs rs : Vec Parameter) (p : Span) (xs ys : List Ident) (a b q : GenericExpression) → Copies g s0 s1 v a → Copies g s1 s2 w b
@@ -341,12 +330,12 @@ par_several_made g s0 s1 s2 s3 s4 s5 s6 s7 len id v w c ts us qs rs p xs ys a b 
     let right_bound : listed (forms s2.scene) us ≡ bound_forms g (meaning s0.scene) (scope_in s0.scene) b = right_types ∙ ap list_results right.forms in
     let nm = naming_binds s2 s4 inner binds ∙ naming_stays s0 s2 left.stays in
     let m = binds.meaning ∙ left.stays.keeps.meaning in
-    let sc = binds.scope ∙ same₃ (λ f k r. bind_forms ys f (bind_forms xs k r)) right_bound left_bound left.stays.keeps.scope in
+    let sc = binds.scope ∙ ap₃ (λ f k r. bind_forms ys f (bind_forms xs k r)) right_bound left_bound left.stays.keeps.scope in
     let near = naming_stays s0 s2 left.stays in
     node_made g s0 s6 s7 id (n.ParSeveral p qs v.expr rs w.expr c.expr) c.given (GenericParSeveral p xs a ys b q) first.stays makes
     (ap₂ (λ k l. ParSeveral p k (tree_of s6.exprs v.expr.0) l (tree_of s6.exprs w.expr.0) (tree_of s6.exprs c.expr.0)) (lefts ∙ ap₂ (λ k l. copy_variables k xs l) near left_bound) (rights ∙ ap₂ (λ k l. copy_variables k ys l) near right_bound)
-    ∙ same₃ (λ k l r. ParSeveral p (copy_variables (naming s0) xs (bound_forms g (meaning s0.scene) (scope_in s0.scene) a)) k (copy_variables (naming s0) ys (bound_forms g (meaning s0.scene) (scope_in s0.scene) b)) l r)
-    first.expr second.expr (left_tree s5 s6 len c.expr e ∙ j.expr ∙ same₃ (λ k l r. copy g k l r q) nm m sc))
+    ∙ ap₃ (λ k l r. ParSeveral p (copy_variables (naming s0) xs (bound_forms g (meaning s0.scene) (scope_in s0.scene) a)) k (copy_variables (naming s0) ys (bound_forms g (meaning s0.scene) (scope_in s0.scene) b)) l r)
+    first.expr second.expr (left_tree s5 s6 len c.expr e ∙ j.expr ∙ ap₃ (λ k l r. copy g k l r q) nm m sc))
     (left_met s5 s6 len c.given e j.met) (left_given s5 s6 len c.given e ∙ j.forms ∙ ap₂ (λ l r. results_of g l r q) m sc)
 
 -- arguments
@@ -355,7 +344,7 @@ pub arguments_as : (g : GenericGlobals) (old mid new : Copier) (ids : List ExprI
 arguments_as g old mid new ids es s h = record {
   stays = stays_on old mid new s h.stays;
   inside = h.inside;
-  args = h.args ∙ same₃ (λ nm m sc. copy_all g nm m sc es) (naming_stays old mid s) s.keeps.meaning s.keeps.scope;
+  args = h.args ∙ ap₃ (λ nm m sc. copy_all g nm m sc es) (naming_stays old mid s) s.keeps.meaning s.keeps.scope;
 }
 
 pub all_inside : (b c : ℕ) (ids : List ExprId) → b ≤ c → AllByRecursion (λ (i : ExprId). i.0 < b) ids → AllByRecursion (λ (i : ExprId). i.0 < c) ids
@@ -441,14 +430,6 @@ tuple_begin g f id old parts copied types e k h = rw e (rw k (record {
   forms = refl;
 }))
 
-listed_last : (fs : List Form) (types : List TypeId) (t : TypeId) → listed fs (types ++ t ∷ []) ≡ listed fs types ++ form_at fs t.0 ∷ []
-listed_last fs [] t = refl
-listed_last fs (u ∷ types) t = ap (λ l. form_at fs u.0 ∷ l) (listed_last fs types t)
-
-below_last : (b : ℕ) (types : List TypeId) (t : TypeId) → AreBelow b types → t.0 < b → AreBelow b (types ++ t ∷ [])
-below_last b [] t h l = (l, tt)
-below_last b (u ∷ types) t h l = (h.0, below_last b types t h.1 l)
-
 forms_last : (g : GenericGlobals) (m : Meant) (sc : FormScope) (es : GenericArguments) (e : GenericExpression) → forms_of_all g m sc (with_generic es e) ≡ forms_of_all g m sc es ++ form_of g m sc e ∷ []
 forms_last g m sc GenericNoArgument e = refl
 forms_last g m sc (GenericArgument a es) e = ap (λ l. form_of g m sc a ∷ l) (forms_last g m sc es e)
@@ -462,8 +443,8 @@ tuple_go g f id old now mid new parts rest after copied more types further i c t
     let grown = types_grow_on now.scene.types mid.scene.types new.scene.types one.stays.keeps.grows met.stays.keeps.grows in
     record {
       all = arguments_go g f id old now new parts rest after copied more i c e h.all (copied_stays g now mid new c (f i.0) one met.stays) m;
-      below = subst (AreBelow (length new.scene.types)) (sym n') (below_last (length new.scene.types) types t (below_more (length now.scene.types) (length new.scene.types) types wider h.below) met.below);
-      forms = ap (listed (forms new.scene)) n' ∙ listed_last (forms new.scene) types t
+      below = subst (AreBelow (length new.scene.types)) (sym n') (below_push (length new.scene.types) types t (below_more (length now.scene.types) (length new.scene.types) types wider h.below) met.below);
+      forms = ap (listed (forms new.scene)) n' ∙ listed_push (forms new.scene) types t
           ∙ ap₂ (λ (l : List Form) (u : Form). l ++ u ∷ []) (listed_grow now.scene.types new.scene.types types grown h.below ∙ h.forms) (one_met g old mid new c (f i.0) t whole met)
           ∙ sym (ap (forms_of_all g (meaning old.scene) (scope_in old.scene)) (generic_last f h.all.front i) ∙ forms_last g (meaning old.scene) (scope_in old.scene) (generic_from f h.all.front) (f i.0));
     }
@@ -504,7 +485,7 @@ types_below a b ts us s e h = subst (AreBelow (length b.scene.types)) (sym e) (b
 -- a name that a use gets
 use_named : (s0 s1 : Copier) (ts us : List TypeId) (f x : Ident) (ws : WrittenTypes) → Stays s0 s1 → forms_at (forms s1.scene) ts ≡ formed_all (meaning s0.scene) ws → us ≡ ts → x ≡ renamed f (number_with s1.base (names_in s1.scene) (number_of f) (forms_at (forms s1.scene) us))
     → x ≡ renamed f (number_with s0.base (names_in s0.scene) (number_of f) (formed_all (meaning s0.scene) ws))
-use_named s0 s1 ts us f x ws s types e is = is ∙ same₃ (λ b ns t. renamed f (number_with b ns (number_of f) t)) s.base s.keeps.names (ap (forms_at (forms s1.scene)) e ∙ types)
+use_named s0 s1 ts us f x ws s types e is = is ∙ ap₃ (λ b ns t. renamed f (number_with b ns (number_of f) t)) s.base s.keeps.names (ap (forms_at (forms s1.scene)) e ∙ types)
 
 pub call_made : (g : GenericGlobals) (all words : List Word) (run : Run) (s0 s1 s2 s3 s4 : Copier) (ts us vs : List TypeId) (f x : Ident) (args : Vec ExprId) (id : ExprId) (given : ResultIds) (es : GenericArguments) → words ≡ run_words all run
     → MeetsAll s0 s1 ts (map (formed (meaning s0.scene)) (stack_of words)) → us ≡ ts → x ≡ renamed f (number_with s1.base (names_in s1.scene) (number_of f) (forms_at (forms s1.scene) us)) → CopiesAll g s1 s2 args.items es
@@ -545,7 +526,7 @@ arm_made g s0 s1 s2 s3 len arm from c e variables ts known is vs bound h back k 
         inside = subst (λ (i : ExprId). i.0 < length s3.exprs) (sym b) (left_inside s2 s3 len c.expr back h.inside);
         constructor = k;
         variables = v;
-        expr = ap (λ (i : ExprId). tree_of s3.exprs i.0) b ∙ left_tree s2 s3 len c.expr back ∙ h.expr ∙ same₃ (λ nm m sc. copy g nm m sc e) (naming_binds s0 s1 inner binds) binds.meaning binds.scope;
+        expr = ap (λ (i : ExprId). tree_of s3.exprs i.0) b ∙ left_tree s2 s3 len c.expr back ∙ h.expr ∙ ap₃ (λ nm m sc. copy g nm m sc e) (naming_binds s0 s1 inner binds) binds.meaning binds.scope;
       };
       met = left_met s2 s3 len c.given back h.met;
       forms = left_given s2 s3 len c.given back ∙ h.forms ∙ ap₂ (λ m sc. results_of g m sc e) binds.meaning binds.scope;
@@ -556,7 +537,7 @@ arm_from g old mid xs arm from e ts s h = record {
   inside = h.inside;
   constructor = h.constructor ∙ ap (λ (nm : Naming). renamed from.constructor (nm.constructors (number_of from.constructor) ts)) (naming_stays old mid s);
   variables = h.variables;
-  expr = h.expr ∙ same₃ (λ nm m sc. copy g nm m (arm_scope g sc from ts) e) (naming_stays old mid s) s.keeps.meaning s.keeps.scope;
+  expr = h.expr ∙ ap₃ (λ nm m sc. copy g nm m (arm_scope g sc from ts) e) (naming_stays old mid s) s.keeps.meaning s.keeps.scope;
 }
 
 arm_keeps : (g : GenericGlobals) (old : Copier) (xs ys : List Node) (arm from : Arm) (e : GenericExpression) (ts : Forms) → Grows xs ys → ArmIs g old xs arm from e ts → ArmIs g old ys arm from e ts
@@ -626,11 +607,11 @@ arms_over g f id old now ts before copied arms rest e h = record {
 -- the arms as a tree are the copies of arms
 arms_are : (g : GenericGlobals) (f : ℕ → GenericExpression) (old : Copier) (xs : List Node) (ts : Forms) (a b : Arm) (as' bs : List Arm) → ArmsAre g f old xs ts (a ∷ as') (b ∷ bs)
     → arms_from (tree_of xs) a as' ≡ copy_arms g (naming old) (meaning old.scene) (scope_in old.scene) ts (generic_arms f b bs)
-arms_are g f old xs ts a b [] [] h = same₃ LastArm h.0.constructor h.0.variables h.0.expr
+arms_are g f old xs ts a b [] [] h = ap₃ LastArm h.0.constructor h.0.variables h.0.expr
 arms_are g f old xs ts a b [] (y ∷ bs) h = absurd h.1
 arms_are g f old xs ts a b (x ∷ as') [] h = absurd h.1
 arms_are g f old xs ts a b (x ∷ as') (y ∷ bs) h =
-    same₃ (λ k v e. NextArm k v e (arms_from (tree_of xs) x as')) h.0.constructor h.0.variables h.0.expr
+    ap₃ (λ k v e. NextArm k v e (arms_from (tree_of xs) x as')) h.0.constructor h.0.variables h.0.expr
     ∙ ap (NextArm (renamed b.constructor ((naming old).constructors (number_of b.constructor) ts)) b.variables.items (copy g (naming old) (meaning old.scene) (arm_scope g (scope_in old.scene) b ts) (f b.body.0))) (arms_are g f old xs ts x y as' bs h.1)
 
 arms_inside : (g : GenericGlobals) (f : ℕ → GenericExpression) (old : Copier) (xs : List Node) (ts : Forms) (as' bs : List Arm) → ArmsAre g f old xs ts as' bs → AllByRecursion (IsArmBelow (length xs)) as'
@@ -688,7 +669,7 @@ pub case_type : (g : GenericGlobals) (f : ℕ → GenericExpression) (s0 s1 s2 s
 case_type g f s0 s1 s2 s3 x of ids us first b given m types e a s =
     let at1 : forms_at (forms s1.scene) us ≡ arguments_of (form_or (form_in (scope_in s0.scene) (number_of x))) = ap (forms_at (forms s1.scene)) e ∙ types ∙ ap arguments_of m.form in (
       met_stays s2 s3 given s a.met,
-      given_stays s2 s3 given s a.met ∙ a.forms ∙ same₃ (λ q sc ts. results_of g q (arm_scope g sc b ts) (f b.body.0)) m.stays.keeps.meaning m.stays.keeps.scope at1,
+      given_stays s2 s3 given s a.met ∙ a.forms ∙ ap₃ (λ q sc ts. results_of g q (arm_scope g sc b ts) (f b.body.0)) m.stays.keeps.meaning m.stays.keeps.scope at1,
     )
 
 pub further_below : (id : ℕ) (arms rest : List Arm) (b : Arm) → arms ≡ b ∷ rest → GenericArmsBelow arms id → AllByRecursion (IsGenericArmBelow id) rest

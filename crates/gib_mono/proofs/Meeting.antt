@@ -2,7 +2,7 @@
 use Rattle.std.proofs.Common.{◌≡◌, ℕ, zero, suc, ◌<◌, List, [], ◌∷◌, ◌++◌, length, map, slice_get, get_or, Some, None, refl, sym, ap, ap₂, ◌∙◌, arith, subst, append_assoc}
 use Rattle.std.specs.Global.{Vec}
 use Rattle.std.proofs.lemmas.List.{append-nil, length-map}
-use Rattle.std.proofs.lemmas.Option.{same_Some}
+use Rattle.std.proofs.lemmas.Option.{same_Some, slice_get_within}
 use Rattle.gib_types.specs.declared.types.TypeId.{TypeId}
 use Rattle.gib_types.specs.Form.{Form, Forms, Meant, WholeForm}
 use Rattle.gib_types.specs.Types.{form_at, forms_of, AreBelow, GrowsTo}
@@ -33,8 +33,11 @@ use Rattle.gib_mono.specs.Scenes.{Scenery, forms, scope_in, Keeps, ReadsIn}
 use Rattle.gib_mono.specs.Sources.{globals_in}
 use Rattle.gib_mono.proofs.InScene.{scope_last}
 use Rattle.gib_mono.proofs.Making.{stays_same, stays_on, parts_same, parts_on, grows_same, grows_on as nodes_grow_on}
-use Rattle.gib_mono.proofs.Read.{grows_none, below_more, listed_grow}
-use Rattle.gib_mono.proofs.Sourcing.{RowThere, get_map, there_is}
+use Rattle.gib_mono.proofs.Read.{grows_none, listed_grow}
+use Rattle.gib_mono.proofs.Sourcing.{RowThere, there_is}
+use Rattle.gib_check.proofs.Growing.{below_more}
+use Rattle.gib_check.proofs.RowRules.{get_map}
+use Rattle.gib_check.proofs.Singles.{listed_push, below_push}
 
 abbrev pub with_scene : Copier → Scenery → Copier
 with_scene s k = record { alloc = s.alloc; scene = k; parts = s.parts; base = s.base; exprs = s.exprs }
@@ -44,7 +47,7 @@ scene_stays s k h = record { keeps = h; parts = parts_same s (with_scene s k) re
 
 -- results
 
-first_formed : (m : Meant) (st : List WrittenType) → first_form (map (formed m) st) ≡ formed m (first_type st)
+pub first_formed : (m : Meant) (st : List WrittenType) → first_form (map (formed m) st) ≡ formed m (first_type st)
 first_formed m [] = refl
 first_formed m (w ∷ st) = refl
 
@@ -106,21 +109,13 @@ pub record PartsMet (words : List Word) (m : Meant) (old now : Copier) (ids : Li
 pub parts_start : (words : List Word) (m : Meant) (s : Copier) (ids : List TypeId) (all : List Run) → ids ≡ [] → PartsMet words m s s ids all all
 parts_start words m s ids all e = rw e (record { stays = stays_same s; below = tt; forms = refl })
 
-listed_last : (fs : List Form) (types : List TypeId) (t : TypeId) → listed fs (types ++ t ∷ []) ≡ listed fs types ++ form_at fs t.0 ∷ []
-listed_last fs [] t = refl
-listed_last fs (u ∷ types) t = ap (λ l. form_at fs u.0 ∷ l) (listed_last fs types t)
-
-below_last : (b : ℕ) (types : List TypeId) (t : TypeId) → AreBelow b types → t.0 < b → AreBelow b (types ++ t ∷ [])
-below_last b [] t h l = (l, tt)
-below_last b (u ∷ types) t h l = (h.0, below_last b types t h.1 l)
-
 pub parts_next : (words : List Word) (m : Meant) (old now new : Copier) (ids more : List TypeId) (rest after all : List Run) (run : Run) (text : List Word) (t : TypeId) → rest ≡ run ∷ after → text ≡ run_words words run → PartsMet words m old now ids rest all
     → Meets now new t (formed m (first_type (stack_of text))) → more ≡ ids ++ t ∷ [] → PartsMet words m old new more after all
 parts_next words m old now new ids more rest after all run text t e f h one p = record {
   stays = stays_on old now new h.stays one.stays;
-  below = subst (AreBelow (length new.scene.types)) (sym p) (below_last (length new.scene.types) ids t (below_more (length now.scene.types) (length new.scene.types) ids one.stays.keeps.longer h.below) one.below);
+  below = subst (AreBelow (length new.scene.types)) (sym p) (below_push (length new.scene.types) ids t (below_more (length now.scene.types) (length new.scene.types) ids one.stays.keeps.longer h.below) one.below);
   forms = ap (λ l. l ++ map (formed m) (map (type_in words) after))
-      (ap (listed (forms new.scene)) p ∙ listed_last (forms new.scene) ids t
+      (ap (listed (forms new.scene)) p ∙ listed_push (forms new.scene) ids t
       ∙ ap₂ (λ (l : List Form) (u : Form). l ++ u ∷ []) (listed_grow now.scene.types new.scene.types ids one.stays.keeps.grows h.below) (one.form ∙ ap (λ ws. formed m (first_type (stack_of ws))) f))
       ∙ append_assoc (listed (forms now.scene) ids) (formed m (type_in words run) ∷ []) (map (formed m) (map (type_in words) after))
       ∙ ap (λ l. listed (forms now.scene) ids ++ map (formed m) (map (type_in words) l)) (sym e) ∙ h.forms;
@@ -149,31 +144,21 @@ fields_met p s0 k q x decl con vs ts words r row at in_it v w read =
 pub no_fields : (p : GenericParts) (s : Copier) (ids : List TypeId) (x : ℕ) (ts : Forms) → ids ≡ [] → place_named (globals_in p).rows x ≡ None → MeetsAll s s ids (forms_named (globals_in p).rows (place_named (globals_in p).rows x) ts)
 no_fields p s ids x ts e none = rw e (record { stays = stays_same s; below = tt; forms = sym (ap (λ o. forms_named (globals_in p).rows o ts) none) })
 
-get_below : {A : Type 0} (xs : List A) (i : ℕ) (x : A) → slice_get xs i ≡ Some x → i < length xs
-get_below [] i x e = absurd cc
-get_below (y ∷ xs) zero x e = omega arith
-get_below (y ∷ xs) (suc i) x e = let l = get_below xs i x e in omega (arith, l)
-
 -- so where the constructor was looked up, and the types were taken out of a stack
 pub row_met : (p : GenericParts) (s0 : Copier) (k : Scenery) (q : RowPlace) (x : ℕ) (decl : GenericData) (con : GenericConstructor) (vs : List Ident) (ts : Forms) (words : List Word) (r : Reading) (ids : List TypeId) → IsRowOf p q x → slice_get p.datas q.owner ≡ Some decl
     → con ≡ get_or decl.constructors.items q.constructor con → vs ≡ decl.variables.items → words ≡ run_words p.exprs.words con.fields → ReadsIn s0.scene k (assign vs ts) words r → ids ≡ r.types
     → MeetsAll s0 (with_scene s0 k) ids (forms_named (globals_in p).rows (place_named (globals_in p).rows x) ts)
 row_met p s0 k q x decl con vs ts words r ids row at is v w read out =
     let same : decl ≡ row.decl = same_Some decl row.decl (sym at ∙ row.there) in
-    let inside : q.constructor < length decl.constructors.items = subst (λ (d : GenericData). q.constructor < length d.constructors.items) (sym same) (get_below row.decl.constructors.items q.constructor row.con row.at) in
+    let inside : q.constructor < length decl.constructors.items = subst (λ (d : GenericData). q.constructor < length d.constructors.items) (sym same) (slice_get_within row.decl.constructors.items q.constructor row.con row.at) in
     subst (λ l. MeetsAll s0 (with_scene s0 k) l (forms_named (globals_in p).rows (place_named (globals_in p).rows x) ts)) (sym out)
     (fields_met p s0 k q x decl con vs ts words r row at (there_is decl.constructors.items q.constructor con inside is) v w read)
 
 pub owner_inside : (p : GenericParts) (q : RowPlace) (x : ℕ) → IsRowOf p q x → q.owner < length (globals_in p).datas
-owner_inside p q x h = let l = get_below p.datas q.owner h.decl h.there in let e = length-map p.datas (data_in p.exprs.words) in omega (arith, l, e)
+owner_inside p q x h = let l = slice_get_within p.datas q.owner h.decl h.there in let e = length-map p.datas (data_in p.exprs.words) in omega (arith, l, e)
 
 pub con_inside : (p : GenericParts) (q : RowPlace) (x : ℕ) (decl : GenericData) → IsRowOf p q x → slice_get p.datas q.owner ≡ Some decl → q.constructor < length decl.constructors.items
-con_inside p q x decl h at = subst (λ (d : GenericData). q.constructor < length d.constructors.items) (same_Some h.decl decl (sym h.there ∙ at)) (get_below h.decl.constructors.items q.constructor h.con h.at)
-
-pub get_there : {A : Type 0} (xs : List A) (i : ℕ) (x : A) → i < length xs → x ≡ get_or xs i x → slice_get xs i ≡ Some x
-get_there [] i x l e = absurd (omega (arith, l))
-get_there (y ∷ xs) zero x l e = ap Some (sym e)
-get_there (y ∷ xs) (suc i) x l e = get_there xs i x (omega (arith, l)) e
+con_inside p q x decl h at = subst (λ (d : GenericData). q.constructor < length d.constructors.items) (same_Some h.decl decl (sym h.there ∙ at)) (slice_get_within h.decl.constructors.items q.constructor h.con h.at)
 
 -- the row of a constructor's name, from where it is declared
 

@@ -2,7 +2,6 @@
 use Rattle.std.proofs.Common.{◌≡◌, ℕ, zero, suc, ◌<◌, List, [], ◌∷◌, ◌++◌, length, map, slice_get, Option, Some, None, refl, sym, ap, ap₂, ◌∙◌, arith, subst, append-nil, append_assoc}
 use Rattle.std.specs.Global.{Vec}
 use Rattle.std.proofs.lemmas.Option.{same_Some}
-use Rattle.gib_mono.proofs.Sourcing.{get_map}
 use Rattle.gib_types.specs.declared.types.TypeId.{TypeId}
 use Rattle.gib_types.specs.Form.{Form, Forms}
 use Rattle.gib_types.specs.Types.{forms_at, forms_of, AreBelow}
@@ -23,6 +22,8 @@ use Rattle.gib_mono.specs.Naming.{entry, copy_entries, listed_entries, with_entr
 use Rattle.gib_mono.specs.Scenes.{Scenery, forms, names_in, NamesIn}
 use Rattle.gib_mono.specs.Sources.{globals_in}
 use Rattle.gib_mono.specs.Walk.{Copy, DataOf, FunctionOf, data_asked, function_asked}
+use Rattle.gib_check.proofs.RowRules.{get_map}
+use Rattle.gib_mono.proofs.Baring.{with_more}
 
 -- one name
 
@@ -119,10 +120,6 @@ function_key g fs i ids key f e h = ap (λ o. copies_with o []) (h ∙ ap (λ o.
 pub one_listed : (items : List Item) (c : Copy) → with_entries items (copy_entries c) ≡ with_entries items (listed_entries (c ∷ []))
 one_listed items c = ap (with_entries items) (sym (append-nil (copy_entries c)))
 
-entries_both : (items xs ys : List Item) → with_entries items (xs ++ ys) ≡ with_entries (with_entries items xs) ys
-entries_both items [] ys = refl
-entries_both items (x ∷ xs) ys = entries_both (with_entry items x) xs ys
-
 listed_first : (g : GenericGlobals) (fs : List Form) (key : CopyKey) (keys : List CopyKey) → listed_entries (copies_from g fs (key ∷ [])) ++ listed_entries (copies_from g fs keys) ≡ listed_entries (copies_from g fs (key ∷ keys))
 listed_first g fs key keys = by (copy_from g fs key) where
   by : (o : Option Copy) → listed_entries (copies_with o []) ++ listed_entries (copies_from g fs keys) ≡ listed_entries (copies_with o (copies_from g fs keys))
@@ -147,7 +144,7 @@ keys_next g old now new rest after key whole e h one =
         base = one.base ∙ h.named.base;
         exprs = one.exprs ∙ h.named.exprs;
         is = ap (λ l. with_entries l (listed_entries (copies_from g (forms old.scene) after))) (one.names ∙ ap (λ ns. with_entries (names_in now.scene) (listed_entries (copies_from g (forms_of ns) (key ∷ [])))) h.named.types)
-            ∙ sym (entries_both (names_in now.scene) (listed_entries (copies_from g (forms old.scene) (key ∷ []))) (listed_entries (copies_from g (forms old.scene) after)))
+            ∙ sym (with_more (names_in now.scene) (listed_entries (copies_from g (forms old.scene) (key ∷ []))) (listed_entries (copies_from g (forms old.scene) after)))
             ∙ ap (with_entries (names_in now.scene)) (listed_first g (forms old.scene) key after) ∙ ap (λ l. with_entries (names_in now.scene) (listed_entries (copies_from g (forms old.scene) l))) (sym e) ∙ h.named.is;
       };
     }

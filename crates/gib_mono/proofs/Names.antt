@@ -3,7 +3,7 @@ use Rattle.std.proofs.Common.{◌≡◌, ℕ, zero, suc, ◌+◌, ◌<◌, Bool,
 use Rattle.std.specs.Prelude.{slice_get}
 use Rattle.std.specs.Option.{option_map}
 use Rattle.std.proofs.lemmas.Option.{same_Some, slice_get-map}
-use Rattle.std.proofs.lemmas.Bool.{eqb-true}
+use Rattle.std.proofs.lemmas.Bool.{eqb-true, and_parts}
 use Rattle.gib_syntax.specs.Declarations.{number_of}
 use Rattle.gib_syntax.specs.Forms.{Forms, NoForm, MoreForms}
 use Rattle.gib_syntax.specs.GenericTree.{GenericConstructorTree}
@@ -12,7 +12,7 @@ use Rattle.gib_types.specs.SameForm.{same_forms}
 use Rattle.gib_mono.specs.Walk.{Copy, DataOf, FunctionOf, DataCopy, FunctionCopy, datas_in, function_copies, IsNaming}
 use Rattle.gib_mono.specs.Naming.{entry, copy_entries, listed_entries, is_entry, with_entry, with_entries, entries, entry_place, number_with, naming_of, AreBelow}
 use Rattle.gib_types.proofs.SameForms.{same_forms_are}
-use Rattle.gib_mono.proofs.Closing.{and_both, parts_same}
+use Rattle.gib_mono.proofs.Closing.{parts_same}
 use Rattle.gib_mono.proofs.Here.{get_more_any, get_behind}
 
 -- the entry at the place of one that stands there is that one
@@ -21,7 +21,7 @@ place_right [] n x ts e = absurd cc
 place_right (i ∷ is) n x ts e = step ((i.name == x) && same_forms i.types ts) refl (λ m f. place_right is m x ts f) where
   here : (i.name == x) && same_forms i.types ts ≡ true → i ≡ entry x ts
   here h =
-      let both = and_both (i.name == x) (same_forms i.types ts) h in
+      let both = and_parts (i.name == x) (same_forms i.types ts) h in
       ap (λ (k : ℕ). entry k i.types) (eqb-true i.name x both.0) ∙ ap (entry x) (same_forms_are i.types ts both.1)
 
   crossed : (b : Bool) → b ≡ true → b ≡ false → ⊥
@@ -87,7 +87,7 @@ or_true false b e = inr e
 
 same_item : (i j : Item) → ((j.name == i.name) && same_forms j.types i.types) ≡ true → j ≡ i
 same_item i j h =
-    let both = and_both (j.name == i.name) (same_forms j.types i.types) h in
+    let both = and_parts (j.name == i.name) (same_forms j.types i.types) h in
     ap (λ (k : ℕ). entry k j.types) (eqb-true j.name i.name both.0) ∙ ap (entry i.name) (same_forms_are j.types i.types both.1)
 
 entry_there : (items : List Item) (i : Item) → is_entry items i ≡ true → (n : ℕ) × (slice_get items n ≡ Some i)

@@ -1,7 +1,7 @@
 -- Plain declarations are the first copies.
-use Rattle.std.proofs.Common.{◌≡◌, ℕ, zero, suc, ◌+◌, ◌<◌, ◌≤◌, Bool, true, false, ◌&&◌, ◌||◌, ◌==◌, nat_lt, List, [], ◌∷◌, ◌++◌, length, drop, Option, Some, None, slice_get, refl, sym, ap, ◌∙◌, arith, subst, append_assoc, append-nil}
+use Rattle.std.proofs.Common.{◌≡◌, ℕ, zero, suc, ◌+◌, ◌<◌, ◌≤◌, Bool, true, false, ◌||◌, ◌==◌, nat_lt, List, [], ◌∷◌, ◌++◌, length, drop, Option, Some, None, slice_get, refl, sym, ap, ◌∙◌, arith, subst, append_assoc, append-nil}
 use Rattle.std.specs.Prelude.{Ok}
-use Rattle.std.proofs.lemmas.Bool.{ltb-true, eqb-true, eq-eqb}
+use Rattle.std.proofs.lemmas.Bool.{ltb-true, eqb-true, eq-eqb, and_from, and_parts, both_ways, or_parts}
 use borrow.Author.Tests.{lt-ltb}
 use Rattle.gib_base.specs.declared.Span.{Span}
 use Rattle.gib_syntax.specs.declared.tree.Ident.{Ident}
@@ -15,36 +15,25 @@ use Rattle.gib_mono.specs.Walk.{Ask, Copy, DataOf, FunctionOf, same_copy, is_fou
 use Rattle.gib_mono.specs.Closed.{AreApart, IsGood}
 use Rattle.gib_mono.specs.Contexts.{forms}
 use Rattle.gib_mono.specs.Searching.{Reached, IsAt, AddsKey, Walked, AsksAll}
-use Rattle.gib_mono.proofs.Closing.{and_both, copy_turned}
+use Rattle.gib_mono.proofs.Closing.{copy_turned}
 use Rattle.gib_mono.proofs.Finding.{all_both, same_length}
 use Rattle.gib_mono.proofs.Seeking.{asks_nothing}
+use Rattle.gib_mono.proofs.Named.{get_inside}
 
 -- one that stands apart from those behind it is not found before it
-
-true_false : (b : Bool) → b ≡ true → b ≡ false → ⊥
-true_false true e f = cc
-true_false false e f = cc
-
-or_right_false : (a b : Bool) → (a || b) ≡ false → b ≡ false
-or_right_false true b e = absurd cc
-or_right_false false b e = e
-
-or_left_false : (a b : Bool) → (a || b) ≡ false → a ≡ false
-or_left_false true b e = absurd cc
-or_left_false false b e = refl
 
 both_false : (a b : Bool) → a ≡ false → b ≡ false → (a || b) ≡ false
 both_false true b e f = absurd cc
 both_false false b e f = f
 
 later_other : (b c : Copy) (bs rest : List Copy) → is_found (bs ++ c ∷ rest) b ≡ false → same_copy c b ≡ false
-later_other b c [] rest h = or_left_false (same_copy c b) (is_found rest b) h
-later_other b c (x ∷ bs) rest h = later_other b c bs rest (or_right_false (same_copy x b) (is_found (bs ++ c ∷ rest) b) h)
+later_other b c [] rest h = (or_parts (same_copy c b) (is_found rest b) h).0
+later_other b c (x ∷ bs) rest h = later_other b c bs rest (or_parts (same_copy x b) (is_found (bs ++ c ∷ rest) b) h).1
 
 turned_false : (b c : Copy) → same_copy c b ≡ false → same_copy b c ≡ false
 turned_false b c h = by (same_copy b c) refl where
   by : (t : Bool) → same_copy b c ≡ t → t ≡ false
-  by true e = absurd (true_false (same_copy c b) (copy_turned b c e) h)
+  by true e = absurd (both_ways (same_copy c b) h (copy_turned b c e))
   by false e = refl
 
 new_behind : (done rest : List Copy) (c : Copy) → AreApart (done ++ c ∷ rest) → is_found done c ≡ false
@@ -65,18 +54,14 @@ functions_fewer [] rest (FunctionOf f ts) = omega arith
 functions_fewer (DataOf d ts ∷ done) rest c = functions_fewer done rest c
 functions_fewer (FunctionOf f ts ∷ done) rest c = let l = functions_fewer done rest c in omega (arith, l)
 
-both_true : (a b : Bool) → a ≡ true → b ≡ true → (a && b) ≡ true
-both_true true b e f = f
-both_true false b e f = absurd cc
-
 few_before : (done rest : List Copy) (c : Copy) → are_few (done ++ c ∷ rest) ≡ true → are_few (done ++ c ∷ []) ≡ true
 few_before done rest c h =
-    let both = and_both (nat_lt (constructors_in (done ++ c ∷ rest)) 201) (nat_lt (functions_in (done ++ c ∷ rest)) 1001) h in
+    let both = and_parts (nat_lt (constructors_in (done ++ c ∷ rest)) 201) (nat_lt (functions_in (done ++ c ∷ rest)) 1001) h in
     let a = ltb-true (constructors_in (done ++ c ∷ rest)) 201 both.0 in
     let b = ltb-true (functions_in (done ++ c ∷ rest)) 1001 both.1 in
     let l = constructors_fewer done rest c in
     let m = functions_fewer done rest c in
-    both_true (nat_lt (constructors_in (done ++ c ∷ [])) 201) (nat_lt (functions_in (done ++ c ∷ [])) 1001) (lt-ltb (constructors_in (done ++ c ∷ [])) 201 (omega (arith, a, l))) (lt-ltb (functions_in (done ++ c ∷ [])) 1001 (omega (arith, b, m)))
+    and_from (nat_lt (constructors_in (done ++ c ∷ [])) 201) (nat_lt (functions_in (done ++ c ∷ [])) 1001) (lt-ltb (constructors_in (done ++ c ∷ [])) 201 (omega (arith, a, l))) (lt-ltb (functions_in (done ++ c ∷ [])) 1001 (omega (arith, b, m)))
 
 pub plain_added : (g : GenericGlobals) (done rest : List Copy) (c : Copy) (span : Span) → IsGood g (done ++ c ∷ rest) → add_new done c span (is_found done c) ≡ Ok (done ++ c ∷ [])
 plain_added g done rest c span h = ap (add_new done c span) (new_behind done rest c h.apart) ∙ ap (add_few done c span) (few_before done rest c h.few)
@@ -105,11 +90,6 @@ drop_all [] (suc i) l = refl
 drop_all (x ∷ xs) zero l = absurd (omega (arith, l))
 drop_all (x ∷ xs) (suc i) l = drop_all xs i (omega (arith, l))
 
-pub get_there : {A : Type 0} (xs : List A) (i : ℕ) → i < length xs → (x : A) × (slice_get xs i ≡ Some x)
-get_there [] i l = absurd (omega (arith, l))
-get_there (x ∷ xs) zero l = (x, refl)
-get_there (x ∷ xs) (suc i) l = get_there xs i (omega (arith, l))
-
 -- types
 
 data_first : (d : GenericDataTree) (vs : List Ident) (xs : List Copy) → plain_data d vs xs ≡ plain_data d vs [] ++ xs
@@ -126,7 +106,7 @@ types_step ds i d fs e =
 pub types_next : (g : GenericGlobals) (all : List Copy) (now new : Search) (ds : List GenericDataTree) (i : ℕ) (fs : List Copy) → IsGood g all → i < length ds → PlainSoFar g all now (types_left ds i fs)
     → ((d : GenericDataTree) (done rest : List Copy) → slice_get ds i ≡ Some d → IsGood g (done ++ plain_data d d.variables rest) → IsAt g now (Ok done) → IsAt g new (Ok (done ++ plain_data d d.variables []))) → PlainSoFar g all new (types_left ds (i + 1) fs)
 types_next g all now new ds i fs good l h step =
-    let d = get_there ds i l in
+    let d = get_inside ds i l in
     let left = types_step ds i d.0 fs d.1 in
     let whole : h.before ++ plain_data d.0 (d.0).variables (types_left ds (i + 1) fs) ≡ all = ap (λ l. h.before ++ l) (data_first d.0 (d.0).variables (types_left ds (i + 1) fs) ∙ sym left) ∙ h.whole in
     record {
@@ -150,7 +130,7 @@ functions_step fs i f e = ap plain_functions (drop_next fs i f e) ∙ function_f
 pub functions_next : (g : GenericGlobals) (all : List Copy) (now new : Search) (fs : List GenericFunctionTree) (i : ℕ) → IsGood g all → i < length fs → PlainSoFar g all now (functions_left fs i)
     → ((f : GenericFunctionTree) (done rest : List Copy) → slice_get fs i ≡ Some f → IsGood g (done ++ plain_function f f.variables rest) → IsAt g now (Ok done) → IsAt g new (Ok (done ++ plain_function f f.variables []))) → PlainSoFar g all new (functions_left fs (i + 1))
 functions_next g all now new fs i good l h step =
-    let f = get_there fs i l in
+    let f = get_inside fs i l in
     let left = functions_step fs i f.0 f.1 in
     let whole : h.before ++ plain_function f.0 (f.0).variables (functions_left fs (i + 1)) ≡ all = ap (λ l. h.before ++ l) (function_first f.0 (f.0).variables (functions_left fs (i + 1)) ∙ sym left) ∙ h.whole in
     record {
@@ -189,13 +169,13 @@ asked_more g old now new all left xs rest h e a = record {
 pub asked_type : (g : GenericGlobals) (old now new : Search) (all : List Copy) (ds : List GenericDataTree) (i : ℕ) (fs : List Copy) → i < length ds → AskedPlain g old now all (types_left ds i fs)
     → ((d : GenericDataTree) → slice_get ds i ≡ Some d → AsksAll g now new (copies_asks g.rows (plain_data d d.variables []))) → AskedPlain g old new all (types_left ds (i + 1) fs)
 asked_type g old now new all ds i fs l h step =
-    let d = get_there ds i l in
+    let d = get_inside ds i l in
     asked_more g old now new all (types_left ds i fs) (plain_data d.0 (d.0).variables []) (types_left ds (i + 1) fs) h (types_step ds i d.0 fs d.1) (step d.0 d.1)
 
 pub asked_function : (g : GenericGlobals) (old now new : Search) (all : List Copy) (fs : List GenericFunctionTree) (i : ℕ) → i < length fs → AskedPlain g old now all (functions_left fs i)
     → ((f : GenericFunctionTree) → slice_get fs i ≡ Some f → AsksAll g now new (copies_asks g.rows (plain_function f f.variables []))) → AskedPlain g old new all (functions_left fs (i + 1))
 asked_function g old now new all fs i l h step =
-    let f = get_there fs i l in
+    let f = get_inside fs i l in
     asked_more g old now new all (functions_left fs i) (plain_function f.0 (f.0).variables []) (functions_left fs (i + 1)) h (functions_step fs i f.0 f.1) (step f.0 f.1)
 
 pub types_asked : (g : GenericGlobals) (old now : Search) (all : List Copy) (ds : List GenericDataTree) (i : ℕ) (fs : List GenericFunctionTree) → length ds ≤ i → AskedPlain g old now all (types_left ds i (plain_functions fs)) → AskedPlain g old now all (functions_left fs 0)
@@ -213,7 +193,7 @@ empty_items n (x ∷ xs) e h = let m = eqb-true n 0 h in absurd (omega (arith, e
 pub some_items : {A : Type 0} (n : ℕ) (xs : List A) → n ≡ length xs → (n == 0) ≡ false → xs ≡ [] → ⊥
 some_items n xs e h f =
     let m : n ≡ 0 = e ∙ ap length f in
-    true_false (n == 0) (eq-eqb n 0 m) h
+    both_ways (n == 0) h (eq-eqb n 0 m)
 
 pub at_found : (g : GenericGlobals) (s : Search) (found : List Copy) → IsAt g s (Ok found) → IsFound g (forms s.context) s.found found
 at_found g s found at = by s.limit at where

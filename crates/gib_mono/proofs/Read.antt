@@ -4,37 +4,24 @@ use Rattle.gib_base.specs.declared.Span.{Span}
 use Rattle.gib_types.specs.declared.types.TypeId.{TypeId}
 use Rattle.gib_types.specs.declared.types.TypeNode.{TypeNode}
 use Rattle.gib_types.specs.Form.{Form, Forms, WholeForm, DataForm, NoForm, MoreForms, Meant}
-use Rattle.gib_types.specs.Types.{form_at, forms_at, forms_of, forms_onto, form_from, AreBelow, GrowsTo}
-use Rattle.gib_types.proofs.Once.{forms_more, length_last}
+use Rattle.gib_types.specs.Types.{form_at, forms_at, forms_of, AreBelow, GrowsTo}
+use Rattle.gib_types.proofs.Once.{forms_more}
 use Rattle.gib_syntax.specs.declared.tree.Ident.{Ident}
 use Rattle.gib_syntax.specs.declared.written.Word.{Word}
 use Rattle.gib_syntax.specs.declared.written.Word.TheVariants as w
 use Rattle.gib_syntax.specs.Declarations.{number_of}
-use Rattle.gib_syntax.specs.Forms.{WrittenType, formed, formed_all, written_place}
+use Rattle.gib_syntax.specs.Forms.{WrittenType, formed, written_place}
 use Rattle.gib_syntax.specs.Words.{taken, left, read_word, stack_of}
 use Rattle.gib_mono.specs.declared.reading.Use.{Use}
 use Rattle.gib_mono.specs.declared.reading.Reading.{Reading}
 use Rattle.gib_mono.specs.Walk.{Ask, written_asks, writtens_asks, types_asks}
 use Rattle.gib_mono.specs.Reading.{Read, nothing_read, taken_forms, put_form, read_data, read_one, read_words, use_ask, listed, read_of, AreUsesBelow, IsReadBelow, MakesType, ReadsOn, HasRead}
+use Rattle.gib_check.proofs.Growing.{many, below_more}
+use Rattle.gib_check.proofs.Read.{taken_formed, left_formed, taken_listed, left_listed, below_taken, below_left, place_left}
 
 -- Definitions: reading words is what they mean
 
-taken_formed : (m : Meant) (n : ℕ) (st : List WrittenType) → taken_forms n (map (formed m) st) ≡ formed_all m (taken n st)
-taken_formed m zero st = refl
-taken_formed m (suc n) [] = refl
-taken_formed m (suc n) (x ∷ st) = ap (MoreForms (formed m x)) (taken_formed m n st)
-
-left_formed : (m : Meant) (n : ℕ) (st : List WrittenType) → drop n (map (formed m) st) ≡ map (formed m) (left n st)
-left_formed m zero st = refl
-left_formed m (suc n) [] = refl
-left_formed m (suc n) (x ∷ st) = left_formed m n st
-
-left_places : (n : ℕ) (st : List WrittenType) → drop n (map written_place st) ≡ map written_place (left n st)
-left_places zero st = refl
-left_places (suc n) [] = refl
-left_places (suc n) (x ∷ st) = left_places n st
-
-ap₃ : {A B C D : Type 0} (f : A → B → C → D) {x y : A} {u v : B} {s t : C} → x ≡ y → u ≡ v → s ≡ t → f x u s ≡ f y v t
+pub ap₃ : {A B C D : Type 0} (f : A → B → C → D) {x y : A} {u v : B} {s t : C} → x ≡ y → u ≡ v → s ≡ t → f x u s ≡ f y v t
 ap₃ f {x} {y} {u} {v} {s} {t} e g h = ap (λ a. f a u s) e ∙ ap (λ b. f y b s) g ∙ ap (f y v) h
 
 pub asks_left : (m : Meant) (n : ℕ) (st : List WrittenType) → writtens_asks m (taken n st) ++ types_asks m (left n st) ≡ types_asks m st
@@ -52,7 +39,7 @@ one_is m (w.Variable x) st = refl
 one_is m (w.Data p x n) st =
     ap₃ (λ (fs : List Form) (ps : List Span) (as' : List Ask). record { types = fs; places = ps; asks = as' })
     (ap₂ (λ (a : Forms) (b : List Form). DataForm (number_of x) a ∷ b) (taken_formed m n st) (left_formed m n st))
-    (ap (λ ps. p ∷ ps) (left_places n st))
+    (ap (λ ps. p ∷ ps) (place_left n st))
     (ap₂ (λ (a : Forms) (b : List Ask). record { function = false; name = number_of x; types = a; span = x.span } ∷ b) (taken_formed m n st) (sym (asks_left m n st)))
 
 pub words_are : (m : Meant) (ws : List Word) → read_words m ws nothing_read ≡ meant_read m (stack_of ws)
@@ -65,40 +52,9 @@ words_last m (y ∷ ws) x r = ap (read_one m y) (words_last m ws x r)
 
 -- Numbers
 
-taken_listed : (fs : List Form) (n : ℕ) (is : List TypeId) → taken_forms n (listed fs is) ≡ forms_at fs (take n is)
-taken_listed fs zero is = refl
-taken_listed fs (suc n) [] = refl
-taken_listed fs (suc n) (i ∷ is) = ap (MoreForms (form_at fs i.0)) (taken_listed fs n is)
-
-left_listed : (fs : List Form) (n : ℕ) (is : List TypeId) → drop n (listed fs is) ≡ listed fs (drop n is)
-left_listed fs zero is = refl
-left_listed fs (suc n) [] = refl
-left_listed fs (suc n) (i ∷ is) = left_listed fs n is
-
-below_taken : (b n : ℕ) (is : List TypeId) → AreBelow b is → AreBelow b (take n is)
-below_taken b zero is h = tt
-below_taken b (suc n) [] h = tt
-below_taken b (suc n) (i ∷ is) h = (h.0, below_taken b n is h.1)
-
-below_left : (b n : ℕ) (is : List TypeId) → AreBelow b is → AreBelow b (drop n is)
-below_left b zero is h = h
-below_left b (suc n) [] h = tt
-below_left b (suc n) (i ∷ is) h = below_left b n is h.1
-
-pub below_more : (b c : ℕ) (is : List TypeId) → b ≤ c → AreBelow b is → AreBelow c is
-below_more b c [] l h = tt
-below_more b c (i ∷ is) l h = ((let k = h.0 in omega (arith, k, l)), below_more b c is l h.1)
-
 uses_more : (b c : ℕ) (us : List Use) → b ≤ c → AreUsesBelow b us → AreUsesBelow c us
 uses_more b c [] l h = tt
 uses_more b c (u ∷ us) l h = (below_more b c u.types.items l h.0, uses_more b c us l h.1)
-
-many_onto : (fs : List Form) (ns : List TypeNode) → length (forms_onto fs ns) ≡ length fs + length ns
-many_onto fs [] = omega arith
-many_onto fs (n ∷ ns) = let e = many_onto (fs ++ form_from fs n ∷ []) ns in let f = length_last fs (form_from fs n) in omega (arith, e, f)
-
-pub many : (ns : List TypeNode) → length (forms_of ns) ≡ length ns
-many ns = many_onto [] ns ∙ (omega arith)
 
 pub forms_grow : (old new : List TypeNode) (is : List TypeId) → GrowsTo (forms_of old) (forms_of new) → AreBelow (length old) is → forms_at (forms_of new) is ≡ forms_at (forms_of old) is
 forms_grow old new is g h =
@@ -150,10 +106,10 @@ plain_read old new before ids places id f p h made e e' = rw (e, e') (record {
   read = ap₂ (λ (g : Form) (r : Read). put_form g p r) made.form (reading_grows old new before made.grows h);
 })
 
-pub data_read : (old new : List TypeNode) (before : Reading) (middle ids : List TypeId) (left_places places : List Span) (uses : List Use) (p : Span) (x : Ident) (n : ℕ) (arguments : List TypeId) (u : Use) (id : TypeId) →
+pub data_read : (old new : List TypeNode) (before : Reading) (middle ids : List TypeId) (place_left places : List Span) (uses : List Use) (p : Span) (x : Ident) (n : ℕ) (arguments : List TypeId) (u : Use) (id : TypeId) →
     IsReadBelow (length old) before → arguments ≡ take n before.types → middle ≡ drop n before.types → MakesType old new id (DataForm (number_of x) (forms_at (forms_of old) arguments)) → ids ≡ id ∷ middle →
-    left_places ≡ drop n before.places → places ≡ p ∷ left_places → uses ≡ u ∷ before.uses → u.name ≡ x.name → u.types.items ≡ arguments → u.span ≡ x.span → ReadsOn old new before (record { types = ids; places = places; uses = uses }) (read_data p x n)
-data_read old new before middle ids left_places places uses p x n arguments u id h is_taken is_left made e skipped placed f name ts span =
+    place_left ≡ drop n before.places → places ≡ p ∷ place_left → uses ≡ u ∷ before.uses → u.name ≡ x.name → u.types.items ≡ arguments → u.span ≡ x.span → ReadsOn old new before (record { types = ids; places = places; uses = uses }) (read_data p x n)
+data_read old new before middle ids place_left places uses p x n arguments u id h is_taken is_left made e skipped placed f name ts span =
     let less = reading_more old new before made.longer h in
     let taken_is : forms_at (forms_of old) arguments ≡ taken_forms n (listed (forms_of old) before.types) = ap (forms_at (forms_of old)) is_taken ∙ sym (taken_listed (forms_of old) n before.types) in
     let args_below : AreBelow (length old) arguments = subst (AreBelow (length old)) (sym is_taken) (below_taken (length old) n before.types h.0) in

@@ -4,8 +4,8 @@ use Rattle.std.specs.Prelude.{MatchOption}
 use Rattle.std.proofs.lemmas.Bool.{eq-eqb}
 use Rattle.gib_syntax.specs.declared.program.GenericConstructor.{GenericConstructor}
 use Rattle.std.specs.List.{AllByRecursion}
-use Rattle.std.proofs.lemmas.List.{map-append, length-map}
-use Rattle.std.proofs.lemmas.Option.{same_Some}
+use Rattle.std.proofs.lemmas.List.{map-append, length-map, length_push, length-append}
+use Rattle.std.proofs.lemmas.Option.{same_Some, slice_get_within}
 use Rattle.gib_syntax.specs.declared.program.GenericData.{GenericData}
 use Rattle.gib_syntax.specs.declared.program.GenericFunction.{GenericFunction}
 use Rattle.gib_syntax.specs.declared.written.Word.{Word}
@@ -19,6 +19,7 @@ use Rattle.gib_syntax.specs.GenericTree.{GenericProgramTree, globals_of_generic}
 use Rattle.gib_syntax.specs.GenericTyping.{IsTypedGeneric}
 use Rattle.gib_mono.specs.Found.{AreDeclarations}
 use Rattle.gib_mono.specs.Sources.{globals_in, data_number, function_number, row_name, rows_in, numbered, all_places, row_at, row_of_place, row_in, IsSource}
+use Rattle.gib_check.proofs.RowRules.{get_map}
 
 -- names of constructors
 
@@ -42,10 +43,6 @@ list_ends names (d ∷ ds) all e l = absurd (omega (arith, l))
 
 -- places of constructors
 
-length_last : {A : Type 0} (xs : List A) (x : A) → length (xs ++ x ∷ []) ≡ length xs + 1
-length_last [] x = refl
-length_last (y ∷ xs) x = let e = length_last xs x in omega (arith, e)
-
 get_mapped : {A B : Type 0} (f : A → B) (xs ys : List A) (x : A) → slice_get (map f (xs ++ x ∷ ys)) (length xs) ≡ Some (f x)
 get_mapped f [] ys x = refl
 get_mapped f (y ∷ xs) ys x = get_mapped f xs ys x
@@ -56,7 +53,7 @@ numbered_rows words ds i d before [] e f = refl
 numbered_rows words ds i d before (c ∷ cs) e f =
     ap₂ (λ (o : Option GenericRow) (os : List (Option GenericRow)). o ∷ os)
     (ap (λ o. row_of_place o (length before)) e ∙ ap (row_at (data_in words d)) (ap (λ l. slice_get (map (constructor_in words) l) (length before)) f ∙ get_mapped (constructor_in words) before cs c))
-    (ap (λ n. map (row_in ds) (numbered i n cs)) (sym (length_last before c)) ∙ numbered_rows words ds i d (before ++ c ∷ []) cs e (f ∙ sym (append_assoc before (c ∷ []) cs)))
+    (ap (λ n. map (row_in ds) (numbered i n cs)) (sym (length_push before c)) ∙ numbered_rows words ds i d (before ++ c ∷ []) cs e (f ∙ sym (append_assoc before (c ∷ []) cs)))
 
 placed_rows : (words : List Word) (all before ds : List GenericData) → all ≡ before ++ ds → map (row_in (map (data_in words) all)) (all_places (length before) ds) ≡ map Some (rows_of (map (data_in words) ds))
 placed_rows words all before [] e = refl
@@ -64,7 +61,7 @@ placed_rows words all before (d ∷ ds) e =
     map-append (row_in (map (data_in words) all)) (numbered (length before) 0 d.constructors.items) (all_places (length before + 1) ds)
     ∙ ap₂ (λ (xs ys : List (Option GenericRow)). xs ++ ys)
     (numbered_rows words (map (data_in words) all) (length before) d [] d.constructors.items (ap (λ l. slice_get (map (data_in words) l) (length before)) e ∙ get_mapped (data_in words) before ds d) refl)
-    (ap (λ n. map (row_in (map (data_in words) all)) (all_places n ds)) (sym (length_last before d)) ∙ placed_rows words all (before ++ d ∷ []) ds (e ∙ sym (append_assoc before (d ∷ []) ds)))
+    (ap (λ n. map (row_in (map (data_in words) all)) (all_places n ds)) (sym (length_push before d)) ∙ placed_rows words all (before ++ d ∷ []) ds (e ∙ sym (append_assoc before (d ∷ []) ds)))
     ∙ sym (map-append Some (map (row_of (data_in words d)) (map (constructor_in words) d.constructors.items)) (rows_of (map (data_in words) ds)))
 
 pub rows_placed : (p : GenericParts) (rows : List RowPlace) → rows ≡ all_places 0 p.datas → map (row_in (globals_in p).datas) rows ≡ map Some (globals_in p).rows
@@ -92,14 +89,10 @@ function_place (f ∷ fs) x o e = by (number_of f.name == x) refl (place_of (map
 
 -- a type has no more constructors than there are
 
-length_both : {A : Type 0} (xs ys : List A) → length (xs ++ ys) ≡ length xs + length ys
-length_both [] ys = omega arith
-length_both (x ∷ xs) ys = let e = length_both xs ys in omega (arith, e)
-
 pub data_few : (ds : List GenericDataTree) (i : ℕ) (d : GenericDataTree) → slice_get ds i ≡ Some d → length d.constructors ≤ length (rows_of ds)
 data_few [] i d e = absurd cc
 data_few (x ∷ ds) zero d e =
-    let a = length_both (map (row_of x) x.constructors) (rows_of ds) in
+    let a = length-append (map (row_of x) x.constructors) (rows_of ds) in
     let b = length-map x.constructors (row_of x) in
     let c : length x.constructors ≡ length d.constructors = ap (λ (o : Option GenericDataTree). count o) e in
     omega (arith, a, b, c) where
@@ -107,14 +100,9 @@ data_few (x ∷ ds) zero d e =
       count None = 0
       count (Some y) = length y.constructors
 data_few (x ∷ ds) (suc i) d e =
-    let a = length_both (map (row_of x) x.constructors) (rows_of ds) in
+    let a = length-append (map (row_of x) x.constructors) (rows_of ds) in
     let l = data_few ds i d e in
     omega (arith, a, l)
-
-pub get_map : {A B : Type 0} (f : A → B) (xs : List A) (i : ℕ) (x : A) → slice_get xs i ≡ Some x → slice_get (map f xs) i ≡ Some (f x)
-get_map f [] i x e = absurd cc
-get_map f (y ∷ xs) zero x e = let g : y ≡ x = (let h = e in cc) in ap (λ z. Some (f z)) g
-get_map f (y ∷ xs) (suc i) x e = get_map f xs i x e
 
 pub data_counted : (words : List Word) (ds : List GenericData) (i : ℕ) (decl : GenericData) (n : ℕ) (d : GenericDataTree) → slice_get ds i ≡ Some decl → n ≡ length decl.constructors.items → slice_get (map (data_in words) ds) i ≡ Some d → length d.constructors ≡ n
 data_counted words ds i decl n d e f h =
@@ -152,36 +140,28 @@ row_there ds places rows c q e f = by rows c (sym (ap (λ l. slice_get l c) e) �
 same_length : (ds : List GenericDataTree) (places : List RowPlace) (rows : List GenericRow) → map (row_in ds) places ≡ map Some rows → length places ≡ length rows
 same_length ds places rows e = sym (length-map places (row_in ds)) ∙ ap length e ∙ length-map rows Some
 
-get_some : {A : Type 0} (xs : List A) (i : ℕ) (x : A) → i < length xs → x ≡ get_or xs i x → slice_get xs i ≡ Some x
-get_some [] i x l e = absurd (omega (arith, l))
-get_some (y ∷ xs) zero x l e = ap Some (sym e)
-get_some (y ∷ xs) (suc i) x l e = get_some xs i x (omega (arith, l)) e
-
-pub get_below : {A : Type 0} (xs : List A) (i : ℕ) (x : A) → slice_get xs i ≡ Some x → i < length xs
-get_below [] i x e = absurd cc
-get_below (y ∷ xs) zero x e = omega arith
-get_below (y ∷ xs) (suc i) x e = let l = get_below xs i x e in omega (arith, l)
-
 pub there_is : {A : Type 0} (xs : List A) (i : ℕ) (x : A) → i < length xs → x ≡ get_or xs i x → slice_get xs i ≡ Some x
-there_is xs i x l e = get_some xs i x l e
+there_is [] i x l e = absurd (omega (arith, l))
+there_is (y ∷ xs) zero x l e = ap Some (sym e)
+there_is (y ∷ xs) (suc i) x l e = there_is xs i x (omega (arith, l)) e
 
 -- the constructor of a name
 pub named_row : (p : GenericParts) (names types functions : List ℕ) (places : List RowPlace) (place : ℕ) (q : RowPlace) → IsSource p types names functions places → place < length names → q ≡ get_or places place q → RowThere (globals_in p).datas (globals_in p).rows q place
 named_row p names types functions places place q h l e =
     let many = same_length (globals_in p).datas places (globals_in p).rows h.rows_are in
     let named = ap length h.constructors_are ∙ length-map (globals_in p).rows row_name in
-    row_there (globals_in p).datas places (globals_in p).rows place q h.rows_are (get_some places place q (omega (arith, many, named, l)) e)
+    row_there (globals_in p).datas places (globals_in p).rows place q h.rows_are (there_is places place q (omega (arith, many, named, l)) e)
 
 pub owner_within : (p : GenericParts) (q : RowPlace) (place : ℕ) → RowThere (globals_in p).datas (globals_in p).rows q place → q.owner < length p.datas
 owner_within p q place t =
-    let l = get_below (globals_in p).datas q.owner t.decl t.there in
+    let l = slice_get_within (globals_in p).datas q.owner t.decl t.there in
     let e = length-map p.datas (data_in p.exprs.words) in
     omega (arith, l, e)
 
 pub owner_is : (p : GenericParts) (q : RowPlace) (place x : ℕ) (decl : GenericData) → RowThere (globals_in p).datas (globals_in p).rows q place → Some place ≡ place_named (globals_in p).rows x → decl ≡ get_or p.datas q.owner decl
     → number_of decl.name ≡ owner_named (globals_in p).rows (place_named (globals_in p).rows x)
 owner_is p q place x decl t e f =
-    let at = get_some p.datas q.owner decl (owner_within p q place t) f in
+    let at = there_is p.datas q.owner decl (owner_within p q place t) f in
     let is = same_Some (data_in p.exprs.words decl) t.decl (sym (get_map (data_in p.exprs.words) p.datas q.owner decl at) ∙ t.there) in
     ap (λ (d : GenericDataTree). number_of d.name) is ∙ sym (ap (owner_named (globals_in p).rows) (sym e) ∙ ap owner_at_row t.is)
 

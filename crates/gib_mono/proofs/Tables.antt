@@ -48,10 +48,6 @@ different_both (x ∷ xs) ys h k out = (
 pub one_place : (xs : List ℕ) (x i j : ℕ) → AreDifferent xs → slice_get xs i ≡ Some x → slice_get xs j ≡ Some x → i ≡ j
 one_place xs x i j d e f = same_Some i j (sym (place_found xs x i d e) ∙ place_found xs x j d f)
 
-pub different_front : (xs ys : List ℕ) → AreDifferent (xs ++ ys) → AreDifferent xs
-different_front [] ys h = tt {0}
-different_front (x ∷ xs) ys h = (absent_from xs x (λ i e. let found = place_some (xs ++ ys) x i (get_more_any ℕ xs ys i x e) in none_some (place_of (xs ++ ys) x) found.0 found.1 h.0), different_front xs ys h.1)
-
 pub different_back : (xs ys : List ℕ) → AreDifferent (xs ++ ys) → AreDifferent ys
 different_back [] ys h = h
 different_back (x ∷ xs) ys h = different_back xs ys h.1
@@ -143,10 +139,6 @@ function_in_found (FunctionOf b us ∷ cs) zero c f ts e name types =
     or_left (same_copy (FunctionOf b us) (FunctionOf f ts)) (is_found cs (FunctionOf f ts))
     (parts_same (number_of b.name) (number_of f.name) us ts (ap (λ (u : FunctionCopy). number_of u.function.name) is ∙ name) (ap (λ (u : FunctionCopy). u.types) is ∙ types))
 function_in_found (FunctionOf b us ∷ cs) (suc i) c f ts e name types = or_right (same_copy (FunctionOf b us) (FunctionOf f ts)) (is_found cs (FunctionOf f ts)) (function_in_found cs i c f ts e name types)
-
-pub true_false : (b : Bool) → b ≡ true → b ≡ false → ⊥
-true_false true e f = cc
-true_false false e f = cc
 
 -- The constructor of a name is of one declaration
 

@@ -1,8 +1,8 @@
 -- The copied program is typed, and means what the program means.
-use Rattle.std.proofs.Common.{◌≡◌, ◌≢◌, ℕ, suc, List, [], ◌∷◌, map, length, Some, ◌≤◌, refl, sym, ap, ap₂, ◌∙◌, subst, arith}
+use Rattle.std.proofs.Common.{◌≡◌, ◌≢◌, ℕ, suc, List, [], ◌∷◌, map, length, Some, ◌≤◌, refl, sym, ap, ◌∙◌, subst, arith}
 use Rattle.std.specs.Prelude.{slice_get, nat_lt, Ok}
 use Rattle.std.specs.List.{AllByRecursion}
-use Rattle.std.proofs.lemmas.Bool.{ltb-true}
+use Rattle.std.proofs.lemmas.Bool.{ltb-true, and_parts}
 use Rattle.gib_base.specs.declared.Span.{Span}
 use Rattle.gib_types.specs.declared.table.Ty.{Ty}
 use Rattle.gib_types.specs.declared.table.Ty.TheVariants.{Whole, Truth, Tree}
@@ -30,14 +30,14 @@ use Rattle.gib_mono.proofs.Scopes.{named_plain, parameters_step, binds_plain, bi
 use Rattle.gib_mono.proofs.Typing.{copy_has}
 use Rattle.gib_mono.proofs.Fine.{fine_copied}
 use Rattle.gib_mono.proofs.Counts.{same_expressions, same_bindings}
-use Rattle.gib_mono.proofs.Closing.{and_both, data_found}
+use Rattle.gib_mono.proofs.Closing.{data_found}
 use Rattle.gib_mono.proofs.Copies.{copies_closed, length_both}
 use Rattle.gib_mono.proofs.Meaning.{one_shown}
 use Rattle.gib_mono.proofs.Running.{generic_found, fine_found, body_put, names_copied, nothing_here, body_shown, calls_shown, means_shown}
 use Rattle.gib_mono.proofs.Here.{map_found, copies_here, nothing_meant}
 use Rattle.gib_mono.proofs.Tables.{made_row, rows_made}
 use Rattle.gib_mono.proofs.Apart.{data_declared, function_declared, types_different}
-use Rattle.gib_mono.proofs.Whole.{type_names_are, constructor_names_differ, function_names_differ, IsSet, set_of, type_copied, type_placed, copy_fields_here, IsFunctionHere, function_here, copy_function_here, is_copied}
+use Rattle.gib_mono.proofs.Whole.{type_names_are, constructor_names_differ, function_names_differ, IsSet, set_of, type_copied, type_placed, copy_fields_here, IsFunctionHere, function_here, copy_function_here, is_copied, fields_plain}
 
 -- Lists
 
@@ -112,13 +112,10 @@ results_known_copied p nm names found m (Several ws) is few h =
     (omega (arith, few, same), all_known p nm names found m ws is h)
 
 -- The types of what is given, in the copy
-all_named_plain : (nm : Naming) (types : List ℕ) (m : Meant) (ws : List WrittenType) → map (type_of_name types) (map (copy_written nm m) ws) ≡ map (plain_type nm types) (map (formed m) ws)
-all_named_plain nm types m [] = refl
-all_named_plain nm types m (w ∷ ws) = ap₂ (λ (t : Ty) (us : List Ty). t ∷ us) (named_plain nm types (written_place w) (formed m w)) (all_named_plain nm types m ws)
 
 results_plain : (nm : Naming) (types : List ℕ) (m : Meant) (r : Results WrittenType) → map_results (type_of_name types) (map_results (copy_written nm m) r) ≡ map_results (plain_type nm types) (map_results (formed m) r)
 results_plain nm types m (One w) = ap One (named_plain nm types (written_place w) (formed m w))
-results_plain nm types m (Several ws) = ap Several (all_named_plain nm types m ws)
+results_plain nm types m (Several ws) = ap Several (fields_plain nm types m ws)
 
 -- A copied function is typed
 
@@ -159,7 +156,7 @@ main_here p nm names found is = function_here p nm found [] (p.main.parameter �
 pub copied_typed : (p : GenericProgramTree) (nm : Naming) (names : List Item) (found : List Copy) → IsSet p nm names found → IsTypedProgram (copied_program p nm found)
 copied_typed p nm names found is =
     let q = copied_program p nm found in
-    let limits = and_both (nat_lt (constructors_in found) 201) (nat_lt (functions_in found) 1001) is.closed.good.few in
+    let limits = and_parts (nat_lt (constructors_in found) 201) (nat_lt (functions_in found) 1001) is.closed.good.few in
     let few_constructors = ltb-true (constructors_in found) 201 limits.0 in
     let few_functions = ltb-true (functions_in found) 1001 limits.1 in
     let rows : length (table_of_program q).rows ≡ constructors_in found =

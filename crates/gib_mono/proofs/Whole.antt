@@ -6,7 +6,7 @@ use Rattle.std.specs.List.{AllByRecursion}
 use Rattle.std.proofs.lemmas.Option.{same_Some, slice_get-map}
 use Rattle.std.proofs.lemmas.Bool.{eqb-true}
 use Rattle.gib_types.specs.declared.table.Ty.{Ty}
-use Rattle.gib_types.specs.declared.table.Ty.TheVariants.{Whole, Truth, Tree}
+use Rattle.gib_types.specs.declared.table.Ty.TheVariants.{Tree}
 use Rattle.gib_types.specs.Table.{Row, if_owned, con_at, owner_of, fields_of}
 use Rattle.gib_syntax.specs.Tree.{DataTree, FunctionTree}
 use Rattle.gib_syntax.specs.Declarations.{number_of, place_of, AreDifferent, type_names, tree_type, type_or, type_of_name, table_of_program, constructor_names, constructor_named, function_named}
@@ -29,6 +29,7 @@ use Rattle.gib_mono.proofs.Asking.{assign_here, results_types_here, types_here, 
 use Rattle.gib_mono.proofs.Here.{map_found, rows_are, rows_declared, TypesHere, types_here_at}
 use Rattle.gib_mono.proofs.Tables.{made_row, rows_made, made_at, made_found, rows_at, row_placed}
 use Rattle.gib_mono.proofs.Apart.{type_key, function_key, constructor_key, data_declared, function_declared, types_different, functions_different, constructors_different, function_at}
+use Rattle.gib_mono.proofs.Covering.{same_tree}
 
 -- Names of the copied program
 
@@ -126,7 +127,7 @@ named_at p nm names found d m is e =
     place_found (constructor_names (table_of_program (copied_program p nm found))) (constructor_key nm m) d (constructor_names_differ p nm names found is)
     (slice_get-map (λ (r : Row). r.name) (table_of_program (copied_program p nm found)).rows d ∙ ap (option_map (λ (r : Row). r.name)) (row_at p nm found d m e))
 
-fields_plain : (nm : Naming) (types : List ℕ) (m : Meant) (ws : List WrittenType) → map (type_of_name types) (map (copy_written nm m) ws) ≡ map (plain_type nm types) (map (formed m) ws)
+pub fields_plain : (nm : Naming) (types : List ℕ) (m : Meant) (ws : List WrittenType) → map (type_of_name types) (map (copy_written nm m) ws) ≡ map (plain_type nm types) (map (formed m) ws)
 fields_plain nm types m [] = refl
 fields_plain nm types m (w ∷ ws) =
     ap (λ (t : Ty). t ∷ map (type_of_name types) (map (copy_written nm m) ws)) (named_plain nm types (written_place w) (formed m w))
@@ -160,13 +161,6 @@ copy_of p nm names found k c row ts is placed e item =
         fields = ap fields_of at ∙ fields_plain nm (type_names q) (assign t.decl.variables ts) (r.1).fields ∙ ap (λ (u : GenericRow). map (plain (set_of p nm found)) (field_forms u ts)) (sym r.3);
       },
     )
-
-same_tree : (i j : ℕ) → Tree (record { 0 = i }) ≡ Tree (record { 0 = j }) → i ≡ j
-same_tree i j e = ap (λ (t : Ty). tree_number t) e where
-  tree_number : Ty → ℕ
-  tree_number Whole = 0
-  tree_number Truth = 0
-  tree_number (Tree t) = t.0
 
 owned_row : (o : Option Row) (ty d : ℕ) → if_owned ty d o ≡ Some d → (row : Row) × (o ≡ Some row) × (row.owner ≡ ty)
 owned_row None ty d e = absurd cc

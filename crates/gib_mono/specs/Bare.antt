@@ -46,8 +46,8 @@ bare_written (TruthAt p) = ty.Truth p
 bare_written (VariableAt x) = ty.Whole x.span
 bare_written (DataAt p x ws) = ty.Declared (record { name = x.name; span = p })
 
--- An expression without type arguments.
 abbrev mutual
+  -- An expression without type arguments.
   pub bare : GenericExpression → Expression
   bare (GenericVar x) = Var x
   bare (GenericNum p n) = Num p n
@@ -64,10 +64,12 @@ abbrev mutual
   bare (GenericLetSeveral p xs a b) = LetSeveral p [] (bare a) (bare b)
   bare (GenericParSeveral p xs a ys b c) = ParSeveral p [] (bare a) [] (bare b) (bare c)
 
+  -- So for arguments.
   pub all_bare : GenericArguments → Arguments
   all_bare GenericNoArgument = NoArgument
   all_bare (GenericArgument a xs) = Argument (bare a) (all_bare xs)
 
+  -- So for arms.
   pub arms_bare : GenericArms → Arms
   arms_bare (GenericLastArm k xs e) = LastArm k xs (bare e)
   arms_bare (GenericNextArm k xs e arms) = NextArm k xs (bare e) (arms_bare arms)

@@ -23,14 +23,15 @@ pub record Item : Type 0 where
 abbrev pub IsItem : List Item → ℕ → Forms → Type 0
 IsItem items x ts = (i : ℕ) × (slice_get items i ≡ Some (record { name = x; types = ts }))
 
--- The type has no variable, and all declared types in it are among these.
 abbrev mutual
+  -- The type has no variable, and all declared types in it are among these.
   pub IsHere : List Item → Form → Type 0
   IsHere types WholeForm = Unit {0}
   IsHere types TruthForm = Unit {0}
   IsHere types (VariableForm x) = ⊥
   IsHere types (DataForm t ts) = IsItem types t ts × AreHere types ts
 
+  -- So it is of each of these types.
   pub AreHere : List Item → Forms → Type 0
   AreHere types NoForm = Unit {0}
   AreHere types (MoreForms f fs) = IsHere types f × AreHere types fs
@@ -56,8 +57,8 @@ pub record IsCopyOf (s : Setting) (c : ℕ) (row : GenericRow) (ts : Forms) (k d
   pub owner : Tree (record { 0 = owner_at s.to.table d }) ≡ plain s (DataForm row.owner ts)
   pub fields : fields_at s.to.table d ≡ map (plain s) (field_forms row ts)
 
--- All uses in an expression are among the types and functions that were asked for.
 abbrev mutual
+  -- All uses in an expression are among the types and functions that were asked for.
   pub IsAsked : Setting → Meant → GenericExpression → Type 0
   IsAsked s m (GenericVar x) = Unit {0}
   IsAsked s m (GenericNum p n) = Unit {0}
@@ -74,10 +75,12 @@ abbrev mutual
   IsAsked s m (GenericLetSeveral p xs a b) = IsAsked s m a × IsAsked s m b
   IsAsked s m (GenericParSeveral p xs a ys b c) = IsAsked s m a × IsAsked s m b × IsAsked s m c
 
+  -- So it is in all arguments.
   pub AreAsked : Setting → Meant → GenericArguments → Type 0
   AreAsked s m GenericNoArgument = Unit {0}
   AreAsked s m (GenericArgument a xs) = IsAsked s m a × AreAsked s m xs
 
+  -- So it is in all arms.
   pub ArmsAsked : Setting → Meant → GenericArms → Type 0
   ArmsAsked s m (GenericLastArm k xs e) = IsAsked s m e
   ArmsAsked s m (GenericNextArm k xs e arms) = IsAsked s m e × ArmsAsked s m arms
@@ -103,13 +106,14 @@ ScopeHere s scope = (x : ℕ) (f : Form) → form_in scope x ≡ Some f → IsHe
 abbrev pub plain_scope : Setting → FormScope → Scope
 plain_scope s scope = map (λ (b : ℕ × Form). (b.0, plain s b.1)) scope
 
--- A value of the copy as one of the program: each constructor by the one that it is a copy of.
 abbrev mutual
+  -- A value of the copy as one of the program: each constructor by the one that it is a copy of.
   pub shown : (ℕ → ℕ) → Datum → Datum
   shown base (whole z) = whole z
   shown base (truth b) = truth b
   shown base (con k vs) = con (base k) (shown_all base vs)
 
+  -- So for all parts.
   pub shown_all : (ℕ → ℕ) → Data → Data
   shown_all base none = none
   shown_all base (more v vs) = more (shown base v) (shown_all base vs)

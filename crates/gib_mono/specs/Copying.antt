@@ -58,10 +58,10 @@ copy_variables nm [] ts = []
 copy_variables nm (x ∷ xs) [] = record { name = x; ty = ty.Whole x.span } ∷ copy_variables nm xs []
 copy_variables nm (x ∷ xs) (t ∷ ts) = record { name = x; ty = name_of_form nm x.span t } ∷ copy_variables nm xs ts
 
--- The copy of an expression, where type variables stand for these types and variables have these types. An arm's constructor
--- is the copy at the arguments of the type of the case's variable. The parts of a tuple and the variables for parts have types
--- in the copy.
 abbrev mutual
+  -- The copy of an expression, where type variables stand for these types and variables have these types. An arm's constructor
+  -- is the copy at the arguments of the type of the case's variable. The parts of a tuple and the variables for parts have types
+  -- in the copy.
   pub copy : GenericGlobals → Naming → Meant → FormScope → GenericExpression → Expression
   copy g nm m scope (GenericVar x) = Var x
   copy g nm m scope (GenericNum p n) = Num p n
@@ -82,10 +82,12 @@ abbrev mutual
       ParSeveral p (copy_variables nm xs (bound_forms g m scope a)) (copy g nm m scope a) (copy_variables nm ys (bound_forms g m scope b)) (copy g nm m scope b)
       (copy g nm m (bind_forms ys (bound_forms g m scope b) (bind_forms xs (bound_forms g m scope a) scope)) c)
 
+  -- The copies of arguments.
   pub copy_all : GenericGlobals → Naming → Meant → FormScope → GenericArguments → Arguments
   copy_all g nm m scope GenericNoArgument = NoArgument
   copy_all g nm m scope (GenericArgument a xs) = Argument (copy g nm m scope a) (copy_all g nm m scope xs)
 
+  -- The copies of arms, whose constructors have these type arguments.
   pub copy_arms : GenericGlobals → Naming → Meant → FormScope → Forms → GenericArms → Arms
   copy_arms g nm m scope ts (GenericLastArm k xs e) =
       LastArm (renamed k (nm.constructors (number_of k) ts)) xs (copy g nm m (bind_forms xs (forms_named g.rows (place_named g.rows (number_of k)) ts) scope) e)

@@ -16,8 +16,8 @@ written_at p (ty.Declared x) = ty.Declared (record { name = x.name; span = p })
 abbrev pub placed_variable : Parameter → Parameter
 placed_variable q = record { name = q.name; ty = written_at q.name.span q.ty }
 
--- An expression with the types of parts where these stand.
 abbrev mutual
+  -- An expression with the types of parts where these stand.
   pub placed : Expression → Expression
   placed (Var x) = Var x
   placed (Num p n) = Num p n
@@ -34,10 +34,12 @@ abbrev mutual
   placed (LetSeveral p qs a b) = LetSeveral p (map placed_variable qs) (placed a) (placed b)
   placed (ParSeveral p qs a rs b c) = ParSeveral p (map placed_variable qs) (placed a) (map placed_variable rs) (placed b) (placed c)
 
+  -- So for arguments.
   pub all_placed : Arguments → Arguments
   all_placed NoArgument = NoArgument
   all_placed (Argument a xs) = Argument (placed a) (all_placed xs)
 
+  -- So for arms.
   pub arms_placed : Arms → Arms
   arms_placed (LastArm k xs e) = LastArm k xs (placed e)
   arms_placed (NextArm k xs e arms) = NextArm k xs (placed e) (arms_placed arms)

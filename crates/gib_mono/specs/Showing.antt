@@ -7,13 +7,14 @@ use Rattle.gib_mono.specs.Copied.{Item}
 abbrev pub source_text : List (List ℕ) → ℕ → List ℕ
 source_text names x = unwrap_or (slice_get names x) []
 
--- A name with types: `map[Int Bool]`; a type among them that is itself a copy stands under its copy's name. The brackets are 91
--- and 93, one space (32) stands between two types.
 abbrev mutual
+  -- A name with types: `map[Int Bool]`; a type among them that is itself a copy stands under its copy's name. The brackets are 91
+  -- and 93, one space (32) stands between two types.
   pub long_text : List (List ℕ) → ℕ → Forms → List ℕ
   long_text names x NoForm = source_text names x
   long_text names x (MoreForms t ts) = source_text names x ++ 91 ∷ (form_text names t ++ further_text names ts)
 
+  -- A type as it stands among the arguments of another.
   pub form_text : List (List ℕ) → Form → List ℕ
   form_text names WholeForm = codes "Int"
   form_text names TruthForm = codes "Bool"
@@ -21,6 +22,7 @@ abbrev mutual
   form_text names (DataForm t NoForm) = source_text names t
   form_text names (DataForm t (MoreForms u us)) = source_text names t ++ 91 ∷ (form_text names u ++ further_text names us)
 
+  -- The arguments behind the first, and the bracket that ends them.
   pub further_text : List (List ℕ) → Forms → List ℕ
   further_text names NoForm = 93 ∷ []
   further_text names (MoreForms t ts) = 32 ∷ (form_text names t ++ further_text names ts)

@@ -24,14 +24,15 @@ pub data Copy : Type 0 where
   DataOf : GenericDataTree → Forms → Copy
   FunctionOf : GenericFunctionTree → Forms → Copy
 
--- The uses in a written type: the outer name before those in its arguments.
 abbrev mutual
+  -- The uses in a written type: the outer name before those in its arguments.
   pub written_asks : Meant → WrittenType → List Ask
   written_asks m (WholeAt p) = []
   written_asks m (TruthAt p) = []
   written_asks m (VariableAt x) = []
   written_asks m (DataAt p x ws) = record { function = false; name = number_of x; types = formed_all m ws; span = x.span } ∷ writtens_asks m ws
 
+  -- The uses in such types, in their order.
   pub writtens_asks : Meant → WrittenTypes → List Ask
   writtens_asks m NoType = []
   writtens_asks m (MoreTypes w ws) = written_asks m w ++ writtens_asks m ws
@@ -41,8 +42,8 @@ abbrev pub types_asks : Meant → List WrittenType → List Ask
 types_asks m [] = []
 types_asks m (w ∷ ws) = written_asks m w ++ types_asks m ws
 
--- The uses in an expression, in the order of the text. An arm's constructor asks nothing.
 abbrev mutual
+  -- The uses in an expression, in the order of the text. An arm's constructor asks nothing.
   pub asks : List GenericRow → Meant → GenericExpression → List Ask
   asks rows m (GenericVar x) = []
   asks rows m (GenericNum p n) = []
@@ -61,10 +62,12 @@ abbrev mutual
   asks rows m (GenericLetSeveral p xs a b) = asks rows m a ++ asks rows m b
   asks rows m (GenericParSeveral p xs a ys b c) = asks rows m a ++ (asks rows m b ++ asks rows m c)
 
+  -- The uses in arguments.
   pub all_asks : List GenericRow → Meant → GenericArguments → List Ask
   all_asks rows m GenericNoArgument = []
   all_asks rows m (GenericArgument a xs) = asks rows m a ++ all_asks rows m xs
 
+  -- The uses in the bodies of arms.
   pub arm_asks : List GenericRow → Meant → GenericArms → List Ask
   arm_asks rows m (GenericLastArm k xs e) = asks rows m e
   arm_asks rows m (GenericNextArm k xs e arms) = asks rows m e ++ arm_asks rows m arms

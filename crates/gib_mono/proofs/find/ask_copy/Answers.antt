@@ -6,9 +6,9 @@ use Rattle.gib_mono.specs.Found.{AreAlike}
 use Rattle.gib_mono.specs.Sources.{globals_in}
 use Rattle.gib_mono.specs.Walk.{DataOf, FunctionOf}
 use Rattle.gib_mono.proofs.Finding.{key_known, data_there, function_there, copy_all}
-use Rattle.gib_mono.proofs.Read.{many}
 use Rattle.gib_mono.proofs.Seeking.{if_ok}
 use Rattle.gib_mono.proofs.find.ask_copy.Goals as goal
+use Rattle.gib_check.proofs.Growing.{many}
 
 pub ask_data_copy-requires-clause-place : goal.ask_data_copy-requires-clause-place
 ask_data_copy-requires-clause-place c =

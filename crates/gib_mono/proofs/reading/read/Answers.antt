@@ -1,8 +1,9 @@
 use Rattle.std.proofs.Common.{◌≡◌, ◌-◌, take, length, refl, ap, arith}
 use Rattle.gib_types.specs.Types.{forms_of, forms_at}
 use Rattle.gib_syntax.specs.Forms.{assign}
-use Rattle.gib_mono.proofs.Read.{below_more, forms_grow, so_far_next, so_far_ends, take_last}
+use Rattle.gib_mono.proofs.Read.{forms_grow, so_far_next, so_far_ends, take_last}
 use Rattle.gib_mono.proofs.reading.read.Goals as goal
+use Rattle.gib_check.proofs.Growing.{below_more}
 
 pub from_last-preserved : goal.from_last-preserved
 from_last-preserved c =

@@ -5,9 +5,9 @@ use Rattle.gib_mono.specs.declared.found.CopyKey.TheVariants as k
 use Rattle.gib_mono.specs.Contexts.{forms}
 use Rattle.gib_mono.specs.Sources.{globals_in}
 use Rattle.gib_mono.specs.Walk.{DataOf, data_asked}
-use Rattle.gib_mono.proofs.Read.{many}
 use Rattle.gib_mono.proofs.Seeking.{none_is, if_ok, key_asked}
 use Rattle.gib_mono.proofs.search.ask_type.Goals as goal
+use Rattle.gib_check.proofs.Growing.{many}
 
 pub returns : goal.returns
 returns c =

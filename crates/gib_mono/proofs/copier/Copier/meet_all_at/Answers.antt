@@ -5,9 +5,10 @@ use Rattle.gib_syntax.specs.Words.{first_type, stack_of}
 use Rattle.gib_mono.specs.Made.{Meets}
 use Rattle.gib_mono.specs.Scenes.{forms}
 use Rattle.gib_mono.proofs.Meeting.{parts_start, parts_next, parts_end}
-use Rattle.gib_mono.proofs.Read.{below_more, forms_grow}
+use Rattle.gib_mono.proofs.Read.{forms_grow}
 use Rattle.gib_mono.proofs.Walking.{empty_is, split_is}
 use Rattle.gib_mono.proofs.copier.Copier.meet_all_at.Goals as goal
+use Rattle.gib_check.proofs.Growing.{below_more}
 
 pub runs-init : goal.runs-init
 runs-init c = parts_start c.args.source.now.exprs.words (assign c.args.variables.now (forms_at (forms c.args.self.now.scene) c.args.types.now)) c.args.self.now c.new-ids.result.items c.args.runs.now c.new-ids.ensures.items
