@@ -8,7 +8,7 @@ use Rattle.gib_types.specs.Table.{at_fields}
 use Rattle.gib_types.specs.Tree.{Datum}
 use Rattle.gib_syntax.specs.Meaning.{Outcome, Gives, Stops, with_values, with_fields}
 use Rattle.gib_plain.specs.Turns.{in_turn, put_back, scalars_among, in_place}
-use Rattle.gib_plain.proofs.Stacks.{All-take, All-drop}
+use Rattle.gib_value.proofs.HeapLemmas.{All-take, All-drop}
 
 -- ---- what is done with each argument
 

@@ -14,7 +14,8 @@ use Rattle.gib_plain.specs.declared.machine.Frame.{Frame}
 use Rattle.gib_plain.specs.Running.{Waiting, Doing, State, with_done}
 use Rattle.gib_plain.specs.Stacks.{cut, env_of, env_over, bindings_of, Adds, IsBound}
 use Rattle.gib_plain.specs.Machines.{waiting, all_waiting, Nest, Held}
-use Rattle.gib_plain.proofs.Stacks.{All-take, All-drop, All-append, AllWithin-later, AllBound-later, bindings-within, env_over-append, env_over-more, env_over-bindings, nest_more, nest_push, nest_pop, Popped, frames_same, frames_grown}
+use Rattle.gib_plain.proofs.Stacks.{AllBound-later, bindings-within, env_over-append, env_over-more, env_over-bindings, nest_more, nest_push, nest_pop, Popped, frames_same, frames_grown}
+use Rattle.gib_value.proofs.HeapLemmas.{All-append, All-take, All-drop, AllWithin-later}
 
 pub held_push : (h : List Datum) (vars : List Binding) (temps : List Node) (fs : List Frame) (base : ℕ) (f : Frame) → Held h vars temps fs base → Nest 0 0 fs f.vars_len f.start → f.base ≤ f.vars_len → f.start ≤ f.temps_len → f.vars_len ≤ length vars → f.temps_len ≤ length temps → Held h vars temps (fs ++ f ∷ []) base
 held_push h vars temps fs base f held n b a v t = record { vars_within = held.vars_within; temps_within = held.temps_within; base_in = held.base_in; nest = nest_push 0 0 fs f (length vars) (length temps) n b a v t }

@@ -1,8 +1,8 @@
 -- The two stacks of a machine, and what its frames see of them.
-use Rattle.std.proofs.Common.{◌≡◌, ℕ, zero, suc, ◌+◌, ◌≤◌, List, [], ◌∷◌, ◌++◌, length, take, drop, map, refl, sym, ap, ◌∙◌, arith}
+use Rattle.std.proofs.Common.{◌≡◌, ℕ, ◌+◌, ◌≤◌, List, [], ◌∷◌, ◌++◌, length, take, drop, map, refl, sym, ap, ◌∙◌, arith}
 use Rattle.std.specs.List.{AllByRecursion}
-use Rattle.std.proofs.lemmas.List.{take-take, take-append-le, drop-append-le, length-drop}
-use Rattle.gib_types.specs.Tree.{Datum, con, data_of}
+use Rattle.std.proofs.lemmas.List.{take-take}
+use Rattle.gib_types.specs.Tree.{Datum}
 use Rattle.gib_value.specs.declared.node.Node.{Node}
 use Rattle.gib_value.specs.declared.node.Node.TheVariants as node
 use Rattle.gib_value.specs.Heap.{value_of, IsWithin}
@@ -14,47 +14,9 @@ use Rattle.gib_plain.specs.declared.machine.Frame.{Frame}
 use Rattle.gib_plain.specs.Running.{Waiting}
 use Rattle.gib_plain.specs.Stacks.{cut, env_over, env_of, bindings_of, IsBound}
 use Rattle.gib_plain.specs.Machines.{waiting, all_waiting, Nest}
-
--- ---- facts of all elements
-
-pub All-take : {A : Type 0} (P : A → Type 0) (n : ℕ) (xs : List A) → AllByRecursion P xs → AllByRecursion P (take n xs)
-All-take P zero xs h = tt
-All-take P (suc n) [] h = tt
-All-take P (suc n) (x ∷ xs) h = (h.0, All-take P n xs h.1)
-
-pub All-drop : {A : Type 0} (P : A → Type 0) (n : ℕ) (xs : List A) → AllByRecursion P xs → AllByRecursion P (drop n xs)
-All-drop P zero xs h = h
-All-drop P (suc n) [] h = tt
-All-drop P (suc n) (x ∷ xs) h = All-drop P n xs h.1
-
-pub All-append : {A : Type 0} (P : A → Type 0) (xs ys : List A) → AllByRecursion P xs → AllByRecursion P ys → AllByRecursion P (xs ++ ys)
-All-append P [] ys h k = k
-All-append P (x ∷ xs) ys h k = (h.0, All-append P xs ys h.1 k)
+use Rattle.gib_value.proofs.HeapLemmas.{All-take, All-drop, value_of-more, values-more, IsWithin-later}
 
 -- ---- nodes where the heap grows
-
-take_front : (first count : ℕ) (heap later : List Datum) → first + count ≤ length heap → take count (drop first (heap ++ later)) ≡ take count (drop first heap)
-take_front first count heap later h =
-    ap (λ (l : List Datum). take count l) (drop-append-le first heap later (omega arith))
-    ∙ take-append-le count (drop first heap) later (omega (arith, length-drop first heap))
-
-pub value_of-more : (heap later : List Datum) (n : Node) → IsWithin (length heap) n → value_of (heap ++ later) n ≡ value_of heap n
-value_of-more heap later (node.Whole z) h = refl
-value_of-more heap later (node.Truth b) h = refl
-value_of-more heap later (node.Con k count first) h = ap (λ (l : List Datum). con k.0 (data_of l)) (take_front first count heap later h)
-
-pub values-more : (heap later : List Datum) (ns : List Node) → AllByRecursion (IsWithin (length heap)) ns → map (value_of (heap ++ later)) ns ≡ map (value_of heap) ns
-values-more heap later [] h = refl
-values-more heap later (n ∷ ns) h = ap (λ (v : Datum). v ∷ map (value_of (heap ++ later)) ns) (value_of-more heap later n h.0) ∙ ap (λ (vs : List Datum). value_of heap n ∷ vs) (values-more heap later ns h.1)
-
-pub IsWithin-later : (m n : ℕ) (x : Node) → m ≤ n → IsWithin m x → IsWithin n x
-IsWithin-later m n (node.Whole z) le h = tt
-IsWithin-later m n (node.Truth b) le h = tt
-IsWithin-later m n (node.Con k count first) le h = omega arith
-
-pub AllWithin-later : (m n : ℕ) (xs : List Node) → m ≤ n → AllByRecursion (IsWithin m) xs → AllByRecursion (IsWithin n) xs
-AllWithin-later m n [] le h = tt
-AllWithin-later m n (x ∷ xs) le h = (IsWithin-later m n x le h.0, AllWithin-later m n xs le h.1)
 
 pub AllBound-later : (m n : ℕ) (xs : List Binding) → m ≤ n → AllByRecursion (IsBound m) xs → AllByRecursion (IsBound n) xs
 AllBound-later m n [] le h = tt

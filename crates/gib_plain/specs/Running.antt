@@ -134,8 +134,8 @@ abbrev pub pick : Bool → ℕ → ℕ → ℕ
 pick true m n = m
 pick false m n = n
 
--- How many steps an expression takes at most; so for its arguments and for the arm of a value.
 abbrev mutual
+  -- How many steps an expression takes at most; so for its arguments and for the arm of a value.
   pub cost : Around → Expression → Environment → ℕ
   cost a (Var x) env = 1
   cost a (Num p n) env = 1
@@ -157,10 +157,12 @@ abbrev mutual
       1 + (1 + cost a l env + (1 + cost a r env)
       + if_values (eval a.table a.call l env ∷ eval a.table a.call r env ∷ []) (λ vs. cost a b (bind_results (names_of rs) (value_at vs 1) (bind_results (names_of qs) (value_at vs 0) env))))
 
+  -- The steps of all arguments.
   pub cost_all : Around → Arguments → Environment → ℕ
   cost_all a NoArgument env = 0
   cost_all a (Argument e xs) env = 1 + cost a e env + cost_all a xs env
 
+  -- The steps of the arm that a value takes.
   pub cost_arms : Around → Arms → Datum → Environment → ℕ
   cost_arms a (LastArm k xs e) v env = pick (is_made_by (constructor_named a.table (number_of k)) v) (cost a e (bind xs (parts v) env)) 0
   cost_arms a (NextArm k xs e arms) v env = pick (is_made_by (constructor_named a.table (number_of k)) v) (cost a e (bind xs (parts v) env)) (cost_arms a arms v env)

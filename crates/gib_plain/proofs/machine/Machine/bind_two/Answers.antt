@@ -6,9 +6,10 @@ use Rattle.gib_value.specs.Heap.{value_of, IsWithin}
 use Rattle.gib_syntax.specs.Meaning.{Environment, bind_results, names_of}
 use Rattle.gib_plain.specs.Running.{State, Waiting, value_at}
 use Rattle.gib_plain.specs.Stacks.{cut, env_of, env_over, IsBound}
-use Rattle.gib_plain.proofs.Stacks.{env_over-append, All-append}
+use Rattle.gib_plain.proofs.Stacks.{env_over-append}
 use Rattle.gib_plain.proofs.Moves.{held_at, held_pop, held_bind, held_more, adds_both, within_parts, seen_at, bound, env_added, state_eq, frames_popped, popped}
 use Rattle.gib_plain.proofs.machine.Machine.bind_two.Goals as goal
+use Rattle.gib_value.proofs.HeapLemmas.{All-append}
 
 pub between-done-requires-clause-start : goal.between-done-requires-clause-start
 between-done-requires-clause-start c =
