@@ -1,7 +1,7 @@
 -- The types and constructors of a program that is spelled and typed have names as descriptions need them.
-use Rattle.std.proofs.Common.{◌≡◌, ◌≢◌, ◌∙◌, refl, ℕ, zero, suc, ◌<◌, ◌≤◌, List, [], ◌∷◌, ◌++◌, length, map, subst, sym, ap, arith, Bool, true, false, if◌then◌else◌, Option, Some, None, length-append}
-use Rattle.std.specs.Prelude.{slice_get, slice_index, unwrap_or, nat_lt, ◌==◌, ◌^◌, fold}
-use Rattle.std.specs.List.{AllByRecursion, list_all, flat_map}
+use Rattle.std.proofs.Common.{◌≡◌, ◌≢◌, ◌∙◌, refl, ℕ, zero, suc, ◌<◌, List, [], ◌∷◌, ◌++◌, length, map, subst, sym, ap, arith, Bool, true, false, if◌then◌else◌, Option, Some, None}
+use Rattle.std.specs.Prelude.{slice_get, slice_index, unwrap_or, nat_lt, ◌==◌, ◌^◌}
+use Rattle.std.specs.List.{AllByRecursion, list_all}
 use Rattle.std.proofs.lemmas.Option.{slice_get-get_or}
 use Rattle.std.specs.Char.{is_ascii_digit, is_ascii_alphabetic}
 use Rattle.gib_base.specs.declared.name.Name.{Name}
@@ -9,14 +9,13 @@ use Rattle.gib_base.specs.declared.token.Token.{Token}
 use Rattle.gib_base.specs.declared.token.Token.TheVariants as t
 use Rattle.gib_base.specs.declared.token.Sign.TheVariants as sign
 use Rattle.gib_base.specs.declared.token.Piece.TheVariants as kinds
-use Rattle.gib_base.specs.Names.{holds, with_name, AreNames}
+use Rattle.gib_base.specs.Names.{AreNames}
 use Rattle.gib_base.specs.Piece.{Class, Blank, Letter, Digit, Dash, Equal, Single, Other, class_of, is_piece, is_name_byte, is_blank, is_sign_byte, ends}
 use Rattle.gib_base.specs.Spelling.{piece_of, piece_in, value_from, dash_piece, equal_piece}
-use Rattle.gib_base.specs.Lexed.{Lexed, IsLexed, parts_of, name_at}
+use Rattle.gib_base.specs.Lexed.{Lexed}
 use Rattle.gib_base.specs.Printing.{IsWritable}
-use Rattle.gib_base.proofs.Held.{AreNames-push}
-use Rattle.gib_lex.proofs.Numbers.{length-fold}
 use Rattle.gib_lex.proofs.Again.{all_writable}
+pub use Rattle.gib_lex.proofs.Differ.{lexed_names}
 use Rattle.gib_types.specs.Table.{Table, Row, IsTable, IsTyBelow, name_of, name_at as con_name_at}
 use Rattle.gib_syntax.specs.declared.tree.TypeName.{TypeName}
 use Rattle.gib_syntax.specs.declared.tree.TypeName.TheVariants as ty
@@ -29,30 +28,12 @@ use Rattle.gib_syntax.specs.Fine.{HasConstructor}
 use Rattle.gib_syntax.specs.GenericFine.{HasGenericConstructor}
 use Rattle.gib_syntax.specs.Typing.{IsTypedProgram}
 use Rattle.gib_check.proofs.RowRules.{table_is}
+use Rattle.gib_check.proofs.Different.{place_within}
 use Rattle.gib_value.specs.Text.{con_text}
 use Rattle.gib_value.specs.Reading.{IsWord, AreWords}
 use Rattle.gib_file.specs.Describing.{type_text}
 use Rattle.gib_file.specs.Named.{IsName, IsTypeName, AreNamed}
 use Rattle.gib_file.proofs.Words.{word_is_name}
-
--- ---- names that are put in one by one are all different
-
-with_one : (names : List (List ℕ)) (text : List ℕ) (b : Bool) → holds names text ≡ b → AreNames names → length (if b then names else names ++ text ∷ []) ≤ 65535 → AreNames (if b then names else names ++ text ∷ [])
-with_one names text true e h le = h
-with_one names text false e h le = AreNames-push names text h e (omega (arith, le, length-append names (text ∷ [])))
-
-all_different : (names texts : List (List ℕ)) → AreNames names → length (fold with_name names texts) ≤ 65535 → AreNames (fold with_name names texts)
-all_different names [] h le = h
-all_different names (text ∷ texts) h le =
-    all_different (with_name names text) texts (with_one names text (holds names text) refl h (omega (arith, le, length-fold (with_name names text) texts))) le
-
-no_names : AreNames []
-no_names = record { differ = λ i j text e f. absurd (let no : None ≡ Some text = e in cc); few = omega arith }
-
-pub lexed_names : (text : List ℕ) (l : Lexed) → IsLexed text l → length l.names ≤ 65535 → AreNames l.names
-lexed_names text l h le =
-    let texts = flat_map name_at (parts_of text 0 h.lengths) in
-    subst AreNames (sym h.names) (all_different [] texts no_names (omega (arith, le, ap length h.names)))
 
 -- ---- the tokens of names of types and constructors
 
@@ -183,10 +164,6 @@ below_step n true o h i e = let same : 0 ≡ i = cc in omega (arith, same)
 below_step n false None h i e = absurd cc
 below_step n false (Some j) h i e = let same : suc j ≡ i = cc in omega (arith, same, h j refl)
 
-place_below : (xs : List ℕ) (x i : ℕ) → place_of xs x ≡ Some i → i < length xs
-place_below [] x i e = absurd cc
-place_below (y ∷ ys) x i e = below_step (length ys) (y == x) (place_of ys x) (λ j h. place_below ys x j h) i e
-
 tree_below : (n : ℕ) (o : Option ℕ) → ((j : ℕ) → o ≡ Some j → j < n) → IsTyBelow n (type_or (tree_type o))
 tree_below n None h = tt
 tree_below n (Some j) h = h j refl
@@ -194,7 +171,7 @@ tree_below n (Some j) h = h j refl
 pub written_below : (types : List ℕ) (a : TypeName) → IsTyBelow (length types) (type_of_name types a)
 written_below types (ty.Whole p) = tt
 written_below types (ty.Truth p) = tt
-written_below types (ty.Declared x) = tree_below (length types) (place_of types (number_of x)) (λ j e. place_below types (number_of x) j e)
+written_below types (ty.Declared x) = tree_below (length types) (place_of types (number_of x)) (λ j e. place_within types (number_of x) j e)
 
 -- ---- all of it
 
