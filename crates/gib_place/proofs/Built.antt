@@ -35,7 +35,8 @@ use Rattle.gib_place.proofs.Counts.{occurs, occurs_append, line_by_steps, ending
 use Rattle.gib_place.proofs.Positions.{place_tells}
 use Rattle.gib_place.proofs.Lines.{setting_by, before_lines_by, reachable_renamed, parameters_by, bound_parameters_by}
 use Rattle.gib_place.proofs.Wider.{nums, times, times_among, branch_terms, branch_occurs, case_nums, entry_casing, casing, casing_bind, casing_side, case_counts, casing_counts, bind_casing_counts, gains_all, gains_term, cased_after, bind_cased_after, side_cased_after}
-use Rattle.gib_place.proofs.Weaken.{Scoped, Room, Ahead, ahead_less, ahead_first, Like, LikeSides, same_one, same_several, ahead_term, ahead_side, ahead_bound, ahead_two, ahead_behind, wider_term, wider_side, wider_parts, wider_branches}
+use Rattle.gib_place.proofs.Weaken.{Ahead, ahead_less, ahead_first, Like, LikeSides, same_one, same_several, ahead_term, ahead_side, ahead_bound, ahead_two, ahead_behind, wider_term, wider_side, wider_parts, wider_branches}
+use Rattle.gib_place.proofs.Scopes.{Scoped, Room}
 use Rattle.gib_place.proofs.Ended.{Uses, KeepsIt, line_keeps}
 use Rattle.gib_place.proofs.Cores.{body_differs, parameters_stay}
 

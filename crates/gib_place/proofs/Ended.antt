@@ -26,7 +26,8 @@ use Rattle.gib_place.proofs.Lays.{Lays, variables}
 use Rattle.gib_place.proofs.Counts.{occurs, binders_all, targets, ending_line, filling_line, fields_named, fields_once, counted, count_line, occurs_line, lays_occurs, line_by_steps}
 use Rattle.gib_place.proofs.Fitting.{own_count, is_told, Fit, told, fields_fit, scalars_unused}
 use Rattle.gib_place.proofs.Wider.{nums, times, none_among}
-use Rattle.gib_place.proofs.Weaken.{Scoped, Room, type_same, types_same, other_eq, any_other_eq}
+use Rattle.gib_place.proofs.Weaken.{type_same, types_same, other_eq, any_other_eq}
+use Rattle.gib_place.proofs.Scopes.{Scoped, Room}
 use Rattle.gib_place.proofs.Kept.{length_one, met_prepend, gains_run, FieldsOk, lays_reach, shift_one, scopes_back, others_behinds, mets_cased, all_empty}
 use Rattle.gib_core.proofs.Dests.{usable_first}
 use Rattle.gib_core.proofs.Facts.{empty_is}

@@ -30,7 +30,8 @@ use Rattle.gib_place.proofs.Lays.{Lays, ends, opens, puts, stays, one, left, rig
 use Rattle.gib_place.proofs.Counts.{occurs, occurs_append, binders_all}
 use Rattle.gib_place.proofs.Fitting.{not_among}
 use Rattle.gib_place.proofs.Wider.{nums, times, new_there, own_time, Gains, gains_none, gains_both, gains_term, gains_bind, gains_side}
-use Rattle.gib_place.proofs.Weaken.{Scoped, Room, Wider, Ahead, ahead_less, ahead_first, likes_itself, ahead_side, all_usable_more, types_same, other_eq, any_other_eq, ahead_behind, wider_side, wider_bind}
+use Rattle.gib_place.proofs.Weaken.{Ahead, ahead_less, ahead_first, likes_itself, ahead_side, all_usable_more, types_same, other_eq, any_other_eq, ahead_behind, wider_side, wider_bind}
+use Rattle.gib_place.proofs.Scopes.{Scoped, Room, Wider}
 use Rattle.gib_core.proofs.Facts.{same_type_is}
 use Rattle.gib_core.proofs.Suited.{others_behind, has_all}
 use Rattle.gib_core.proofs.Kept.{scoped}

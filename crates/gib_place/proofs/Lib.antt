@@ -22,6 +22,7 @@ pub mod Sources
 pub mod Cores
 -- What is placed breaks no build rule.
 pub mod Wider
+pub mod Scopes
 pub mod Weaken
 pub mod Kept
 pub mod Ended

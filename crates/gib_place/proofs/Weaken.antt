@@ -18,7 +18,7 @@ use Rattle.gib_core.specs.Inferring.{first_type, further_types}
 use Rattle.gib_core.specs.Tree.{Term, Then, Write, Point, CallTerm, Give, CaseTerm, IfTerm, Tuple, PartTerms, NoPart, PartThen, parts_count, Bind, Past, One, Both, Prim, Reach, Side, On, Several, Branches, NoBranch, BranchThen, variables_of, FunctionTerm, CoreTree}
 use Rattle.gib_core.specs.Meaning.{function_at}
 use Rattle.gib_core.specs.Numbering.{binders, bind_binders, side_binders, part_binders}
-use Rattle.gib_core.specs.Met.{Destination, Nowhere, Empty, Open, InParts, Setting, PastLine, SideLine, PrimLine, WriteLine, PointLine, CallLine, GiveLine, CaseLine, IfLine, SeveralLine, TupleLine, reached, in_side, in_several, in_part, with_variables, behind, left_of, right_of, with_arm, in_arm, in_branch, arms_of, met, met_bind, met_side, met_parts, met_branches}
+use Rattle.gib_core.specs.Met.{Destination, Nowhere, Empty, Open, InParts, Setting, PastLine, SideLine, PrimLine, WriteLine, PointLine, CallLine, GiveLine, CaseLine, IfLine, SeveralLine, TupleLine, in_side, in_several, in_part, with_variables, behind, left_of, right_of, with_arm, in_arm, in_branch, arms_of, met, met_bind, met_side, met_parts, met_branches}
 use Rattle.gib_core.specs.Rules.{Before, same_types, are_declared, are_parts, result_fits, is_among, is_bound, type_bound, type_of, is_type, have_types, is_usable, all_usable, is_other, any_other, may_write, are_scalars, call_fits, cover, bind_fields, any_bound, arm_variables, rules, least, cases_on, next, next_all, type_made}
 use Rattle.gib_core.specs.Reachable.{all_reached, LinesAreReachable}
 use Rattle.gib_core.proofs.Along.{none_broken, least_none, next_append, reachable_split, reachable_append}
@@ -27,20 +27,7 @@ use Rattle.gib_place.proofs.Counts.{occurs, occurs_append}
 use Rattle.gib_place.proofs.Wider.{nums, times, new_there, times_among, none_among, own_time, branch_occurs, fields_types, arms_types, case_nums, branch_terms, casing, Gains, gains_one, gains_all, gains_then, gains_term, cased_after}
 use Rattle.gib_core.proofs.Orders.{usable_apart}
 use Rattle.gib_core.proofs.Kept.{scoped}
-
--- What is in scope was bound.
-abbrev pub Scoped : List Known → Before → Type 0
-Scoped ks b = (y : Variable) → has ks y ≡ true → 1 ≤ occurs (nums b.bound) y.0
-
--- What comes binds nothing twice.
-abbrev pub Room : Before → List ℕ → Type 0
-Room b xs = (y : ℕ) → occurs (nums b.bound) y + occurs xs y ≤ 1
-
--- More is in scope, with the types that it had; the same was cased.
-pub record Wider (from : List Known) (b : Before) (ks : List Known) (b' : Before) : Type 0 where
-  pub scope : (y : Variable) → has from y ≡ true → has ks y ≡ true
-  pub types : (y : Variable) → has from y ≡ true → type_bound b'.bound y ≡ type_bound b.bound y
-  pub cased : b'.cased ≡ b.cased
+use Rattle.gib_place.proofs.Scopes.{Room, Scoped, Wider}
 
 -- Lines are met twice, the second time with more in scope: what is in scope was bound, and what comes was not.
 pub record Ahead (from : List Known) (b : Before) (ks : List Known) (b' : Before) (xs : List ℕ) : Type 0 where
