@@ -35,7 +35,8 @@ use Rattle.gib_weave.specs.Sound.{AtTerm, at_term, Safe, rests, Moves, silent, I
 use Rattle.gib_weave.specs.Starting.{AreBodies}
 use Rattle.gib_weave.proofs.Basics.{by_test, put-other, set-same, set-other, set-length, end-same, end-other, ends-length, both-other}
 use Rattle.gib_weave.proofs.Groups.{same_held}
-use Rattle.gib_weave.proofs.Move.{goes_settled, closes_keeps, given_keeps, given_bind, end_kept, MovedOne, Moved, moved_same, AllMoved, Stack-moved, Keeps, Has-keeps, Fields-keeps, with_var, HasAll-set, IsDest-bind, all_under_bind, all_under_goes, goes-refl, code_put, is_field}
+use Rattle.gib_weave.proofs.Move.{goes_settled, closes_keeps, end_kept, MovedOne, Moved, moved_same, AllMoved, Stack-moved, Keeps, Has-keeps, Fields-keeps, with_var, HasAll-set, IsDest-bind}
+use Rattle.gib_weave.proofs.Sorts.{given_keeps, given_bind, all_under_bind, all_under_goes, goes-refl, code_put, is_field}
 use Rattle.gib_weave.proofs.Scalars.{scalar_word}
 use Rattle.gib_weave.proofs.Readings.{get_one, skip_looks, dec_small}
 use Rattle.gib_weave.proofs.Numbers.{reads_number}

@@ -37,7 +37,8 @@ use Rattle.gib_weave.specs.Paying.{Share}
 use Rattle.gib_weave.specs.Places.{Owned}
 use Rattle.gib_weave.specs.Sound.{Safe, moves}
 use Rattle.gib_weave.proofs.Basics.{by_test, put-same, put-other, set-same, set-other, set-length, end-other, ends-length, both-same}
-use Rattle.gib_weave.proofs.Move.{Keeps, keeps_var, with_var, agrees_put, bound-same}
+use Rattle.gib_weave.proofs.Move.{Keeps, keeps_var, with_var, bound-same}
+use Rattle.gib_weave.proofs.Sorts.{agrees_put}
 use Rattle.gib_weave.proofs.Readings.{get_one}
 use Rattle.gib_weave.proofs.Numbers.{reads_number}
 use Rattle.gib_weave.proofs.Ends.{first_at, rest_at, held_end, at_rest, step_is, silently}

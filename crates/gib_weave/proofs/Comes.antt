@@ -27,7 +27,8 @@ use Rattle.gib_weave.specs.Places.{AllRoom, HasRoom, Owned, freed, heads}
 use Rattle.gib_weave.specs.Stacks.{SeveralWaits, Stack}
 use Rattle.gib_weave.specs.Sound.{InMemory, IsTied, PartsAnswer, Safe, at_term, rests, ties_of}
 use Rattle.gib_weave.proofs.Basics.{by_test, both-other, put-same}
-use Rattle.gib_weave.proofs.Move.{HasAll-bind, HasAll-set, IsDest-bind, IsDest-moved, Matches-line, Stack-moved, all_moved_set, all_under_bind, given_bind, held, is_field, moved_set, not_there, put_held, rest_code_put, with_line, with_var}
+use Rattle.gib_weave.proofs.Move.{HasAll-bind, HasAll-set, IsDest-bind, IsDest-moved, Matches-line, Stack-moved, all_moved_set, held, moved_set, not_there, put_held, with_line, with_var}
+use Rattle.gib_weave.proofs.Sorts.{all_under_bind, given_bind, is_field, rest_code_put}
 use Rattle.gib_weave.proofs.Lines.{new_less}
 use Rattle.gib_weave.proofs.Scalars.{scalar_word}
 use Rattle.gib_weave.proofs.Uses.{sides_bound}

@@ -44,7 +44,8 @@ use Rattle.gib_weave.proofs.Filling.{holds_more, sink_length, Stack-filled}
 use Rattle.gib_weave.proofs.Reordered.{sink_counted, sink_covers, sink_room}
 use Rattle.gib_machine.specs.Levels.{lefts}
 use Rattle.gib_weave.specs.Sound.{counts, AtRest, means_why, unwinds, IsAnswer, at_term, over, Safe, rests, moves, silent, Moves, InMemory, IsTied, Ties, ties_of}
-use Rattle.gib_weave.proofs.Move.{with_var, with_dest, HasAll-set, HasAll-dest, keeps_dest, IsDest-bind, IsDest-more, all_under_bind, covers_more, rest_code_put, HasAll-moved, Stack-moved, goes-refl, tree_settled, settled_there, other, with_line, HasAll-line, Matches-line, IsDest-line, given_bind, is_field}
+use Rattle.gib_weave.proofs.Move.{with_var, with_dest, HasAll-set, HasAll-dest, keeps_dest, IsDest-bind, IsDest-more, covers_more, HasAll-moved, Stack-moved, tree_settled, settled_there, other, with_line, HasAll-line, Matches-line, IsDest-line}
+use Rattle.gib_weave.proofs.Sorts.{all_under_bind, rest_code_put, goes-refl, given_bind, is_field}
 use Rattle.gib_weave.proofs.Basics.{by_test, put-other}
 use Rattle.gib_weave.proofs.Tolds.{Tells, told_known, told_still, told_now, settled_slot, settled_not_held, moved_told, all_moved_told, gives_back, over_tells}
 use Rattle.gib_weave.proofs.Lines.{follows}

@@ -43,12 +43,14 @@ use Rattle.gib_weave.specs.Places.{within, Owned, IsSmall, Apart}
 use Rattle.gib_weave.specs.Stacks.{Waits}
 use Rattle.gib_weave.specs.Sound.{AtRest, SideSafe, AtTerm, IsAnswer, at_term, over, Safe, rests, moves, Moves, silent, draws}
 use Rattle.gib_weave.proofs.Basics.{put-same, set-same}
-use Rattle.gib_weave.proofs.Move.{with_var, with_dest, HasAll-set, HasAll-dest, keeps_dest, IsDest-more, absent_slot, is_field, bound-same, code_put}
+use Rattle.gib_weave.proofs.Move.{with_var, with_dest, HasAll-set, HasAll-dest, keeps_dest, IsDest-more, absent_slot, bound-same}
+use Rattle.gib_weave.proofs.Sorts.{is_field, code_put}
 use Rattle.gib_weave.proofs.Places.{Apart-less, Apart-open, open-grows, open-small}
 use Rattle.gib_weave.proofs.Lines.{holding, own_line, HasAll-hold, HasAll-own, from_having, line_less}
 use Rattle.gib_weave.proofs.SideParts.{are_bound, eight_answer, values_bound, words_of, side_words}
 use Rattle.gib_weave.proofs.Uses.{side_apart}
-use Rattle.gib_weave.proofs.Binds.{scalar_answer, Matches-bind}
+use Rattle.gib_weave.proofs.Binds.{Matches-bind}
+use Rattle.gib_weave.proofs.CallFrames.{scalar_answer}
 use Rattle.gib_weave.proofs.Ends.{held_end, step_is, silently, Resumes, comes}
 use Rattle.gib_core.proofs.TypesKnown.{dest_more}
 

@@ -32,7 +32,8 @@ use Rattle.gib_core.specs.Ending.{within_par}
 use Rattle.gib_weave.proofs.Lines.{pend, loosened, resume-stop, waiting, several_waits, all_follow, line_grows, line_set}
 use Rattle.gib_weave.proofs.Indirects.{pointed}
 use Rattle.gib_weave.proofs.Forks.{par_tells, own_most, right_costs, right_at, bound_comes, field_comes}
-use Rattle.gib_weave.proofs.Move.{with_var, moved_set, Matches-moved, not_there, absent_slot, is_field, covers_more, with_dest, with_line}
+use Rattle.gib_weave.proofs.Move.{with_var, moved_set, Matches-moved, not_there, absent_slot, covers_more, with_dest, with_line}
+use Rattle.gib_weave.proofs.Sorts.{is_field}
 use Rattle.gib_core.specs.Fits.{none_of, tell_line, side_tells, put, Sort, Absent, Scalar, Placed, Dest, more, cased, loosen, Fits}
 use Rattle.gib_packed.specs.Reaching.{there}
 use Rattle.gib_weave.specs.Environment.{Ctx, IsScalar, StandsAt, Has}

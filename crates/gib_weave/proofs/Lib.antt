@@ -14,6 +14,7 @@ pub mod Costs
 pub mod SideParts
 -- .. how a frame's slots, lines and open regions go on.
 pub mod Move
+pub mod Sorts
 pub mod Turns
 pub mod EndWords
 pub mod Tolds
@@ -30,6 +31,7 @@ pub mod Writes
 -- .. each kind of instruction, and all of them.
 pub mod Ends
 pub mod Opens
+pub mod CallFrames
 pub mod Binds
 pub mod Indirects
 pub mod Arms

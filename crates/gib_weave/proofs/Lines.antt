@@ -21,7 +21,8 @@ use Rattle.gib_weave.specs.Stacks.{SeveralWaits, Waits}
 use Rattle.gib_weave.specs.Sound.{OnLine, MayFollow}
 use Rattle.gib_weave.proofs.Grow.{Matches-grows, Stack-grows}
 use Rattle.gib_weave.proofs.Basics.{by_test, put-other, end-other}
-use Rattle.gib_weave.proofs.Move.{Moved, AllMoved, HasAll-moved, Matches-moved, Stack-moved, moved_set, all_moved_set, not_there, with_line, HasAll-dest, HasAll-line, settled_there, Matches-line, closes_keeps, given_keeps, other, goes-refl, under_goes, all_under_goes, goes_new, Keeps, Has-keeps, Fields-keeps, absent_slot, rest_code_loosen}
+use Rattle.gib_weave.proofs.Move.{Moved, AllMoved, HasAll-moved, Matches-moved, Stack-moved, moved_set, all_moved_set, not_there, with_line, HasAll-dest, HasAll-line, settled_there, Matches-line, closes_keeps, other, Keeps, Has-keeps, Fields-keeps, absent_slot}
+use Rattle.gib_weave.proofs.Sorts.{given_keeps, goes-refl, under_goes, all_under_goes, goes_new, rest_code_loosen}
 
 -- Trees may be elsewhere.
 

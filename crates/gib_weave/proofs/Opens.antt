@@ -36,7 +36,8 @@ use Rattle.gib_weave.specs.Starting.{AreBodies}
 use Rattle.gib_weave.proofs.Basics.{put-same, set-same, put_all-holds, put_all-grows, put_all-small, both-same}
 use Rattle.gib_weave.proofs.Items.{safe_turning}
 use Rattle.gib_weave.proofs.Grow.{Matches-grows}
-use Rattle.gib_weave.proofs.Move.{given_keeps, goes_new, absent_slot, code_put}
+use Rattle.gib_weave.proofs.Move.{absent_slot}
+use Rattle.gib_weave.proofs.Sorts.{given_keeps, goes_new, code_put}
 use Rattle.gib_weave.proofs.Places.{Apart-less, Apart-put_all, Apart-fresh, Apart-open, open-grows, open-small, within_front, within_redirect, within_chunk, chunk_room, rest_room, Splits, SplitsAt, splits}
 use Rattle.gib_weave.proofs.Lines.{opening, keeps_opening, HasAll-open, pend, keeps_holding, loosened, holding, HasAll-hold, all_under_hold, under_holding, all_calm_less, calm_loosened, resume-with, waiting, line_grows, line_set}
 use Rattle.gib_core.specs.Ending.{Within}

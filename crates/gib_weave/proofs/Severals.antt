@@ -28,7 +28,8 @@ use Rattle.gib_weave.specs.Sound.{AtRest, AtTerm, InMemory, Moves, OnLine, Safe,
 use Rattle.gib_weave.proofs.Basics.{both-other, both-same, by_test, put-same}
 use Rattle.gib_weave.proofs.Counts.{goes_on_counted}
 use Rattle.gib_weave.proofs.Groups.{Group-grows}
-use Rattle.gib_weave.proofs.Move.{absent_slot, agrees_put, code_put, given_keeps, goes_new, held, not_there, put_held, under_goes}
+use Rattle.gib_weave.proofs.Move.{absent_slot, held, not_there, put_held}
+use Rattle.gib_weave.proofs.Sorts.{agrees_put, code_put, given_keeps, goes_new, under_goes}
 use Rattle.gib_weave.proofs.Lines.{HasAll-held, HasAll-own, all_calm_less, all_under_hold, calm_loosened, holding, keeps_holding, line_grows, line_set, loosened, several_waits, resume-with, under_scalar}
 use Rattle.gib_weave.proofs.Opens.{begins_region}
 use Rattle.gib_weave.proofs.Filling.{drop_next, slots_many, types_many}

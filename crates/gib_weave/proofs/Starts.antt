@@ -34,10 +34,11 @@ use Rattle.gib_weave.proofs.Basics.{by_test}
 use Rattle.gib_syntax.specs.Results as results
 use Rattle.gib_code.specs.declared.instruction.AnswerType.TheVariants as of
 use Rattle.gib_weave.proofs.Groups.{result_group}
-use Rattle.gib_weave.proofs.Move.{is_field}
+use Rattle.gib_weave.proofs.Sorts.{is_field}
 use Rattle.gib_weave.proofs.Places.{Apart-less, Apart-open, open-grows, open-small, SplitsAt, splits}
 use Rattle.gib_weave.proofs.Grow.{StandsAt-grows}
-use Rattle.gib_weave.proofs.Binds.{body_end, no_slot, nothing_bound, result_dest, result_type, no_result_cover}
+use Rattle.gib_weave.proofs.Binds.{result_dest, result_type, no_result_cover}
+use Rattle.gib_weave.proofs.CallFrames.{body_end, no_slot, nothing_bound}
 use Rattle.gib_weave.proofs.Nests.{nests_within}
 use Rattle.gib_weave.proofs.Ends.{heads_less}
 use Rattle.gib_weave.proofs.Comes.{no_field}

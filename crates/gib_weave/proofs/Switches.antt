@@ -38,7 +38,8 @@ use Rattle.gib_weave.specs.Starting.{AreBodies}
 use Rattle.gib_weave.proofs.Basics.{by_test, put-same, set-same, both_is}
 use Rattle.gib_weave.specs.Groups.{Group}
 use Rattle.gib_weave.proofs.Groups.{same_held}
-use Rattle.gib_weave.proofs.Move.{settled_there, tree_settled, goes-refl, with_line, Matches-line, keeps_line, given_keeps, end_kept, MovedOne, Moved, moved_same, AllMoved, goes-there, agrees_put}
+use Rattle.gib_weave.proofs.Move.{settled_there, tree_settled, with_line, Matches-line, keeps_line, end_kept, MovedOne, Moved, moved_same, AllMoved, goes-there}
+use Rattle.gib_weave.proofs.Sorts.{goes-refl, given_keeps, agrees_put}
 use Rattle.gib_weave.proofs.Readings.{get_one, looks, known_below}
 use Rattle.gib_types.specs.declared.table.ConId.{ConId}
 use Rattle.gib_types.specs.declared.table.Ty.TheVariants.{Whole, Truth, Tree}
@@ -46,7 +47,7 @@ use Rattle.gib_core.specs.Ending.{Within, last_packed}
 use Rattle.gib_weave.proofs.Tolds.{Tells, told_known, told_now, moved_told, all_moved_told, settled_slot, settled_not_held, tree_slot, tree_not_held, tree_end, moved_end}
 use Rattle.gib_weave.proofs.EndWords.{Walked}
 use Rattle.gib_weave.proofs.Opens.{size_small}
-use Rattle.gib_weave.proofs.Binds.{tree_of}
+use Rattle.gib_weave.proofs.CallFrames.{tree_of}
 use Rattle.gib_weave.proofs.Arms.{with_sort, StaysHead, Line, line_sort}
 use Rattle.gib_weave.proofs.Cases.{BeforeIs, number_of_var, no_tree_end, parts, scalar_slots, first_slots, scalar_kept, first_kept, scalar_long, first_long, scalar_ends, first_ends, scalar_even, first_even, slots_fit, run_scalars, run_first, extend, agrees_arm, find}
 use Rattle.gib_weave.proofs.Ends.{at_rest, step_is, silently}

@@ -25,7 +25,7 @@ use Rattle.gib_weave.specs.Places.{Owned, HaveRoom, rest_covers}
 use Rattle.gib_weave.specs.Stacks.{Stack}
 use Rattle.gib_weave.specs.Sound.{counts, AtRest, AtTerm, at_term, Safe, rests, Moves, silent}
 use Rattle.gib_weave.proofs.Counts.{Paid, goes_on_counted}
-use Rattle.gib_weave.proofs.Move.{rest_code_loosen, given_keeps}
+use Rattle.gib_weave.proofs.Sorts.{rest_code_loosen, given_keeps}
 use Rattle.gib_weave.proofs.Places.{Apart-less}
 use Rattle.gib_weave.proofs.Lines.{own_line, HasAll-own, loosened, keeps_loosened, goes_loosen, HasAll-loosen, all_under_loosen, under_scalar, all_calm_less, calm_loosened, resume-with}
 use Rattle.gib_weave.proofs.Reordered.{pull_counted, pull_covers, pull_room, pulled, put_back, without}
