@@ -33,7 +33,7 @@ use Rattle.gib_local.specs.Counting.{broken_text, unlike_in, with_unlike}
 use Rattle.gib_local.specs.Local.{Local, Refusal, Unread, Misnamed, Breaks, answer}
 use Rattle.gib_local.specs.Local.{Misplaced as Elsewhere}
 use Rattle.gib_local.specs.LocalFaults.{IsAnswered, IsLocalFault}
-use Rattle.gib_local.specs.Tree.{LocalTree}
+use Rattle.gib_local_parse.specs.Tree.{LocalTree}
 use Rattle.gib_local.specs.declared.fault.LocalFault.{LocalFault}
 use Rattle.gib_local.specs.declared.fault.LocalFault.TheVariants as locating
 use Rattle.gib_app.specs.declared.source_fault.SourceFault.{SourceFault}

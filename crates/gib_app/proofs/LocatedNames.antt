@@ -13,8 +13,8 @@ use Rattle.gib_value.specs.Text.{AreHeld}
 use Rattle.gib_syntax.specs.declared.tree.TypeName.{TypeName}
 use Rattle.gib_syntax.specs.Declarations.{row_in, rows_from, table_of_program, type_names}
 use Rattle.gib_syntax.specs.Tree.{ConstructorTree, DataTree, ProgramTree}
-use Rattle.gib_local.specs.Texts.{spell_alternative, spell_constructors, spell_data, spell_function, spell_list, spell_main, spell_offsets, spell_text, spell_type}
-use Rattle.gib_local.specs.Tree.{LocalTree}
+use Rattle.gib_local_parse.specs.Texts.{spell_alternative, spell_constructors, spell_data, spell_function, spell_list, spell_main, spell_offsets, spell_text, spell_type}
+use Rattle.gib_local_parse.specs.Tree.{LocalTree}
 
 -- what holds of all tokens holds of those of the constructors' names
 module _ (T : Token → Type 0) where

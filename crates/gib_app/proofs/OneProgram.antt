@@ -8,9 +8,9 @@ use Rattle.gib_core.specs.Erasing.{erase_core}
 use Rattle.gib_core.specs.Marking.{mark_core}
 use Rattle.gib_core.specs.Tree.{CoreTree}
 use Rattle.gib_local.specs.Building.{Placed, build_core}
-use Rattle.gib_local.specs.PlacedTexts.{TextAt}
-use Rattle.gib_local.specs.Texts.{spell_text}
-use Rattle.gib_local.specs.Tree.{LocalTree}
+use Rattle.gib_local_parse.specs.PlacedTexts.{TextAt}
+use Rattle.gib_local_parse.specs.Texts.{spell_text}
+use Rattle.gib_local_parse.specs.Tree.{LocalTree}
 use Rattle.gib_base.specs.declared.token.Token.{Token}
 use Rattle.gib_base.specs.declared.Span.{Span}
 use Rattle.gib_syntax.specs.GenericTree.{GenericProgramTree}

@@ -13,7 +13,7 @@ ghost use Rattle.gib_app.specs.LocalHeadline.{IsLocalRun, MakesCore, LocalGiven,
 use crate::status::Status;
 use gib_file::one_file;
 use gib_lex::laws::{one_reading, one_reading_in};
-use gib_local::law::one_text;
+use gib_local_parse::law::one_text;
 use gib_parse::law::one_program;
 
 /// What is promised of a call whose words ask for `local`, by how it ends: `IsEnding` stands in the clause `ends` of `gib`. What the core

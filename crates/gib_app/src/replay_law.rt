@@ -9,7 +9,7 @@ ghost use Rattle.gib_app.specs.Repeating.{IsRepeated, NoneFails, PutAlike};
 use crate::status::Status;
 use gib_file::one_file;
 use gib_lex::laws::{one_reading, one_reading_in};
-use gib_local::law::one_text;
+use gib_local_parse::law::one_text;
 use gib_parse::law::one_program;
 
 /// A call that replays the journal of a traced run ends as the call that traced it: with the same text, or without a value for the same

@@ -22,7 +22,7 @@ use crate::stop::Stop;
 use gib_edge::outside::{Gate, Shelf, Sink, put_all};
 use gib_file::one_file;
 use gib_lex::laws::{one_reading, one_reading_in};
-use gib_local::law::one_text;
+use gib_local_parse::law::one_text;
 use gib_parse::law::one_program;
 use gib_print::PrintFault;
 use gib_words::words::read_words;

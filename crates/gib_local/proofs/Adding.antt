@@ -1,36 +1,31 @@
 -- What the steps of the builder leave, in the words of the rules.
-use Rattle.std.proofs.Common.{◌≡◌, ℕ, zero, suc, ◌+◌, ◌-◌, ◌<◌, ◌≤◌, Bool, true, false, not, List, [], ◌∷◌, ◌++◌, length, map, drop, Option, Some, None, Ok, Err, refl, sym, ap, ap₂, ◌∙◌, subst, arith, append_assoc}
+use Rattle.std.proofs.Common.{◌≡◌, ℕ, ◌+◌, ◌-◌, ◌<◌, Bool, true, false, not, List, length, Option, Some, None, Ok, Err, refl, sym, ap, ap₂, ◌∙◌, subst}
 use Rattle.std.specs.Prelude.{Result}
 use Rattle.std.specs.Global.{Vec}
-use Rattle.std.specs.List.{AllByRecursion}
 use Rattle.gib_types.specs.Table.{Table, fields_at, at_fields}
 use Rattle.gib_types.specs.declared.table.ConId.{ConId}
 use Rattle.gib_types.specs.declared.table.Ty.{Ty}
 use Rattle.gib_syntax.specs.declared.tree.Ident.{Ident}
-use Rattle.gib_syntax.specs.declared.tree.TypeName.{TypeName}
 use Rattle.gib_syntax.specs.Declarations.{number_of}
 use Rattle.gib_core.specs.declared.atom.Atom.{Atom}
 use Rattle.gib_core.specs.declared.atom.Atom.TheVariants as a
-use Rattle.gib_core.specs.declared.atom.Kind.{Kind}
 use Rattle.gib_core.specs.declared.atom.Variable.{Variable}
 use Rattle.gib_core.specs.declared.node.Binding.{Binding as CoreBinding}
 use Rattle.gib_core.specs.declared.node.Binding.TheVariants as b
-use Rattle.gib_core.specs.declared.node.BoundTerm.{BoundTerm}
-use Rattle.gib_core.specs.declared.node.Branch.{Branch}
 use Rattle.gib_core.specs.declared.node.Node.{Node}
 use Rattle.gib_core.specs.declared.node.Node.TheVariants as n
 use Rattle.gib_core.specs.declared.node.TermId.{TermId}
-use Rattle.gib_core.specs.Arena.{Grows, Makes, IsBindingBelow, IsBranchBelow, term_of, layer, bind_from, side_from, branches_from}
-use Rattle.gib_core.specs.Tree.{Term, Then, Write, Point, CallTerm, Give, CaseTerm, IfTerm, Bind, Past, One, Both, Side, On, Branches, NoBranch, BranchThen, prepend}
-use Rattle.gib_core.specs.Met.{Destination}
+use Rattle.gib_core.specs.Arena.{Grows, term_of, layer}
+use Rattle.gib_core.specs.Tree.{Term, Then, Write, Point, CallTerm, Give, Past, prepend}
+use Rattle.gib_core.proofs.Fronting.{grows_more, grows_none}
 use Rattle.gib_local.specs.declared.builder.Builder.{Builder}
 use Rattle.gib_local.specs.declared.destination.Goal.{Goal}
 use Rattle.gib_local.specs.declared.build_fault.BuildFault.{BuildFault}
 use Rattle.gib_local.specs.declared.build_fault.BuildFault.TheVariants as f
-use Rattle.gib_local.specs.Tree.{Mark, Line, In, Binding}
-use Rattle.gib_local.specs.Building.{Place, Around, Passed, Placed, Program, Termed, Stepped, and_then, if_due, aims, no_mark, with_mark, is_place, meant, call, make, write, numbered_on, build, build_binding}
+use Rattle.gib_local_parse.specs.Tree.{Mark}
+use Rattle.gib_local.specs.Building.{Place, Around, Passed, Placed, Termed, Stepped, and_then, if_due, aims, no_mark, is_place, meant, call, make, write}
 use Rattle.gib_core.specs.Rules.{is_nowhere}
-use Rattle.gib_local.specs.Builds.{destination_of, around_of, passed_of, nowhere, Fails, Gives, Stays, PutsNode, PutsTerm, Puts, Builds, Fronts, binds_of, IsStepBelow, Opens, Steps, call_due, reserved, filled_due}
+use Rattle.gib_local.specs.Builds.{destination_of, around_of, passed_of, Fails, Stays, PutsNode, PutsTerm, Puts, Builds, binds_of, Steps, call_due, reserved, filled_due}
 
 -- What is made.
 abbrev pub given : {A : Type 0} → A → Placed A
@@ -141,17 +136,8 @@ pub write_put : (old new : Builder) (id : TermId) (tb : Table) (types : List Ty)
 write_put old new id tb types head k xs ss ps t s p h =
     subst (λ u. PutsTerm old new id u) (ap₂ (λ l m. Write head k l m) (s ∙ ap (λ ts. at_fields true ts xs) t) (p ∙ ap (λ ts. at_fields false ts xs) t)) (node_put old new id (n.Write head k ss ps) h)
 
-pub grows_on : (xs ys zs : List Node) → Grows xs ys → Grows ys zs → Grows xs zs
-grows_on xs ys zs h g = record {
-  longer = (let l = h.longer in let m = g.longer in omega (arith, l, m));
-  same = λ id lt. g.same id (let l = h.longer in omega (arith, lt, l)) ∙ h.same id lt;
-}
-
 pub stays_on : (b0 b1 b2 : Builder) → Stays b0 b1 → Stays b1 b2 → Stays b0 b2
-stays_on b0 b1 b2 h g = record { grows = grows_on b0.terms b1.terms b2.terms h.grows g.grows; variables = g.variables ∙ h.variables; places = g.places ∙ h.places }
-
-pub grows_same : (xs : List Node) → Grows xs xs
-grows_same xs = record { longer = omega arith; same = λ id lt. refl }
+stays_on b0 b1 b2 h g = record { grows = grows_more b0.terms b1.terms b2.terms h.grows g.grows; variables = g.variables ∙ h.variables; places = g.places ∙ h.places }
 
 pub stays_put : (old new : Builder) (id : TermId) (t : Term) → PutsTerm old new id t → Stays old new
 stays_put old new id t h = record { grows = h.grows; variables = ap (λ (x : Builder). x.variables) h.is; places = ap (λ (x : Builder). x.places) h.is }
@@ -159,7 +145,7 @@ stays_put old new id t h = record { grows = h.grows; variables = ap (λ (x : Bui
 -- A new variable changes nothing else.
 stays_fresh : (old new : Builder) (m : ℕ) → new ≡ record old { fresh = m } → Stays old new
 stays_fresh old new m e = record {
-  grows = subst (λ (x : Builder). Grows old.terms x.terms) (sym e) (grows_same old.terms);
+  grows = subst (λ (x : Builder). Grows old.terms x.terms) (sym e) (grows_none old.terms);
   variables = ap (λ (x : Builder). x.variables) e;
   places = ap (λ (x : Builder). x.places) e;
 }
@@ -185,4 +171,4 @@ pub before_put : (old new : Builder) (o : CoreBinding) (rest id : TermId) → Pu
 before_put old new o rest id h = node_put old new id (n.Then o rest) h
 
 pub none_before : (old : Builder) (rest : TermId) → rest.0 < length old.terms → PutsTerm old old rest (prepend (binds_of old.terms None) (term_of old.terms rest.0))
-none_before old rest lt = record { is = refl; grows = grows_same old.terms; inside = lt; term = refl }
+none_before old rest lt = record { is = refl; grows = grows_none old.terms; inside = lt; term = refl }

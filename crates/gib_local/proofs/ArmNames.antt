@@ -1,6 +1,5 @@
 -- The names of arms, one after another.
-use Rattle.std.proofs.Common.{◌≡◌, ℕ, ◌-◌, ◌<◌, ◌≤◌, List, [], ◌∷◌, take, drop, get_or, length, Ok, Err, refl, sym, ap, ap₂, ◌∙◌, subst, arith}
-use Rattle.std.proofs.Math.Seq.{take-length}
+use Rattle.std.proofs.Common.{◌≡◌, ℕ, ◌-◌, ◌<◌, ◌≤◌, List, [], ◌∷◌, take, drop, get_or, length, Ok, Err, refl, sym, ap, ◌∙◌, subst, arith}
 use Rattle.std.specs.List.{AllByRecursion}
 use Rattle.gib_syntax.specs.declared.tree.Ident.{Ident}
 use Rattle.gib_check.specs.declared.counts.Counts.{Counts}
@@ -9,10 +8,12 @@ use Rattle.gib_check.specs.Answers.{IsFaultOf}
 use Rattle.gib_check.specs.Faults.{Checked, and_then}
 use Rattle.gib_check.proofs.Loops.{passed_on, along}
 use Rattle.gib_types.specs.Table.{fields_at}
-use Rattle.gib_local.specs.declared.lines.LineArm.{LineArm}
-use Rattle.gib_local.specs.Tree.{Line}
-use Rattle.gib_local.specs.LineArena.{ArmsBelow, IsArmBelow, arms_from}
-use Rattle.gib_local.specs.ReadingTerms.{arms_text}
+use Rattle.gib_check.proofs.RowLists.{rest-is}
+use Rattle.gib_check.proofs.KnownWords.{then_same, then_then}
+use Rattle.gib_local_parse.specs.declared.lines.LineArm.{LineArm}
+use Rattle.gib_local_parse.specs.Tree.{Line}
+use Rattle.gib_local_parse.specs.LineArena.{ArmsBelow, IsArmBelow, arms_from}
+use Rattle.gib_local_parse.specs.ReadingTerms.{arms_text}
 use Rattle.gib_local.specs.Knowing.{arm, constructor_of}
 use Rattle.gib_local.specs.Naming.{Names, Declared, After', as_many, constructor, all_bound, check_line, check_arms}
 
@@ -24,15 +25,7 @@ abbrev pub check_each : Declared → (ℕ → Line) → List LineArm → Names �
 check_each d f [] s n = Ok n
 check_each d f (x ∷ arms) s n = and_then (arm_in d f x s n) (λ m. check_each d f arms s m)
 
--- Chains of rules, regrouped.
-pub and_same : {A B : Type 0} (c : Checked A) (f g : A → Checked B) → ((x : A) → f x ≡ g x) → and_then c f ≡ and_then c g
-and_same (Ok x) f g h = h x
-and_same (Err e) f g h = refl
-
-pub and_nested : {A B C : Type 0} (c : Checked A) (f : A → Checked B) (g : B → Checked C) → and_then (and_then c f) g ≡ and_then c (λ x. and_then (f x) g)
-and_nested (Ok x) f g = refl
-and_nested (Err e) f g = refl
-
+-- A chain of rules with nothing behind it.
 and_none : {A : Type 0} (c : Checked A) → c ≡ and_then c (λ x. Ok x)
 and_none (Ok x) = refl
 and_none (Err e) = refl
@@ -40,21 +33,21 @@ and_none (Err e) = refl
 -- An arm with what follows it, regrouped.
 arm_then : (d : Declared) (s : Names) (n : Counts) (k : Ident) (xs : List Ident) (t : Line) (go : Counts → Checked Counts) → and_then (constructor d.table k) (λ c. and_then (as_many (length xs) (length (fields_at d.table c)) k) (λ _. and_then (all_bound xs s n) (λ r. and_then (check_line d t r.names r.counts) go))) ≡ and_then (arm d s n k xs t) go
 arm_then d s n k xs t go =
-    sym (and_nested (constructor_of d.table k (length xs)) (λ _. and_then (all_bound xs s n) (λ r. check_line d t r.names r.counts)) go
-    ∙ and_nested (constructor d.table k) (λ c. as_many (length xs) (length (fields_at d.table c)) k) (λ _. and_then (and_then (all_bound xs s n) (λ r. check_line d t r.names r.counts)) go)
-    ∙ and_same (constructor d.table k) _ _ (λ c. and_same (as_many (length xs) (length (fields_at d.table c)) k) _ _ (λ _. and_nested (all_bound xs s n) (λ r. check_line d t r.names r.counts) go)))
+    sym (then_then (constructor_of d.table k (length xs)) (λ _. and_then (all_bound xs s n) (λ r. check_line d t r.names r.counts)) go
+    ∙ then_then (constructor d.table k) (λ c. as_many (length xs) (length (fields_at d.table c)) k) (λ _. and_then (and_then (all_bound xs s n) (λ r. check_line d t r.names r.counts)) go)
+    ∙ then_same (constructor d.table k) _ _ (λ c. then_same (as_many (length xs) (length (fields_at d.table c)) k) _ _ (λ _. then_then (all_bound xs s n) (λ r. check_line d t r.names r.counts) go)))
 
 pub arms_are_each : (d : Declared) (f : ℕ → Line) (x : LineArm) (arms : List LineArm) (s : Names) (n : Counts) → check_arms d (arms_from f x arms) s n ≡ check_each d f (x ∷ arms) s n
 arms_are_each d f x [] s n =
-    and_same (constructor d.table x.constructor) _ _
-    (λ c. and_same (as_many (length x.variables.items) (length (fields_at d.table c)) x.constructor) _ _
-    (λ _. and_same (all_bound x.variables.items s n) _ _ (λ r. and_none (check_line d (f x.line.0) r.names r.counts))))
+    then_same (constructor d.table x.constructor) _ _
+    (λ c. then_same (as_many (length x.variables.items) (length (fields_at d.table c)) x.constructor) _ _
+    (λ _. then_same (all_bound x.variables.items s n) _ _ (λ r. and_none (check_line d (f x.line.0) r.names r.counts))))
     ∙ arm_then d s n x.constructor x.variables.items (f x.line.0) (λ m. Ok m)
 arms_are_each d f x (next ∷ arms) s n =
-    and_same (constructor d.table x.constructor) _ _
-    (λ c. and_same (as_many (length x.variables.items) (length (fields_at d.table c)) x.constructor) _ _
-    (λ _. and_same (all_bound x.variables.items s n) _ _
-    (λ r. and_same (check_line d (f x.line.0) r.names r.counts) _ _ (λ m. arms_are_each d f next arms s m))))
+    then_same (constructor d.table x.constructor) _ _
+    (λ c. then_same (as_many (length x.variables.items) (length (fields_at d.table c)) x.constructor) _ _
+    (λ _. then_same (all_bound x.variables.items s n) _ _
+    (λ r. then_same (check_line d (f x.line.0) r.names r.counts) _ _ (λ m. arms_are_each d f next arms s m))))
     ∙ arm_then d s n x.constructor x.variables.items (f x.line.0) (λ m. check_each d f (next ∷ arms) s m)
 
 pub arms_of : (d : Declared) (f : ℕ → Line) (arms : List LineArm) (id : ℕ) (s : Names) (n : Counts) → ArmsBelow arms id → check_arms d (arms_text f arms) s n ≡ check_each d f arms s n
@@ -73,9 +66,6 @@ all_below (x ∷ arms) id h = h
 
 pub arms_start : (d : Declared) (f : ℕ → Line) (id : ℕ) (start : After') (arms : List LineArm) → ArmsBelow arms id → ArmsSoFar d f id start start arms arms
 arms_start d f id start arms h = record { below = all_below arms id h; names = refl; read = arms_of d f arms id start.names start.counts h }
-
-rest-is : {A : Type 0} (x : A) (xs : List A) → take (length (x ∷ xs) - 1) xs ≡ xs
-rest-is x xs = let n : length (x ∷ xs) - 1 ≡ length xs = omega arith in ap (λ k. take k xs) n ∙ take-length xs
 
 module _ (d : Declared) (f : ℕ → Line) (id : ℕ) (start now : After') (arms : List LineArm) where
   after_arm : (x : LineArm) (rest : List LineArm) (c : Checked Counts) → ArmsSoFar d f id start now arms (x ∷ rest) → arm_in d f x now.names now.counts ≡ c → check_arms d (arms_text f arms) start.names start.counts ≡ and_then c (λ m. check_each d f rest start.names m)

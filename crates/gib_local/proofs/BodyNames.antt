@@ -1,6 +1,5 @@
 -- The names of bodies, in the order of the text.
 use Rattle.std.proofs.Common.{◌≡◌, ℕ, ◌-◌, ◌<◌, ◌≤◌, List, [], ◌∷◌, take, drop, get_or, map, length, Ok, Err, refl, sym, ap, ◌∙◌, subst, arith}
-use Rattle.std.proofs.Math.Seq.{take-length}
 use Rattle.std.specs.List.{AllByRecursion}
 use Rattle.gib_syntax.specs.declared.tree.Ident.{Ident}
 use Rattle.gib_check.specs.declared.fault.TypeFault.{TypeFault}
@@ -8,9 +7,10 @@ use Rattle.gib_check.specs.declared.fault.TypeFault.TheVariants as t
 use Rattle.gib_check.specs.Answers.{IsFaultOf}
 use Rattle.gib_check.specs.Faults.{Checked, and_then}
 use Rattle.gib_check.proofs.Loops.{passed_on, along}
-use Rattle.gib_local.specs.declared.text.FunctionLines.{FunctionLines}
-use Rattle.gib_local.specs.LineArena.{tree_of}
-use Rattle.gib_local.specs.TextParts.{TextParts, IsFunctionIn, function_text}
+use Rattle.gib_check.proofs.RowLists.{rest-is}
+use Rattle.gib_local_parse.specs.declared.text.FunctionLines.{FunctionLines}
+use Rattle.gib_local_parse.specs.LineArena.{tree_of}
+use Rattle.gib_local_parse.specs.TextParts.{TextParts, IsFunctionIn, function_text}
 use Rattle.gib_local.specs.Knowing.{declared_of, body, HasFew}
 use Rattle.gib_local.specs.Naming.{check_body, check_bodies, new}
 
@@ -27,9 +27,6 @@ bodies_start parts functions i f = record { inside = i; few = f; read = refl }
 body_then : {A B : Type 0} (c : Checked A) (go : Checked B) → and_then (and_then c (λ _. Ok (tt {0}))) (λ _. go) ≡ and_then c (λ _. go)
 body_then (Ok x) go = refl
 body_then (Err e) go = refl
-
-rest-is : {A : Type 0} (x : A) (xs : List A) → take (length (x ∷ xs) - 1) xs ≡ xs
-rest-is x xs = let n : length (x ∷ xs) - 1 ≡ length xs = omega arith in ap (λ k. take k xs) n ∙ take-length xs
 
 module _ (parts : TextParts) (functions : List FunctionLines) where
   -- A body of the text.

@@ -1,9 +1,8 @@
 -- Bodies and whole texts, in the words of the rules.
-use Rattle.std.proofs.Common.{◌≡◌, ℕ, zero, suc, ◌+◌, ◌-◌, ◌<◌, ◌≤◌, Bool, true, false, cond, List, [], ◌∷◌, ◌++◌, length, map, take, drop, get_or, Option, Some, None, Ok, Err, refl, sym, ap, ap₂, ◌∙◌, subst, arith, append_assoc}
+use Rattle.std.proofs.Common.{◌≡◌, ℕ, suc, ◌+◌, ◌-◌, ◌<◌, ◌≤◌, Bool, true, false, cond, List, [], ◌∷◌, ◌++◌, length, map, take, drop, get_or, Option, Some, None, Ok, Err, refl, sym, ap, ◌∙◌, subst, arith, append_assoc}
 use Rattle.std.specs.Prelude.{Result, ◌==◌}
-use Rattle.std.specs.Global.{Vec}
 use Rattle.std.specs.List.{AllByRecursion}
-use Rattle.std.proofs.lemmas.List.{append-nil, length-map}
+use Rattle.std.proofs.lemmas.List.{nil_from_length, append-nil, length-map, map-append}
 use Rattle.std.proofs.Math.Seq.{take-length}
 use Rattle.gib_types.specs.declared.table.Ty.{Ty}
 use Rattle.gib_types.specs.declared.table.Ty.TheVariants as y
@@ -16,28 +15,28 @@ use Rattle.gib_syntax.specs.declared.tree.TypeName.{TypeName}
 use Rattle.gib_syntax.specs.declared.tree.TypeName.TheVariants as w
 use Rattle.gib_syntax.specs.Declarations.{place_of, next_place, type_of_name, type_or, tree_type}
 use Rattle.gib_core.specs.declared.atom.Variable.{Variable}
-use Rattle.gib_core.specs.declared.node.Node.{Node}
 use Rattle.gib_core.specs.declared.node.TermId.{TermId}
 use Rattle.gib_core.specs.declared.program.CoreFunction.{CoreFunction}
 use Rattle.gib_core.specs.declared.program.CoreResult.{CoreResult}
 use Rattle.gib_syntax.specs.Results as results
 use Rattle.gib_core.specs.declared.program.CoreMain.{CoreMain}
 use Rattle.gib_core.specs.Arena.{Grows, term_of}
-use Rattle.gib_core.specs.Parts.{IsResultDeclared, results_of, Parts, AreInside, IsDeclared, AreDeclared, IsFunctionInside, core_of, function_term, main_term}
+use Rattle.gib_core.specs.Parts.{IsResultDeclared, results_of, AreInside, IsDeclared, AreDeclared, IsFunctionInside, core_of, function_term}
 use Rattle.gib_core.specs.Tree.{CoreTree, FunctionTerm}
+use Rattle.gib_core.proofs.Fronting.{grows_more}
+use Rattle.gib_core.proofs.Inside.{functions_more, functions_stay}
 use Rattle.gib_local.specs.declared.builder.Builder.{Builder}
-use Rattle.gib_local.specs.declared.destination.Goal.{Goal}
 use Rattle.gib_local.specs.declared.destination.Destination.TheVariants as d
 use Rattle.gib_local.specs.declared.build_fault.BuildFault.{BuildFault}
 use Rattle.gib_local.specs.declared.build_fault.BuildFault.TheVariants as f
-use Rattle.gib_local.specs.declared.text.FunctionLines.{FunctionLines}
-use Rattle.gib_local.specs.Tree.{Mark, Line, FunctionText, LocalTree}
-use Rattle.gib_local.specs.TextParts.{TextParts, IsFunctionIn, function_text, text_of}
-use Rattle.gib_local.specs.LineArena.{tree_of}
-use Rattle.gib_local.specs.Building.{AtResult, IsPlace, Placed, Program, Termed, and_then, body, build, build_body, build_core, build_functions, con, no_mark, opening, program, types_of, with_place, with_variables}
-use Rattle.gib_local.specs.Builds.{BindsAll, Builds, Fails, Gives, around_of, passed_of, program_in}
-use Rattle.gib_local.specs.Bodied.{BuildsBody, PutsBody, PutsFunction, PutsFunctions, PutsMain, name_of, packed_around, packed_body, scalar_around, scalar_body}
-use Rattle.gib_local.proofs.Adding.{given, fails_for, fails_then, grows_on, unmarked_fail, unmarked_go}
+use Rattle.gib_local_parse.specs.declared.text.FunctionLines.{FunctionLines}
+use Rattle.gib_local_parse.specs.Tree.{Mark, Line, FunctionText}
+use Rattle.gib_local_parse.specs.TextParts.{TextParts, IsFunctionIn, function_text, text_of}
+use Rattle.gib_local_parse.specs.LineArena.{tree_of}
+use Rattle.gib_local.specs.Building.{AtResult, IsPlace, Placed, Program, Termed, and_then, body, build, build_body, build_core, build_functions, con, no_mark, types_of, with_place, with_variables}
+use Rattle.gib_local.specs.Builds.{BindsAll, Builds, Fails, around_of, passed_of, program_in}
+use Rattle.gib_local.specs.Bodied.{BuildsBody, PutsFunction, PutsFunctions, PutsMain, name_of, packed_body, scalar_around, scalar_body}
+use Rattle.gib_local.proofs.Adding.{given, fails_for, fails_then, unmarked_fail, unmarked_go}
 
 pub body_for : (b0 b1 : Builder) (result : Result TermId BuildFault) (r s : Placed Termed) → r ≡ s → BuildsBody b0 b1 result s → BuildsBody b0 b1 result r
 body_for b0 b1 result r s e h = subst (λ x. BuildsBody b0 b1 result x) (sym e) h
@@ -139,21 +138,9 @@ functions_begin p g n old functions made h e = subst (λ l. FunctionsSoFar p g n
   is = sym (with_none (build_functions p (map (function_text g) functions)));
 })
 
-functions_grow : (xs ys : List Node) (made : List CoreFunction) → Grows xs ys → AllByRecursion (IsFunctionInside (length xs)) made → map (function_term (term_of ys)) made ≡ map (function_term (term_of xs)) made
-functions_grow xs ys [] g h = refl
-functions_grow xs ys (m ∷ made) g h = (λ i. record { name = m.name; parameters = m.parameters.items; result = results_of m.result; body = g.same m.body.0 h.0 i } ∷ functions_grow xs ys made g h.1 i)
-
-inside_all : (m n : ℕ) (made : List CoreFunction) → m ≤ n → AllByRecursion (IsFunctionInside m) made → AllByRecursion (IsFunctionInside n) made
-inside_all m n [] le h = tt
-inside_all m n (x ∷ made) le h = ((let l = h.0 in omega (arith, le, l)), inside_all m n made le h.1)
-
 all_last : {A : Type 0} (P : A → Type 0) (xs : List A) (x : A) → AllByRecursion P xs → P x → AllByRecursion P (xs ++ x ∷ [])
 all_last P [] x h k = (k, tt)
 all_last P (z ∷ xs) x h k = (h.0, all_last P xs x h.1 k)
-
-map_last : {A B : Type 0} (g : A → B) (xs : List A) (x : A) → map g (xs ++ x ∷ []) ≡ map g xs ++ g x ∷ []
-map_last g [] x = refl
-map_last g (z ∷ xs) x = ap (λ l. g z ∷ l) (map_last g xs x)
 
 -- types that are declared
 
@@ -197,8 +184,8 @@ functions_next p g n old now new functions rest one made more x le at h k m =
     (λ i. record { name = k.name i; parameters = k.parameters i; result = results_of (k.result i); body = term_of new.terms x.body.0 }) in
     let go = λ (fs : List FunctionTerm). with_functions fs (build_functions p (map (function_text g) after)) in
     subst (λ l. FunctionsSoFar p g n old new functions after l) (sym m) (record {
-      grows = grows_on old.terms now.terms new.terms h.grows k.grows;
-      inside = all_last (IsFunctionInside (length new.terms)) made x (inside_all (length now.terms) (length new.terms) made k.grows.longer h.inside) k.inside;
+      grows = grows_more old.terms now.terms new.terms h.grows k.grows;
+      inside = all_last (IsFunctionInside (length new.terms)) made x (functions_more (length now.terms) (length new.terms) made k.grows.longer h.inside) k.inside;
       declared = all_last (IsDeclared (length p.table.types)) made x h.declared (function_declared p now new x (function_text g one) k);
       below = (subst (λ l. AllByRecursion (IsFunctionIn n) l) split h.below).1;
       is =
@@ -207,8 +194,8 @@ functions_next p g n old now new functions rest one made more x le at h k m =
           ∙ ap (λ r. with_functions (map (function_term (term_of now.terms)) made) (and_then r (more_of p (function_text g one) (build_functions p (map (function_text g) after))))) k.is
           ∙ ap (λ z. with_functions (map (function_term (term_of now.terms)) made) (and_then (build_functions p (map (function_text g) after)) (λ l. given (z ∷ l)))) (sym made_is)
           ∙ with_more (map (function_term (term_of now.terms)) made) (function_term (term_of new.terms) x) (build_functions p (map (function_text g) after))
-          ∙ ap (λ l. go (l ++ function_term (term_of new.terms) x ∷ [])) (sym (functions_grow now.terms new.terms made k.grows h.inside))
-          ∙ ap go (sym (map_last (function_term (term_of new.terms)) made x));
+          ∙ ap (λ l. go (l ++ function_term (term_of new.terms) x ∷ [])) (sym (functions_stay (term_of new.terms) (term_of now.terms) (length now.terms) made h.inside k.grows.same))
+          ∙ ap go (sym (map-append (function_term (term_of new.terms)) made (x ∷ [])));
     })
 
 pub functions_fail : (p : Program) (g : ℕ → Line) (n : ℕ) (e : BuildFault) (old now : Builder) (functions rest : List FunctionLines) (one : FunctionLines) (made : List CoreFunction) → 1 ≤ length rest → one ≡ get_or rest 0 one → FunctionsSoFar p g n old now functions rest made
@@ -221,10 +208,6 @@ functions_fail p g n (f.Place q) old now functions rest one made le at h k =
     ∙ ap (λ l. with_functions (map (function_term (term_of now.terms)) made) (build_functions p (map (function_text g) l))) split
     ∙ ap (λ r. with_functions (map (function_term (term_of now.terms)) made) (and_then r (more_of p (function_text g one) (build_functions p (map (function_text g) after))))) k
 
-none_left : {A : Type 0} (rest : List A) → length rest < 1 → rest ≡ []
-none_left [] lt = refl
-none_left (a ∷ rest) lt = absurd (omega (arith, lt))
-
 pub functions_end : (p : Program) (g : ℕ → Line) (n : ℕ) (old now : Builder) (functions rest : List FunctionLines) (made : List CoreFunction) → length rest < 1 → FunctionsSoFar p g n old now functions rest made → PutsFunctions old now p made (build_functions p (map (function_text g) functions))
 functions_end p g n old now functions rest made lt h = record {
   grows = h.grows;
@@ -232,7 +215,7 @@ functions_end p g n old now functions rest made lt h = record {
   declared = h.declared;
   is =
       h.is
-      ∙ ap (λ l. with_functions (map (function_term (term_of now.terms)) made) (build_functions p (map (function_text g) l))) (none_left rest lt)
+      ∙ ap (λ l. with_functions (map (function_term (term_of now.terms)) made) (build_functions p (map (function_text g) l))) (nil_from_length rest (omega (arith, lt)))
       ∙ ap (λ l. Ok l) (append-nil (map (function_term (term_of now.terms)) made));
 }
 
@@ -243,7 +226,7 @@ pub all_inside : (parts : TextParts) (b0 b1 b2 : Builder) (table : Table) (funct
 all_inside parts b0 b1 b2 table functions main offsets r e h k =
     let types = (program_in parts).table.types in
     let long : length types ≡ length table.types = ap (λ (t : Table). length t.types) (sym e) in record {
-      functions = inside_all (length b1.terms) (length b2.terms) functions k.grows.longer h.inside;
+      functions = functions_more (length b1.terms) (length b2.terms) functions k.grows.longer h.inside;
       main = k.inside;
       types = subst (λ n. AllByRecursion (IsDeclared n) functions) long h.declared;
       main_types = subst (λ n. AreDeclared n (main.parameter ∷ []) (results.One main.result)) long (
@@ -271,7 +254,7 @@ pub core_made : (parts : TextParts) (b0 b1 b2 : Builder) (table : Table) (functi
 unfolding build_core
 core_made parts b0 b1 b2 table functions main offsets e h k o =
     let p = program_in parts in
-    let fs : map (function_term (term_of b1.terms)) functions ≡ map (function_term (term_of b2.terms)) functions = sym (functions_grow b1.terms b2.terms functions k.grows h.inside) in
+    let fs : map (function_term (term_of b1.terms)) functions ≡ map (function_term (term_of b2.terms)) functions = sym (functions_stay (term_of b2.terms) (term_of b1.terms) (length b1.terms) functions h.inside k.grows.same) in
     ap (λ r. and_then r (main_of parts)) h.is
     ∙ ap (λ r. and_then r (whole_of parts (map (function_term (term_of b1.terms)) functions))) k.is
     ∙ (λ i. Ok (record {

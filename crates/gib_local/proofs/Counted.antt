@@ -1,5 +1,5 @@
 -- Each text makes as many terms as are counted.
-use Rattle.std.proofs.Common.{◌≡◌, ℕ, suc, ◌+◌, Bool, true, false, List, [], ◌∷◌, map, length, length-append, Option, Some, None, Ok, Err, refl, ap, arith}
+use Rattle.std.proofs.Common.{◌≡◌, ℕ, suc, ◌+◌, Bool, true, false, List, [], ◌∷◌, map, length, length-append, Option, Some, None, Ok, refl, ap, arith}
 use Rattle.gib_types.specs.declared.table.Ty.{Ty}
 use Rattle.gib_types.specs.declared.table.ConId.{ConId}
 use Rattle.gib_types.specs.Table.{Table, is_scalar}
@@ -9,23 +9,19 @@ use Rattle.gib_syntax.specs.Declarations.{number_of, type_of_name}
 use Rattle.gib_core.specs.declared.atom.Atom.{Atom}
 use Rattle.gib_core.specs.declared.atom.Kind.{Kind}
 use Rattle.gib_core.specs.declared.atom.Kind.TheVariants.{Scalar}
-use Rattle.gib_core.specs.Tree.{Term, Then, Write, CallTerm, Bind, Past, One, Both, Side, On, NoBranch, BranchThen, prepend}
+use Rattle.gib_core.specs.Tree.{Term, Then, CallTerm, Bind, Past, prepend}
 use Rattle.gib_core.specs.Met.{Setting, met, met_bind, met_side, met_branches, behind, in_side, in_arm, in_branch, left_of, right_of}
-use Rattle.gib_local.specs.Tree.{Mark, Location, Start, Plus, After, Line, In, Given, Pointed, Called, Made, Cased, Chosen, Binding, NewRegion, NewPlace, LetIn, ParIn, PrimIn, ReachIn, Bound, Be, Arms, LastArm, NextArm}
+use Rattle.gib_core.proofs.Along.{behind_all}
+use Rattle.gib_local_parse.specs.Tree.{Mark, Location, Start, Plus, After, Line, In, Given, Pointed, Called, Made, Cased, Chosen, Binding, NewRegion, NewPlace, LetIn, ParIn, PrimIn, ReachIn, Bound, Be, Arms, LastArm, NextArm}
 use Rattle.gib_local.specs.Building
 use Rattle.gib_local.specs.Building.{Placed, Around, Passed, Termed, Branched, Stepped, Sided, Program, and_then, if_due, meant, kind_at, next_place, place_meant, used_too, inside, inside_scalar, sided, put_at, bind, make, write, call, new_place, between, con, atom, is_flat, is_region, is_open_at, is_last, may_open, named_too, opened, head_of, gives_scalar, type_start, numbered_on, with_variables, build, build_binding, build_bound, build_arms}
 use Rattle.gib_local.specs.Counting.{terms, binding_terms, bound_terms, arms_terms, location_terms, made_terms}
-use Rattle.gib_local.proofs.Holding.{Holds, holds_of, then_holds, due_holds, aims_holds, no_mark_holds, with_mark_holds}
+use Rattle.gib_local.proofs.Holding.{Holds, any, holds_of, then_holds, due_holds, aims_holds, no_mark_holds, with_mark_holds}
 
 -- Lines of bindings.
 abbrev met_binds : Table → Setting → List Bind → ℕ
 met_binds tb s [] = 0
 met_binds tb s (b ∷ bs) = length (met_bind tb s b) + met_binds tb (behind s b) bs
-
--- What stands behind bindings.
-abbrev behind_all : Setting → List Bind → Setting
-behind_all s [] = s
-behind_all s (b ∷ bs) = behind_all (behind s b) bs
 
 prepend_count : (tb : Table) (s : Setting) (bs : List Bind) (t : Term) → length (met tb s (prepend bs t)) ≡ met_binds tb s bs + length (met tb (behind_all s bs) t)
 prepend_count tb s [] t = omega arith
@@ -81,10 +77,6 @@ module _ (p : Program) where
   bind_counts n true line h v x w t at g = no_mark_holds (SideCounts (suc n)) at _ (sided_counts n h Scalar x v.fresh t (line (inside_scalar h) (numbered_on 1 v)) (g (inside_scalar h) (numbered_on 1 v)))
   bind_counts n false line h v x w t at g =
       with_mark_holds (SideCounts (suc n)) at (type_start w) _ (λ m. put_counts n line h v x t m (meant h.places (number_of m.name)) (kind_at (next_place p.table h.destination) v.unused (meant h.places (number_of m.name))) g)
-
-  any : {A : Type 0} (x : Placed A) → Holds x (λ a. Unit {0})
-  any (Ok x) = tt
-  any (Err e) = tt
 
   mutual
     pub build_counts : (t : Line) → Lines (terms p t) (build p t)

@@ -24,7 +24,7 @@ use Rattle.gib_check.proofs.DataRules as data_rules
 use Rattle.gib_check.proofs.RowRules.{table_is}
 use Rattle.gib_local.specs.Building.{declared}
 use Rattle.gib_local.specs.Naming.{check_text}
-use Rattle.gib_local.specs.Tree.{LocalTree}
+use Rattle.gib_local_parse.specs.Tree.{LocalTree}
 
 names_are : (ds : List DataTree) → map data_rules.data_number (map generic_data ds) ≡ map tree_number ds
 names_are [] = refl

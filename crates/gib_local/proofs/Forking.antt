@@ -1,26 +1,25 @@
 -- The arms of a case, one after another.
-use Rattle.std.proofs.Common.{◌≡◌, ℕ, zero, suc, ◌+◌, ◌-◌, ◌<◌, ◌≤◌, Bool, true, false, List, [], ◌∷◌, ◌++◌, length, take, drop, Option, Some, None, Ok, Err, refl, sym, ap, ap₂, ◌∙◌, subst, arith}
-use Rattle.std.specs.Prelude.{Result}
+use Rattle.std.proofs.Common.{◌≡◌, ℕ, ◌+◌, ◌-◌, ◌<◌, ◌≤◌, List, [], ◌∷◌, ◌++◌, length, take, drop, Some, Ok, Err, refl, sym, ap, ◌∙◌, subst, arith}
 use Rattle.std.specs.List.{AllByRecursion}
+use Rattle.std.proofs.lemmas.List.{nil_from_length}
 use Rattle.std.proofs.Math.Seq.{take-length}
 use Rattle.gib_types.specs.declared.table.ConId.{ConId}
-use Rattle.gib_syntax.specs.declared.tree.Ident.{Ident}
 use Rattle.gib_core.specs.declared.atom.Variable.{Variable}
 use Rattle.gib_core.specs.declared.node.Branch.{Branch}
-use Rattle.gib_core.specs.declared.node.Node.{Node}
-use Rattle.gib_core.specs.Arena.{Grows, IsBranchBelow, term_of, branches_from}
+use Rattle.gib_core.specs.Arena.{IsBranchBelow, term_of, branches_from}
 use Rattle.gib_core.specs.Tree.{Term, Branches, NoBranch, BranchThen, variables_from}
+use Rattle.gib_core.proofs.Fronting.{branches_below_more, branches_below_push, branches_same, grows_none}
 use Rattle.gib_local.specs.declared.builder.Builder.{Builder}
 use Rattle.gib_local.specs.declared.destination.Goal.{Goal}
 use Rattle.gib_local.specs.declared.build_fault.BuildFault.{BuildFault}
 use Rattle.gib_local.specs.declared.build_fault.BuildFault.TheVariants as f
-use Rattle.gib_local.specs.declared.lines.LineArm.{LineArm}
-use Rattle.gib_local.specs.Tree.{Line, Arms, LastArm, NextArm}
-use Rattle.gib_local.specs.LineArena.{IsArmBelow, ArmsBelow, arms_from}
-use Rattle.gib_local.specs.ReadingTerms.{arms_text}
+use Rattle.gib_local_parse.specs.declared.lines.LineArm.{LineArm}
+use Rattle.gib_local_parse.specs.Tree.{Line, LastArm}
+use Rattle.gib_local_parse.specs.LineArena.{IsArmBelow, ArmsBelow, arms_from}
+use Rattle.gib_local_parse.specs.ReadingTerms.{arms_text}
 use Rattle.gib_local.specs.Building.{Around, Passed, Placed, Program, Termed, Branched, and_then, build, build_arms, con, numbered_on, with_variables}
 use Rattle.gib_local.specs.Builds.{around_of, passed_of, Fails, Stays, Forks}
-use Rattle.gib_local.proofs.Adding.{given, fails_for, grows_same, stays_on}
+use Rattle.gib_local.proofs.Adding.{given, stays_on}
 
 -- Branches, and then others.
 abbrev pub join : Branches → Branches → Branches
@@ -60,33 +59,21 @@ join_none : (ds : Branches) → join ds NoBranch ≡ ds
 join_none NoBranch = refl
 join_none (BranchThen k xs t ds) = ap (BranchThen k xs t) (join_none ds)
 
-branches_grow : (xs ys : List Node) (bs : List Branch) → Grows xs ys → AllByRecursion (IsBranchBelow (length xs)) bs → branches_from (term_of ys) bs ≡ branches_from (term_of xs) bs
-branches_grow xs ys [] g h = refl
-branches_grow xs ys (b ∷ bs) g h = (λ i. BranchThen b.constructor b.variables.items (g.same b.term.0 h.0 i) (branches_grow xs ys bs g h.1 i))
-
 branches_last : (g : ℕ → Term) (bs : List Branch) (b : Branch) → branches_from g (bs ++ b ∷ []) ≡ join (branches_from g bs) (branches_from g (b ∷ []))
 branches_last g [] b = refl
 branches_last g (a ∷ bs) b = ap (BranchThen a.constructor a.variables.items (g a.term.0)) (branches_last g bs b)
 
-below_all : (m n : ℕ) (bs : List Branch) → m ≤ n → AllByRecursion (IsBranchBelow m) bs → AllByRecursion (IsBranchBelow n) bs
-below_all m n [] le h = tt
-below_all m n (b ∷ bs) le h = ((let l = h.0 in omega (arith, le, l)), below_all m n bs le h.1)
-
-below_last : (n : ℕ) (bs : List Branch) (b : Branch) → AllByRecursion (IsBranchBelow n) bs → b.term.0 < n → AllByRecursion (IsBranchBelow n) (bs ++ b ∷ [])
-below_last n [] b h lt = (lt, tt)
-below_last n (a ∷ bs) b h lt = (h.0, below_last n bs b h.1 lt)
-
 pub arms_begin : (p : Program) (g : ℕ → Line) (id : ℕ) (old : Builder) (goal : Goal) (arms : List LineArm) (bs : List Branch) → ArmsBelow arms id → bs ≡ [] → ArmsSoFar p g id old old goal arms arms bs
 arms_begin p g id old goal [] bs h e = absurd h
 arms_begin p g id old goal (arm ∷ arms) bs h e = subst (λ l. ArmsSoFar p g id old old goal (arm ∷ arms) (arm ∷ arms) l) (sym e) (record {
-  stays = record { grows = grows_same old.terms; variables = refl; places = refl };
+  stays = record { grows = grows_none old.terms; variables = refl; places = refl };
   inside = tt;
   below = h;
   is = sym (joined_none (build_arms p (arms_from g arm arms) (around_of old goal) (passed_of old)));
 })
 
 -- An arm with others behind it, where it is known what it makes alone.
-abbrev alone : ConId → List Variable → Termed → Placed Branched
+abbrev pub alone : ConId → List Variable → Termed → Placed Branched
 alone k xs r = Ok (record { branches = BranchThen k xs r.term NoBranch; passed = r.passed })
 
 abbrev rest_of : ConId → List Variable → Term → Branched → Placed Branched
@@ -135,7 +122,7 @@ arms_next p g id old now new goal arms rest arm bs more b le at h k m =
     ap (λ z. build_arms p (LastArm arm.constructor arm.variables.items (g arm.line.0)) z (passed_of now)) (sym (same_around old now goal h.stays)) ∙ k.is in
     subst (λ l. ArmsSoFar p g id old new goal arms after l) (sym m) (record {
       stays = stays_on old now new h.stays k.stays;
-      inside = below_last (length new.terms) bs b (below_all (length now.terms) (length new.terms) bs k.stays.grows.longer h.inside) k.inside.0;
+      inside = branches_below_push (length new.terms) bs b (branches_below_more (length now.terms) (length new.terms) bs k.stays.grows.longer h.inside) k.inside.0;
       below = (subst (λ l. AllByRecursion (IsArmBelow id) l) split h.below).1;
       is =
           h.is
@@ -143,7 +130,7 @@ arms_next p g id old now new goal arms rest arm bs more b le at h k m =
           ∙ ap (joined (branches_from (term_of now.terms) bs)) (one_left p g arm after (around_of old goal) (passed_of now) (record { branches = branches_from (term_of new.terms) (b ∷ []); passed = passed_of new }) one)
           ∙ joined_joined (branches_from (term_of now.terms) bs) (branches_from (term_of new.terms) (b ∷ [])) (arms_left p g after (around_of old goal) (passed_of new))
           ∙ ap (λ z. joined z (arms_left p g after (around_of old goal) (passed_of new)))
-          (ap (λ z. join z (branches_from (term_of new.terms) (b ∷ []))) (sym (branches_grow now.terms new.terms bs k.stays.grows h.inside)) ∙ sym (branches_last (term_of new.terms) bs b));
+          (ap (λ z. join z (branches_from (term_of new.terms) (b ∷ []))) (sym (branches_same now.terms new.terms bs k.stays.grows h.inside)) ∙ sym (branches_last (term_of new.terms) bs b));
     })
 
 next_fails : (x : Placed Termed) (k : ConId) (xs : List Variable) (go : Passed → Placed Branched) (p : ℕ) → and_then x (alone k xs) ≡ Err p → and_then x (before go k xs) ≡ Err p
@@ -167,15 +154,11 @@ arms_fail p g id (f.Place n) old now goal arms rest arm bs le at h k =
     ∙ ap (joined (branches_from (term_of now.terms) bs))
     (left_fails p g arm after (around_of old goal) (passed_of now) n (ap (λ z. build_arms p (LastArm arm.constructor arm.variables.items (g arm.line.0)) z (passed_of now)) (sym (same_around old now goal h.stays)) ∙ k))
 
-none_left : (rest : List LineArm) → length rest < 1 → rest ≡ []
-none_left [] lt = refl
-none_left (a ∷ rest) lt = absurd (omega (arith, lt))
-
 pub arms_end : (p : Program) (g : ℕ → Line) (id : ℕ) (old now : Builder) (goal : Goal) (arms rest : List LineArm) (bs : List Branch) → length rest < 1 → ArmsSoFar p g id old now goal arms rest bs → Forks old now bs (build_arms p (arms_text g arms) (around_of old goal) (passed_of old))
 arms_end p g id old now goal arms rest bs lt h = record {
   is =
       h.is
-      ∙ ap (λ l. joined (branches_from (term_of now.terms) bs) (arms_left p g l (around_of old goal) (passed_of now))) (none_left rest lt)
+      ∙ ap (λ l. joined (branches_from (term_of now.terms) bs) (arms_left p g l (around_of old goal) (passed_of now))) (nil_from_length rest (omega (arith, lt)))
       ∙ ap (λ z. Ok (record { branches = z; passed = passed_of now })) (join_none (branches_from (term_of now.terms) bs));
   stays = h.stays;
   inside = h.inside;

@@ -1,8 +1,7 @@
 -- The declarations of a text, by their names.
-use Rattle.std.proofs.Common.{◌≡◌, ℕ, zero, suc, ◌+◌, ◌<◌, ◌≤◌, Bool, true, false, cond, eqb, ltb, List, [], ◌∷◌, ◌++◌, map, length, Option, Some, None, Ok, Err, refl, sym, ap, ap₂, ◌∙◌, subst, arith}
-use Rattle.std.proofs.lemmas.Bool.{ltb-true}
-use Rattle.std.proofs.lemmas.List.{length-append, length-map}
-use Rattle.std.specs.Prelude.{is_some, nat_lt}
+use Rattle.std.proofs.Common.{◌≡◌, ℕ, ◌+◌, ◌≤◌, Bool, true, false, cond, eqb, List, [], ◌∷◌, ◌++◌, map, length, Option, Some, None, Ok, Err, refl, sym, ap, ap₂, ◌∙◌, subst, arith}
+use Rattle.std.proofs.lemmas.List.{length-append}
+use Rattle.std.specs.Prelude.{is_some}
 use Rattle.std.specs.List.{AllByRecursion}
 use Rattle.gib_syntax.specs.declared.tree.Ident.{Ident}
 use Rattle.gib_syntax.specs.declared.tree.TypeName.{TypeName}
@@ -12,8 +11,7 @@ use Rattle.gib_syntax.specs.declared.tree.DataDecl.{DataDecl}
 use Rattle.gib_syntax.specs.Parts.{data_tree}
 use Rattle.gib_syntax.specs.Declarations.{number_of, place_of, next_place}
 use Rattle.gib_syntax.specs.Forms.{WrittenType}
-use Rattle.gib_syntax.specs.GenericTree.{GenericDataTree, GenericParameterTree, GenericFunctionTree, data_named}
-use Rattle.gib_syntax.specs.GenericTyping.{variable_numbers}
+use Rattle.gib_syntax.specs.GenericTree.{GenericDataTree, data_named}
 use Rattle.gib_syntax.specs.Results as results
 use Rattle.gib_syntax.specs.Results.{Results}
 use Rattle.gib_syntax.specs.Plain.{written_of, generic_of, generic_data, generic_parameter, generic_function}
@@ -22,14 +20,15 @@ use Rattle.gib_check.specs.declared.fault.Kind.TheVariants as kind
 use Rattle.gib_check.specs.Answers.{IsFaultOf}
 use Rattle.gib_check.specs.Faults.{Checked, and_then, allowed, found, as_many}
 use Rattle.gib_check.specs.Faults as generic
-use Rattle.gib_check.specs.FirstFault.{new_name, fewer, check_variables, check_datas, check_fields, check_parameters, check_head, check_heads, check_declarations}
+use Rattle.gib_check.specs.FirstFault.{new_name, fewer, check_datas, check_fields, check_parameters, check_head, check_heads, check_declarations}
 use Rattle.gib_check.specs.Views.{tree_number}
 use Rattle.gib_check.proofs.Loops.{passed_on, along}
-use Rattle.gib_check.proofs.Steps.{Holds, holds_ok, then_holds, allowed_holds}
-use Rattle.gib_local.specs.declared.text.FunctionLines.{FunctionLines}
-use Rattle.gib_local.specs.declared.text.MainLines.{MainLines}
-use Rattle.gib_local.specs.LineArena.{tree_of}
-use Rattle.gib_local.specs.TextParts.{TextParts, text_of, function_text}
+use Rattle.gib_check.proofs.Steps.{Holds, holds_ok, then_holds}
+use Rattle.gib_check.proofs.DataRules.{fewer_holds}
+use Rattle.gib_local_parse.specs.declared.text.FunctionLines.{FunctionLines}
+use Rattle.gib_local_parse.specs.declared.text.MainLines.{MainLines}
+use Rattle.gib_local_parse.specs.LineArena.{tree_of}
+use Rattle.gib_local_parse.specs.TextParts.{TextParts, text_of, function_text}
 use Rattle.gib_local.specs.Building.{declared, head}
 use Rattle.gib_local.specs.Knowing.{datas_of, declared_of, HasFew}
 use Rattle.gib_local.specs.Naming.{known}
@@ -67,9 +66,6 @@ abbrev pub heads_in : TextParts → List ℕ → List FunctionLines → Checked 
 heads_in parts names functions = check_heads (datas_of parts) names (map generic_function (map head (map (function_text (tree_of parts.lines)) functions)))
 
 -- Parameters without a fault are few.
-fewer_holds : (most : ℕ) (names : List ℕ) (x : Ident) → Holds (fewer most names x) (λ _. length names < most)
-fewer_holds most names x = record { by = λ u e. ltb-true (length names) most ((allowed_holds (ltb (length names) most) kind.Limit x.span (tt {0})).by u e).0 }
-
 any_holds : {A : Type 0} (c : Checked A) → Holds c (λ _. Unit {0})
 any_holds c = record { by = λ u e. tt }
 
@@ -96,24 +92,24 @@ heads_few parts functions e h = subst (AllByRecursion HasFew) e ((few_heads part
 
 -- ---- all declarations
 
-main_in : TextParts → MainLines → Checked (Unit {0})
-main_in parts main = check_head (datas_of parts) [] (map generic_parameter (main.parameter ∷ [])) (results.One (written_of main.result))
+main_head : TextParts → MainLines → Checked (Unit {0})
+main_head parts main = check_head (datas_of parts) [] (map generic_parameter (main.parameter ∷ [])) (results.One (written_of main.result))
 
-whole : (parts : TextParts) → check_declarations (generic_of (declared (text_of parts))) ≡ and_then (check_datas [] [] (datas_of parts)) (λ _. and_then (check_fields (datas_of parts) (datas_of parts)) (λ _. and_then (heads_in parts [] parts.functions) (λ _. main_in parts parts.main)))
-unfolding check_declarations main_in
+whole : (parts : TextParts) → check_declarations (generic_of (declared (text_of parts))) ≡ and_then (check_datas [] [] (datas_of parts)) (λ _. and_then (check_fields (datas_of parts) (datas_of parts)) (λ _. and_then (heads_in parts [] parts.functions) (λ _. main_head parts parts.main)))
+unfolding check_declarations main_head
 whole parts = refl
 
 module _ (parts : TextParts) (datas : List DataDecl) (functions : List FunctionLines) (main : MainLines) (ed : datas ≡ parts.datas) (ef : functions ≡ parts.functions) (em : main ≡ parts.main) where
-  seen : check_declarations (generic_of (declared (text_of parts))) ≡ and_then (check_datas [] [] (map generic_data (map data_tree datas))) (λ _. and_then (check_fields (datas_of parts) (map generic_data (map data_tree datas))) (λ _. and_then (heads_in parts [] functions) (λ _. main_in parts main)))
+  seen : check_declarations (generic_of (declared (text_of parts))) ≡ and_then (check_datas [] [] (map generic_data (map data_tree datas))) (λ _. and_then (check_fields (datas_of parts) (map generic_data (map data_tree datas))) (λ _. and_then (heads_in parts [] functions) (λ _. main_head parts main)))
   seen = whole parts
-      ∙ sym (ap (λ (ds : List DataDecl). and_then (check_datas [] [] (map generic_data (map data_tree ds))) (λ _. and_then (check_fields (datas_of parts) (map generic_data (map data_tree ds))) (λ _. and_then (heads_in parts [] functions) (λ _. main_in parts main)))) ed
-      ∙ ap₂ (λ (fs : List FunctionLines) (m : MainLines). and_then (check_datas [] [] (datas_of parts)) (λ _. and_then (check_fields (datas_of parts) (datas_of parts)) (λ _. and_then (heads_in parts [] fs) (λ _. main_in parts m)))) ef em)
+      ∙ sym (ap (λ (ds : List DataDecl). and_then (check_datas [] [] (map generic_data (map data_tree ds))) (λ _. and_then (check_fields (datas_of parts) (map generic_data (map data_tree ds))) (λ _. and_then (heads_in parts [] functions) (λ _. main_head parts main)))) ed
+      ∙ ap₂ (λ (fs : List FunctionLines) (m : MainLines). and_then (check_datas [] [] (datas_of parts)) (λ _. and_then (check_fields (datas_of parts) (datas_of parts)) (λ _. and_then (heads_in parts [] fs) (λ _. main_head parts m)))) ef em)
 
-  datas_there : check_datas [] [] (map generic_data (map data_tree datas)) ≡ Ok (tt {0}) → check_declarations (generic_of (declared (text_of parts))) ≡ and_then (check_fields (datas_of parts) (map generic_data (map data_tree datas))) (λ _. and_then (heads_in parts [] functions) (λ _. main_in parts main))
-  datas_there h = seen ∙ ap (λ z. and_then z (λ _. and_then (check_fields (datas_of parts) (map generic_data (map data_tree datas))) (λ _. and_then (heads_in parts [] functions) (λ _. main_in parts main)))) h
+  datas_there : check_datas [] [] (map generic_data (map data_tree datas)) ≡ Ok (tt {0}) → check_declarations (generic_of (declared (text_of parts))) ≡ and_then (check_fields (datas_of parts) (map generic_data (map data_tree datas))) (λ _. and_then (heads_in parts [] functions) (λ _. main_head parts main))
+  datas_there h = seen ∙ ap (λ z. and_then z (λ _. and_then (check_fields (datas_of parts) (map generic_data (map data_tree datas))) (λ _. and_then (heads_in parts [] functions) (λ _. main_head parts main)))) h
 
-  fields_there : check_datas [] [] (map generic_data (map data_tree datas)) ≡ Ok (tt {0}) → check_fields (datas_of parts) (map generic_data (map data_tree datas)) ≡ Ok (tt {0}) → check_declarations (generic_of (declared (text_of parts))) ≡ and_then (heads_in parts [] functions) (λ _. main_in parts main)
-  fields_there h k = datas_there h ∙ ap (λ z. and_then z (λ _. and_then (heads_in parts [] functions) (λ _. main_in parts main))) k
+  fields_there : check_datas [] [] (map generic_data (map data_tree datas)) ≡ Ok (tt {0}) → check_fields (datas_of parts) (map generic_data (map data_tree datas)) ≡ Ok (tt {0}) → check_declarations (generic_of (declared (text_of parts))) ≡ and_then (heads_in parts [] functions) (λ _. main_head parts main)
+  fields_there h k = datas_there h ∙ ap (λ z. and_then z (λ _. and_then (heads_in parts [] functions) (λ _. main_head parts main))) k
 
   pub datas_fail : (e : TypeFault) → IsFaultOf e (check_datas [] [] (map generic_data (map data_tree datas))) → IsFaultOf e (check_declarations (generic_of (declared (text_of parts))))
   datas_fail e f = along e _ _ seen (passed_on e _ _ f)
@@ -125,5 +121,5 @@ module _ (parts : TextParts) (datas : List DataDecl) (functions : List FunctionL
   heads_fail e h k f = along e _ _ (fields_there h k) (passed_on e _ _ f)
 
   pub after_heads : check_datas [] [] (map generic_data (map data_tree datas)) ≡ Ok (tt {0}) → check_fields (datas_of parts) (map generic_data (map data_tree datas)) ≡ Ok (tt {0}) → heads_in parts [] functions ≡ Ok (tt {0}) → check_declarations (generic_of (declared (text_of parts))) ≡ check_head (datas_of parts) [] (map generic_parameter (main.parameter ∷ [])) (results.One (written_of main.result))
-  unfolding main_in
-  after_heads h k n = fields_there h k ∙ ap (λ z. and_then z (λ _. main_in parts main)) n
+  unfolding main_head
+  after_heads h k n = fields_there h k ∙ ap (λ z. and_then z (λ _. main_head parts main)) n

@@ -1,8 +1,5 @@
 -- Steps of the builder joined, in the words of the rules.
-use Rattle.std.proofs.Common.{◌≡◌, ℕ, zero, suc, ◌+◌, ◌-◌, ◌<◌, ◌≤◌, Bool, true, false, List, [], ◌∷◌, ◌++◌, length, map, drop, Option, Some, None, Ok, Err, refl, sym, ap, ap₂, ◌∙◌, subst, arith}
-use Rattle.std.specs.Prelude.{Result}
-use Rattle.std.specs.Global.{Vec}
-use Rattle.std.specs.List.{AllByRecursion}
+use Rattle.std.proofs.Common.{◌≡◌, ℕ, zero, suc, ◌+◌, ◌-◌, true, false, List, [], ◌∷◌, ◌++◌, length, length-append, drop, Option, Some, None, Ok, Err, refl, sym, ap, ◌∙◌, subst, arith}
 use Rattle.gib_types.specs.Table.{Table}
 use Rattle.gib_types.specs.declared.table.ConId.{ConId}
 use Rattle.gib_types.specs.declared.table.Ty.{Ty}
@@ -12,33 +9,25 @@ use Rattle.gib_syntax.specs.declared.tree.TypeName.{TypeName}
 use Rattle.gib_syntax.specs.Declarations.{number_of}
 use Rattle.gib_core.specs.declared.atom.Access.{Access}
 use Rattle.gib_core.specs.declared.atom.Atom.{Atom}
-use Rattle.gib_core.specs.declared.atom.Atom.TheVariants as a
 use Rattle.gib_core.specs.declared.atom.Kind.{Kind}
-use Rattle.gib_core.specs.declared.atom.Kind.TheVariants.{Here, Region, Scalar}
 use Rattle.gib_core.specs.declared.atom.Variable.{Variable}
 use Rattle.gib_core.specs.declared.node.Binding.{Binding as CoreBinding}
 use Rattle.gib_core.specs.declared.node.Binding.TheVariants as b
-use Rattle.gib_core.specs.declared.node.BoundTerm.{BoundTerm}
-use Rattle.gib_core.specs.declared.node.BoundSide.{BoundSide}
-use Rattle.gib_core.specs.declared.node.BoundSide.TheVariants as side_of
-use Rattle.gib_core.specs.PartTypes.{types_in}
-use Rattle.gib_core.specs.declared.node.Branch.{Branch}
 use Rattle.gib_core.specs.declared.node.Node.{Node}
-use Rattle.gib_core.specs.declared.node.Node.TheVariants as n
 use Rattle.gib_core.specs.declared.node.TermId.{TermId}
-use Rattle.gib_core.specs.Arena.{Grows, IsBindingBelow, IsBranchBelow, term_in, term_of, bind_from, side_from, branches_from}
-use Rattle.gib_core.specs.Tree.{Term, Then, CaseTerm, IfTerm, Bind, Past, One, Both, Prim, Reach, Side, On, Several, Branches, NoBranch, BranchThen, prepend, variables_from}
-use Rattle.gib_core.specs.Met.{Destination, Empty, Nowhere, Open, stands_too}
+use Rattle.gib_core.specs.Arena.{Grows, term_of}
+use Rattle.gib_core.specs.Tree.{Bind, Past, Prim, Reach, prepend}
+use Rattle.gib_core.specs.Met.{Destination, Open}
+use Rattle.gib_core.proofs.Fronting.{grows_more, grows_none}
+use Rattle.gib_core.specs.ArenaLaws.{bind_same}
 use Rattle.gib_local.specs.declared.builder.Builder.{Builder}
 use Rattle.gib_local.specs.declared.destination.Goal.{Goal}
-use Rattle.gib_local.specs.declared.destination.Destination.TheVariants as d
 use Rattle.gib_local.specs.declared.build_fault.BuildFault.{BuildFault}
-use Rattle.gib_local.specs.declared.build_fault.BuildFault.TheVariants as f
 use Rattle.gib_local.specs.declared.scopes.Depth.{Depth}
-use Rattle.gib_local.specs.Tree.{Mark, Operand, Way, Line, In, Cased, Chosen, Binding, NewRegion, LetIn, ParIn, PrimIn, ReachIn, Be, Arms, LastArm, NextArm}
-use Rattle.gib_local.specs.Building.{Place, IsPlace, IsRegion, AtFirst, AtNext, is_last, variable_at, Around, Passed, Placed, Program, Termed, Stepped, Sided, Branched, PlaceName, VariableName, and_then, if_due, no_mark, with_mark, kind_at, next_place, meant, place_meant, type_start, atom, access, with_place, with_variable, with_variables, numbered_on, named_too, opened, used_too, inside, inside_scalar, sided, put_at, bind, between, build, build_binding, build_bound, build_arms, con}
-use Rattle.gib_local.specs.Builds.{destination_of, around_of, passed_of, nowhere, Fails, Gives, Stays, PutsNode, PutsTerm, BindsAll, Puts, Builds, Fronts, binds_of, IsStepBelow, Opens, Steps, Binds, BuildsSide, NamesBetween, BuildsBetween, Forks, BuildsArms, BuildsBranch, kind_due, side_due}
-use Rattle.gib_local.proofs.Adding.{given, is_due, not_due, fails_then, fails_for, grows_on, grows_same, stays_on, stays_put, node_put, term_put, unmarked_go}
+use Rattle.gib_local_parse.specs.Tree.{Mark, Operand, Way, Line, In, Binding, NewRegion, PrimIn, ReachIn}
+use Rattle.gib_local.specs.Building.{Place, IsPlace, IsRegion, AtFirst, AtNext, is_last, variable_at, Around, Passed, Placed, Program, Termed, Stepped, Sided, and_then, kind_at, next_place, meant, place_meant, atom, access, with_place, with_variable, named_too, opened, used_too, inside, sided, put_at, bind, between, build, build_binding}
+use Rattle.gib_local.specs.Builds.{destination_of, around_of, passed_of, nowhere, Fails, PutsTerm, Puts, Fronts, binds_of, IsStepBelow, Opens, Steps, NamesBetween, kind_due, side_due}
+use Rattle.gib_local.proofs.Adding.{given, is_due, not_due, fails_then, fails_for}
 
 -- scopes
 
@@ -57,33 +46,18 @@ drop_front [] xs (suc n) e = absurd (omega (arith, e))
 drop_front (x ∷ more) xs zero e = absurd (omega (arith, e))
 drop_front (x ∷ more) xs (suc n) e = drop_front more xs n (omega (arith, e))
 
-length_front : {A : Type 0} (more xs : List A) → length (more ++ xs) ≡ length more + length xs
-length_front [] xs = omega arith
-length_front (x ∷ more) xs = let h = length_front more xs in omega (arith, h)
-
 -- What came into scope is out again.
 pub left_same : {A : Type 0} (old mid now new : List A) (n : ℕ) → n ≡ length old → Fronts old mid → now ≡ mid → new ≡ drop (length now - n) now → new ≡ old
 left_same old mid now new n e h s l =
     let same : now ≡ h.more ++ old = s ∙ h.is in
-    let count : length now ≡ length h.more + length old = ap (λ k. length k) same ∙ length_front h.more old in
+    let count : length now ≡ length h.more + length old = ap (λ k. length k) same ∙ length-append h.more old in
     l ∙ ap (λ k. drop (length now - n) k) same ∙ drop_front h.more old (length now - n) (omega (arith, count, e))
 
 -- bindings over more terms
 
-pub side_grows : (xs ys : List Node) (s : BoundSide) → Grows xs ys → (term_in s).0 < length xs → side_from (term_of ys) s ≡ side_from (term_of xs) s
-side_grows xs ys (side_of.One s) g lt = ap (λ t. On s.kind s.variable s.ty t) (g.same s.term.0 lt)
-side_grows xs ys (side_of.Several s) g lt = ap (λ t. Several (variables_from s.first.0 (types_in s.types)) (types_in s.types) t) (g.same s.term.0 lt)
-
-bind_grows : (xs ys : List Node) (c : CoreBinding) → Grows xs ys → IsBindingBelow (length xs) c → bind_from (term_of ys) c ≡ bind_from (term_of xs) c
-bind_grows xs ys (b.Past h k) g lt = refl
-bind_grows xs ys (b.One s) g lt = ap One (side_grows xs ys s g lt)
-bind_grows xs ys (b.Par fork l r) g lt = ap₂ (λ x y. Both fork x y) (side_grows xs ys l g lt.0) (side_grows xs ys r g lt.1)
-bind_grows xs ys (b.Prim x op y z) g lt = refl
-bind_grows xs ys (b.Reach y by) g lt = refl
-
 binds_grow : (xs ys : List Node) (o : Option CoreBinding) → Grows xs ys → IsStepBelow (length xs) o → binds_of ys o ≡ binds_of xs o
 binds_grow xs ys None g lt = refl
-binds_grow xs ys (Some c) g lt = ap (λ x. x ∷ []) (bind_grows xs ys c g lt)
+binds_grow xs ys (Some c) g lt = ap (λ x. x ∷ []) (bind_same (term_of ys) (term_of xs) (length xs) c lt g.same)
 
 -- steps that only name
 
@@ -93,7 +67,7 @@ region_step p b0 b1 goal r u e q =
     let o = sym e in
     let w = sym (q ∙ ap (λ (x : Builder). number_of r ∷ x.unused) e) in record {
       is = (λ i. Ok (record { binds = []; around = around_of (o i) goal; passed = record { fresh = (o i).fresh; unused = w i } }));
-      grows = subst (λ (x : Builder). Grows b0.terms x.terms) o (grows_same b0.terms);
+      grows = subst (λ (x : Builder). Grows b0.terms x.terms) o (grows_none b0.terms);
       below = tt;
       variables = front_same b0.variables b1.variables (ap (λ (x : Builder). x.variables) e);
       places = front_one (record { name = number_of r; meant = IsRegion }) b0.places b1.places (ap (λ (x : Builder). x.places) e);
@@ -103,7 +77,7 @@ pub named_step : (b0 b1 : Builder) (goal : Goal) (l : Ident) (q : Place) (r : Pl
 named_step b0 b1 goal l q r e h =
     let o = sym e in record {
       is = h ∙ (λ i. Ok (record { binds = []; around = around_of (o i) goal; passed = passed_of (o i) }));
-      grows = subst (λ (x : Builder). Grows b0.terms x.terms) o (grows_same b0.terms);
+      grows = subst (λ (x : Builder). Grows b0.terms x.terms) o (grows_none b0.terms);
       below = tt;
       variables = front_same b0.variables b1.variables (ap (λ (x : Builder). x.variables) e);
       places = front_one (record { name = number_of l; meant = IsPlace q }) b0.places b1.places (ap (λ (x : Builder). x.places) e);
@@ -129,7 +103,7 @@ opened_step b0 b1 b2 g0 g1 l k head r x e1 e2 ed ea h =
             around = record { variables = (o i).variables; places = (o i).places; destination = dest i; at = at i };
             passed = passed_of (o i);
           }));
-      grows = subst (λ (y : Builder). Grows b0.terms y.terms) o (grows_same b0.terms);
+      grows = subst (λ (y : Builder). Grows b0.terms y.terms) o (grows_none b0.terms);
       below = tt;
       variables = front_same b0.variables b2.variables (ap (λ (y : Builder). y.variables) whole);
       places = front_one (record { name = number_of l; meant = IsPlace (AtFirst head.0) }) b0.places b2.places (ap (λ (y : Builder). y.places) whole);
@@ -150,7 +124,7 @@ operation_step p b0 b1 b2 goal x w y op z l r v el er ev e1 e2 =
             passed = record { fresh = b0.fresh + 1; unused = b0.unused };
           }))
           ∙ (λ i. Ok (record { binds = Prim v op l r ∷ []; around = around_of (o i) goal; passed = passed_of (o i) }));
-      grows = subst (λ (k : Builder). Grows b0.terms k.terms) o (grows_same b0.terms);
+      grows = subst (λ (k : Builder). Grows b0.terms k.terms) o (grows_none b0.terms);
       below = tt;
       variables = front_one (record { name = number_of x; number = v.0 }) b0.variables b2.variables (ap (λ (k : Builder). k.variables) whole);
       places = front_same b0.places b2.places (ap (λ (k : Builder). k.places) whole);
@@ -160,7 +134,7 @@ pub reach_step : (p : Program) (bd : Builder) (goal : Goal) (y : Ident) (way : W
     → Opens bd bd goal (Some (b.Reach v by)) (build_binding p (ReachIn y way) (around_of bd goal) (passed_of bd))
 reach_step p bd goal y way v by ev eb = record {
   is = (λ i. Ok (record { binds = Reach (sym ev i) (sym eb i) ∷ []; around = around_of bd goal; passed = passed_of bd }));
-  grows = grows_same bd.terms;
+  grows = grows_none bd.terms;
   below = tt;
   variables = front_none bd.variables;
   places = front_none bd.places;
@@ -212,7 +186,7 @@ within_made p b0 b1 b2 b3 b4 g0 g1 o last id depth c u dv dp s t l w =
           ∙ ap (λ x. and_then x (last_of (binds_of b1.terms o))) t.is
           ∙ (λ i. Ok (record { term = sym term i; passed = sym passed i }));
       stays = record {
-        grows = grows_on b0.terms b1.terms b4.terms s.grows (grows_on b1.terms b2.terms b4.terms t.stays.grows (subst (λ xs. Grows xs b4.terms) same w.grows));
+        grows = grows_more b0.terms b1.terms b4.terms s.grows (grows_more b1.terms b2.terms b4.terms t.stays.grows (subst (λ xs. Grows xs b4.terms) same w.grows));
         variables = ap (λ (x : Builder). x.variables) w.is ∙ left_same b0.variables b1.variables b2.variables b3.variables depth.variables dv s.variables t.stays.variables (ap (λ (x : Builder). x.variables) l);
         places = ap (λ (x : Builder). x.places) w.is ∙ left_same b0.places b1.places b2.places b3.places depth.places dp s.places t.stays.places (ap (λ (x : Builder). x.places) l);
       };

@@ -2,7 +2,7 @@
 use Rattle.std.proofs.Common.{Bor, ◌≡◌, ℕ, zero, suc, ◌+◌, ◌<◌, Bool, true, false, cond, eqb, ltb, List, [], ◌∷◌, ◌++◌, map, length, get_or, Option, Some, None, Ok, Err, refl, sym, ap, ap₂, ◌∙◌, subst, arith, slice_get}
 use Rattle.std.proofs.lemmas.Bool.{eqb-true, ltb-true, ltb-false}
 use Rattle.std.proofs.lemmas.List.{map-append, length-map}
-use Rattle.std.proofs.lemmas.Option.{slice_get_read, slice_get_past}
+use Rattle.std.proofs.lemmas.Option.{slice_get_read, slice_get_past, slice_get-get_or}
 use Rattle.std.specs.Prelude.{is_some, IfSome}
 use Rattle.gib_types.specs.Row.{Row}
 use Rattle.gib_types.specs.declared.table.Ty.{Ty}
@@ -15,15 +15,15 @@ use Rattle.gib_syntax.specs.Parts.{constructor_tree, data_tree}
 use Rattle.gib_syntax.specs.Declarations.{number_of, place_of, next_place, type_of_name, row_in, rows_from, constructor_names, constructor_named, function_named}
 use Rattle.gib_syntax.specs.Tree.{FunctionTree}
 use Rattle.gib_check.specs.declared.fault.Kind.TheVariants as kind
-use Rattle.gib_check.specs.Faults.{Checked, and_then, found}
+use Rattle.gib_check.specs.Faults.{and_then, found}
 use Rattle.gib_check.specs.Views.{tree_number}
 use Rattle.gib_check.proofs.Different.{place_within}
 use Rattle.gib_local.specs.declared.known.Kept.{Kept}
-use Rattle.gib_local.specs.declared.text.FunctionLines.{FunctionLines}
-use Rattle.gib_local.specs.LineArena.{tree_of}
-use Rattle.gib_local.specs.TextParts.{TextParts, function_text}
+use Rattle.gib_local_parse.specs.declared.text.FunctionLines.{FunctionLines}
+use Rattle.gib_local_parse.specs.LineArena.{tree_of}
+use Rattle.gib_local_parse.specs.TextParts.{TextParts, function_text}
 use Rattle.gib_local.specs.Building.{head, con, con_or, is_flat}
-use Rattle.gib_local.specs.Tree.{Line}
+use Rattle.gib_local_parse.specs.Tree.{Line}
 use Rattle.gib_local.specs.Knowing.{declared_of, function_number, kept_in, kept_name, all_kept, kept_count, count_of, kept_flat, flat_of, no_tree, constructor_of, function_of, IsKnown}
 use Rattle.gib_local.specs.Naming.{as_many, constructor, function}
 
@@ -77,11 +77,6 @@ known_is parts types constructors functions rows datas ed et er ec ef =
       flats_are = ap (map kept_flat) all ∙ flats_of_all (declared_of parts).table.types 0 parts.datas;
     }
 
-get_of : {A : Type 0} (xs : List A) (i : ℕ) (d : A) → i < length xs → slice_get xs i ≡ Some (get_or xs i d)
-get_of [] i d l = absurd (omega (arith, l))
-get_of (x ∷ xs) zero d l = refl
-get_of (x ∷ xs) (suc i) d l = get_of xs i d (omega (arith, l))
-
 -- As many as are kept is as many fields as the table has.
 same_count : (rows : List Kept) (others : List Row) (i : ℕ) (r : Kept) → map kept_count rows ≡ map count_of others → slice_get rows i ≡ Some r → r.count ≡ length (fields_of (slice_get others i))
 same_count [] others i r e g = absurd cc
@@ -94,7 +89,7 @@ as_many_rows rows table e = sym (length-map rows kept_count) ∙ ap (λ (z : Lis
 
 -- The count that is kept at a constructor's number.
 pub count_at : (rows : List Kept) (table : Table) (i : ℕ) (r : Kept) → map kept_count rows ≡ map count_of table.rows → i < length rows → r ≡ get_or rows i r → r.count ≡ length (fields_at table i)
-count_at rows table i r e l q = same_count rows table.rows i r e (get_of rows i r l ∙ ap Some (sym q))
+count_at rows table i r e l q = same_count rows table.rows i r e (slice_get-get_or rows i r l ∙ ap Some (sym q))
 
 -- A place among names is below their number.
 pub number_inside : (rows : List Kept) (table : Table) (x i : ℕ) → map kept_count rows ≡ map count_of table.rows → place_of (constructor_names table) x ≡ Some i → i < length rows
@@ -122,7 +117,7 @@ unfolding AtFunction
 function_found inner parts names fs x i o g same en ef eo e q =
     let p : place_of (map function_number inner.functions) (number_of x) ≡ Some i = ap (λ l. place_of l (number_of x)) (sym en) ∙ sym eo ∙ e in
     let l : i < length inner.functions = (let k = place_within (map function_number inner.functions) (number_of x) i p in let m = length-map inner.functions function_number in omega (arith, k, m)) in
-    let at : slice_get inner.functions i ≡ Some g = get_of inner.functions i g l ∙ ap (λ z. Some (get_or z i g)) (sym ef) ∙ ap Some (sym q) in
+    let at : slice_get inner.functions i ≡ Some g = slice_get-get_or inner.functions i g l ∙ ap (λ z. Some (get_or z i g)) (sym ef) ∙ ap Some (sym q) in
     subst (λ (z : TextParts). function (declared_of z).functions x ≡ Ok (head (function_text (tree_of z.lines) g))) same
     (ap (λ z. found z kind.Unknown x.span) ((subst (λ z. AtFunction (tree_of inner.lines) inner.functions z (function_named (declared_of inner).functions (number_of x))) p (function_all (tree_of inner.lines) inner.functions (number_of x))) g at))
 

@@ -1,64 +1,36 @@
-mod NoNames
-mod Holding
-mod Numbered
-mod Samples
-mod World
-mod Ready
-mod Back
-mod Whole
-mod Returned
-mod Facts
-mod Finding
-mod Numbers
-mod Built
-mod Having
-mod Naturals
-mod Reading
-mod Meant
-mod Shapes
-mod Counted
-mod Stepping
-mod Inferred
-mod Placing
-mod Passes
-pub mod Layers
-mod TextsRead
-pub mod Calls
-pub mod ArmLoops
-mod OneLocal
-pub mod DeclarationLoops
+-- A table of contents. Each group serves the theorems of `src` that its comment names; a file's first line says what it is.
+
+-- Types found by their names.
+pub mod Finding
+-- For `made_is_numbered`, `made_is_natural`, `made_means`, `terms_are_counted`: what holds of all that is made.
+pub mod Holding
+pub mod Numbered
+pub mod Naturals
+pub mod Meant
+pub mod Counted
+-- For `one_core_of_bytes`, `answered_is_local` and `texts_are_answered`; and what small texts make.
+pub mod OneLocal
+pub mod Samples
+-- For the check of names: scopes, declarations, lines, bodies and whole texts.
 pub mod InScope
 pub mod NamesKept
+pub mod ScopeNames
+pub mod KnownNames
+pub mod HeadNames
+pub mod ArmNames
+pub mod LineNames
+pub mod BodyNames
+pub mod DeclaredTables
+pub mod TextNames
+-- For the builder: what is in scope, its steps one by one and joined, and bodies.
 pub mod Scoping
 pub mod Adding
 pub mod Joining
 pub mod Siding
 pub mod Forking
 pub mod Binding
-pub mod Bodying
-pub mod Telling
 pub mod Sourcing
-pub mod ArmNames
-pub mod BodyNames
-pub mod KnownNames
-pub mod HeadNames
+pub mod Bodying
+-- For the count of terms, and for `local`.
 pub mod Tallies
-pub mod DeclaredTables
-pub mod TextNames
-pub mod ScopeNames
-pub mod LineNames
-pub mod PutLines
-pub mod DatasBack
-pub mod NamedApart
-mod Formed
-mod KeptNaturals
-mod Offsetting
-mod SingleTexts
-mod TypedCovered
-pub mod Asked
-pub mod Anywhere
-pub mod PhraseLaws
-pub mod TermLaws
-pub mod LevelLaws
-pub mod TextLaws
-pub mod WholeLaws
+pub mod Telling

@@ -11,24 +11,24 @@ use Rattle.gib_check.specs.declared.fault.TypeFault.{TypeFault}
 use Rattle.gib_check.specs.Answers.{IsFaultOf}
 use Rattle.gib_check.specs.Faults.{Checked, and_then, one_more}
 use Rattle.gib_check.proofs.Loops.{passed_on, along}
-use Rattle.gib_local.specs.declared.lines.LineArm.{LineArm}
-use Rattle.gib_local.specs.Tree.{Mark, Operand, Line, In, Called, Made, Cased, Chosen, Binding, ParIn, Be, Arms}
-use Rattle.gib_local.specs.LineArena.{ArmsBelow, arms_from, case_from}
-use Rattle.gib_local.specs.ReadingTerms.{arms_text}
+use Rattle.gib_check.proofs.KnownWords.{then_same, then_then}
+use Rattle.gib_local_parse.specs.declared.lines.LineArm.{LineArm}
+use Rattle.gib_local_parse.specs.Tree.{Mark, Operand, Line, In, Called, Made, Cased, Chosen, Binding, ParIn, Be, Arms}
+use Rattle.gib_local_parse.specs.LineArena.{ArmsBelow, arms_from, case_from}
+use Rattle.gib_local_parse.specs.ReadingTerms.{arms_text}
 use Rattle.gib_local.specs.Knowing.{called, made, side}
-use Rattle.gib_local.proofs.ArmNames.{and_same, and_nested}
 use Rattle.gib_local.specs.Naming.{Names, Declared, After', after, as_many, bound, constructor, function, known, new, old, operand, operands, between_names, with_place, with_variable, check_line, check_binding, check_arms}
 
 -- A call, and a constructor's value.
 pub line_called : (d : Declared) (f : Ident) (xs : List Operand) (at : Option Mark) (s : Names) (n : Counts) → check_line d (Called f xs at) s n ≡ called d s n f xs
 line_called d f xs at s n =
-    and_same (one_more n f.span) _ _
-    (λ m. sym (and_nested (function d.functions f) (λ (g : FunctionTree). as_many (length xs) (length g.parameters) f) (λ _. and_then (operands s.variables xs) (λ _. Ok m))))
+    then_same (one_more n f.span) _ _
+    (λ m. sym (then_then (function d.functions f) (λ (g : FunctionTree). as_many (length xs) (length g.parameters) f) (λ _. and_then (operands s.variables xs) (λ _. Ok m))))
 
 pub line_made : (d : Declared) (k : Ident) (at : Mark) (xs : List Operand) (s : Names) (n : Counts) → check_line d (Made k at xs) s n ≡ made d s n k xs
 line_made d k at xs s n =
-    and_same (one_more n k.span) _ _
-    (λ m. sym (and_nested (constructor d.table k) (λ c. as_many (length xs) (length (fields_at d.table c)) k) (λ _. and_then (operands s.variables xs) (λ _. Ok m))))
+    then_same (one_more n k.span) _ _
+    (λ m. sym (then_then (constructor d.table k) (λ c. as_many (length xs) (length (fields_at d.table c)) k) (λ _. and_then (operands s.variables xs) (λ _. Ok m))))
 
 -- A case of arms.
 pub line_cased : (f : ℕ → Line) (p : Span) (x : Ident) (arms : List LineArm) (id : ℕ) → ArmsBelow arms id → case_from f arms (Cased p x) ≡ Cased p x (arms_text f arms)
@@ -120,10 +120,10 @@ module _ (d : Declared) (x : Ident) (w : TypeName) (at : Option Mark) (t : Line)
 
   par_is : (s : Names) (n : Counts) → check_binding d (ParIn (Be x w at t) g (Be y z on u)) s n ≡ and_then (bound s.variables n x) (λ m. second s m)
   par_is s n =
-      and_same (bound s.variables n x) _ _ (λ m.
-      and_same (known d.table.types w) _ _ (λ _. and_same (check_line d t s m) _ _ (λ o. and_same (between_names s x g) _ _ (λ r. and_same (bound (number_of x ∷ s.variables) o y) _ _
-      (λ q. sym (and_nested (known d.table.types z) (λ _. check_line d u r q) (λ e. last s e))))))
-      ∙ sym (and_nested (known d.table.types w) (λ _. check_line d t s m) (λ o. third s o)))
+      then_same (bound s.variables n x) _ _ (λ m.
+      then_same (known d.table.types w) _ _ (λ _. then_same (check_line d t s m) _ _ (λ o. then_same (between_names s x g) _ _ (λ r. then_same (bound (number_of x ∷ s.variables) o y) _ _
+      (λ q. sym (then_then (known d.table.types z) (λ _. check_line d u r q) (λ e. last s e))))))
+      ∙ sym (then_then (known d.table.types w) (λ _. check_line d t s m) (λ o. third s o)))
 
   module _ (start one : After') (e1 : bound start.names.variables start.counts x ≡ Ok one.counts) (s1 : one.names ≡ start.names) where
     par_one : check_binding d (ParIn (Be x w at t) g (Be y z on u)) start.names start.counts ≡ second one.names one.counts

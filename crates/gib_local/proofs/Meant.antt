@@ -1,5 +1,5 @@
 -- A text's core means what is left of it without its places.
-use Rattle.std.proofs.Common.{◌≡◌, ℕ, List, [], ◌∷◌, Ok, Err, refl, ap, ◌∙◌}
+use Rattle.std.proofs.Common.{◌≡◌, ℕ, List, [], ◌∷◌, Ok, refl, ap, ◌∙◌}
 use Rattle.gib_types.specs.Tree.{Datum}
 use Rattle.gib_types.specs.Table.{Table, IsTable}
 use Rattle.gib_syntax.specs.Tree.{DataTree}
@@ -13,15 +13,11 @@ use Rattle.gib_core.specs.Erasing.{erase_core, type_name}
 use Rattle.gib_core.specs.Numbering.{AreNumbered}
 use Rattle.gib_core.specs.Ordered.{AreOrdered, AreNatural}
 use Rattle.gib_core.specs.Rules.{AreBuilt}
-use Rattle.gib_local.specs.Tree.{LocalTree}
-use Rattle.gib_local.specs.Building.{Placed, build_core, build_body, build_functions, program}
-use Rattle.gib_local.proofs.Holding.{Holds, then_holds, holds_of}
+use Rattle.gib_local_parse.specs.Tree.{LocalTree}
+use Rattle.gib_local.specs.Building.{build_core, build_body, build_functions, program}
+use Rattle.gib_local.proofs.Holding.{Holds, any, then_holds, holds_of}
 use Rattle.gib_local.proofs.Numbered.{made_numbered}
 use Rattle.gib_local.proofs.Naturals.{made_natural}
-
-any : {A : Type 0} (x : Placed A) → Holds x (λ a. Unit {0})
-any (Ok x) = tt
-any (Err e) = tt
 
 core_table : (t : LocalTree) → Holds (build_core t) (λ c. (program t).table ≡ c.table)
 unfolding build_core

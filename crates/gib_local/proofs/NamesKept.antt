@@ -1,8 +1,7 @@
 -- Names of scopes: which are found, and which stay.
 use Rattle.std.proofs.Common.{◌≡◌, ℕ, zero, suc, ◌+◌, ◌-◌, ◌<◌, ◌≤◌, Bool, true, false, cond, eqb, List, [], ◌∷◌, take, drop, get_or, length, Option, Some, None, Ok, refl, sym, ap, ap₂, ◌∙◌, subst, arith}
 use Rattle.std.specs.Prelude.{is_some}
-use Rattle.std.proofs.lemmas.List.{length-drop}
-use Rattle.std.proofs.Math.Seq.{take-length}
+use Rattle.std.proofs.lemmas.List.{length-drop, drop-drop}
 use Rattle.gib_syntax.specs.declared.tree.Ident.{Ident}
 use Rattle.gib_syntax.specs.declared.tree.Parameter.{Parameter}
 use Rattle.gib_syntax.specs.Declarations.{number_of, place_of, next_place}
@@ -10,6 +9,7 @@ use Rattle.gib_check.specs.declared.fault.TypeFault.{TypeFault}
 use Rattle.gib_check.specs.Answers.{IsFaultOf}
 use Rattle.gib_check.specs.Faults.{and_then}
 use Rattle.gib_check.proofs.Loops.{passed_on, along}
+use Rattle.gib_check.proofs.RowLists.{rest-is}
 use Rattle.gib_local.specs.InScope.{NumberScope, number_in}
 use Rattle.gib_local.specs.Knowing.{names_in, IsKept}
 use Rattle.gib_local.specs.Naming.{Names, After', bound, all_bound, with_variable, with_names}
@@ -33,22 +33,13 @@ names_dropped zero s = refl
 names_dropped (suc n) [] = refl
 names_dropped (suc n) (b ∷ s) = names_dropped n s
 
-drop_none : (n : ℕ) → drop {A = ℕ} n [] ≡ []
-drop_none zero = refl
-drop_none (suc n) = refl
-
-drop_twice : (j k : ℕ) (l : List ℕ) → drop k (drop j l) ≡ drop (j + k) l
-drop_twice zero k l = let e : k ≡ zero + k = omega arith in ap (λ n. drop n l) e
-drop_twice (suc j) k [] = drop_none k ∙ sym (drop_none (suc j + k))
-drop_twice (suc j) k (x ∷ l) = drop_twice j k l ∙ (let e : suc (j + k) ≡ suc j + k = omega arith in ap (λ n. drop n (x ∷ l)) e)
-
 -- The oldest names of a list are those of a list in between.
 pub oldest_too : (old between new : List ℕ) → drop (length new - length between) new ≡ between → drop (length between - length old) between ≡ old → drop (length new - length old) new ≡ old
 oldest_too old between new e f =
     let n : length between ≡ length new - (length new - length between) = sym (ap length e) ∙ length-drop (length new - length between) new in
     let m : length old ≡ length between - (length between - length old) = sym (ap length f) ∙ length-drop (length between - length old) between in
     let k : length new - length old ≡ (length new - length between) + (length between - length old) = omega (arith, n, m) in
-    ap (λ z. drop z new) k ∙ sym (drop_twice (length new - length between) (length between - length old) new) ∙ ap (drop (length between - length old)) e ∙ f
+    ap (λ z. drop z new) k ∙ sym (drop-drop (length between - length old) (length new - length between) new) ∙ ap (drop (length between - length old)) e ∙ f
 
 all_oldest : (l : List ℕ) → drop (length l - length l) l ≡ l
 all_oldest l = let e : length l - length l ≡ 0 = omega arith in ap (λ n. drop n l) e
@@ -97,9 +88,6 @@ bound_more start now newer variables rest x h e es =
           (ap (λ z. drop (length z - length now.names.variables) z) ev ∙ one_newer (number_of x) now.names.variables) h.kept;
       places = ap (λ (s : Names). s.places) es ∙ h.places;
     }
-
-rest-is : {A : Type 0} (x : A) (xs : List A) → take (length (x ∷ xs) - 1) xs ≡ xs
-rest-is x xs = let n : length (x ∷ xs) - 1 ≡ length xs = omega arith in ap (λ k. take k xs) n ∙ take-length xs
 
 pub bound_next : (start now newer : After') (variables rest : List Ident) (d : Ident) → 1 ≤ length rest → BoundSoFar start now variables rest → bound now.names.variables now.counts (get_or rest 0 d) ≡ Ok newer.counts → newer.names ≡ with_variable (get_or rest 0 d) now.names → BoundSoFar start newer variables (take (length rest - 1) (drop 1 rest))
 bound_next start now newer variables [] d l h e es = absurd (omega (arith, l))

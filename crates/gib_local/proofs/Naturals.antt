@@ -1,5 +1,5 @@
 -- What is made has no negative literal.
-use Rattle.std.proofs.Common.{◌≡◌, ℕ, ◌+◌, Bool, true, false, if◌then◌else◌, List, [], ◌∷◌, ◌++◌, map, length, Option, Some, None, Ok, Err, refl}
+use Rattle.std.proofs.Common.{◌≡◌, ℕ, ◌+◌, Bool, true, false, if◌then◌else◌, List, [], ◌∷◌, ◌++◌, map, length, Option, Some, None, Ok, refl}
 use Rattle.std.specs.List.{AllByRecursion}
 use Rattle.gib_types.specs.declared.table.Ty.{Ty}
 use Rattle.gib_types.specs.declared.table.ConId.{ConId}
@@ -9,18 +9,17 @@ use Rattle.gib_syntax.specs.declared.tree.TypeName.{TypeName}
 use Rattle.gib_syntax.specs.declared.tree.Parameter.{Parameter}
 use Rattle.gib_syntax.specs.Declarations.{number_of, type_of_name}
 use Rattle.gib_syntax.specs.Results as results
-use Rattle.gib_syntax.specs.Results.{Results}
 use Rattle.gib_core.specs.declared.atom.Variable.{Variable}
 use Rattle.gib_core.specs.declared.atom.Atom.{Atom}
 use Rattle.gib_core.specs.declared.atom.Kind.{Kind}
 use Rattle.gib_core.specs.declared.atom.Kind.TheVariants.{Scalar}
-use Rattle.gib_core.specs.Tree.{Term, Then, CallTerm, Bind, Past, Prim, prepend, FunctionTerm, CoreTree}
+use Rattle.gib_core.specs.Tree.{Term, Then, CallTerm, Bind, Past, prepend, FunctionTerm, CoreTree}
 use Rattle.gib_core.specs.Met.{Body}
 use Rattle.gib_core.specs.Ordered.{IsNatural, AreNaturalAtoms, IsNaturalTerm, IsNaturalBind, IsNaturalSide, AreNaturalBranches, AreNatural}
-use Rattle.gib_local.specs.Tree.{Mark, Operand, Named, Number, Bit, Location, Start, Plus, After, Line, In, Given, Pointed, Called, Made, Cased, Chosen, Binding, NewRegion, NewPlace, LetIn, ParIn, PrimIn, ReachIn, Bound, Be, Arms, LastArm, NextArm, FunctionText, LocalTree}
+use Rattle.gib_local_parse.specs.Tree.{Mark, Operand, Named, Number, Bit, Location, Start, Plus, After, Line, In, Given, Pointed, Called, Made, Cased, Chosen, Binding, NewRegion, NewPlace, LetIn, ParIn, PrimIn, ReachIn, Bound, Be, Arms, LastArm, NextArm, FunctionText, LocalTree}
 use Rattle.gib_local.specs.Building
 use Rattle.gib_local.specs.Building.{Placed, Around, Passed, Termed, Branched, Stepped, Sided, Program, and_then, if_due, meant, kind_at, next_place, place_meant, used_too, inside, inside_scalar, sided, put_at, bind, make, write, call, new_place, between, con, atom, is_flat, is_region, is_open_at, is_last, may_open, named_too, opened, head_of, gives_scalar, type_start, numbered_on, with_variables, build, build_binding, build_bound, build_arms, build_body, body, opening, build_functions, build_core, program}
-use Rattle.gib_local.proofs.Holding.{Holds, then_holds, due_holds, aims_holds, no_mark_holds, with_mark_holds, holds_of}
+use Rattle.gib_local.proofs.Holding.{Holds, Lines, any, then_holds, due_holds, aims_holds, no_mark_holds, with_mark_holds, holds_of}
 
 atom_natural : (h : Around) (x : Operand) → IsNatural (atom h x)
 atom_natural h (Named x) = tt
@@ -78,24 +77,21 @@ place_natural tb h v l (Start r) = due_holds NaturalStep (is_region (meant h.pla
 place_natural tb h v l (Plus d k) = due_holds NaturalStep (may_open tb h d (con tb k)) d.span.start (Ok (opened h v l (con tb k))) (tt, tt)
 place_natural tb h v l (After x) = due_holds NaturalStep (is_last tb h.destination (Building.variable h x)) x.span.start (Ok (named_too h v l (Building.AtNext (Building.variable h x).0))) tt
 
-abbrev Lines : (Around → Passed → Placed Termed) → Type 0
-Lines line = (h : Around) (v : Passed) → Holds (line h v) Natural
-
 sided_natural : (h : Around) (kind : Kind) (x : Ident) (n : ℕ) (t : Ty) (line : Placed Termed) → Holds line Natural → Holds (and_then line (λ r. Ok (sided h kind x n t r))) NaturalSide
 sided_natural h kind x n t line g = then_holds Natural NaturalSide line (λ r. Ok (sided h kind x n t r)) g (λ r ok. (tt, ok))
 
-put_natural : (line : Around → Passed → Placed Termed) (h : Around) (v : Passed) (x : Ident) (t : Ty) (at : Mark) (m : Option Building.Meant) (k : Option Kind) → Lines line → Holds (put_at line h v x t at m k) NaturalSide
+put_natural : (line : Around → Passed → Placed Termed) (h : Around) (v : Passed) (x : Ident) (t : Ty) (at : Mark) (m : Option Building.Meant) (k : Option Kind) → Lines (λ v. Natural) line → Holds (put_at line h v x t at m k) NaturalSide
 put_natural line h v x t at m None g = tt
 put_natural line h v x t at m (Some kind) g =
     let w : Passed = record { fresh = v.fresh + 1; unused = used_too (place_meant m) v.unused } in
     sided_natural h kind x v.fresh t (line (inside h (place_meant m)) w) (g (inside h (place_meant m)) w)
 
-bind_natural : (f : Bool) (tb : Table) (line : Around → Passed → Placed Termed) (h : Around) (v : Passed) (x : Ident) (w : TypeName) (t : Ty) (at : Option Mark) → Lines line → Holds (bind f tb line h v x w t at) NaturalSide
+bind_natural : (f : Bool) (tb : Table) (line : Around → Passed → Placed Termed) (h : Around) (v : Passed) (x : Ident) (w : TypeName) (t : Ty) (at : Option Mark) → Lines (λ v. Natural) line → Holds (bind f tb line h v x w t at) NaturalSide
 bind_natural true tb line h v x w t at g = no_mark_holds NaturalSide at _ (sided_natural h Scalar x v.fresh t (line (inside_scalar h) (numbered_on 1 v)) (g (inside_scalar h) (numbered_on 1 v)))
 bind_natural false tb line h v x w t at g = with_mark_holds NaturalSide at (type_start w) _ (λ m. put_natural line h v x t m (meant h.places (number_of m.name)) (kind_at (next_place tb h.destination) v.unused (meant h.places (number_of m.name))) g)
 
 mutual
-  build_natural : (p : Program) (t : Line) → Lines (build p t)
+  build_natural : (p : Program) (t : Line) → Lines (λ v. Natural) (build p t)
   build_natural p (In s b rest) h v =
       then_holds NaturalStep Natural (build_binding p b h v) (λ r. and_then (build p rest r.around r.passed) (λ t. Ok (record t { term = prepend r.binds t.term }))) (binding_natural p b h v)
       (λ r ok. then_holds Natural Natural (build p rest r.around r.passed) (λ t. Ok (record t { term = prepend r.binds t.term })) (build_natural p rest r.around r.passed) (λ t more. prepend_natural r.binds t.term ok more))
@@ -117,10 +113,6 @@ mutual
       (λ l ok. then_holds (λ g. Unit {0}) NaturalStep (between p.table h x v.fresh l.destination m) _ (any (between p.table h x v.fresh l.destination m))
       (λ g any. then_holds NaturalSide NaturalStep (build_bound p (Be y z on u) g l.passed) _ (bound_natural p (Be y z on u) g l.passed)
       (λ r more. ((tt, (ok, more)), tt))))
-    where
-      any : {A : Type 0} (x : Placed A) → Holds x (λ a. Unit {0})
-      any (Ok x) = tt
-      any (Err e) = tt
   binding_natural p (PrimIn x w y f z) h v = ((atom_natural h y, atom_natural h z), tt)
   binding_natural p (ReachIn y way) h v = (tt, tt)
 

@@ -9,17 +9,17 @@ use Rattle.gib_reads.specs.Readers.{Read}
 use Rattle.gib_core.specs.Tree.{CoreTree}
 use Rattle.gib_core.specs.Marking.{mark_core}
 use Rattle.gib_core.specs.Rules.{Broken}
-use Rattle.gib_local.specs.Tree.{LocalTree}
-use Rattle.gib_local.specs.Texts.{spell_text, whole_text}
-use Rattle.gib_local.specs.PlacedTexts.{TextAt}
+use Rattle.gib_local_parse.specs.Tree.{LocalTree}
+use Rattle.gib_local_parse.specs.Texts.{spell_text, whole_text}
+use Rattle.gib_local_parse.specs.PlacedTexts.{TextAt}
 use Rattle.gib_local.specs.Naming.{check_text}
 use Rattle.gib_local.specs.Building.{Placed, build_core}
 use Rattle.gib_local.specs.Counting.{broken_text}
 use Rattle.gib_check.specs.Faults.{Checked}
 use Rattle.gib_local.specs.Local.{Local, Refusal, judged, placed, named, read, answer}
 use Rattle.gib_reads.proofs.Tools.{done}
-use Rattle.gib_local.proofs.TextsRead.{one_text, whole_back}
-use Rattle.gib_local.proofs.WholeLaws.{read_sound}
+use Rattle.gib_local_parse.proofs.TextsRead.{one_text, whole_back}
+use Rattle.gib_local_parse.proofs.WholeLaws.{read_sound}
 
 abbrev found : CoreTree → Placed CoreTree
 found c = Ok c

@@ -1,6 +1,6 @@
 -- What is in scope, as the code keeps it and as the rules see it.
-use Rattle.std.proofs.Common.{◌≡◌, ℕ, ◌+◌, ◌-◌, ◌<◌, ◌≤◌, Bool, true, false, ltb, List, drop, length, Option, Some, None, Ok, Err, refl, sym, ap, ◌∙◌, subst, arith}
-use Rattle.std.proofs.lemmas.Bool.{ltb-true, lt-ltb}
+use Rattle.std.proofs.Common.{◌≡◌, ℕ, ◌+◌, ◌-◌, ◌<◌, ◌≤◌, Bool, true, false, ltb, drop, length, Option, Some, None, Ok, Err, refl, sym, ap, ◌∙◌, subst}
+use Rattle.std.proofs.lemmas.Bool.{lt-ltb, le-ltb}
 use Rattle.std.specs.Prelude.{is_some, is_none, Result, OnOk}
 use Rattle.gib_syntax.specs.declared.tree.Ident.{Ident}
 use Rattle.gib_syntax.specs.Declarations.{number_of, place_of}
@@ -45,12 +45,6 @@ known_name vs x o q r = ap (λ b. allowed b kind.Unknown x.span (tt {0})) (there
 unknown_name : (vs : NumberScope) (x : Ident) (o : Option ℕ) → o ≡ number_in vs (number_of x) → is_some o ≡ false → old (names_in vs) x ≡ Err (record { kind = kind.Unknown; span = x.span })
 unknown_name vs x o q r = ap (λ b. allowed b kind.Unknown x.span (tt {0})) (there vs (number_of x) o false q r)
 
-ge-ltb : (n m : ℕ) → m ≤ n → ltb n m ≡ false
-ge-ltb n m l = go (ltb n m) refl where
-  go : (b : Bool) → ltb n m ≡ b → b ≡ false
-  go true e = absurd (let k = ltb-true n m e in omega (arith, k, l))
-  go false e = refl
-
 module _ (s : After') (vs ps : NumberScope) (n : Counts) (e : seen vs ps n ≡ s) where
   -- A variable that is bound.
   pub bound_twice : (x : Ident) (o : Option ℕ) → o ≡ number_in vs (number_of x) → is_some o ≡ true → bound s.names.variables s.counts x ≡ Err (record { kind = kind.Twice; span = x.span })
@@ -59,7 +53,7 @@ module _ (s : After') (vs ps : NumberScope) (n : Counts) (e : seen vs ps n ≡ s
   pub bound_limit : (x : Ident) (o : Option ℕ) → o ≡ number_in vs (number_of x) → is_some o ≡ false → 200 ≤ n.variables → bound s.names.variables s.counts x ≡ Err (record { kind = kind.Limit; span = x.span })
   bound_limit x o q r l =
       subst (λ (z : After'). bound z.names.variables z.counts x ≡ Err (record { kind = kind.Limit; span = x.span })) e
-      (ap (λ z. and_then z (λ _. counted n x)) (fresh vs x o q r) ∙ ap (λ b. allowed b kind.Limit x.span (record n { variables = n.variables + 1 })) (ge-ltb n.variables 200 l))
+      (ap (λ z. and_then z (λ _. counted n x)) (fresh vs x o q r) ∙ ap (λ b. allowed b kind.Limit x.span (record n { variables = n.variables + 1 })) (le-ltb n.variables 200 l))
 
   pub bound_counted : (x : Ident) (o : Option ℕ) → o ≡ number_in vs (number_of x) → is_some o ≡ false → n.variables < 200 → bound s.names.variables s.counts x ≡ Ok (record n { variables = n.variables + 1 })
   bound_counted x o q r l =
@@ -99,10 +93,6 @@ module _ (s : After') (vs ps : NumberScope) (n : Counts) (e : seen vs ps n ≡ s
       (ap names_in q ∙ names_dropped (length ps - k) ps ∙ ap (λ m. drop (m - k) (names_in ps)) (sym (as_many_names ps)))
 
 -- Of a call as the last expression.
-pub on_ok : {A E : Type 0} {P Q : Type 0} (r : Result A E) → OnOk r P → (P → Q) → OnOk r Q
-on_ok (Ok x) h f = f h
-on_ok (Err e) h f = h
-
 pub on_any : {A E : Type 0} {P : Type 0} (r : Result A E) → P → OnOk r P
 on_any (Ok x) p = p
 on_any (Err e) p = tt

@@ -1,9 +1,7 @@
 -- Sides, choices and branches of the builder, in the words of the rules.
-use Rattle.std.proofs.Common.{◌≡◌, ℕ, zero, suc, ◌+◌, ◌-◌, ◌<◌, ◌≤◌, Bool, true, false, List, [], ◌∷◌, ◌++◌, length, map, drop, Option, Some, None, Ok, Err, refl, sym, ap, ap₂, ◌∙◌, subst, arith, append_assoc}
+use Rattle.std.proofs.Common.{◌≡◌, ℕ, ◌+◌, ◌-◌, ◌<◌, true, false, List, [], ◌∷◌, ◌++◌, length, drop, Option, Some, None, Ok, refl, sym, ap, ap₂, ◌∙◌, subst, arith, append_assoc}
 use Rattle.std.specs.Prelude.{Result}
 use Rattle.std.specs.Global.{Vec}
-use Rattle.std.specs.List.{AllByRecursion}
-use Rattle.std.proofs.lemmas.List.{append-nil}
 use Rattle.gib_types.specs.Table.{Table}
 use Rattle.gib_types.specs.declared.table.ConId.{ConId}
 use Rattle.gib_types.specs.declared.table.Ty.{Ty}
@@ -12,29 +10,30 @@ use Rattle.gib_syntax.specs.declared.tree.TypeName.{TypeName}
 use Rattle.gib_core.specs.declared.atom.Atom.{Atom}
 use Rattle.gib_core.specs.declared.atom.Atom.TheVariants as a
 use Rattle.gib_core.specs.declared.atom.Kind.{Kind}
-use Rattle.gib_core.specs.declared.atom.Kind.TheVariants.{Here, Region, Scalar}
+use Rattle.gib_core.specs.declared.atom.Kind.TheVariants.{Scalar}
 use Rattle.gib_core.specs.declared.atom.Variable.{Variable}
-use Rattle.gib_core.specs.declared.node.Binding.{Binding as CoreBinding}
 use Rattle.gib_core.specs.declared.node.Binding.TheVariants as b
 use Rattle.gib_core.specs.declared.node.BoundTerm.{BoundTerm}
 use Rattle.gib_core.specs.declared.node.BoundSide.TheVariants as side_of
 use Rattle.gib_core.specs.declared.node.Branch.{Branch}
-use Rattle.gib_core.specs.declared.node.Node.{Node}
 use Rattle.gib_core.specs.declared.node.Node.TheVariants as n
 use Rattle.gib_core.specs.declared.node.TermId.{TermId}
-use Rattle.gib_core.specs.Arena.{Grows, IsBranchBelow, term_of, side_from, branches_from}
-use Rattle.gib_core.specs.Tree.{Term, CaseTerm, IfTerm, One, Both, Side, On, Branches, NoBranch, BranchThen, variables_from}
+use Rattle.gib_core.specs.Arena.{Grows, term_of, side_from, branches_from}
+use Rattle.gib_core.specs.Tree.{Term, CaseTerm, IfTerm, One, Both, Side, On, NoBranch, BranchThen, variables_from}
 use Rattle.gib_core.specs.Met.{stands_too}
+use Rattle.gib_core.proofs.Fronting.{grows_more, grows_none}
+use Rattle.gib_core.specs.ArenaLaws.{side_same}
+use Rattle.gib_local.proofs.Forking.{alone}
 use Rattle.gib_local.specs.declared.builder.Builder.{Builder}
 use Rattle.gib_local.specs.declared.destination.Goal.{Goal}
 use Rattle.gib_local.specs.declared.destination.Destination.TheVariants as d
 use Rattle.gib_local.specs.declared.build_fault.BuildFault.{BuildFault}
 use Rattle.gib_local.specs.declared.scopes.Depth.{Depth}
-use Rattle.gib_local.specs.Tree.{Mark, Operand, Line, Cased, Chosen, Binding, LetIn, ParIn, Bound, Be, Arms, LastArm, NextArm}
+use Rattle.gib_local_parse.specs.Tree.{Mark, Operand, Line, Cased, Chosen, LetIn, ParIn, Bound, Be, Arms, LastArm}
 use Rattle.gib_local.specs.Building.{Place, Around, Passed, Placed, Program, Termed, Stepped, Sided, Branched, VariableName, and_then, no_mark, with_variable, with_variables, numbered_on, used_too, inside, inside_scalar, sided, bind, between, atom, build, build_binding, build_bound, build_arms, con, variable}
-use Rattle.gib_local.specs.Builds.{destination_of, around_of, passed_of, nowhere, Fails, Stays, PutsNode, PutsTerm, BindsAll, Puts, Builds, Fronts, binds_of, Opens, Steps, Binds, BuildsSide, NamesBetween, Forks, BuildsArms, side_due}
-use Rattle.gib_local.proofs.Adding.{given, fails_then, fails_for, grows_on, grows_same, stays_on, stays_put, node_put, term_put, unmarked_go, unmarked_fail}
-use Rattle.gib_local.proofs.Joining.{front_one, front_same, left_same, put_of, side_grows, bind_packed}
+use Rattle.gib_local.specs.Builds.{destination_of, around_of, passed_of, nowhere, Fails, Stays, PutsNode, BindsAll, Puts, Fronts, Opens, Binds, BuildsSide, NamesBetween, Forks, side_due}
+use Rattle.gib_local.proofs.Adding.{given, fails_then, fails_for, stays_on, stays_put, node_put, unmarked_go, unmarked_fail}
+use Rattle.gib_local.proofs.Joining.{front_one, front_same, left_same, put_of, bind_packed}
 
 -- What goes on behind parts.
 abbrev one_of : Ident → ℕ → Around → Sided → Placed Stepped
@@ -54,9 +53,6 @@ else_of c t q = Ok (record { term = IfTerm c t q.term; passed = q.passed })
 
 abbrev then_of : Program → Line → Around → Atom → Termed → Placed Termed
 then_of p u h c s = and_then (build p u h s.passed) (else_of c s.term)
-
-abbrev branch_of : ConId → List Variable → Termed → Placed Branched
-branch_of k xs s = Ok (record { branches = BranchThen k xs s.term NoBranch; passed = s.passed })
 
 abbrev case_of : Atom → Branched → Placed Termed
 case_of x s = Ok (record { term = CaseTerm x s.branches; passed = s.passed })
@@ -214,7 +210,7 @@ both_made p b0 b1 b2 b3 b4 b5 b6 g0 g1 g2 x w at t o l r y z on u depth h k dv d
     let variables : b6.variables ≡ with_variable y b1.fresh (with_variable x b0.fresh b0.variables) =
     ap (λ (m : Builder). m.variables) last ∙ (λ i. with_variable y (fresh i) (with_variable x (h.left.variable i) (vs i))) in
     let up : Grows b1.terms b3.terms = subst (λ (m : Builder). Grows m.terms b3.terms) h.names.same k.stays.grows in
-    let left : side_from (term_of b6.terms) (side_of.One l) ≡ side_from (term_of b1.terms) (side_of.One l) = ap (λ xs. side_from (term_of xs) (side_of.One l)) terms ∙ side_grows b1.terms b3.terms (side_of.One l) up h.left.inside in
+    let left : side_from (term_of b6.terms) (side_of.One l) ≡ side_from (term_of b1.terms) (side_of.One l) = ap (λ xs. side_from (term_of xs) (side_of.One l)) terms ∙ side_same (term_of b3.terms) (term_of b1.terms) (length b1.terms) (side_of.One l) h.left.inside up.same in
     let right : side_from (term_of b6.terms) (side_of.One r) ≡ side_from (term_of b3.terms) (side_of.One r) = ap (λ xs. side_from (term_of xs) (side_of.One r)) terms in
     let there : g2.at ≡ g0.at = k.at ∙ h.left.at in record {
       is =
@@ -225,7 +221,7 @@ both_made p b0 b1 b2 b3 b4 b5 b6 g0 g1 g2 x w at t o l r y z on u depth h k dv d
             around = record { variables = sym variables i; places = sym places i; destination = destination_of g2.destination; at = sym there i };
             passed = sym passed i;
           }));
-      grows = grows_on b0.terms b1.terms b6.terms h.left.stays.grows (subst (λ xs. Grows b1.terms xs) (sym terms) up);
+      grows = grows_more b0.terms b1.terms b6.terms h.left.stays.grows (subst (λ xs. Grows b1.terms xs) (sym terms) up);
       below = (
         (let m = h.left.inside in let q = up.longer in let c : length b6.terms ≡ length b3.terms = ap (λ xs. length xs) terms in omega (arith, m, q, c)),
         (let m = k.inside in let c : length b6.terms ≡ length b3.terms = ap (λ xs. length xs) terms in omega (arith, m, c)),
@@ -312,10 +308,10 @@ branch_made p b0 b1 b2 b3 g0 g1 k c xs vs u t depth dv dp ec h ed ea w l =
     let passed : passed_of b3 ≡ passed_of b2 = ap passed_of l in
     let front : Fronts b0.variables b1.variables = subst (λ ys. Fronts b0.variables ys) (sym (ap (λ (m : Builder). m.variables) h.is)) (with_front b0.fresh xs b0.variables) in record {
       is =
-          ap (λ r. and_then r (branch_of (con p.table k) (variables_from b0.fresh xs))) (arm_inside p b0 b1 g0 g1 xs vs.items u h ed ea ∙ w.is)
+          ap (λ r. and_then r (alone (con p.table k) (variables_from b0.fresh xs))) (arm_inside p b0 b1 g0 g1 xs vs.items u h ed ea ∙ w.is)
           ∙ (λ q. Ok (record { branches = BranchThen (sym ec q) (sym h.variables q) (term_of (sym terms q) t.0) NoBranch; passed = sym passed q }));
       stays = record {
-        grows = grows_on b0.terms b1.terms b3.terms (subst (λ (m : Builder). Grows b0.terms m.terms) (sym h.is) (grows_same b0.terms)) (subst (λ xs'. Grows b1.terms xs') (sym terms) w.stays.grows);
+        grows = grows_more b0.terms b1.terms b3.terms (subst (λ (m : Builder). Grows b0.terms m.terms) (sym h.is) (grows_none b0.terms)) (subst (λ xs'. Grows b1.terms xs') (sym terms) w.stays.grows);
         variables = left_same b0.variables b1.variables b2.variables b3.variables depth.variables dv front w.stays.variables (ap (λ (m : Builder). m.variables) l);
         places = left_same b0.places b1.places b2.places b3.places depth.places dp (front_same b0.places b1.places (ap (λ (m : Builder). m.places) h.is)) w.stays.places (ap (λ (m : Builder). m.places) l);
       };
@@ -324,7 +320,7 @@ branch_made p b0 b1 b2 b3 g0 g1 k c xs vs u t depth dv dp ec h ed ea w l =
 
 pub branch_fails : (p : Program) (e : BuildFault) (b0 b1 : Builder) (g0 g1 : Goal) (k : Ident) (xs : List Ident) (vs : List Variable) (u : Line) → BindsAll b0 b1 xs vs → destination_of g1.destination ≡ destination_of g0.destination → g1.at ≡ g0.at
     → Fails e (build p u (around_of b1 g1) (passed_of b1)) → Fails e (build_arms p (LastArm k xs u) (around_of b0 g0) (passed_of b0))
-branch_fails p e b0 b1 g0 g1 k xs vs u h ed ea q = fails_then e (build p u (record (around_of b0 g0) { variables = with_variables b0.fresh xs b0.variables }) (numbered_on (length xs) (passed_of b0))) (branch_of (con p.table k) (variables_from b0.fresh xs)) (fails_for e (build p u (record (around_of b0 g0) { variables = with_variables b0.fresh xs b0.variables }) (numbered_on (length xs) (passed_of b0))) (build p u (around_of b1 g1) (passed_of b1)) (arm_inside p b0 b1 g0 g1 xs vs u h ed ea) q)
+branch_fails p e b0 b1 g0 g1 k xs vs u h ed ea q = fails_then e (build p u (record (around_of b0 g0) { variables = with_variables b0.fresh xs b0.variables }) (numbered_on (length xs) (passed_of b0))) (alone (con p.table k) (variables_from b0.fresh xs)) (fails_for e (build p u (record (around_of b0 g0) { variables = with_variables b0.fresh xs b0.variables }) (numbered_on (length xs) (passed_of b0))) (build p u (around_of b1 g1) (passed_of b1)) (arm_inside p b0 b1 g0 g1 xs vs u h ed ea) q)
 
 -- a case
 

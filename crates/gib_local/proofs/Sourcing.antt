@@ -1,5 +1,5 @@
 -- The declarations of a text, as the builder keeps them.
-use Rattle.std.proofs.Common.{◌≡◌, ℕ, zero, suc, ◌<◌, ◌≤◌, ◌-◌, Bool, true, false, cond, eqb, List, [], ◌∷◌, length, map, take, drop, get_or, refl, sym, ap, ap₂, ◌∙◌, subst, arith}
+use Rattle.std.proofs.Common.{◌≡◌, ℕ, ◌<◌, ◌≤◌, ◌-◌, Bool, true, false, cond, eqb, List, [], ◌∷◌, length, map, take, drop, get_or, refl, sym, ap, ap₂, ◌∙◌, subst, arith}
 use Rattle.std.proofs.Math.Seq.{take-length}
 use Rattle.std.proofs.lemmas.Bool.{eqb-true, eq-eqb}
 use Rattle.gib_types.specs.Row.{Table}
@@ -8,26 +8,23 @@ use Rattle.gib_syntax.specs.declared.tree.DataDecl.{DataDecl}
 use Rattle.gib_syntax.specs.Declarations.{constructor_names, rows_from, type_of_name}
 use Rattle.gib_syntax.specs.Parts.{data_tree}
 use Rattle.gib_check.specs.Views.{row_name, tree_number}
-use Rattle.gib_local.specs.declared.text.FunctionLines.{FunctionLines}
-use Rattle.gib_local.specs.Tree.{Line}
-use Rattle.gib_local.specs.TextParts.{TextParts, function_text}
+use Rattle.gib_check.proofs.Making.{table_from}
+use Rattle.gib_local_parse.specs.declared.text.FunctionLines.{FunctionLines}
+use Rattle.gib_local_parse.specs.Tree.{Line}
+use Rattle.gib_local_parse.specs.TextParts.{TextParts, function_text}
 use Rattle.gib_local.specs.Building.{gives_scalar}
 use Rattle.gib_local.specs.Builds.{IsSource, program_in}
 
--- The table that is made of data declarations.
-abbrev pub made_table : List ℕ → List DataDecl → Table
-made_table types ds = record { types = map tree_number (map data_tree ds); rows = rows_from types 0 (map data_tree ds) }
+made_same : (parts : TextParts) (types : List ℕ) (ds es : List DataDecl) → types ≡ map tree_number (map data_tree ds) → ds ≡ parts.datas → es ≡ parts.datas → table_from types es ≡ (program_in parts).table
+made_same parts types ds es t d e = ap₂ (λ ts l. table_from ts l) (t ∙ ap (λ (l : List DataDecl). map tree_number (map data_tree l)) d) e
 
-made_same : (parts : TextParts) (types : List ℕ) (ds es : List DataDecl) → types ≡ map tree_number (map data_tree ds) → ds ≡ parts.datas → es ≡ parts.datas → made_table types es ≡ (program_in parts).table
-made_same parts types ds es t d e = ap₂ (λ ts l. made_table ts l) (t ∙ ap (λ (l : List DataDecl). map tree_number (map data_tree l)) d) e
-
-pub table_asked : (parts : TextParts) (types : List ℕ) (ds es : List DataDecl) → types ≡ map tree_number (map data_tree ds) → ds ≡ parts.datas → es ≡ parts.datas → IsTable (program_in parts).table → IsTable (made_table types es)
+pub table_asked : (parts : TextParts) (types : List ℕ) (ds es : List DataDecl) → types ≡ map tree_number (map data_tree ds) → ds ≡ parts.datas → es ≡ parts.datas → IsTable (program_in parts).table → IsTable (table_from types es)
 table_asked parts types ds es t d e h = subst IsTable (sym (made_same parts types ds es t d e)) h
 
-pub source_made : (parts : TextParts) (table : Table) (types constructors : List ℕ) (ds es : List DataDecl) → types ≡ map tree_number (map data_tree ds) → ds ≡ parts.datas → es ≡ parts.datas → table ≡ made_table types es → constructors ≡ map row_name (rows_from types 0 (map data_tree es))
+pub source_made : (parts : TextParts) (table : Table) (types constructors : List ℕ) (ds es : List DataDecl) → types ≡ map tree_number (map data_tree ds) → ds ≡ parts.datas → es ≡ parts.datas → table ≡ table_from types es → constructors ≡ map row_name (rows_from types 0 (map data_tree es))
     → IsSource parts table types constructors
 source_made parts table types constructors ds es t d e h k =
-    let same : made_table types es ≡ (program_in parts).table = made_same parts types ds es t d e in record {
+    let same : table_from types es ≡ (program_in parts).table = made_same parts types ds es t d e in record {
       is_table = h ∙ same;
       are_types = t ∙ ap (λ (l : List DataDecl). map tree_number (map data_tree l)) d;
       are_constructors = k ∙ ap (λ (b : Table). constructor_names b) same;

@@ -1,20 +1,20 @@
 -- What is counted, one after another.
 use Rattle.std.proofs.Common.{◌≡◌, ℕ, suc, ◌+◌, ◌-◌, ◌<◌, ◌≤◌, Bool, true, false, cond, List, [], ◌∷◌, take, drop, get_or, map, length, Option, Some, None, refl, sym, ap, ap₂, ◌∙◌, subst, arith}
-use Rattle.std.proofs.Math.Seq.{take-length}
 use Rattle.std.specs.List.{AllByRecursion}
+use Rattle.gib_check.proofs.RowLists.{rest-is}
 use Rattle.gib_local.specs.declared.counting.Tally.{Tally}
-use Rattle.gib_local.specs.declared.lines.LineArm.{LineArm}
-use Rattle.gib_local.specs.declared.text.FunctionLines.{FunctionLines}
+use Rattle.gib_local_parse.specs.declared.lines.LineArm.{LineArm}
+use Rattle.gib_local_parse.specs.declared.text.FunctionLines.{FunctionLines}
 use Rattle.gib_base.specs.declared.Span.{Span}
 use Rattle.gib_syntax.specs.declared.tree.Ident.{Ident}
 use Rattle.gib_syntax.specs.declared.tree.TypeName.{TypeName}
 use Rattle.gib_local.specs.Building.{Program, con, is_flat}
 use Rattle.gib_local.specs.Counting.{made_terms, terms, binding_terms, bound_terms, unlike, unlike_binding, unlike_bound, unlike_in, arms_terms, unlike_arms, or_later}
 use Rattle.gib_local.specs.CountingSteps.{Adds, Goes, GoesOver, program_in}
-use Rattle.gib_local.specs.LineArena.{ArmsBelow, IsArmBelow, arms_from, tree_of}
-use Rattle.gib_local.specs.ReadingTerms.{arms_text}
-use Rattle.gib_local.specs.TextParts.{TextParts, IsFunctionIn, function_text}
-use Rattle.gib_local.specs.Tree.{Mark, Operand, Line, In, Given, Pointed, Called, Made, Cased, Chosen, Binding, ParIn, Bound, Be, Arms, FunctionText}
+use Rattle.gib_local_parse.specs.LineArena.{ArmsBelow, IsArmBelow, arms_from, tree_of}
+use Rattle.gib_local_parse.specs.ReadingTerms.{arms_text}
+use Rattle.gib_local_parse.specs.TextParts.{TextParts, IsFunctionIn, function_text}
+use Rattle.gib_local_parse.specs.Tree.{Mark, Operand, Line, In, Given, Pointed, Called, Made, Cased, Chosen, Binding, ParIn, Bound, Be, Arms, FunctionText}
 
 later_none : (o : Option ℕ) → o ≡ or_later o None
 later_none None = refl
@@ -86,9 +86,6 @@ arms_begin p f id start (arm ∷ arms) h = record {
   terms = ap (λ n. start.terms + n) (arms_are_terms p f arm arms);
   unlike = ap (or_later start.unlike) (arms_are_unlike p f arm arms start.terms);
 }
-
-rest-is : {A : Type 0} (x : A) (xs : List A) → take (length (x ∷ xs) - 1) xs ≡ xs
-rest-is x xs = let n : length (x ∷ xs) - 1 ≡ length xs = omega arith in ap (λ k. take k xs) n ∙ take-length xs
 
 module _ (p : Program) (f : ℕ → Line) (id : ℕ) (start now : Tally) (arms : List LineArm) where
   arms_on : (newer : Tally) (arm : LineArm) (rest : List LineArm) → ArmsCounted p f id start now arms (arm ∷ rest) → Goes p (f arm.line.0) now newer → ArmsCounted p f id start newer arms rest

@@ -20,12 +20,12 @@ use Rattle.gib_core.specs.Rules.{Broken}
 use Rattle.gib_core.specs.Tree.{CoreTree}
 use Rattle.gib_local.specs.declared.fault.LocalFault.{LocalFault}
 use Rattle.gib_local.specs.declared.fault.LocalFault.TheVariants as f
-use Rattle.gib_local.specs.Tree.{LocalTree}
+use Rattle.gib_local_parse.specs.Tree.{LocalTree}
 use Rattle.gib_local.specs.Building.{Placed, build_core}
 use Rattle.gib_local.specs.Counting.{broken_text}
 use Rattle.gib_local.specs.Local.{Local, Refusal, Unread, Breaks, answer, judged, read}
-use Rattle.gib_local.specs.Texts.{whole_text}
-use Rattle.gib_local.proofs.WholeLaws.{first_blamed}
+use Rattle.gib_local_parse.specs.Texts.{whole_text}
+use Rattle.gib_local_parse.proofs.WholeLaws.{first_blamed}
 use Rattle.gib_local.specs.Judged.{Answers, AreTokensOf, Blames, IsDeep, IsUnlexed, IsUnread, Judges, Refuses}
 use Rattle.gib_local.specs.LocalFaults.{IsLocalFault}
 

@@ -8,10 +8,10 @@ use Rattle.gib_check.specs.Faults.{Checked, and_then}
 use Rattle.gib_check.specs.FirstFault.{check_declarations}
 use Rattle.gib_check.proofs.Loops.{passed_on, along}
 use Rattle.gib_syntax.specs.Plain.{generic_of}
-use Rattle.gib_local.specs.declared.text.FunctionLines.{FunctionLines}
-use Rattle.gib_local.specs.declared.text.MainLines.{MainLines}
-use Rattle.gib_local.specs.LineArena.{tree_of}
-use Rattle.gib_local.specs.TextParts.{TextParts, IsFunctionIn, AreInside, text_of, function_text}
+use Rattle.gib_local_parse.specs.declared.text.FunctionLines.{FunctionLines}
+use Rattle.gib_local_parse.specs.declared.text.MainLines.{MainLines}
+use Rattle.gib_local_parse.specs.LineArena.{tree_of}
+use Rattle.gib_local_parse.specs.TextParts.{TextParts, IsFunctionIn, AreInside, text_of, function_text}
 use Rattle.gib_local.specs.Building.{declared}
 use Rattle.gib_local.specs.Knowing.{declared_of, body, HasFew}
 use Rattle.gib_local.specs.Naming.{check_offsets, check_bodies, check_text}

@@ -27,7 +27,7 @@ pub use Rattle.gib_local.specs.declared.place.Place.TheVariants.{AtResult, AtSta
 -- What a name stands for among regions and locations.
 pub use Rattle.gib_local.specs.declared.place.Meant.{Meant}
 pub use Rattle.gib_local.specs.declared.place.Meant.TheVariants.{IsRegion, IsPlace}
-use Rattle.gib_local.specs.Tree.{Mark, Operand, Named, Number, Bit, Location, Start, Plus, After, Way, ByOffset, BySkip, ByEnd, Line, In, Given, Pointed, Called, Made, Cased, Chosen, Binding, NewRegion, NewPlace, LetIn, ParIn, PrimIn, ReachIn, Bound, Be, Arms, LastArm, NextArm, FunctionText, LocalTree}
+use Rattle.gib_local_parse.specs.Tree.{Mark, Operand, Named, Number, Bit, Location, Start, Plus, After, Way, ByOffset, BySkip, ByEnd, Line, In, Given, Pointed, Called, Made, Cased, Chosen, Binding, NewRegion, NewPlace, LetIn, ParIn, PrimIn, ReachIn, Bound, Be, Arms, LastArm, NextArm, FunctionText, LocalTree}
 
 -- Whether two locations are one.
 abbrev pub same_place : Place → Place → Bool

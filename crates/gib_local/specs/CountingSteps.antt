@@ -8,8 +8,8 @@ use Rattle.gib_core.specs.Rules.{same_type}
 use Rattle.gib_local.specs.declared.counting.Tally.{Tally}
 use Rattle.gib_local.specs.Building.{Program, program}
 use Rattle.gib_local.specs.Counting.{terms, unlike, unlike_in, or_later}
-use Rattle.gib_local.specs.TextParts.{TextParts, text_of}
-use Rattle.gib_local.specs.Tree.{Line, FunctionText}
+use Rattle.gib_local_parse.specs.TextParts.{TextParts, text_of}
+use Rattle.gib_local_parse.specs.Tree.{Line, FunctionText}
 
 -- What the bodies of a text may name.
 abbrev pub program_in : TextParts → Program

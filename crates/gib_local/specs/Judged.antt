@@ -11,7 +11,7 @@ use Rattle.gib_core.specs.Parts.{Parts, core_of}
 use Rattle.gib_core.specs.Tree.{CoreTree}
 use Rattle.gib_local.specs.declared.fault.LocalFault.{LocalFault}
 use Rattle.gib_local.specs.declared.fault.LocalFault.TheVariants.{Memory, Long, At, Big, Many, Syntax, Nested, Broken, Place, Rule}
-use Rattle.gib_local.specs.Refused.{IsFirstBlamed}
+use Rattle.gib_local_parse.specs.Refused.{IsFirstBlamed}
 use Rattle.gib_local.specs.Local.{Refusal, Unread, Misnamed, Misplaced, Breaks, answer}
 
 -- The refusal of a text that was read, unless memory ran out.

@@ -17,12 +17,12 @@ use Rattle.gib_check.specs.declared.counts.Counts.{Counts}
 use Rattle.gib_base.specs.declared.Span.{Span}
 use Rattle.gib_check.specs.Faults.{Checked, and_then, one_more}
 use Rattle.gib_local.specs.declared.known.Kept.{Kept}
-use Rattle.gib_local.specs.declared.text.FunctionLines.{FunctionLines}
+use Rattle.gib_local_parse.specs.declared.text.FunctionLines.{FunctionLines}
 use Rattle.gib_local.specs.Building.{declared}
 use Rattle.gib_local.specs.InScope.{NumberScope}
 use Rattle.gib_local.specs.Naming.{Names, Declared, as_many, constructor, function, known, old, operand, operands, all_bound, check_line, check_body}
-use Rattle.gib_local.specs.TextParts.{TextParts, text_of}
-use Rattle.gib_local.specs.Tree.{Mark, Operand, Line}
+use Rattle.gib_local_parse.specs.TextParts.{TextParts, text_of}
+use Rattle.gib_local_parse.specs.Tree.{Mark, Operand, Line}
 
 -- What is declared by a program without bodies.
 abbrev pub declared_by : ProgramTree → Declared

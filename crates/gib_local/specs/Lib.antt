@@ -1,31 +1,18 @@
-pub mod Tree
-pub mod Building
-pub mod Sample
-pub mod Printing
-pub mod HasText
-pub mod HasShape
-pub mod Naming
-pub mod Grammar
-pub mod Texts
-pub mod PlacedTexts
-pub mod Refused
-pub mod LineArena
-pub mod Placed
-pub mod Counting
-pub mod Stepping
-pub mod Covered
-pub mod HasForm
-pub mod ReadingTerms
+-- A table of contents; a file's first line says what it is.
+
+-- Which core bytes have, and why they have none: names, places, and terms that are counted.
 pub mod Local
 pub mod LocalFaults
+pub mod Naming
+pub mod Building
+pub mod Counting
 pub mod Judged
-pub mod TextParts
-pub mod ReadingBodies
+pub mod Sample
+-- As the code keeps names and declarations.
 pub mod InScope
 pub mod Scoped
+pub mod Knowing
+-- What the builder leaves, and the count of terms.
 pub mod Builds
 pub mod Bodied
-pub mod Knowing
 pub mod CountingSteps
-pub mod LocatedText
-pub mod LineTokens

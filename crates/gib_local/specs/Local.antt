@@ -11,9 +11,9 @@ use Rattle.gib_check.specs.Faults.{Checked}
 use Rattle.gib_core.specs.Tree.{CoreTree}
 use Rattle.gib_core.specs.Marking.{mark_core}
 use Rattle.gib_core.specs.Rules.{Broken}
-use Rattle.gib_local.specs.Tree.{LocalTree}
-use Rattle.gib_local.specs.Texts.{spell_text, whole_text}
-use Rattle.gib_local.specs.PlacedTexts.{TextAt}
+use Rattle.gib_local_parse.specs.Tree.{LocalTree}
+use Rattle.gib_local_parse.specs.Texts.{spell_text, whole_text}
+use Rattle.gib_local_parse.specs.PlacedTexts.{TextAt}
 use Rattle.gib_local.specs.Naming.{check_text}
 use Rattle.gib_local.specs.Building.{Placed, build_core}
 use Rattle.gib_local.specs.Counting.{broken_text}

@@ -10,7 +10,7 @@ use Rattle.gib_reads.specs.Readers as reading
 use Rattle.gib_check.specs.declared.fault.Fault.{Fault}
 use Rattle.gib_local.specs.declared.fault.LocalFault.{LocalFault}
 use Rattle.gib_local.specs.declared.fault.LocalFault.TheVariants.{Memory, Long, At, Big, Many, Syntax, Nested, Broken, Place, Rule}
-use Rattle.gib_local.specs.Refused.{IsFirstBlamed}
+use Rattle.gib_local_parse.specs.Refused.{IsFirstBlamed}
 use Rattle.gib_local.specs.Local.{Refusal, Unread, Misnamed, Misplaced, Breaks, answer}
 
 -- Within the limits on bytes and names the text has tokens to which this refusal is answered.

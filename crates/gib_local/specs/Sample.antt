@@ -11,7 +11,7 @@ use Rattle.gib_syntax.specs.Results as results
 use Rattle.gib_core.specs.declared.atom.Variable.{Variable}
 use Rattle.gib_core.specs.declared.atom.Kind.TheVariants.{Here}
 use Rattle.gib_core.specs.Tree.{Term, Then, Write, Point, CallTerm, Past, One, On, var, CoreTree}
-use Rattle.gib_local.specs.Tree.{Mark, Named, Start, Plus, After, Line, In, Pointed, Called, Made, NewRegion, NewPlace, LetIn, Be, LocalTree}
+use Rattle.gib_local_parse.specs.Tree.{Mark, Named, Start, Plus, After, Line, In, Pointed, Called, Made, NewRegion, NewPlace, LetIn, Be, LocalTree}
 
 -- The span of the token of a number.
 abbrev pub span : ℕ → Span

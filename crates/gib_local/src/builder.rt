@@ -12,10 +12,10 @@ use crate::build_fault::BuildFault;
 use crate::destination::Goal;
 use crate::place::{Meant, Place, is_place, is_there};
 use crate::scopes::Depth;
-use crate::tree::{Mark, Operand, Way};
 use gib_base::Memory;
 use gib_base::token::is_literal;
 use gib_core::{Access, Atom, Kind, Node, TermId, Terms, Variable};
+use gib_local_parse::{Mark, Operand, Way};
 use gib_syntax::Ident;
 use std::alloc::{AllocError, Global};
 

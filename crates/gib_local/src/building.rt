@@ -1,23 +1,22 @@
 //! The core of a text's bodies.
 
 ghost use Rattle.std.specs.Prelude.{◌<◌, true, false, length};
-ghost use Rattle.gib_local.specs.Tree.{Cased, Chosen, In, LastArm, LetIn, ParIn};
-ghost use Rattle.gib_local.specs.LineArena.{ArmsBelow, BindingBelow, IsArmBelow, binding_from, side_from, tree_of};
-ghost use Rattle.gib_local.specs.ReadingTerms.{arms_text};
+ghost use Rattle.gib_local_parse.specs.Tree.{Cased, Chosen, In, LastArm, LetIn, ParIn};
+ghost use Rattle.gib_local_parse.specs.LineArena.{ArmsBelow, BindingBelow, IsArmBelow, binding_from, side_from, tree_of};
+ghost use Rattle.gib_local_parse.specs.ReadingTerms.{arms_text};
 ghost use Rattle.gib_local.specs.Building.{bind, build, build_arms, build_binding, build_bound};
 ghost use Rattle.gib_local.specs.Builds.{around_of, passed_of, program_in, nowhere, Builds, BuildsArms, BuildsBranch, BuildsSide, Steps};
 
 use crate::build_fault::BuildFault;
 use crate::builder::Builder;
 use crate::destination::{Destination, Goal};
-use crate::lines::{BindingNode, LineArm, LineId, LineNode, Side};
 use crate::source::Source;
 use crate::steps::{
     between, call, due, give, make, new_place, new_region, no_mark, operation, point, put_before,
     reach,
 };
-use crate::tree::Operand;
 use gib_core::{Atom, Binding, BoundSide, BoundTerm, Branch, Kind, Node, TermId};
+use gib_local_parse::{BindingNode, LineArm, LineId, LineNode, Operand, Side};
 use gib_syntax::Ident;
 use gib_types::Ty;
 

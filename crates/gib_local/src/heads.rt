@@ -8,14 +8,14 @@ ghost use Rattle.gib_check.specs.Answers.{Gives};
 ghost use Rattle.gib_check.specs.FirstFault as rule;
 ghost use Rattle.gib_local.specs.Building.{declared, head};
 ghost use Rattle.gib_local.specs.Knowing.{datas_of, HasFew};
-ghost use Rattle.gib_local.specs.LineArena.{tree_of};
-ghost use Rattle.gib_local.specs.TextParts.{text_of, function_text};
+ghost use Rattle.gib_local_parse.specs.LineArena.{tree_of};
+ghost use Rattle.gib_local_parse.specs.TextParts.{text_of, function_text};
 
 use crate::datas::{check_datas, check_fields};
 use crate::known::Known;
-use crate::text::FunctionLines;
 use gib_base::limits::{FUNCTIONS, VARIABLES};
 use gib_check::{NameList, TypeFault, fewer, new_name};
+use gib_local_parse::FunctionLines;
 use gib_syntax::{Parameter, TypeName};
 use std::alloc::Global;
 

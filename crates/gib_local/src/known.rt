@@ -9,10 +9,9 @@ ghost use Rattle.gib_local.specs.Knowing.{datas_of, declared_of, function_number
 ghost use Rattle.gib_local.specs.Building.{con, is_flat};
 ghost use Rattle.gib_local.specs.Naming as rule;
 
-use crate::lines::{LineId, LineNode, Lines};
-use crate::text::{FunctionLines, LocalText};
 use gib_base::{Memory, Name, Span};
 use gib_check::{Fault, Kind, NameList, TypeFault, list_types, type_of_name};
+use gib_local_parse::{FunctionLines, LineId, LineNode, Lines, LocalText};
 use gib_syntax::{ConstructorDecl, DataDecl, Ident, TypeName};
 use gib_types::Ty;
 use std::alloc::Global;
@@ -37,7 +36,7 @@ pub struct Known {
 }
 
 impl Model for Known {
-    ghost use Rattle.gib_local.specs.TextParts.{TextParts};
+    ghost use Rattle.gib_local_parse.specs.TextParts.{TextParts};
     ghost use Rattle.gib_local.specs.Knowing.{IsKnown};
 
     ghost Value = { TextParts };
@@ -147,7 +146,7 @@ fn list_constructors(alloc: Global, rows: &[Kept]) -> Result<NameList, Memory>
 
 impl Known {
     ghost use Rattle.std.specs.Prelude.{◌<◌, length};
-    ghost use Rattle.gib_local.specs.LineArena.{Opens};
+    ghost use Rattle.gib_local_parse.specs.LineArena.{Opens};
 
     /// A text, with the places of its names.
     ///

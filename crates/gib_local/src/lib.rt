@@ -1,45 +1,33 @@
-//! LoCal text: programs with their places written out.
+//! From LoCal text to a core: the check of its names, and the builder.
 #![tactic(auto)]
 
-pub mod around;
-pub mod bodies;
-pub mod build_fault;
-pub mod builder;
+mod around;
+mod bodies;
+mod build_fault;
+mod builder;
 mod building;
-pub mod counting;
+mod counting;
 mod datas;
-mod declarations;
-pub mod destination;
-pub mod fault;
+mod destination;
+mod fault;
 mod heads;
-pub mod known;
+mod known;
 pub mod law;
-pub mod lines;
-mod located_text;
-pub mod making;
-pub mod names;
-pub mod naming;
-pub mod parsing;
-pub mod phrases;
-pub mod place;
-pub mod print;
-pub mod print_fault;
-mod put;
-mod put_declarations;
-pub mod scope;
-pub mod scopes;
-pub mod source;
-mod spelled;
+mod making;
+mod names;
+mod naming;
+mod place;
+mod scope;
+mod scopes;
+mod source;
 mod steps;
-mod terms;
-pub mod text;
-pub mod tree;
 
+pub use bodies::build_core;
+pub use build_fault::BuildFault;
+pub use counting::check_core;
+pub use destination::{Destination, is_flat};
 pub use fault::LocalFault;
-pub use lines::{BindingNode, LineArm, LineId, LineNode, Lines, Side};
+pub use known::Known;
 pub use making::{Located, local};
-pub use parsing::read;
-pub use print::print_located;
-pub use print_fault::PrintFault;
-pub use text::LocalText;
-pub use tree::{Location, Mark, Operand, Way};
+pub use names::check_names;
+pub use source::Source;

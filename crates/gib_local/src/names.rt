@@ -9,13 +9,13 @@ ghost use Rattle.gib_syntax.specs.Parts.{data_tree};
 ghost use Rattle.gib_check.specs.Answers.{Gives};
 ghost use Rattle.gib_local.specs.Building.{declared};
 ghost use Rattle.gib_local.specs.Naming.{check_text};
-ghost use Rattle.gib_local.specs.TextParts.{text_of};
+ghost use Rattle.gib_local_parse.specs.TextParts.{text_of};
 
 use crate::heads::check_declarations;
 use crate::known::Known;
 use crate::naming::{bodies, body};
-use crate::text::LocalText;
 use gib_check::TypeFault;
+use gib_local_parse::LocalText;
 use std::alloc::Global;
 
 /// The rules of names, counts and limits, in their order.

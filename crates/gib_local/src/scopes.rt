@@ -8,10 +8,10 @@ ghost use Rattle.gib_local.specs.Naming as rule;
 
 use crate::known::broken;
 use crate::scope::Scope;
-use crate::tree::{Operand, Way};
 use gib_base::limits::{EXPRESSIONS, VARIABLES};
 use gib_base::{Memory, Span};
 use gib_check::{Counts, Kind, TypeFault};
+use gib_local_parse::{Operand, Way};
 use gib_syntax::Ident;
 use std::alloc::Global;
 use std::marker::Model;

@@ -7,10 +7,9 @@ ghost use Rattle.gib_local.specs.Building.{con, gives_scalar as scalar_given};
 ghost use Rattle.gib_local.specs.Builds.{program_in};
 
 use crate::known::Known;
-use crate::lines::{LineId, LineNode};
-use crate::text::LocalText;
 use gib_base::Memory;
 use gib_check::{NameList, list_types, make_table, type_of_name};
+use gib_local_parse::{LineId, LineNode, LocalText};
 use gib_syntax::{Ident, TypeName};
 use gib_types::{ConId, Ty, TypeTable};
 use std::alloc::Global;
@@ -26,7 +25,7 @@ pub struct Source {
 }
 
 impl Model for Source {
-    ghost use Rattle.gib_local.specs.TextParts.{TextParts};
+    ghost use Rattle.gib_local_parse.specs.TextParts.{TextParts};
     ghost use Rattle.gib_local.specs.Builds.{IsSource};
 
     ghost Value = { TextParts };
@@ -37,7 +36,7 @@ impl Model for Source {
 }
 
 impl Source {
-    ghost use Rattle.gib_local.specs.LineArena.{Opens};
+    ghost use Rattle.gib_local_parse.specs.LineArena.{Opens};
 
     /// A text whose declarations are in order.
     ///

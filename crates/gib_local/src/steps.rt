@@ -4,7 +4,7 @@ ghost use Rattle.std.specs.Prelude.{◌≡◌, ◌<◌, Ok, length, IfOk};
 ghost use Rattle.gib_core.specs.Tree.{prepend};
 ghost use Rattle.gib_syntax.specs.Declarations.{number_of};
 ghost use Rattle.gib_core.specs.Arena.{term_of};
-ghost use Rattle.gib_local.specs.Tree.{Called, Given, Made, Pointed, NewPlace, NewRegion, PrimIn, ReachIn};
+ghost use Rattle.gib_local_parse.specs.Tree.{Called, Given, Made, Pointed, NewPlace, NewRegion, PrimIn, ReachIn};
 ghost use Rattle.gib_local.specs.Building.{between as between_sides, build, build_binding, is_last as last, may_open as may_be_opened, new_place as place_named, no_mark as unmarked, write as written, with_variable, variable_at, type_start as start_of, Program};
 ghost use Rattle.gib_local.specs.Builds.{around_of, destination_of, passed_of, program_in, nowhere, Builds, BuildsBetween, Gives, IsStepBelow, PutsTerm, Steps, binds_of, call_due, filled_due, reserved as reserved_at, side_due};
 
@@ -13,9 +13,9 @@ use crate::builder::Builder;
 use crate::destination::{Destination, Goal, is_flat};
 use crate::place::{Meant, Place, is_place, is_region, is_there, place_meant};
 use crate::source::Source;
-use crate::tree::{Location, Mark, Operand, Way};
 use gib_base::Memory;
 use gib_core::{Atom, Binding, Kind, Node, TermId, Variable};
+use gib_local_parse::{Location, Mark, Operand, Way};
 use gib_syntax::{Ident, Operator, TypeName};
 use gib_types::{ConId, items_at};
 

@@ -6,8 +6,8 @@ use Rattle.gib_edge.specs.Views.{Call, ReadOf, Held, ShelfView, SinkView}
 use Rattle.gib_edge.specs.Causes.{IsFrontOf, Appends, AppendsPart, Rose}
 use Rattle.gib_core.specs.Tree.{CoreTree}
 use Rattle.gib_local.specs.Building.{build_core}
-use Rattle.gib_local.specs.HasText.{with_ends}
-use Rattle.gib_local.specs.LocatedText.{located_text, located_tree}
+use Rattle.gib_local_print.specs.HasText.{with_ends}
+use Rattle.gib_local_print.specs.LocatedText.{located_text, located_tree}
 use Rattle.gib_app.specs.Running.{IsProgram}
 use Rattle.gib_app.specs.Cores.{core_after}
 use Rattle.gib_app.specs.Lines.{line}

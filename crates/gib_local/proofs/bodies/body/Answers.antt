@@ -1,5 +1,5 @@
 use Rattle.std.proofs.Common.{sym, ◌∙◌}
-use Rattle.gib_local.specs.LineArena.{tree_of}
+use Rattle.gib_local_parse.specs.LineArena.{tree_of}
 use Rattle.gib_local.specs.Builds.{program_in}
 use Rattle.gib_local.proofs.Bodying.{begun, packed_begun, scalar_begun}
 use Rattle.gib_local.proofs.bodies.body.Goals as goal

@@ -2,7 +2,7 @@ use Rattle.std.proofs.Common.{List, rules, refl, sym, ap, ◌∙◌, subst}
 use Rattle.gib_types.specs.declared.table.Ty.{Ty}
 use Rattle.gib_core.specs.declared.program.CoreResult.TheVariants as given
 use Rattle.gib_syntax.specs.declared.tree.Parameter.{Parameter}
-use Rattle.gib_local.specs.LineArena.{tree_of}
+use Rattle.gib_local_parse.specs.LineArena.{tree_of}
 use Rattle.gib_local.specs.Building.{build_body, types_of}
 use Rattle.gib_local.specs.Builds.{Fails, program_in}
 use Rattle.gib_local.proofs.bodies.function.Goals as goal

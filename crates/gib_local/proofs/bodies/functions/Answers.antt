@@ -1,7 +1,7 @@
 use Rattle.std.proofs.Common.{List, length, rules, sym, ap, ◌∙◌, subst}
-use Rattle.gib_local.specs.declared.text.FunctionLines.{FunctionLines}
-use Rattle.gib_local.specs.LineArena.{tree_of}
-use Rattle.gib_local.specs.TextParts.{AreInside, TextParts}
+use Rattle.gib_local_parse.specs.declared.text.FunctionLines.{FunctionLines}
+use Rattle.gib_local_parse.specs.LineArena.{tree_of}
+use Rattle.gib_local_parse.specs.TextParts.{AreInside, TextParts}
 use Rattle.gib_local.specs.Builds.{program_in}
 use Rattle.gib_local.proofs.Bodying.{FunctionsSoFar, function_here, functions_begin, functions_end, functions_fail, functions_next}
 use Rattle.gib_local.proofs.bodies.functions.Goals as goal

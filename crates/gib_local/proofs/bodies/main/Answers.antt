@@ -1,7 +1,7 @@
 use Rattle.std.proofs.Common.{◌∷◌, [], ◌<◌, length, rules, sym, ap, ◌∙◌, subst}
-use Rattle.gib_local.specs.declared.text.MainLines.{MainLines}
-use Rattle.gib_local.specs.LineArena.{tree_of}
-use Rattle.gib_local.specs.TextParts.{AreInside, TextParts, main_text}
+use Rattle.gib_local_parse.specs.declared.text.MainLines.{MainLines}
+use Rattle.gib_local_parse.specs.LineArena.{tree_of}
+use Rattle.gib_local_parse.specs.TextParts.{AreInside, TextParts, main_text}
 use Rattle.gib_local.specs.Building.{build_body}
 use Rattle.gib_local.specs.Builds.{Fails, program_in}
 use Rattle.gib_local.specs.Bodied.{PutsMain}

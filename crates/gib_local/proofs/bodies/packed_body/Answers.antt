@@ -1,5 +1,5 @@
 use Rattle.std.proofs.Common.{sym, subst}
-use Rattle.gib_local.specs.LineArena.{tree_of}
+use Rattle.gib_local_parse.specs.LineArena.{tree_of}
 use Rattle.gib_local.specs.Builds.{program_in}
 use Rattle.gib_local.specs.Bodied.{BuildsBody, packed_body}
 use Rattle.gib_local.proofs.Bodying.{packed_built}

@@ -1,5 +1,5 @@
 use Rattle.std.proofs.Common.{rules}
-use Rattle.gib_local.specs.LineArena.{tree_of}
+use Rattle.gib_local_parse.specs.LineArena.{tree_of}
 use Rattle.gib_local.specs.Builds.{program_in}
 use Rattle.gib_local.proofs.Bodying.{scalar_built, scalar_refused}
 use Rattle.gib_local.proofs.bodies.scalar_body.Goals as goal

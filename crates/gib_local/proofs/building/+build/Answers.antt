@@ -1,9 +1,9 @@
 use Rattle.std.proofs.Common.{rules, refl, sym, ap, ◌∙◌, subst, true, false, Some, None, length}
 use Rattle.gib_types.specs.Table.{is_scalar}
-use Rattle.gib_local.specs.LineArena.{tree_of, layer, binding_from}
-use Rattle.gib_local.specs.ReadingTerms.{arms_text}
-use Rattle.gib_local.specs.declared.lines.BindingNode.{BindingNode}
-use Rattle.gib_local.specs.Tree.{Line, PrimIn}
+use Rattle.gib_local_parse.specs.LineArena.{tree_of, layer, binding_from}
+use Rattle.gib_local_parse.specs.ReadingTerms.{arms_text}
+use Rattle.gib_local_parse.specs.declared.lines.BindingNode.{BindingNode}
+use Rattle.gib_local_parse.specs.Tree.{Line, PrimIn}
 use Rattle.gib_local.specs.Building.{build, build_binding, bind}
 use Rattle.gib_local.specs.Builds.{BindsAll, around_of, passed_of, program_in}
 use Rattle.gib_local.proofs.Adding.{builds_for, steps_for}

@@ -1,5 +1,5 @@
 use Rattle.std.proofs.Common.{◌+◌, ◌*◌, max, length}
-use Rattle.gib_local.specs.LineArena.{tree_of}
+use Rattle.gib_local_parse.specs.LineArena.{tree_of}
 use Rattle.gib_local.specs.Builds.{program_in}
 use Rattle.gib_local.proofs.Forking.{ArmsSoFar}
 use Rattle.gib_local.proofs.building.+build.Given as goal

@@ -1,5 +1,5 @@
 use Rattle.gib_local.specs.CountingSteps.{program_in}
-use Rattle.gib_local.specs.LineArena.{tree_of}
+use Rattle.gib_local_parse.specs.LineArena.{tree_of}
 use Rattle.gib_local.proofs.Tallies.{arms_begin}
 use Rattle.gib_local.proofs.counting.+counting.Goals as goal
 

@@ -1,6 +1,6 @@
 use Rattle.std.proofs.Common.{◌+◌, ◌*◌, length}
 use Rattle.gib_local.specs.CountingSteps.{program_in}
-use Rattle.gib_local.specs.LineArena.{tree_of}
+use Rattle.gib_local_parse.specs.LineArena.{tree_of}
 use Rattle.gib_local.proofs.Tallies.{ArmsCounted}
 use Rattle.gib_local.proofs.counting.+counting.Given as goal
 

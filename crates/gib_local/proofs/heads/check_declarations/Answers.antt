@@ -6,7 +6,7 @@ use Rattle.gib_check.specs.FirstFault.{check_declarations, check_head}
 use Rattle.gib_check.proofs.Opening.{gives_same}
 use Rattle.gib_local.specs.Building.{declared}
 use Rattle.gib_local.specs.Knowing.{datas_of}
-use Rattle.gib_local.specs.TextParts.{TextParts, text_of}
+use Rattle.gib_local_parse.specs.TextParts.{TextParts, text_of}
 use Rattle.gib_local.proofs.HeadNames.{datas_fail, fields_fail, heads_fail, after_heads, heads_few}
 use Rattle.gib_local.proofs.TextNames.{if_ok}
 use Rattle.gib_local.proofs.heads.check_declarations.Goals as goal

@@ -1,7 +1,7 @@
 use Rattle.std.proofs.Common.{ap, ◌∙◌}
 use Rattle.gib_local.specs.Local.{named, read}
 use Rattle.gib_local.specs.Naming.{check_text}
-use Rattle.gib_local.specs.TextParts.{text_of}
+use Rattle.gib_local_parse.specs.TextParts.{text_of}
 use Rattle.gib_local.proofs.Telling.{answers_of}
 use Rattle.gib_local.proofs.making.answered.Goals as goal
 

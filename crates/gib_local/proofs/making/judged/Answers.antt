@@ -3,7 +3,7 @@ use Rattle.gib_core.specs.Parts.{Parts, core_of}
 use Rattle.gib_core.specs.Marking.{mark_core}
 use Rattle.gib_loccheck.specs.Judging.{Says}
 use Rattle.gib_local.specs.Counting.{broken_text}
-use Rattle.gib_local.specs.TextParts.{TextParts, text_of}
+use Rattle.gib_local_parse.specs.TextParts.{TextParts, text_of}
 use Rattle.gib_local.proofs.Telling.{judged_done}
 use Rattle.gib_local.proofs.making.judged.Goals as goal
 

@@ -4,7 +4,7 @@ use Rattle.gib_local.specs.Builds.{program_in}
 use Rattle.gib_local.specs.Building.{build_core}
 use Rattle.gib_local.specs.Local.{named, placed}
 use Rattle.gib_local.specs.Naming.{check_text}
-use Rattle.gib_local.specs.TextParts.{TextParts, text_of}
+use Rattle.gib_local_parse.specs.TextParts.{TextParts, text_of}
 use Rattle.gib_local.proofs.Telling.{judges_for}
 use Rattle.gib_local.proofs.making.named.Goals as goal
 

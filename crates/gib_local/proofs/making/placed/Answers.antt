@@ -4,7 +4,7 @@ use Rattle.gib_local.specs.Building.{build_core}
 use Rattle.gib_local.specs.Builds.{Fails}
 use Rattle.gib_local.specs.Counting.{broken_text}
 use Rattle.gib_local.specs.Local.{judged, placed}
-use Rattle.gib_local.specs.TextParts.{TextParts, text_of}
+use Rattle.gib_local_parse.specs.TextParts.{TextParts, text_of}
 use Rattle.gib_local.proofs.Telling.{judges_for}
 use Rattle.gib_local.proofs.making.placed.Goals as goal
 

@@ -2,11 +2,11 @@ use Rattle.std.proofs.Common.{arith, sym, ap, ◌∙◌, ◌∷◌, ◌<◌, [],
 use Rattle.std.proofs.lemmas.Result.{err_from_is_err_and}
 use Rattle.std.specs.List.{AllByRecursion}
 use Rattle.gib_check.proofs.Opening.{gives_same}
-use Rattle.gib_local.specs.declared.text.FunctionLines.{FunctionLines}
+use Rattle.gib_local_parse.specs.declared.text.FunctionLines.{FunctionLines}
 use Rattle.gib_local.specs.Knowing.{declared_of, body, HasFew}
-use Rattle.gib_local.specs.LineArena.{tree_of}
+use Rattle.gib_local_parse.specs.LineArena.{tree_of}
 use Rattle.gib_local.specs.Naming.{check_text}
-use Rattle.gib_local.specs.TextParts.{TextParts, IsFunctionIn, text_of}
+use Rattle.gib_local_parse.specs.TextParts.{TextParts, IsFunctionIn, text_of}
 use Rattle.gib_local.proofs.TextNames.{declarations_fail, offsets_fail, bodies_fail, after_bodies, inside_here, few_here, main_here}
 use Rattle.gib_local.proofs.names.check_all.Goals as goal
 

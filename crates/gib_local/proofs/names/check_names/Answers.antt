@@ -1,6 +1,6 @@
 use Rattle.std.proofs.Common.{ap, sym, ◌∙◌}
 use Rattle.gib_local.specs.Naming.{check_text}
-use Rattle.gib_local.specs.TextParts.{TextParts, text_of}
+use Rattle.gib_local_parse.specs.TextParts.{TextParts, text_of}
 use Rattle.gib_local.proofs.DeclaredTables.{text_table}
 use Rattle.gib_local.proofs.names.check_names.Goals as goal
 

@@ -2,7 +2,7 @@ use Rattle.std.proofs.Common.{Some, ap, sym, ◌∙◌, subst}
 use Rattle.std.proofs.lemmas.Result.{err_from_is_err_and}
 use Rattle.gib_check.proofs.Opening.{gives_same}
 use Rattle.gib_local.specs.Knowing.{declared_of, IsKept}
-use Rattle.gib_local.specs.LineArena.{PartsBelow, tree_of, layer}
+use Rattle.gib_local_parse.specs.LineArena.{PartsBelow, tree_of, layer}
 use Rattle.gib_local.proofs.ArmNames.{arms_start, arms_fail, arms_next, arm_below, arms_stop}
 use Rattle.gib_local.proofs.LineNames.{call_opened, make_opened, case_opened, par_right_fails, par_whole}
 use Rattle.gib_local.specs.Naming.{with_variable}

@@ -1,6 +1,6 @@
 use Rattle.std.proofs.Common.{◌+◌, ◌*◌, max, length}
 use Rattle.gib_local.specs.Knowing.{declared_of}
-use Rattle.gib_local.specs.LineArena.{tree_of}
+use Rattle.gib_local_parse.specs.LineArena.{tree_of}
 use Rattle.gib_local.proofs.ArmNames.{ArmsSoFar}
 use Rattle.gib_local.proofs.naming.+names.Given as goal
 

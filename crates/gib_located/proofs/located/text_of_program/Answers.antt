@@ -8,8 +8,8 @@ use Rattle.gib_core.specs.Rules.{AreBuilt}
 use Rattle.gib_core.specs.Tree.{CoreTree}
 use Rattle.gib_app.specs.Cores.{core_after}
 use Rattle.gib_local.specs.Building.{build_core}
-use Rattle.gib_local.specs.HasText.{with_ends}
-use Rattle.gib_local.specs.LocatedText.{located_tree}
+use Rattle.gib_local_print.specs.HasText.{with_ends}
+use Rattle.gib_local_print.specs.LocatedText.{located_tree}
 use Rattle.gib_located.proofs.located.text_of_program.Goals as goal
 
 pub returns-in-Ok-print_located-clause-again : goal.returns-in-Ok-print_located-clause-again

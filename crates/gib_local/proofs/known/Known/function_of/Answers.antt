@@ -1,7 +1,7 @@
 use Rattle.std.proofs.Common.{arith, ap}
 use Rattle.std.specs.Vec.{vec_len}
 use Rattle.gib_check.proofs.Opening.{gives_same}
-use Rattle.gib_local.specs.declared.text.FunctionLines.{FunctionLines}
+use Rattle.gib_local_parse.specs.declared.text.FunctionLines.{FunctionLines}
 use Rattle.gib_local.specs.Knowing.{declared_of, function_of}
 use Rattle.gib_local.specs.Naming as rule
 use Rattle.gib_local.proofs.KnownNames.{function_here, no_function}

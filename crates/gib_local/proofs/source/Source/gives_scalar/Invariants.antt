@@ -1,7 +1,7 @@
 use Rattle.std.proofs.Common.{◌≡◌, length, map}
 use Rattle.gib_local.specs.Building.{gives_scalar}
-use Rattle.gib_local.specs.LineArena.{tree_of}
-use Rattle.gib_local.specs.TextParts.{function_text}
+use Rattle.gib_local_parse.specs.LineArena.{tree_of}
+use Rattle.gib_local_parse.specs.TextParts.{function_text}
 use Rattle.gib_local.specs.Builds.{program_in}
 use Rattle.gib_local.proofs.source.Source.gives_scalar.Given as goal
 

@@ -1,5 +1,5 @@
 use Rattle.std.proofs.Common.{ap, ◌∙◌}
-use Rattle.gib_local.specs.TextParts.{TextParts}
+use Rattle.gib_local_parse.specs.TextParts.{TextParts}
 use Rattle.gib_local.proofs.Sourcing.{source_made, table_asked}
 use Rattle.gib_local.proofs.source.Source.make.Goals as goal
 
