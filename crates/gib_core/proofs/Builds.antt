@@ -31,7 +31,7 @@ use Rattle.gib_core.proofs.Covering.{covers, arms_below}
 use Rattle.gib_core.proofs.Fitted.{IsPart, is_part, behind_part, keep_later, SideDone, absent_loose, bind_sort, placed_own, scalar_own, packed_type, due_parts, call_in_place, scalar_call_fits, empty_place, no_place, write_fits}
 use Rattle.gib_core.proofs.Along.{next_append}
 use Rattle.gib_core.proofs.Orders.{parts_facts}
-use Rattle.gib_core.proofs.BuiltFacts.{After, ArePaired, alone_scalar, behind_of, both_left, due_there, field_reached, goes, here_facts, keep_reached, later_typed, one_left, one_of, operator_scalar, paired, reach_facts, reach_vars, reached_known, right_start, scalar_due, scalar_side, scalar_vars, several_start, side_apart, side_some, suc_same, truth_fits, unbound_apart}
+use Rattle.gib_core.proofs.BuiltFacts.{After, AfterBind, AfterLeft, ArePaired, alone_scalar, behind_of, both_left, due_there, field_reached, goes, here_facts, keep_reached, later_typed, one_left, one_of, operator_scalar, paired, reach_facts, reach_vars, reached_known, right_start, scalar_due, scalar_side, scalar_vars, several_start, side_apart, side_some, suc_same, truth_fits, unbound_apart}
 
 mutual
   pub term_fits : (core : CoreTree) (n : ℕ) → IsTable core.table → (ns : Needs) (t : Term) (b : Before) (s : Setting) (sc : Scope) (d : Dest) (ln : Line) → Owes core ns t ln → Tells core s ln → IsPart s t → AllBelow n (binders t) → LiteralsFit t

@@ -49,11 +49,11 @@ one_by false q r f e = f e
 -- Reaching a field.
 
 -- What reaching needs of a field that stands behind another.
-record ReachFacts (core : CoreTree) (b : Before) (s : Setting) (y : Variable) (by : Access) : Type 0 where
-  unreached : Known
-  found : known s.scope y ≡ Some unreached
-  not_yet : unreached.reached ≡ false
-  access : by_access core b s unreached.behind by ≡ true
+pub record ReachFacts (core : CoreTree) (b : Before) (s : Setting) (y : Variable) (by : Access) : Type 0 where
+  pub unreached : Known
+  pub found : known s.scope y ≡ Some unreached
+  pub not_yet : unreached.reached ≡ false
+  pub access : by_access core b s unreached.behind by ≡ true
 
 reach_if : (core : CoreTree) (b : Before) (s : Setting) (y : Variable) (by : Access) (o : Option Known) → known s.scope y ≡ o → may_reach core b s o by ≡ true → ReachFacts core b s y by
 reach_if core b s y by None e h = absurd cc
@@ -117,12 +117,12 @@ operator_scalar o.Quotient = refl
 operator_scalar o.Remainder = refl
 
 -- What a here at an open head needs.
-record HereFacts (core : CoreTree) (b : Before) (s : Setting) (sc : Scope) (x : Variable) (ty : Ty) (d : Dest) : Type 0 where
-  tree : TyId
-  typed : ty ≡ Tree tree
-  due : field_due core.table s.destination ≡ Tree tree
-  is : IsDue d tree.0
-  after : (c : Before) (tc : Scope) → Keeps b sc c tc → Tracked c tc x.0 (Tree tree) → IsDest core.table c tc (with_field x s.destination) s.due (more d x.0)
+pub record HereFacts (core : CoreTree) (b : Before) (s : Setting) (sc : Scope) (x : Variable) (ty : Ty) (d : Dest) : Type 0 where
+  pub tree : TyId
+  pub typed : ty ≡ Tree tree
+  pub due : field_due core.table s.destination ≡ Tree tree
+  pub is : IsDue d tree.0
+  pub after : (c : Before) (tc : Scope) → Keeps b sc c tc → Tracked c tc x.0 (Tree tree) → IsDest core.table c tc (with_field x s.destination) s.due (more d x.0)
 
 pub here_facts : (core : CoreTree) (b : Before) (s : Setting) (sc : Scope) (x : Variable) (ty : Ty) (d : Dest) (e : Destination) → e ≡ s.destination → has_room core.table e ≡ true → same_type ty (field_due core.table e) ≡ true
     → IsDest core.table b sc e s.due d → HereFacts core b s sc x ty d
@@ -203,11 +203,11 @@ later_typed b c (x ∷ xs) (t ∷ ts) l e =
     one (a.Truth z) h = h
 
 -- Where several variables are bound: they are new, and their values are being made.
-record SeveralStart (core : CoreTree) (n : ℕ) (b : Before) (s : Setting) (sc : Scope) (xs : List Variable) (tys : List Ty) : Type 0 where
-  few : AreSeveral tys × (length tys ≤ 8)
-  new : AreNew sc tys xs
-  types : HaveTypes xs tys (next core.table b (SeveralLine xs tys)).bound
-  held : Vars n (next core.table b (SeveralLine xs tys)) s.scope (hold_all xs sc)
+pub record SeveralStart (core : CoreTree) (n : ℕ) (b : Before) (s : Setting) (sc : Scope) (xs : List Variable) (tys : List Ty) : Type 0 where
+  pub few : AreSeveral tys × (length tys ≤ 8)
+  pub new : AreNew sc tys xs
+  pub types : HaveTypes xs tys (next core.table b (SeveralLine xs tys)).bound
+  pub held : Vars n (next core.table b (SeveralLine xs tys)) s.scope (hold_all xs sc)
 
 -- There are as many types.
 as_many : (xs : List Variable) (tys : List Ty) → AreSeveral xs → length xs ≡ length tys → AreSeveral tys
