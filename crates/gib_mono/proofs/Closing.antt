@@ -47,11 +47,6 @@ found_last : (found : List Copy) (c : Copy) → is_found (found ++ c ∷ []) c �
 found_last [] c = or_left (same_copy c c) false (copy_own c)
 found_last (b ∷ bs) c = or_right (same_copy b c) (is_found (bs ++ c ∷ []) c) (found_last bs c)
 
-get_more : (found extra : List Copy) (i : ℕ) (c : Copy) → slice_get found i ≡ Some c → slice_get (found ++ extra) i ≡ Some c
-get_more [] extra i c h = absurd cc
-get_more (b ∷ bs) extra zero c h = h
-get_more (b ∷ bs) extra (suc i) c h = get_more bs extra i c h
-
 there_more : (found extra : List Copy) (o : Option Copy) → IsThere found o → IsThere (found ++ extra) o
 there_more found extra None h = tt {0}
 there_more found extra (Some c) h = found_more found extra c h

@@ -122,9 +122,6 @@ plain_few (d ∷ ds) fs =
       step [] h e = let a = h.1 in (h.0, omega (arith, a, e))
       step (v ∷ vs) h e = let a = h.1 in (h.0, omega (arith, a, e))
 
-nothing_else : (x : ℕ) (d : GenericDataTree) (ds : List GenericDataTree) → data_named ds x ≡ Some d → data_named ds x ≡ Some d
-nothing_else x d ds e = e
-
 pub plain_good : (p : GenericProgramTree) → AllByRecursion HasGenericConstructor p.datas → IsTypedGeneric p → IsGood (globals_of_generic p) (plain_copies p)
 plain_good p fine typed =
     let few = plain_few p.datas p.functions in

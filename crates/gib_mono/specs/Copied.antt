@@ -87,16 +87,22 @@ abbrev mutual
 
 -- Each type and function that was asked for has its copy.
 pub record IsCopied (s : Setting) : Type 0 where
-  pub constructors : (k c : ℕ) (row : GenericRow) (ts : Forms) → place_named s.from.rows k ≡ Some c → slice_get s.from.rows c ≡ Some row → IsItem s.types row.owner ts → (d : ℕ) × IsCopyOf s c row ts k d
+  pub constructors : (k c : ℕ) (row : GenericRow) (ts : Forms) → place_named s.from.rows k ≡ Some c → slice_get s.from.rows c ≡ Some row
+      → IsItem s.types row.owner ts → (d : ℕ) × IsCopyOf s c row ts k d
   -- a constructor of a copied type is the copy of one of the type
   pub only : (t : ℕ) (ts : Forms) (i d : ℕ) → IsItem s.types t ts → plain s (DataForm t ts) ≡ Tree (record { 0 = i }) → con_at s.to.table i d ≡ Some d
       → (k c : ℕ) × (row : GenericRow) × (place_named s.from.rows k ≡ Some c) × (slice_get s.from.rows c ≡ Some row) × (row.owner ≡ t) × (row.name ≡ k) × (constructor_named s.to.table (s.naming.constructors k ts) ≡ Some d)
   pub declared : (t : ℕ) (ts : Forms) → IsItem s.types t ts → (i : ℕ) × (plain s (DataForm t ts) ≡ Tree (record { 0 = i }))
-  pub fields_here : (c : ℕ) (row : GenericRow) (ts : Forms) → slice_get s.from.rows c ≡ Some row → IsItem s.types row.owner ts → AllByRecursion (IsHere s.types) (field_forms row ts)
-  pub functions : (x : ℕ) (h : GenericFunctionTree) (ts : Forms) → generic_named s.from.functions x ≡ Some h → IsItem s.functions x ts → function_named s.to.functions (s.naming.functions x ts) ≡ Some (copy_function s.from s.naming h ts)
-  pub parameters_here : (x : ℕ) (h : GenericFunctionTree) (ts : Forms) → generic_named s.from.functions x ≡ Some h → IsItem s.functions x ts → AllByRecursion (IsHere s.types) (parameter_forms h ts)
-  pub results_here : (x : ℕ) (h : GenericFunctionTree) (ts : Forms) → generic_named s.from.functions x ≡ Some h → IsItem s.functions x ts → AllByRecursion (IsHere s.types) (list_results (result_forms h ts))
-  pub bodies_asked : (x : ℕ) (h : GenericFunctionTree) (ts : Forms) → generic_named s.from.functions x ≡ Some h → IsItem s.functions x ts → IsAsked s (assign h.variables ts) h.body
+  pub fields_here : (c : ℕ) (row : GenericRow) (ts : Forms) → slice_get s.from.rows c ≡ Some row → IsItem s.types row.owner ts
+      → AllByRecursion (IsHere s.types) (field_forms row ts)
+  pub functions : (x : ℕ) (h : GenericFunctionTree) (ts : Forms) → generic_named s.from.functions x ≡ Some h → IsItem s.functions x ts
+      → function_named s.to.functions (s.naming.functions x ts) ≡ Some (copy_function s.from s.naming h ts)
+  pub parameters_here : (x : ℕ) (h : GenericFunctionTree) (ts : Forms) → generic_named s.from.functions x ≡ Some h → IsItem s.functions x ts
+      → AllByRecursion (IsHere s.types) (parameter_forms h ts)
+  pub results_here : (x : ℕ) (h : GenericFunctionTree) (ts : Forms) → generic_named s.from.functions x ≡ Some h → IsItem s.functions x ts
+      → AllByRecursion (IsHere s.types) (list_results (result_forms h ts))
+  pub bodies_asked : (x : ℕ) (h : GenericFunctionTree) (ts : Forms) → generic_named s.from.functions x ≡ Some h → IsItem s.functions x ts
+      → IsAsked s (assign h.variables ts) h.body
 
 -- The types of variables are here.
 abbrev pub ScopeHere : Setting → FormScope → Type 0

@@ -283,9 +283,14 @@ base_of rows found d = base_at rows (slice_get (made_from 0 (datas_in found)) d)
 
 -- Names of copies are given by a list of names with types; different ones have different numbers.
 pub record IsNaming (nm : Naming) (names : List Item) (found : List Copy) : Type 0 where
-  pub types : (i : ℕ) (c : DataCopy) → slice_get (datas_in found) i ≡ Some c → (n : ℕ) × (slice_get names n ≡ Some (record { name = number_of c.decl.name; types = c.types }))
-  pub constructors : (i j : ℕ) (c : DataCopy) (k : GenericConstructorTree) → slice_get (datas_in found) i ≡ Some c → slice_get c.decl.constructors j ≡ Some k → (n : ℕ) × (slice_get names n ≡ Some (record { name = number_of k.name; types = c.types }))
-  pub functions : (i : ℕ) (c : FunctionCopy) → slice_get (function_copies found) i ≡ Some c → (n : ℕ) × (slice_get names n ≡ Some (record { name = number_of c.function.name; types = c.types }))
+  pub types : (i : ℕ) (c : DataCopy) → slice_get (datas_in found) i ≡ Some c
+      → (n : ℕ) × (slice_get names n ≡ Some (record { name = number_of c.decl.name; types = c.types }))
+  pub constructors : (i j : ℕ) (c : DataCopy) (k : GenericConstructorTree) → slice_get (datas_in found) i ≡ Some c
+      → slice_get c.decl.constructors j ≡ Some k → (n : ℕ) × (slice_get names n ≡ Some (record { name = number_of k.name; types = c.types }))
+  pub functions : (i : ℕ) (c : FunctionCopy) → slice_get (function_copies found) i ≡ Some c
+      → (n : ℕ) × (slice_get names n ≡ Some (record { name = number_of c.function.name; types = c.types }))
   pub types_apart : (m n : ℕ) (a b : Item) → slice_get names m ≡ Some a → slice_get names n ≡ Some b → nm.types a.name a.types ≡ nm.types b.name b.types → a ≡ b
-  pub constructors_apart : (m n : ℕ) (a b : Item) → slice_get names m ≡ Some a → slice_get names n ≡ Some b → nm.constructors a.name a.types ≡ nm.constructors b.name b.types → a ≡ b
-  pub functions_apart : (m n : ℕ) (a b : Item) → slice_get names m ≡ Some a → slice_get names n ≡ Some b → nm.functions a.name a.types ≡ nm.functions b.name b.types → a ≡ b
+  pub constructors_apart : (m n : ℕ) (a b : Item) → slice_get names m ≡ Some a → slice_get names n ≡ Some b
+      → nm.constructors a.name a.types ≡ nm.constructors b.name b.types → a ≡ b
+  pub functions_apart : (m n : ℕ) (a b : Item) → slice_get names m ≡ Some a → slice_get names n ≡ Some b
+      → nm.functions a.name a.types ≡ nm.functions b.name b.types → a ≡ b
