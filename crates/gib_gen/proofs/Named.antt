@@ -23,7 +23,7 @@ use Rattle.gib_syntax.specs.Tree.{ConstructorTree, DataTree, ProgramTree}
 use Rattle.gib_syntax.specs.Spelling.{spell_type, spell_types, spell_more, spell_constructors, spell_datas, spell_functions, spell_main, spell_program}
 use Rattle.gib_syntax.specs.Source.{Spells}
 use Rattle.gib_syntax.specs.Plain.{written_of, generic_constructor, generic_data, generic_function, generic_main, generic_of}
-use Rattle.gib_syntax.specs.Declarations.{number_of, place_of, next_place, tree_type, type_or, type_of_name, type_names, row_in, rows_from, table_of_program, input_type, output_type}
+use Rattle.gib_syntax.specs.Declarations.{number_of, place_of, tree_type, type_or, type_of_name, type_names, row_in, rows_from, table_of_program, input_type, output_type}
 use Rattle.gib_syntax.specs.Fine.{HasConstructor}
 use Rattle.gib_syntax.specs.GenericFine.{HasGenericConstructor}
 use Rattle.gib_syntax.specs.Typing.{IsTypedProgram}
@@ -158,11 +158,6 @@ held_so P each names number h =
     subst P (sym (ap (λ o. unwrap_or o []) get)) (each name.text name.whole name.is_so)
 
 -- ---- types that are written are declared
-
-below_step : (n : ℕ) (b : Bool) (o : Option ℕ) → ((j : ℕ) → o ≡ Some j → j < n) → (i : ℕ) → (if b then Some 0 else next_place o) ≡ Some i → i < suc n
-below_step n true o h i e = let same : 0 ≡ i = cc in omega (arith, same)
-below_step n false None h i e = absurd cc
-below_step n false (Some j) h i e = let same : suc j ≡ i = cc in omega (arith, same, h j refl)
 
 tree_below : (n : ℕ) (o : Option ℕ) → ((j : ℕ) → o ≡ Some j → j < n) → IsTyBelow n (type_or (tree_type o))
 tree_below n None h = tt
