@@ -18,7 +18,7 @@ use itoa::Buffer;
 use std::alloc::{AllocError, Global};
 
 /// A word and a line feed.
-fn line_of(alloc: Global, word: &[u8]) -> Result<Vec<u8>, Memory>
+pub(crate) fn line_of(alloc: Global, word: &[u8]) -> Result<Vec<u8>, Memory>
     ensures { IfOk result (λ line. line.items ≡ word.now ++ 10 ∷ []) }
 {
     let mut line = Vec::from_slice(alloc, word)?;
