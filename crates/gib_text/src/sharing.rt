@@ -1,0 +1,38 @@
+//! What all parts of a text share.
+
+ghost use Rattle.std.specs.Prelude.{◌≡◌};
+
+use gib_arena::Arena;
+use gib_base::Texts;
+use gib_types::Layouts;
+use std::alloc::Global;
+
+/// What all parts of a text share.
+#[derive(Clone, Copy)]
+pub(crate) struct Sharing<'a> {
+    pub(crate) alloc: Global,
+    pub(crate) arena: &'a Arena,
+    pub(crate) layouts: &'a Layouts,
+    pub(crate) names: &'a Texts,
+}
+
+impl<'a> Sharing<'a> {
+    /// What parts share that have this.
+    pub(crate) fn of(
+        alloc: Global,
+        arena: &'a Arena,
+        layouts: &'a Layouts,
+        names: &'a Texts,
+    ) -> Sharing<'a>
+        ensures arena { result.arena.now ≡ arena.now }
+        ensures layouts { result.layouts.now ≡ layouts.now }
+        ensures names { result.names.now ≡ names.now }
+    {
+        Sharing {
+            alloc,
+            arena,
+            layouts,
+            names,
+        }
+    }
+}
