@@ -48,14 +48,6 @@ impl Item {
         self.from == self.to
     }
 
-    /// At most 128 bytes are left.
-    #[tactic(auto, using(crate::proofs::Fronts::left_long))]
-    pub fn rules(&self)
-        ensures { length self.now.left ≤ 128 }
-    {
-        let _ = &self.bytes;
-    }
-
     /// Drops all bytes.
     pub fn clear(&mut self)
         ensures { self.new ≡ record { left = []; room = 128 } }
