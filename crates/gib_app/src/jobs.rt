@@ -11,17 +11,17 @@ ghost use Rattle.gib_app.specs.Rows.{row};
 ghost use Rattle.gib_app.specs.Running.{sourced};
 ghost use Rattle.gib_app.specs.Stops.{IsReady, IsReplayStop, FailsTo};
 
-pub mod check;
-pub mod code_text;
-pub mod core_text;
-pub mod local;
-pub mod made_run;
-pub mod pack;
-pub mod plain;
-pub mod replay;
-pub mod run;
-pub mod show;
-pub mod trace;
+mod check;
+mod code_text;
+mod core_text;
+pub(crate) mod local;
+mod made_run;
+mod pack;
+mod plain;
+mod replay;
+mod run;
+mod show;
+mod trace;
 
 use crate::compile::Compiled;
 use crate::made::{Finished, Made};

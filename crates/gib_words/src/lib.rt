@@ -5,5 +5,7 @@ mod commands;
 pub mod matches;
 pub mod plan;
 pub mod sample;
-pub mod word_laws;
+mod word_laws;
 pub mod words;
+
+pub use word_laws::{examples, words_ask_where_taken};
