@@ -22,7 +22,7 @@ use Rattle.gib_local.specs.declared.builder.Builder.{Builder}
 use Rattle.gib_local.specs.declared.destination.Goal.{Goal}
 use Rattle.gib_local.specs.declared.build_fault.BuildFault.{BuildFault}
 use Rattle.gib_local.specs.declared.build_fault.BuildFault.TheVariants as f
-use Rattle.gib_local_parse.specs.Tree.{Mark}
+use Rattle.gib_local_parse.specs.declared.tree.Mark.{Mark}
 use Rattle.gib_local.specs.Building.{Place, Around, Passed, Placed, Termed, Stepped, and_then, if_due, aims, no_mark, is_place, meant, call, make, write}
 use Rattle.gib_core.specs.Rules.{is_nowhere}
 use Rattle.gib_local.specs.Builds.{destination_of, around_of, passed_of, Fails, Stays, PutsNode, PutsTerm, Puts, Builds, binds_of, Steps, call_due, reserved, filled_due}

@@ -30,7 +30,8 @@ use Rattle.gib_local.specs.declared.destination.Destination.TheVariants as d
 use Rattle.gib_local.specs.declared.build_fault.BuildFault.{BuildFault}
 use Rattle.gib_local.specs.declared.build_fault.BuildFault.TheVariants as f
 use Rattle.gib_local_parse.specs.declared.text.FunctionLines.{FunctionLines}
-use Rattle.gib_local_parse.specs.Tree.{Mark, Line, FunctionText}
+use Rattle.gib_local_parse.specs.Tree.{Line, FunctionText}
+use Rattle.gib_local_parse.specs.declared.tree.Mark.{Mark}
 use Rattle.gib_local_parse.specs.TextParts.{TextParts, IsFunctionIn, function_text, text_of}
 use Rattle.gib_local_parse.specs.LineArena.{tree_of}
 use Rattle.gib_local.specs.Building.{AtResult, IsPlace, Placed, Program, Termed, and_then, body, build, build_body, build_core, build_functions, con, no_mark, types_of, with_place, with_variables}

@@ -12,7 +12,10 @@ use Rattle.gib_core.specs.declared.atom.Kind.TheVariants.{Scalar}
 use Rattle.gib_core.specs.Tree.{Term, Then, CallTerm, Bind, Past, prepend}
 use Rattle.gib_core.specs.Met.{Setting, met, met_bind, met_side, met_branches, behind, in_side, in_arm, in_branch, left_of, right_of}
 use Rattle.gib_core.proofs.Along.{behind_all}
-use Rattle.gib_local_parse.specs.Tree.{Mark, Location, Start, Plus, After, Line, In, Given, Pointed, Called, Made, Cased, Chosen, Binding, NewRegion, NewPlace, LetIn, ParIn, PrimIn, ReachIn, Bound, Be, Arms, LastArm, NextArm}
+use Rattle.gib_local_parse.specs.Tree.{Line, In, Given, Pointed, Called, Made, Cased, Chosen, Binding, NewRegion, NewPlace, LetIn, ParIn, PrimIn, ReachIn, Bound, Be, Arms, LastArm, NextArm}
+use Rattle.gib_local_parse.specs.declared.tree.Mark.{Mark}
+use Rattle.gib_local_parse.specs.declared.tree.Location.{Location}
+use Rattle.gib_local_parse.specs.declared.tree.Location.TheVariants.{Start, Plus, After}
 use Rattle.gib_local.specs.Building
 use Rattle.gib_local.specs.Building.{Placed, Around, Passed, Termed, Branched, Stepped, Sided, Program, and_then, if_due, meant, kind_at, next_place, place_meant, used_too, inside, inside_scalar, sided, put_at, bind, make, write, call, new_place, between, con, atom, is_flat, is_region, is_open_at, is_last, may_open, named_too, opened, head_of, gives_scalar, type_start, numbered_on, with_variables, build, build_binding, build_bound, build_arms}
 use Rattle.gib_local.specs.Counting.{terms, binding_terms, bound_terms, arms_terms, location_terms, made_terms}

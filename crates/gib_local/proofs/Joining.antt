@@ -24,7 +24,10 @@ use Rattle.gib_local.specs.declared.builder.Builder.{Builder}
 use Rattle.gib_local.specs.declared.destination.Goal.{Goal}
 use Rattle.gib_local.specs.declared.build_fault.BuildFault.{BuildFault}
 use Rattle.gib_local.specs.declared.scopes.Depth.{Depth}
-use Rattle.gib_local_parse.specs.Tree.{Mark, Operand, Way, Line, In, Binding, NewRegion, PrimIn, ReachIn}
+use Rattle.gib_local_parse.specs.Tree.{Line, In, Binding, NewRegion, PrimIn, ReachIn}
+use Rattle.gib_local_parse.specs.declared.tree.Mark.{Mark}
+use Rattle.gib_local_parse.specs.declared.tree.Operand.{Operand}
+use Rattle.gib_local_parse.specs.declared.tree.Way.{Way}
 use Rattle.gib_local.specs.Building.{Place, IsPlace, IsRegion, AtFirst, AtNext, is_last, variable_at, Around, Passed, Placed, Program, Termed, Stepped, Sided, and_then, kind_at, next_place, meant, place_meant, atom, access, with_place, with_variable, named_too, opened, used_too, inside, sided, put_at, bind, between, build, build_binding}
 use Rattle.gib_local.specs.Builds.{destination_of, around_of, passed_of, nowhere, Fails, PutsTerm, Puts, Fronts, binds_of, IsStepBelow, Opens, Steps, NamesBetween, kind_due, side_due}
 use Rattle.gib_local.proofs.Adding.{given, is_due, not_due, fails_then, fails_for}

@@ -13,7 +13,9 @@ use Rattle.gib_check.specs.Faults.{Checked, and_then, one_more}
 use Rattle.gib_check.proofs.Loops.{passed_on, along}
 use Rattle.gib_check.proofs.KnownWords.{then_same, then_then}
 use Rattle.gib_local_parse.specs.declared.lines.LineArm.{LineArm}
-use Rattle.gib_local_parse.specs.Tree.{Mark, Operand, Line, In, Called, Made, Cased, Chosen, Binding, ParIn, Be, Arms}
+use Rattle.gib_local_parse.specs.Tree.{Line, In, Called, Made, Cased, Chosen, Binding, ParIn, Be, Arms}
+use Rattle.gib_local_parse.specs.declared.tree.Mark.{Mark}
+use Rattle.gib_local_parse.specs.declared.tree.Operand.{Operand}
 use Rattle.gib_local_parse.specs.LineArena.{ArmsBelow, arms_from, case_from}
 use Rattle.gib_local_parse.specs.ReadingTerms.{arms_text}
 use Rattle.gib_local.specs.Knowing.{called, made, side}

@@ -18,7 +18,10 @@ use Rattle.gib_core.specs.Tree.{Term, Then, Bind, Past, One, prepend, variables_
 use Rattle.gib_core.specs.Met.{Body}
 use Rattle.gib_core.specs.Numbering.{binders, bind_binders, side_binders, branch_binders, IsNumbered, AreNumbered}
 use Rattle.gib_core.proofs.Runs.{Runs, runs_append, runs_numbers}
-use Rattle.gib_local_parse.specs.Tree.{Mark, Location, Start, Plus, After, Line, In, Given, Pointed, Called, Made, Cased, Chosen, Binding, NewRegion, NewPlace, LetIn, ParIn, PrimIn, ReachIn, Bound, Be, Arms, LastArm, NextArm, FunctionText, LocalTree}
+use Rattle.gib_local_parse.specs.Tree.{Line, In, Given, Pointed, Called, Made, Cased, Chosen, Binding, NewRegion, NewPlace, LetIn, ParIn, PrimIn, ReachIn, Bound, Be, Arms, LastArm, NextArm, FunctionText, LocalTree}
+use Rattle.gib_local_parse.specs.declared.tree.Mark.{Mark}
+use Rattle.gib_local_parse.specs.declared.tree.Location.{Location}
+use Rattle.gib_local_parse.specs.declared.tree.Location.TheVariants.{Start, Plus, After}
 use Rattle.gib_local.specs.Building
 use Rattle.gib_local.specs.Building.{Placed, Around, Passed, Termed, Branched, Stepped, Sided, Program, and_then, if_due, meant, kind_at, next_place, place_meant, used_too, inside, inside_scalar, sided, put_at, bind, make, write, call, new_place, between, con, atom, variable, is_flat, is_region, is_open_at, is_last, may_open, named_too, opened, head_of, gives_scalar, type_start, numbered_on, with_variables, build, build_binding, build_bound, build_arms, build_body, body, opening, build_functions, build_core, program}
 use Rattle.gib_local.proofs.Holding.{Holds, Lines, any, then_holds, due_holds, aims_holds, no_mark_holds, with_mark_holds, holds_of}

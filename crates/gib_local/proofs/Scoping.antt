@@ -6,7 +6,7 @@ use Rattle.std.proofs.lemmas.List.{append-nil, drop-map, length-map, reverse-app
 use Rattle.std.proofs.Math.Seq.{take-length}
 use Rattle.gib_core.specs.declared.atom.Atom.{Atom}
 use Rattle.gib_core.specs.declared.atom.Variable.{Variable}
-use Rattle.gib_local_parse.specs.Tree.{Operand}
+use Rattle.gib_local_parse.specs.declared.tree.Operand.{Operand}
 use Rattle.gib_local.specs.InScope.{NumberScope, number_in}
 use Rattle.gib_local.specs.Scoped.{variable_name, variables_in, place_name, places_in, IsNumberBelow, AreNumbersBelow}
 use Rattle.gib_local.specs.Building.{Place, AtNext, Meant, IsRegion, behind_last, PlaceName, VariableName, is_in, meant, variable_at, without}

@@ -29,7 +29,9 @@ use Rattle.gib_local.specs.declared.destination.Goal.{Goal}
 use Rattle.gib_local.specs.declared.destination.Destination.TheVariants as d
 use Rattle.gib_local.specs.declared.build_fault.BuildFault.{BuildFault}
 use Rattle.gib_local.specs.declared.scopes.Depth.{Depth}
-use Rattle.gib_local_parse.specs.Tree.{Mark, Operand, Line, Cased, Chosen, LetIn, ParIn, Bound, Be, Arms, LastArm}
+use Rattle.gib_local_parse.specs.Tree.{Line, Cased, Chosen, LetIn, ParIn, Bound, Be, Arms, LastArm}
+use Rattle.gib_local_parse.specs.declared.tree.Mark.{Mark}
+use Rattle.gib_local_parse.specs.declared.tree.Operand.{Operand}
 use Rattle.gib_local.specs.Building.{Place, Around, Passed, Placed, Program, Termed, Stepped, Sided, Branched, VariableName, and_then, no_mark, with_variable, with_variables, numbered_on, used_too, inside, inside_scalar, sided, bind, between, atom, build, build_binding, build_bound, build_arms, con, variable}
 use Rattle.gib_local.specs.Builds.{destination_of, around_of, passed_of, nowhere, Fails, Stays, PutsNode, BindsAll, Puts, Fronts, Opens, Binds, BuildsSide, NamesBetween, Forks, side_due}
 use Rattle.gib_local.proofs.Adding.{given, fails_then, fails_for, stays_on, stays_put, node_put, unmarked_go, unmarked_fail}

@@ -14,7 +14,9 @@ use Rattle.gib_local.specs.CountingSteps.{Adds, Goes, GoesOver, program_in}
 use Rattle.gib_local_parse.specs.LineArena.{ArmsBelow, IsArmBelow, arms_from, tree_of}
 use Rattle.gib_local_parse.specs.ReadingTerms.{arms_text}
 use Rattle.gib_local_parse.specs.TextParts.{TextParts, IsFunctionIn, function_text}
-use Rattle.gib_local_parse.specs.Tree.{Mark, Operand, Line, In, Given, Pointed, Called, Made, Cased, Chosen, Binding, ParIn, Bound, Be, Arms, FunctionText}
+use Rattle.gib_local_parse.specs.Tree.{Line, In, Given, Pointed, Called, Made, Cased, Chosen, Binding, ParIn, Bound, Be, Arms, FunctionText}
+use Rattle.gib_local_parse.specs.declared.tree.Mark.{Mark}
+use Rattle.gib_local_parse.specs.declared.tree.Operand.{Operand}
 
 later_none : (o : Option ℕ) → o ≡ or_later o None
 later_none None = refl

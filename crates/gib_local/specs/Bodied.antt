@@ -16,7 +16,8 @@ use Rattle.gib_core.specs.Parts.{IsDeclared, AreDeclared, IsFunctionInside, func
 use Rattle.gib_core.specs.Tree.{FunctionTerm, MainTerm}
 use Rattle.gib_local.specs.declared.builder.Builder.{Builder}
 use Rattle.gib_local.specs.declared.build_fault.BuildFault.{BuildFault}
-use Rattle.gib_local_parse.specs.Tree.{Mark, Line, FunctionText, MainText}
+use Rattle.gib_local_parse.specs.Tree.{Line, FunctionText, MainText}
+use Rattle.gib_local_parse.specs.declared.tree.Mark.{Mark}
 use Rattle.gib_local.specs.Building.{AtResult, IsPlace, Around, Placed, Program, Termed, build, build_body, no_mark, with_mark, with_place, type_start, types_of}
 use Rattle.gib_local.specs.Builds.{Fails, passed_of}
 

@@ -27,7 +27,14 @@ pub use Rattle.gib_local.specs.declared.place.Place.TheVariants.{AtResult, AtSta
 -- What a name stands for among regions and locations.
 pub use Rattle.gib_local.specs.declared.place.Meant.{Meant}
 pub use Rattle.gib_local.specs.declared.place.Meant.TheVariants.{IsRegion, IsPlace}
-use Rattle.gib_local_parse.specs.Tree.{Mark, Operand, Named, Number, Bit, Location, Start, Plus, After, Way, ByOffset, BySkip, ByEnd, Line, In, Given, Pointed, Called, Made, Cased, Chosen, Binding, NewRegion, NewPlace, LetIn, ParIn, PrimIn, ReachIn, Bound, Be, Arms, LastArm, NextArm, FunctionText, LocalTree}
+use Rattle.gib_local_parse.specs.Tree.{Line, In, Given, Pointed, Called, Made, Cased, Chosen, Binding, NewRegion, NewPlace, LetIn, ParIn, PrimIn, ReachIn, Bound, Be, Arms, LastArm, NextArm, FunctionText, LocalTree}
+use Rattle.gib_local_parse.specs.declared.tree.Mark.{Mark}
+use Rattle.gib_local_parse.specs.declared.tree.Operand.{Operand}
+use Rattle.gib_local_parse.specs.declared.tree.Operand.TheVariants.{Named, Number, Bit}
+use Rattle.gib_local_parse.specs.declared.tree.Location.{Location}
+use Rattle.gib_local_parse.specs.declared.tree.Location.TheVariants.{Start, Plus, After}
+use Rattle.gib_local_parse.specs.declared.tree.Way.{Way}
+use Rattle.gib_local_parse.specs.declared.tree.Way.TheVariants.{ByOffset, BySkip, ByEnd}
 
 -- Whether two locations are one.
 abbrev pub same_place : Place → Place → Bool

@@ -27,7 +27,7 @@ use Rattle.gib_local.specs.declared.destination.Goal.{Goal}
 use Rattle.gib_local.specs.declared.builder.Builder.{Builder}
 use Rattle.gib_local.specs.declared.build_fault.BuildFault.{BuildFault}
 use Rattle.gib_local.specs.declared.build_fault.BuildFault.TheVariants as f
-use Rattle.gib_local_parse.specs.Tree.{Mark}
+use Rattle.gib_local_parse.specs.declared.tree.Mark.{Mark}
 use Rattle.gib_local_parse.specs.TextParts.{TextParts, text_of}
 use Rattle.gib_local.specs.Building.{Place, Around, Passed, Placed, Program, Termed, Stepped, Sided, Branched, program, meant, place_meant, kind_at, next_place, no_mark, with_mark, aims, type_start, with_variables, write, numbered_on, if_due, is_open_at, head_of}
 

@@ -22,7 +22,9 @@ use Rattle.gib_local.specs.Building.{declared}
 use Rattle.gib_local.specs.InScope.{NumberScope}
 use Rattle.gib_local.specs.Naming.{Names, Declared, as_many, constructor, function, known, old, operand, operands, all_bound, check_line, check_body}
 use Rattle.gib_local_parse.specs.TextParts.{TextParts, text_of}
-use Rattle.gib_local_parse.specs.Tree.{Mark, Operand, Line}
+use Rattle.gib_local_parse.specs.Tree.{Line}
+use Rattle.gib_local_parse.specs.declared.tree.Mark.{Mark}
+use Rattle.gib_local_parse.specs.declared.tree.Operand.{Operand}
 
 -- What is declared by a program without bodies.
 abbrev pub declared_by : ProgramTree → Declared

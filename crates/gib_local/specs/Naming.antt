@@ -12,7 +12,14 @@ use Rattle.gib_check.specs.declared.fault.Kind.TheVariants as kind
 use Rattle.gib_syntax.specs.Plain.{generic_of}
 use Rattle.gib_check.specs.Faults.{Checked, and_then, allowed, found, one_more, counted}
 use Rattle.gib_check.specs.FirstFault.{check_declarations}
-use Rattle.gib_local_parse.specs.Tree.{Mark, Operand, Named, Number, Bit, Location, Start, Plus, After, Way, ByOffset, BySkip, ByEnd, Line, In, Given, Pointed, Called, Made, Cased, Chosen, Binding, NewRegion, NewPlace, LetIn, ParIn, PrimIn, ReachIn, Be, Arms, LastArm, NextArm, FunctionText, LocalTree}
+use Rattle.gib_local_parse.specs.Tree.{Line, In, Given, Pointed, Called, Made, Cased, Chosen, Binding, NewRegion, NewPlace, LetIn, ParIn, PrimIn, ReachIn, Be, Arms, LastArm, NextArm, FunctionText, LocalTree}
+use Rattle.gib_local_parse.specs.declared.tree.Mark.{Mark}
+use Rattle.gib_local_parse.specs.declared.tree.Operand.{Operand}
+use Rattle.gib_local_parse.specs.declared.tree.Operand.TheVariants.{Named, Number, Bit}
+use Rattle.gib_local_parse.specs.declared.tree.Location.{Location}
+use Rattle.gib_local_parse.specs.declared.tree.Location.TheVariants.{Start, Plus, After}
+use Rattle.gib_local_parse.specs.declared.tree.Way.{Way}
+use Rattle.gib_local_parse.specs.declared.tree.Way.TheVariants.{ByOffset, BySkip, ByEnd}
 use Rattle.gib_local.specs.Building.{declared}
 
 -- The names in scope: variables; regions and locations, which are one name space of their own.

@@ -11,7 +11,10 @@ use Rattle.gib_syntax.specs.Results as results
 use Rattle.gib_core.specs.declared.atom.Variable.{Variable}
 use Rattle.gib_core.specs.declared.atom.Kind.TheVariants.{Here}
 use Rattle.gib_core.specs.Tree.{Term, Then, Write, Point, CallTerm, Past, One, On, var, CoreTree}
-use Rattle.gib_local_parse.specs.Tree.{Mark, Named, Start, Plus, After, Line, In, Pointed, Called, Made, NewRegion, NewPlace, LetIn, Be, LocalTree}
+use Rattle.gib_local_parse.specs.Tree.{Line, In, Pointed, Called, Made, NewRegion, NewPlace, LetIn, Be, LocalTree}
+use Rattle.gib_local_parse.specs.declared.tree.Mark.{Mark}
+use Rattle.gib_local_parse.specs.declared.tree.Operand.TheVariants.{Named}
+use Rattle.gib_local_parse.specs.declared.tree.Location.TheVariants.{Start, Plus, After}
 
 -- The span of the token of a number.
 abbrev pub span : ℕ → Span

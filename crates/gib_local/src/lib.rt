@@ -30,4 +30,5 @@ pub use fault::LocalFault;
 pub use known::Known;
 pub use making::{Located, local};
 pub use names::check_names;
+pub use place::{Meant, Place};
 pub use source::Source;

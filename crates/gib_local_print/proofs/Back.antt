@@ -14,8 +14,13 @@ use Rattle.gib_core.specs.Tree.{Term, Then, Write, Point, CallTerm, Give, CaseTe
 use Rattle.gib_core.specs.Met.{Destination, Nowhere, Empty, Open, InParts, stands_too, with_field}
 use Rattle.gib_core.specs.Rules.{has_room, is_nowhere}
 use Rattle.gib_core.proofs.Facts.{itself}
-use Rattle.gib_local_parse.specs.Tree.{Mark, Line, In, LetIn, Bound, Be}
-use Rattle.gib_local.specs.Building.{Placed, Place, AtStart, AtFirst, AtNext, Meant, IsPlace, PlaceName, Around, Passed, Termed, Sided, Program, and_then, meant, is_in, next_place, kind_for, kind_at, used_too, is_flat, sided, put_at, bind, build, build_binding, build_bound}
+use Rattle.gib_local_parse.specs.Tree.{Line, In, LetIn, Bound, Be}
+use Rattle.gib_local_parse.specs.declared.tree.Mark.{Mark}
+use Rattle.gib_local.specs.Building.{Placed, PlaceName, Around, Passed, Termed, Sided, Program, and_then, meant, is_in, next_place, kind_for, kind_at, used_too, is_flat, sided, put_at, bind, build, build_binding, build_bound}
+use Rattle.gib_local.specs.declared.place.Place.{Place}
+use Rattle.gib_local.specs.declared.place.Place.TheVariants.{AtStart, AtFirst, AtNext}
+use Rattle.gib_local.specs.declared.place.Meant.{Meant}
+use Rattle.gib_local.specs.declared.place.Meant.TheVariants.{IsPlace}
 use Rattle.gib_local_print.specs.Printing.{Naming, Apart, nowhere, mark, named, type_text, side_number, side_place, are_fields, text_of, side_text}
 use Rattle.gib_local_print.specs.HasText.{MayStand, IsWritten, scope_from, HasText, OpensText, HasBranches}
 use Rattle.gib_local_print.proofs.World.{in_past, in_other, without_past, scope_names, world, passed}

@@ -11,8 +11,13 @@ use Rattle.gib_core.specs.Rules.{has_room, is_nowhere}
 use Rattle.gib_core.specs.Tree.{Term, prepend}
 use Rattle.gib_syntax.specs.declared.tree.Ident.{Ident}
 use Rattle.gib_core.proofs.Facts.{itself}
-use Rattle.gib_local_parse.specs.Tree.{Line, In, Binding, NewRegion, NewPlace, Start, After}
-use Rattle.gib_local.specs.Building.{Placed, Place, AtResult, AtStart, AtFirst, AtNext, Meant, IsRegion, IsPlace, PlaceName, Around, Passed, Termed, Stepped, Program, and_then, if_due, meant, variable, is_region, is_in, without, behind_last, next_place, is_there, is_last, kind_for, used_too, named_too, build, build_binding}
+use Rattle.gib_local_parse.specs.Tree.{Line, In, Binding, NewRegion, NewPlace}
+use Rattle.gib_local_parse.specs.declared.tree.Location.TheVariants.{Start, After}
+use Rattle.gib_local.specs.Building.{Placed, PlaceName, Around, Passed, Termed, Stepped, Program, and_then, if_due, meant, variable, is_region, is_in, without, behind_last, next_place, is_there, is_last, kind_for, used_too, named_too, build, build_binding}
+use Rattle.gib_local.specs.declared.place.Place.{Place}
+use Rattle.gib_local.specs.declared.place.Place.TheVariants.{AtResult, AtStart, AtFirst, AtNext}
+use Rattle.gib_local.specs.declared.place.Meant.{Meant}
+use Rattle.gib_local.specs.declared.place.Meant.TheVariants.{IsRegion, IsPlace}
 use Rattle.gib_local_print.specs.Printing.{Naming, Apart, nowhere, ident, named, place_number, last_of, before_field, before, side_number}
 use Rattle.gib_local_print.specs.HasText.{MayStand}
 use Rattle.gib_local_print.proofs.World.{bind_ok, meant_here, meant_past, in_here, without_here, world, passed, variable_back}

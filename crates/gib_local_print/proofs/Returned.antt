@@ -18,7 +18,10 @@ use Rattle.gib_core.specs.Rules.{is_nowhere}
 use Rattle.gib_core.specs.Ordered.{IsFound}
 use Rattle.gib_core.proofs.Facts.{itself}
 use Rattle.gib_local_parse.specs.Tree.{Line, In, ParIn, Bound, Arms}
-use Rattle.gib_local.specs.Building.{Placed, Place, AtResult, AtNext, IsPlace, PlaceName, Around, Termed, Branched, Stepped, Sided, Program, and_then, if_due, meant, variable_at, variable, atom, con, next_place, is_there, is_last, between, with_variables, numbered_on, build, build_binding, build_bound, build_arms}
+use Rattle.gib_local.specs.Building.{Placed, PlaceName, Around, Termed, Branched, Stepped, Sided, Program, and_then, if_due, meant, variable_at, variable, atom, con, next_place, is_there, is_last, between, with_variables, numbered_on, build, build_binding, build_bound, build_arms}
+use Rattle.gib_local.specs.declared.place.Place.{Place}
+use Rattle.gib_local.specs.declared.place.Place.TheVariants.{AtResult, AtNext}
+use Rattle.gib_local.specs.declared.place.Meant.TheVariants.{IsPlace}
 use Rattle.gib_local_print.specs.Printing.{Naming, Apart, nowhere, ident, named, atom_name, operand, type_text, result_text, con_text, before, side_number, place_number, side_place, are_fields, par_text, arms_or, text_of, side_text, branches_text}
 use Rattle.gib_local_print.specs.HasText.{MayStand, IsWritten, IsBranch, scope_from, HasText, HasBranches}
 use Rattle.gib_local_print.proofs.World.{meant_here, con_back, scope_names, world, passed, atom_back, named_back}

@@ -20,7 +20,13 @@ use Rattle.gib_core.specs.Met.{Destination, Nowhere, Empty, Open, InParts, Body,
 use Rattle.gib_core.specs.Walk.{Each, EachInBind, EachInSide, EachInBranches, body_of}
 use Rattle.gib_syntax.specs.Typing.{operator_type}
 use Rattle.gib_local.specs.Building.{is_flat}
-use Rattle.gib_local_parse.specs.Tree.{Mark, Operand, Location, Start, Plus, After, Way, ByOffset, BySkip, ByEnd, Line, In, NewPlace, NewRegion, LetIn, ParIn, Bound}
+use Rattle.gib_local_parse.specs.Tree.{Line, In, NewPlace, NewRegion, LetIn, ParIn, Bound}
+use Rattle.gib_local_parse.specs.declared.tree.Mark.{Mark}
+use Rattle.gib_local_parse.specs.declared.tree.Operand.{Operand}
+use Rattle.gib_local_parse.specs.declared.tree.Location.{Location}
+use Rattle.gib_local_parse.specs.declared.tree.Location.TheVariants.{Start, Plus, After}
+use Rattle.gib_local_parse.specs.declared.tree.Way.{Way}
+use Rattle.gib_local_parse.specs.declared.tree.Way.TheVariants.{ByOffset, BySkip, ByEnd}
 use Rattle.gib_local_parse.specs.Grammar.{sign, lower, upper, operand_word, operator_word, type_word, spell_mark, spell_option, spell_operands, spell_names, spell_location, spell_way, spell_between, spell_line, spell_bound, spell_arms}
 use Rattle.gib_local_parse.specs.Texts.{spell_list, spell_type, spell_con, spell_constructor, spell_alternative, spell_constructors, spell_data, spell_offsets, spell_parameter, spell_body, spell_function, spell_main}
 use Rattle.gib_local_print.specs.Printing.{Naming, nowhere, no_name, no_text, result_text, ident, named, atom_name, operand, type_text, con_text, way, last_of, side_number, side_mark, side_place, call_mark, mark, before_field, before, are_fields, behind_bind, open_text, par_text, arms_or, text_of, bind_text, side_text, branches_text, function_text, first_given}

@@ -15,8 +15,14 @@ use Rattle.gib_core.specs.Tree.{Term, Then, Write, Point, CallTerm, Give, CaseTe
 use Rattle.gib_core.specs.Met.{Destination, Nowhere, Empty, Open, InParts}
 use Rattle.gib_core.specs.Rules.{is_nowhere}
 use Rattle.gib_core.proofs.Facts.{itself}
-use Rattle.gib_local_parse.specs.Tree.{Mark, Line, In, Made, NewPlace, PrimIn, ReachIn, Plus}
-use Rattle.gib_local.specs.Building.{Placed, Place, AtFirst, Meant, IsPlace, PlaceName, Around, Termed, Stepped, Program, if_due, meant, variable, atom, is_place, aims, is_flat, is_open_at, write, make, call, may_open, opened, build}
+use Rattle.gib_local_parse.specs.Tree.{Line, In, Made, NewPlace, PrimIn, ReachIn}
+use Rattle.gib_local_parse.specs.declared.tree.Mark.{Mark}
+use Rattle.gib_local_parse.specs.declared.tree.Location.TheVariants.{Plus}
+use Rattle.gib_local.specs.Building.{Placed, PlaceName, Around, Termed, Stepped, Program, if_due, meant, variable, atom, is_place, aims, is_flat, is_open_at, write, make, call, may_open, opened, build}
+use Rattle.gib_local.specs.declared.place.Place.{Place}
+use Rattle.gib_local.specs.declared.place.Place.TheVariants.{AtFirst}
+use Rattle.gib_local.specs.declared.place.Meant.{Meant}
+use Rattle.gib_local.specs.declared.place.Meant.TheVariants.{IsPlace}
 use Rattle.gib_local_print.specs.Printing.{Naming, Apart, nowhere, ident, mark, named, atom_name, operand, type_text, con_text, way, call_mark, open_text, text_of}
 use Rattle.gib_local_print.specs.HasText.{HasAtom, HasFields, HasText, OpensText}
 use Rattle.gib_local_print.proofs.World.{place_itself, meant_here, fields_back, all_merged, con_back, scope_names, world, passed, variable_back, atom_back, atoms_back, named_back, access_back}

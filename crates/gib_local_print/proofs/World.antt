@@ -14,7 +14,10 @@ use Rattle.gib_core.specs.declared.atom.Access.TheVariants as by
 use Rattle.gib_core.specs.Ordered.{IsFound}
 use Rattle.gib_core.specs.Met.{Destination}
 use Rattle.gib_core.proofs.Facts.{Test, holds, fails, test, itself}
-use Rattle.gib_local.specs.Building.{Placed, Place, AtResult, AtStart, AtFirst, AtNext, Meant, PlaceName, VariableName, Around, Passed, and_then, meant, variable_at, variable, atom, con, con_or, same_place, is_in, without, access}
+use Rattle.gib_local.specs.Building.{Placed, PlaceName, VariableName, Around, Passed, and_then, meant, variable_at, variable, atom, con, con_or, same_place, is_in, without, access}
+use Rattle.gib_local.specs.declared.place.Place.{Place}
+use Rattle.gib_local.specs.declared.place.Place.TheVariants.{AtResult, AtStart, AtFirst, AtNext}
+use Rattle.gib_local.specs.declared.place.Meant.{Meant}
 use Rattle.gib_local_print.specs.Printing.{Naming, Apart, named, atom_name, operand, con_text, way}
 use Rattle.gib_local_print.specs.HasText.{HasAtom, HasVariable, HasAccess}
 

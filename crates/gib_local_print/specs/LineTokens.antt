@@ -12,7 +12,8 @@ use Rattle.gib_core.specs.declared.atom.Kind.TheVariants.{Here, Region, Scalar}
 use Rattle.gib_core.specs.declared.node.Branch.{Branch}
 use Rattle.gib_core.specs.Tree.{Term, Bind, Past, One, Both, Prim, Reach, On, Several, MainTerm}
 use Rattle.gib_core.specs.Met.{Destination, Nowhere, Empty, Open, InParts, result_place}
-use Rattle.gib_local_parse.specs.Tree.{Start, Plus, After, Binding, NewRegion, NewPlace, LetIn, ParIn, PrimIn, ReachIn, Bound, MainText}
+use Rattle.gib_local_parse.specs.Tree.{Binding, NewRegion, NewPlace, LetIn, ParIn, PrimIn, ReachIn, Bound, MainText}
+use Rattle.gib_local_parse.specs.declared.tree.Location.TheVariants.{Start, Plus, After}
 use Rattle.gib_local.specs.Building.{is_flat}
 use Rattle.gib_local_print.specs.Printing.{Naming, no_name, ident, named, operand, type_text, con_text, way, last_of, side_number, are_fields, behind_bind, side_text, text_of, result_mark}
 use Rattle.gib_local_parse.specs.Grammar.{sign, upper, spell_binding, spell_names, spell_line}
