@@ -6,7 +6,7 @@ pub mod Finding
 pub mod Holding
 pub mod Numbered
 pub mod Naturals
-pub mod Meant
+pub mod Meaning
 pub mod Counted
 -- For `one_core_of_bytes`, `answered_is_local` and `texts_are_answered`; and what small texts make.
 pub mod OneLocal
