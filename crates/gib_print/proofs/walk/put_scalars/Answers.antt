@@ -13,7 +13,7 @@ use Rattle.gib_print.specs.Framing.{a_whole, a_truth}
 use Rattle.gib_print.specs.declared.frame.Frame.{Frame}
 use Rattle.gib_print.specs.declared.turn.Printed.TheVariants as p
 use Rattle.gib_print.proofs.HeadLemmas.{field_left, next_whole, next_truth, turn_as}
-use Rattle.gib_print.proofs.PlanLemmas.{goes_none, goes_turn}
+use Rattle.gib_print.proofs.PlanLemmas.{goes_none, goes_turn, goes_then}
 use Rattle.gib_print.proofs.walk.put_scalars.Goals as goal
 
 pub scalars-init : goal.scalars-init
@@ -79,7 +79,7 @@ scalars-preserved-in-Whole g c =
       goes = λ laid names fs a same.
           let here = field_left _ _ frame.next ty.Whole (same ∙ ap (λ (x : ConId). field_types laid x.0) (sym c.scalars.invariant.con)) (omega (arith, c.scalars-test.true)) c.in-Whole.is in
           let turn = turn_as {fs = frame ∷ fs} refl (ap p.Whole is) (ap (λ (x : Frame). x ∷ fs) c.passed.ensures) refl (a_whole here q.1 q.2) in
-          goes_turn (c.scalars.invariant.goes laid names fs a same) turn c.in-Ok.ensures.done;
+          goes_then (c.scalars.invariant.goes laid names fs a same) (goes_turn turn c.in-Ok.ensures.done);
       con = ap (λ (x : Frame). x.con) c.passed.ensures ∙ c.scalars.invariant.con;
       closes = ap (λ (x : Frame). x.closes) c.passed.ensures ∙ c.scalars.invariant.closes;
     }
@@ -93,7 +93,7 @@ scalars-preserved g c =
       goes = λ laid names fs a same.
           let here = field_left _ _ frame.next ty.Truth (same ∙ ap (λ (x : ConId). field_types laid x.0) (sym c.scalars.invariant.con)) (omega (arith, c.scalars-test.true)) c.in-Truth.is in
           let turn = turn_as {fs = frame ∷ fs} refl refl (ap (λ (x : Frame). x ∷ fs) c.passed-in-Truth.ensures) refl (a_truth here holds) in
-          goes_turn (c.scalars.invariant.goes laid names fs a same) turn c.in-Ok-put_truth.ensures.done;
+          goes_then (c.scalars.invariant.goes laid names fs a same) (goes_turn turn c.in-Ok-put_truth.ensures.done);
       con = ap (λ (x : Frame). x.con) c.passed-in-Truth.ensures ∙ c.scalars.invariant.con;
       closes = ap (λ (x : Frame). x.closes) c.passed-in-Truth.ensures ∙ c.scalars.invariant.closes;
     }
