@@ -18,6 +18,7 @@ use Rattle.gib_app.specs.declared.made.End.{End as KeptEnd}
 use Rattle.gib_app.specs.declared.made.End.TheVariants as ends
 use Rattle.gib_app.specs.declared.made.Finished.{Finished}
 use Rattle.gib_app.specs.declared.made.Made.{Made}
+use Rattle.gib_app.specs.declared.made.Reason.{Reason}
 use Rattle.gib_app.specs.declared.made.Reason.TheVariants.{Long}
 use Rattle.gib_app.specs.declared.made.Valued.{Valued}
 use Rattle.gib_words.specs.declared.plan.Options.{Options}
@@ -32,6 +33,7 @@ use Rattle.gib_app.specs.Kept.{EndsBy, EndsByBoth, StandsAgain, file_of, packed_
 use Rattle.gib_app.specs.MachineRun.{StandsMeant, cells_of}
 use Rattle.gib_app.specs.Replaying.{IsImageFile}
 use Rattle.gib_app.specs.Running.{Program, IsInput}
+use Rattle.gib_app.proofs.Doing.{ends_without}
 use Rattle.gib_app.proofs.Imaged.{image_made, shown_runs}
 
 -- What holds where a call is well, holds of what it gives.
@@ -147,17 +149,15 @@ pub runs_alone : (p : ProgramTree) (names : TextsView) (o : Options) (input : Li
 runs_alone p names o input off f x h = (h, let P : Bool → Type 0 = λ b. PacksResult b p names o.depth input None x in subst P (sym off) refl)
 
 -- Nor does one that ends without a value.
-abbrev pub RunsValueless : ProgramTree → TextsView → Options → List ℕ → Option (List ℕ) → End → Type 0
-RunsValueless p names o input f (Prints text) = ⊥
-RunsValueless p names o input f (NoValue reason) = Runs p names o input f (NoValue reason)
-
-pub runs_valueless : (p : ProgramTree) (names : TextsView) (o : Options) (input : List ℕ) (f : Option (List ℕ)) (x : End) → RunsValueless p names o input f x → RunsBoth p names o input f None x
-runs_valueless p names o input f (Prints text) h = absurd h
-runs_valueless p names o input f (NoValue reason) h = (h, go o.packs)
+pub runs_valueless : (p : ProgramTree) (names : TextsView) (o : Options) (input : List ℕ) (why : Reason) → Runs p names o input None (NoValue why) → RunsBoth p names o input None None (NoValue why)
+runs_valueless p names o input why h = (h, go o.packs)
   where
-    go : (b : Bool) → PacksResult b p names o.depth input None (NoValue reason)
+    go : (b : Bool) → PacksResult b p names o.depth input None (NoValue why)
     go false = refl
     go true = refl
+
+pub both_without : (made : Made) (why : Reason) (Q : Option (List ℕ) → Option (List ℕ) → End → Type 0) → made.file ≡ None → made.end ≡ ends.NoValue why → Q None None (NoValue why) → EndsByBoth (file_of made) None made.end Q
+both_without made why Q file end' h = ends_without made why (λ f x. Q f None x) file end' h
 
 -- Nor does a job that makes none.
 pub does_alone : (job : Job) (o : Options) (p : Program) (names : TextsView) (given : Contents) → packs_of (row job) o ≡ false → (f : Option (List ℕ)) (x : End) → Does job o p names given f x → DoesAll job o p names given f None x

@@ -14,7 +14,6 @@ use Rattle.gib_file.specs.Framed.{Content, File, Framed, HasMagic, IsFirstFault}
 use Rattle.gib_file.specs.Agreeing.{IsSchemaFault}
 use Rattle.gib_file.specs.Describing.{Agrees, Differs}
 use Rattle.gib_file.specs.Reading.{Fails, read_all}
-use Rattle.gib_core.specs.Tree.{CoreTree}
 use Rattle.gib_syntax.specs.Tree.{ProgramTree}
 use Rattle.gib_syntax.specs.Declarations.{table_of_program, input_type}
 use Rattle.gib_app.specs.declared.input_fault.InputFault.TheVariants as input
@@ -24,10 +23,9 @@ use Rattle.gib_app.specs.declared.stop.Stop.{Stop}
 use Rattle.gib_app.specs.InputFaults.{IsFileFault, IsPayloadFault, IsShowFault}
 use Rattle.gib_app.specs.Running.{IsShownValue}
 use Rattle.gib_app.specs.PassFaults.{packed_stop, payload_stop, schema_stop}
-use Rattle.gib_app.specs.MachineRun.{IsMachineStopBy}
 use Rattle.gib_app.specs.Stops.{IsPackedStop, IsRunStop, IsShowStop}
 use Rattle.gib_app.proofs.Signs.{no_packed_value}
-use Rattle.gib_app.proofs.StopMaps.{never, only_packed, stays, stops_map}
+use Rattle.gib_app.proofs.StopMaps.{never, only_packed, stops_map}
 
 abbrev pub HeaderRefuses : Type 0
 HeaderRefuses = (table : Table) (names : List (List ℕ)) (ty : Ty) (v : Datum) (bytes : List ℕ) (fault : HeadFault) → IsFirstFault bytes fault → File table names ty v bytes → ⊥
@@ -89,6 +87,3 @@ module _ (p : ProgramTree) (names : TextsView) (skips : Bool) (bytes : List ℕ)
       refused (Tag place) c = ((short, c.0), no_packed_value p skips bytes magic c.1)
       refused (Truth place) c = ((short, c.0), no_packed_value p skips bytes magic c.1)
       refused (Trailing place) c = ((short, c.0), no_packed_value p skips bytes magic c.1)
-
-pub machine_stop : (core : CoreTree) (p : ProgramTree) (names : TextsView) (depth forks chunks : ℕ) (bytes : List ℕ) (stop : Stop) → IsRunStop p names bytes stop → IsMachineStopBy core p names depth forks chunks bytes stop
-machine_stop core p names depth forks chunks bytes stop h = stops_map _ _ _ _ _ _ _ _ _ _ stop h (never _) (never _) (stays _) (never _) (never _)

@@ -1,10 +1,8 @@
 -- That what a run makes comes from the region memory that it left.
 use Rattle.gib_base.specs.Texts.{TextsView}
-use Rattle.std.proofs.Common.{◌≡◌, ◌∙◌, ◌≤◌, arith, refl, ap, ℕ, List, Option, Some, None, Bool, Result, Ok, Err, IfOk, sym, subst, subst₂}
+use Rattle.std.proofs.Common.{◌≡◌, ◌∙◌, ◌≤◌, arith, refl, ap, ℕ, List, Option, None, Bool, Result, Ok, Err, IfOk, sym, subst, subst₂}
 use Rattle.std.specs.Prelude.{⊤}
 use Rattle.gib_types.specs.Layout.{LaidOut}
-use Rattle.gib_mem.specs.Memory.{Memory, IsBounded}
-use Rattle.gib_packed.specs.declared.root.Root.{Root}
 use Rattle.gib_arena.specs.Sole.{sole_memory, sole_bounded}
 use Rattle.gib_code.specs.Program.{CodeTree}
 use Rattle.gib_core.specs.LoweredParts.{LoweredParts}
@@ -24,17 +22,15 @@ use Rattle.gib_words.specs.declared.plan.Options.{Options}
 use Rattle.gib_app.specs.declared.stop.Stop.{Stop}
 use Rattle.gib_app.specs.Cores.{core_after, layouts_of}
 use Rattle.gib_app.specs.Imaging.{IsShownWith}
-use Rattle.gib_app.specs.Jobs.{End, Prints, NoValue, run_forks}
-use Rattle.gib_app.specs.Kept.{EndsBy, StandsAgain, file_of, packed_of}
+use Rattle.gib_app.specs.Jobs.{run_forks}
+use Rattle.gib_app.specs.Kept.{StandsAgain, file_of, packed_of}
 use Rattle.gib_app.specs.MachineRun.{StandsMeant, LacksValue, cells_of}
-use Rattle.gib_app.specs.Remains.{Remains, IsLeft, ComesOfMemory, ComesOfRun, SumsMemory}
+use Rattle.gib_app.specs.Remains.{IsLeft, ComesOfMemory, ComesOfRun, SumsMemory}
 use Rattle.gib_app.specs.Rows.{row}
 use Rattle.gib_app.specs.Running.{Program}
 use Rattle.gib_app.specs.Replaying.{IsImageFile}
-use Rattle.gib_app.specs.Stops.{reason_of}
 use Rattle.gib_app.proofs.Imaged.{stands_again}
 use Rattle.gib_app.proofs.PackedRuns.{stands_named}
-use Rattle.gib_app.proofs.Stopped.{StopsJob, RunRefused, stopped_made}
 
 -- ---- What stands by the layouts of the code stands by those of the program, and the other way round
 
@@ -147,35 +143,9 @@ comes_beside Trace p names o input made r other here is h = of_none r
 comes_beside Replay p names o input made r other here is h = of_none r
 comes_beside Local p names o input made r other here is h = absurd (here refl)
 
--- Where there is no value, what holds of each such end holds.
-pub valueless_comes : (Q : KeptEnd → Type 0) (s : Stop) (r : Result Made Stop) → ((why : Reason) → Q (ends.NoValue why))
-    → IfOk r (λ made. (why : Reason) × (reason_of s ≡ Some why) × (made.file ≡ None) × (made.end ≡ ends.NoValue why)) → IfOk r (λ made. Q made.end)
-valueless_comes Q s (Ok made) give of = subst Q (sym of.3) (give of.0)
-valueless_comes Q s (Err other) give of = tt {0}
-
 -- Without a value nothing comes from there, where not for the length of its packed file.
-abbrev NotLong : Option (List ℕ) → End → Type 0
-NotLong file (Prints text) = ⊥
-NotLong file (NoValue (reason.Meant why)) = ⊤
-NotLong file (NoValue reason.Full) = ⊤
-NotLong file (NoValue reason.Long) = ⊥
-
-lacks_not_long : (p : ProgramTree) (names : TextsView) (o : Options) (input : List ℕ) (why : Reason) → LacksValue p names o.skips o.depth (run_forks o) o.chunks input why → NotLong None (NoValue why)
-lacks_not_long p names o input (reason.Meant why) h = tt {0}
-lacks_not_long p names o input reason.Full h = tt {0}
-lacks_not_long p names o input reason.Long h = absurd h
-
-comes_without : (p : ProgramTree) (names : TextsView) (o : Options) (input : List ℕ) (file : Option (List ℕ)) (e : KeptEnd) → EndsBy file e NotLong → ComesOfMemory p names o input file e
-comes_without p names o input file (ends.Prints text) h = absurd h
-comes_without p names o input file (ends.Value value) h = absurd h.3
-comes_without p names o input file (ends.NoValue (reason.Meant why)) h = tt {0}
-comes_without p names o input file (ends.NoValue reason.Full) h = tt {0}
-comes_without p names o input file (ends.NoValue reason.Long) h = absurd h
-
-pub stopped_comes : (p : ProgramTree) (names : TextsView) (o : Options) (input : List ℕ) (s : Stop) (r : Result Made Stop)
-    → StopsJob (RunRefused p names input) (LacksValue p names o.skips o.depth (run_forks o) o.chunks input) s
-    → IfOk r (λ made. (why : Reason) × (reason_of s ≡ Some why) × (made.file ≡ None) × (made.end ≡ ends.NoValue why)) → IfOk r (λ made. ComesOfMemory p names o input (file_of made) made.end)
-stopped_comes p names o input s (Ok made) h of =
-    comes_without p names o input (file_of made) made.end
-    (stopped_made (RunRefused p names input) (LacksValue p names o.skips o.depth (run_forks o) o.chunks input) NotLong s (Ok made) h of (lacks_not_long p names o input))
-stopped_comes p names o input s (Err other) h of = tt {0}
+pub lacks_comes : (p : ProgramTree) (names : TextsView) (o : Options) (input : List ℕ) (file : Option (List ℕ)) (why : Reason) → LacksValue p names o.skips o.depth (run_forks o) o.chunks input why
+    → ComesOfMemory p names o input file (ends.NoValue why)
+lacks_comes p names o input file (reason.Meant why) h = tt {0}
+lacks_comes p names o input file reason.Full h = tt {0}
+lacks_comes p names o input file reason.Long h = absurd h

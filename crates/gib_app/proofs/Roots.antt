@@ -42,16 +42,19 @@ use Rattle.gib_pool.specs.Runs.{IsRun}
 use Rattle.gib_weave.specs.Sound.{IsAnswer, means_why}
 use Rattle.gib_weave.proofs.Roots.{no_parts}
 use Rattle.gib_arena.specs.declared.sole_mem.SoleMem.{SoleMem}
-use Rattle.gib_app.specs.declared.machine_run.Ran.{Ran}
+use Rattle.gib_app.specs.declared.machine_run.Rooted.{Rooted}
+use Rattle.gib_app.specs.declared.machine_run.RunStop.{RunStop}
+use Rattle.gib_app.specs.declared.machine_run.RunStop.TheVariants as run_stop
 use Rattle.gib_app.specs.declared.made.Reason.{Reason}
 use Rattle.gib_app.specs.declared.made.Reason.TheVariants as reason
 use Rattle.gib_app.specs.declared.stop.Stop.{Stop}
+use Rattle.gib_app.specs.declared.stop.Stop.TheVariants.{Usage, Source, Unread, Input, NoValue, Unwritten, Unput}
+use Rattle.gib_app.specs.declared.stop.Stop.TheVariants.{Memory as NoMemory}
 use Rattle.gib_app.specs.Cores.{core_after, layouts_of}
 use Rattle.gib_app.specs.Replaying.{root_in}
 use Rattle.gib_app.specs.Running.{IsInput}
 use Rattle.gib_app.specs.Stops.{IsPackedStop, IsRunStop}
-use Rattle.gib_app.specs.MachineRun.{cells_of, StandsMeant, RunsFor, LacksValueBy, IsMachineStop, IsMachineStopBy, IsRootOf, Lacks, Halts, EndsWith, program_cost}
-use Rattle.gib_app.proofs.StopMaps.{never, stops_map}
+use Rattle.gib_app.specs.MachineRun.{cells_of, StandsMeant, RunsFor, LacksValueBy, IsRootOf, Lacks, Halts, EndsWith, OnEnd, OnRan, ended, program_cost}
 
 -- A value that was loaded is where a run may start.
 pub start_of : (l : LoweredParts) (laid : LaidOut) (ty : Ty) (v : Datum) (m : Memory) (place : Root) (tails : List ℕ) → laid ≡ l.code.laid → ty ≡ (core_of l.core).main.parameter
@@ -123,7 +126,7 @@ pub packed_in : (l : LoweredParts) (laid : LaidOut) (s : Surveyed) (v : Datum) �
 packed_in l laid s v e f p = subst (λ (t : Table). Packed t s.ty v s.bytes) (f ∙ sym (ap (λ (x : LaidOut). x.table) e)) p
 
 -- Loading and then running.
-pub loaded_ran : (l : LoweredParts) (laid : LaidOut) (s : Surveyed) (depth forks : ℕ) (m0 m1 m2 : Memory) (place : Root) (tails : List ℕ) (r : Result Answer RunFault) (e : Result Root Stop)
+pub loaded_ran : (l : LoweredParts) (laid : LaidOut) (s : Surveyed) (depth forks : ℕ) (m0 m1 m2 : Memory) (place : Root) (tails : List ℕ) (r : Result Answer RunFault) (e : Result Root RunStop)
     → laid ≡ l.code.laid → s.table ≡ l.code.laid.table → s.ty ≡ (core_of l.core).main.parameter
     → ((v : Datum) → Packed laid.table s.ty v s.bytes → record { memory = m1; root = place; tails = tails } ≡ placed_in laid m0 v)
     → ((v : Datum) → Packed laid.table s.ty v s.bytes → Holding laid s.ty v (record { memory = m1; root = place; tails = tails }))
@@ -198,33 +201,38 @@ lacks_meant core p depth forks chunks input v l of is reason.Full h = record {
 }
 lacks_meant core p depth forks chunks input v l of is reason.Long h = h
 
-pub stop_meant : {names : TextsView} (core : CoreTree) (p : ProgramTree) (depth forks chunks : ℕ) (input : List ℕ) (v : Datum) (l : LoweredParts) → IsOfCore core p l → IsInput p names v input → (why : Stop)
-    → Halts (core_run (core_of l.core) depth v) chunks (run_cost (core_of l.core) depth forks v) why → IsMachineStopBy core p names depth forks chunks input why
-stop_meant core p depth forks chunks input v l of is why h = stops_map _ _ _ _ _ _ _ _ _ _ why h (never _) (never _) (never _) (lacks_meant core p depth forks chunks input v l of is) (never _)
-
 -- A survey's value is the input.
 pub input_of : {names : TextsView} (p : ProgramTree) (input : List ℕ) (s : Surveyed) → length input ≤ 16777216 → ((v : Datum) → Packed s.table s.ty v s.bytes → File (table_of_program p) names.long (input_type p) v input)
     → (v : Datum) → Packed s.table s.ty v s.bytes → IsInput p names v input
 input_of p input s short file v q = record { short = short; file = file v q }
 
--- The run of a program on a survey that is of the input.
-pub survey_stands : (names : TextsView) (p : ProgramTree) (skips : Bool) (depth : ℕ) (input : List ℕ) (s : Surveyed) (l : LoweredParts) → IsOfProgram p skips l → length input ≤ 16777216 → IsPacked s.table s.ty s.bytes s.count
-    → ((v : Datum) → Packed s.table s.ty v s.bytes → File (table_of_program p) names.long (input_type p) v input) → (r : Result (Ran SoleMem) Stop) → IfOk r (λ ran. ran.lowered ≡ l)
-    → IfOk r (λ ran. (v : Datum) → Packed s.table s.ty v s.bytes → IsRootOf l.code.laid (cells_of ran.memory) (core_of l.core).main.result (core_run (core_of l.core) depth v) ran.root)
-    → IfOk r (λ ran. StandsMeant p names depth input ran.lowered.code.laid (cells_of ran.memory) ran.root)
-survey_stands names p skips depth input s l of short packed file (Ok ran) same ends =
-    let there : StandsMeant p names depth input l.code.laid (cells_of ran.memory) ran.root =
-    root_meant (core_after skips 4 p) p depth input packed.0 l (cells_of ran.memory) ran.root (of_program p skips l of) (input_of {names = names} p input s short file packed.0 packed.1) (ends packed.0 packed.1) in
-    subst (λ (x : LoweredParts). StandsMeant p names depth input x.code.laid (cells_of ran.memory) ran.root) (sym same) there
-survey_stands names p skips depth input s l of short packed file (Err why) same ends = tt {0}
+-- The run of a core in a program's place, on a survey that is of the input.
+module _ (names : TextsView) (core : CoreTree) (p : ProgramTree) (depth forks chunks : ℕ) (input : List ℕ) (s : Surveyed) (l : LoweredParts) (of : IsOfCore core p l) (short : length input ≤ 16777216) (packed : IsPacked s.table s.ty s.bytes s.count) where
+  pub ended_meant : ((v : Datum) → Packed s.table s.ty v s.bytes → File (table_of_program p) names.long (input_type p) v input) → (left : Result Rooted RunStop)
+      → IfOk left (λ x. (v : Datum) → Packed s.table s.ty v s.bytes → IsRootOf l.code.laid (cells_of x.memory) (core_of l.core).main.result (core_run (core_of l.core) depth v) x.root)
+      → IfErr left (λ why. (v : Datum) → Packed s.table s.ty v s.bytes → Halts (core_run (core_of l.core) depth v) chunks (run_cost (core_of l.core) depth forks v) why)
+      → IfOk (ended l left) (OnEnd (λ ran. StandsMeant p names depth input ran.lowered.code.laid (cells_of ran.memory) ran.root) (LacksValueBy core p names depth forks chunks input))
+  ended_meant file (Ok x) root halts =
+      root_meant {names = names} core p depth input packed.0 l (cells_of x.memory) x.root of (input_of {names = names} p input s short file packed.0 packed.1) (root packed.0 packed.1)
+  ended_meant file (Err (run_stop.NoValue why)) root halts =
+      lacks_meant {names = names} core p depth forks chunks input packed.0 l of (input_of {names = names} p input s short file packed.0 packed.1) why (halts packed.0 packed.1)
+  ended_meant file (Err run_stop.Memory) root halts = tt {0}
 
-pub survey_stops : (names : TextsView) (p : ProgramTree) (skips : Bool) (depth forks chunks : ℕ) (input : List ℕ) (s : Surveyed) (l : LoweredParts) → IsOfProgram p skips l → length input ≤ 16777216 → IsPacked s.table s.ty s.bytes s.count
-    → ((v : Datum) → Packed s.table s.ty v s.bytes → File (table_of_program p) names.long (input_type p) v input) → (r : Result (Ran SoleMem) Stop)
-    → IfErr r (λ why. (v : Datum) → Packed s.table s.ty v s.bytes → Halts (core_run (core_of l.core) depth v) chunks (run_cost (core_of l.core) depth forks v) why)
-    → IfErr r (IsMachineStop p names skips depth forks chunks input)
-survey_stops names p skips depth forks chunks input s l of short packed file (Ok ran) ends = tt {0}
-survey_stops names p skips depth forks chunks input s l of short packed file (Err why) ends =
-    stop_meant (core_after skips 4 p) p depth forks chunks input packed.0 l (of_program p skips l of) (input_of {names = names} p input s short file packed.0 packed.1) why (ends packed.0 packed.1)
+-- What holds of the code, and what of the memory that is left, holds of what the run of a program leaves.
+pub ended_code : (l : LoweredParts) (left : Result Rooted RunStop) (P : LoweredParts → Type 0) → P l → IfOk (ended l left) (OnRan (λ ran. P ran.lowered))
+ended_code l (Ok x) P h = h
+ended_code l (Err (run_stop.NoValue why)) P h = tt {0}
+ended_code l (Err run_stop.Memory) P h = tt {0}
+
+pub ended_memory : (l : LoweredParts) (left : Result Rooted RunStop) (P : SoleMem → Type 0) → IfOk left (λ x. P x.memory) → IfOk (ended l left) (OnRan (λ ran. P ran.memory))
+ended_memory l (Ok x) P h = h
+ended_memory l (Err (run_stop.NoValue why)) P h = tt {0}
+ended_memory l (Err run_stop.Memory) P h = tt {0}
+
+pub ended_stop : (l : LoweredParts) (left : Result Rooted RunStop) (p : ProgramTree) (names : TextsView) (input : List ℕ) → IfErr (ended l left) (IsRunStop p names input)
+ended_stop l (Ok x) p names input = tt {0}
+ended_stop l (Err (run_stop.NoValue why)) p names input = tt {0}
+ended_stop l (Err run_stop.Memory) p names input = tt {0}
 
 -- The run of a core that is written out, in a program's place.
 module _ (core : CoreTree) (p : ProgramTree) (names : TextsView) (runs : RunsFor core p names) where
@@ -249,27 +257,38 @@ module _ (core : CoreTree) (p : ProgramTree) (names : TextsView) (runs : RunsFor
   located_refused table ty input why e f h = subst₂ (λ (t : Table) (y : Ty). IsPackedStop t names.long y input why) (e ∙ runs.table) (f ∙ runs.parameter) h
 
 -- Any value that is the input is the survey's.
-pub survey_only : {names : TextsView} (p : ProgramTree) (skips : Bool) (depth forks chunks : ℕ) (input : List ℕ) (s : Surveyed) (l : LoweredParts) → IsOfProgram p skips l → length input ≤ 16777216 → IsPacked s.table s.ty s.bytes s.count
-    → ((v : Datum) → Packed s.table s.ty v s.bytes → File (table_of_program p) names.long (input_type p) v input)
-    → ((table : Table) (names : List (List ℕ)) (ty : Ty) (v w : Datum) (bytes : List ℕ) → File table names ty v bytes → File table names ty w bytes → v ≡ w) → (r : Result (Ran SoleMem) Stop) → IfOk r (λ ran. ran.lowered ≡ l)
-    → IfOk r (λ ran. (v : Datum) → Packed s.table s.ty v s.bytes → IsRootOf l.code.laid (cells_of ran.memory) (core_of l.core).main.result (core_run (core_of l.core) depth v) ran.root)
-    → IfErr r (λ why. (v : Datum) → Packed s.table s.ty v s.bytes → Halts (core_run (core_of l.core) depth v) chunks (run_cost (core_of l.core) depth forks v) why)
-    → (v : Datum) → IsInput p names v input
-    → MatchResult r (λ ran. IsRootOf ran.lowered.code.laid (cells_of ran.memory) (output_type p) (run p depth v) ran.root) (Halts (run p depth v) chunks (program_cost p skips depth forks v))
-survey_only {names} p skips depth forks chunks input s l of short packed file one (Ok ran) same root halts v is =
-    let meant = survey_stands names p skips depth input s l of short packed file (Ok ran) same root in
-    record {
-      result = meant.result;
-      means = ap (run p depth) (one (table_of_program p) _ (input_type p) v meant.value input is.file meant.is_input.file) ∙ meant.means;
-      stands = meant.stands;
-    }
-survey_only {names} p skips depth forks chunks input s l of short packed file one (Err why) same root halts v is =
-    let w = packed.0 in
-    let e : w ≡ v = one (table_of_program p) _ (input_type p) w v input (file w packed.1) is.file in
-    let owed : core_run (core_of l.core) depth w ≡ run p depth v = of.means depth w ∙ ap (run p depth) e in
-    let most : run_cost (core_of l.core) depth forks w ≡ program_cost p skips depth forks v = ap (λ (c : CoreTree). run_cost c depth forks w) of.core ∙ ap (program_cost p skips depth forks) e in
-    subst₂ (λ (o : Outcome) (k : Cost). Halts o chunks k why) owed most (halts w packed.1)
+module _ {names : TextsView} (p : ProgramTree) (skips : Bool) (depth forks chunks : ℕ) (input : List ℕ) (s : Surveyed) (l : LoweredParts) (of : IsOfProgram p skips l) (packed : IsPacked s.table s.ty s.bytes s.count)
+    (file : (v : Datum) → Packed s.table s.ty v s.bytes → File (table_of_program p) names.long (input_type p) v input)
+    (one : (table : Table) (names : List (List ℕ)) (ty : Ty) (v w : Datum) (bytes : List ℕ) → File table names ty v bytes → File table names ty w bytes → v ≡ w) (v : Datum) (is : IsInput p names v input) where
+  only_value : packed.0 ≡ v
+  only_value = one (table_of_program p) _ (input_type p) packed.0 v input (file packed.0 packed.1) is.file
+
+  only_owed : core_run (core_of l.core) depth packed.0 ≡ run p depth v
+  only_owed = of.means depth packed.0 ∙ ap (run p depth) only_value
+
+  pub ended_only : (left : Result Rooted RunStop)
+      → IfOk left (λ x. (v : Datum) → Packed s.table s.ty v s.bytes → IsRootOf l.code.laid (cells_of x.memory) (core_of l.core).main.result (core_run (core_of l.core) depth v) x.root)
+      → IfErr left (λ why. (v : Datum) → Packed s.table s.ty v s.bytes → Halts (core_run (core_of l.core) depth v) chunks (run_cost (core_of l.core) depth forks v) why)
+      → MatchResult (ended l left) (OnEnd (λ ran. IsRootOf ran.lowered.code.laid (cells_of ran.memory) (output_type p) (run p depth v) ran.root) (Lacks (run p depth v) chunks (program_cost p skips depth forks v))) (λ why. why ≡ NoMemory)
+  ended_only (Ok x) root halts =
+      let there = root packed.0 packed.1 in
+      record {
+        result = there.result;
+        means = sym only_owed ∙ there.means;
+        stands = subst (λ (t : Ty). Stands l.code.laid (cells_of x.memory) x.root t there.result) (ap (λ (c : CoreTree). c.main.result) of.core) there.stands;
+      }
+  ended_only (Err (run_stop.NoValue why)) root halts =
+      let most : run_cost (core_of l.core) depth forks packed.0 ≡ program_cost p skips depth forks v = ap (λ (c : CoreTree). run_cost c depth forks packed.0) of.core ∙ ap (program_cost p skips depth forks) only_value in
+      subst₂ (λ (o : Outcome) (k : Cost). Lacks o chunks k why) only_owed most (halts packed.0 packed.1)
+  ended_only (Err run_stop.Memory) root halts = refl
 
 -- Where the file is refused, there is no value of which it is the input.
-pub refused_halts : {names : TextsView} (p : ProgramTree) (depth chunks : ℕ) (input : List ℕ) (v : Datum) (owed : Outcome) (most : Cost) → IsInput p names v input → (stop : Stop) → IsRunStop p names input stop → Halts owed chunks most stop
-refused_halts p depth chunks input v owed most is why h = stops_map _ _ _ _ _ _ _ _ _ _ why h (never _) (never _) (λ fault c. c.1 (v, is)) (never _) (never _)
+pub refused_only : {names : TextsView} (p : ProgramTree) (input : List ℕ) (v : Datum) → IsInput p names v input → (why : Stop) → IsRunStop p names input why → why ≡ NoMemory
+refused_only p input v is Usage h = absurd h
+refused_only p input v is (Source fault) h = absurd h
+refused_only p input v is (Unread name) h = absurd h
+refused_only p input v is (Input fault) h = absurd (h.1 (v, is))
+refused_only p input v is (NoValue reason) h = absurd h
+refused_only p input v is NoMemory h = refl
+refused_only p input v is (Unwritten name) h = absurd h
+refused_only p input v is Unput h = absurd h

@@ -1,6 +1,6 @@
 -- What a run of the machine on a packed file leaves: a root in region memory, or why there is none.
 use Rattle.gib_base.specs.Texts.{TextsView}
-use Rattle.std.specs.Prelude.{◌≡◌, Bool, ℕ, List, Result, MatchResult}
+use Rattle.std.specs.Prelude.{◌≡◌, Bool, ℕ, List, Result, Ok, Err, MatchResult, ⊤}
 use Rattle.gib_types.specs.declared.table.Ty.{Ty}
 use Rattle.gib_types.specs.Layout.{LaidOut}
 use Rattle.gib_types.specs.Tree.{Datum}
@@ -22,11 +22,16 @@ use Rattle.gib_core.specs.Tree.{CoreTree}
 use Rattle.gib_weave.specs.Sound.{means_why}
 use Rattle.gib_app.specs.declared.made.Reason.{Reason}
 use Rattle.gib_app.specs.declared.made.Reason.TheVariants as reason
+use Rattle.gib_app.specs.declared.machine_run.Ran.{Ran}
+use Rattle.gib_app.specs.declared.machine_run.Rooted.{Rooted}
+use Rattle.gib_app.specs.declared.machine_run.RunEnd.{RunEnd}
+use Rattle.gib_app.specs.declared.machine_run.RunEnd.TheVariants as ends
+use Rattle.gib_app.specs.declared.machine_run.RunStop.{RunStop}
+use Rattle.gib_app.specs.declared.machine_run.RunStop.TheVariants as stop
 use Rattle.gib_app.specs.declared.stop.Stop.{Stop}
+use Rattle.gib_app.specs.declared.stop.Stop.TheVariants.{Memory}
 use Rattle.gib_app.specs.Cores.{core_after}
-use Rattle.gib_app.specs.InputFaults.{IsInputFault}
 use Rattle.gib_app.specs.Running.{IsInput, MeansNone, FillsUpBy}
-use Rattle.gib_app.specs.Stops.{StopsBy}
 
 -- The bytes of a memory.
 abbrev pub cells_of : SoleMem → Store
@@ -55,16 +60,6 @@ LacksValueBy core p names depth forks chunks input reason.Long = ⊥
 abbrev pub LacksValue : ProgramTree → TextsView → (skips : Bool) → (depth forks chunks : ℕ) → (input : List ℕ) → Reason → Type 0
 LacksValue p names skips depth forks chunks input = LacksValueBy (core_after skips 4 p) p names depth forks chunks input
 
--- Why a run of this core leaves no root.
-abbrev pub IsMachineStopBy : CoreTree → ProgramTree → TextsView → (depth forks chunks : ℕ) → (input : List ℕ) → Stop → Type 0
-IsMachineStopBy core p names depth forks chunks input =
-    StopsBy (λ fault. ⊥) (λ name. ⊥) (λ fault. IsInputFault p names input fault × (((v : Datum) × IsInput p names v input) → ⊥))
-    (LacksValueBy core p names depth forks chunks input) (λ name. ⊥)
-
--- The same of the core that the passes make.
-abbrev pub IsMachineStop : ProgramTree → TextsView → (skips : Bool) → (depth forks chunks : ℕ) → (input : List ℕ) → Stop → Type 0
-IsMachineStop p names skips depth forks chunks input = IsMachineStopBy (core_after skips 4 p) p names depth forks chunks input
-
 -- This core can run in a program's place: its values are of the program's types, and it means what the program means. The names of the
 -- program's constructors are there.
 pub record RunsFor (core : CoreTree) (p : ProgramTree) (names : TextsView) : Type 0 where
@@ -87,12 +82,28 @@ Lacks owed chunks most reason.Full = Tight chunks most
 Lacks owed chunks most reason.Long = ⊥
 
 -- Why a run leaves no root, where this outcome was owed, and the run costs so much at most.
-abbrev pub Halts : Outcome → (chunks : ℕ) → Cost → Stop → Type 0
-Halts owed chunks most = StopsBy (λ fault. ⊥) (λ name. ⊥) (λ fault. ⊥) (Lacks owed chunks most) (λ name. ⊥)
+abbrev pub Halts : Outcome → (chunks : ℕ) → Cost → RunStop → Type 0
+Halts owed chunks most (stop.NoValue why) = Lacks owed chunks most why
+Halts owed chunks most stop.Memory = Unit {0}
 
 -- How a run of code on a value ends, where there are so many chunks: with a root in region memory for what its core means, or
 -- with why there is none.
-abbrev pub EndsWith : LoweredParts → (depth forks chunks : ℕ) → Datum → Store → Result Root Stop → Type 0
+abbrev pub EndsWith : LoweredParts → (depth forks chunks : ℕ) → Datum → Store → Result Root RunStop → Type 0
 EndsWith l depth forks chunks v s end =
     MatchResult end (IsRootOf l.code.laid s (core_of l.core).main.result (core_run (core_of l.core) depth v))
     (Halts (core_run (core_of l.core) depth v) chunks (run_cost (core_of l.core) depth forks v))
+
+-- How the run of a program ends whose code was run so.
+abbrev pub ended : LoweredParts → Result Rooted RunStop → Result RunEnd Stop
+ended l (Ok left) = Ok (ends.Value (record { lowered = l; memory = left.memory; root = left.root }))
+ended l (Err (stop.NoValue why)) = Ok (ends.NoValue why)
+ended l (Err stop.Memory) = Err Memory
+
+-- This holds of what the run of a program leaves, and that of the reason why there is no value.
+abbrev pub OnEnd : (Ran SoleMem → Type 0) → (Reason → Type 0) → RunEnd → Type 0
+OnEnd P Q (ends.Value ran) = P ran
+OnEnd P Q (ends.NoValue why) = Q why
+
+-- This holds of what it leaves.
+abbrev pub OnRan : (Ran SoleMem → Type 0) → RunEnd → Type 0
+OnRan P = OnEnd P (λ why. ⊤)

@@ -40,7 +40,7 @@ pub use headline::{run_packs_what_is_meant, run_prints_what_is_meant};
 pub use input_fault::{ImageFault, InputFault, JournalFault, PackedFault};
 pub use law::{a_replay_repeats_its_trace, one_input_fault, one_source_fault};
 pub use local_law::local_prints_what_is_meant;
-pub use machine_run::{Ran, run_located, run_packed};
+pub use machine_run::{Ran, RunEnd, run_located, run_packed};
 pub use option_law::options_are_in_range;
 pub use replay_law::a_replay_ends_as_its_trace;
 pub use runtime::Runtime;

@@ -22,7 +22,8 @@ ghost use Rattle.gib_app.specs.Cores.{core_after, layouts_of};
 ghost use Rattle.gib_app.specs.Jobs.{run_forks};
 ghost use Rattle.gib_app.specs.Running.{IsInput, text_line};
 ghost use Rattle.gib_app.specs.Replaying.{root_in};
-ghost use Rattle.gib_app.specs.MachineRun.{StandsMeant, RunsFor, IsMachineStop, IsMachineStopBy, IsRootOf, Halts, EndsWith, program_cost};
+ghost use Rattle.gib_app.specs.MachineRun.{StandsMeant, RunsFor, LacksValue, LacksValueBy, IsRootOf, Lacks, Halts, EndsWith, OnEnd, OnRan, ended, program_cost};
+ghost use Rattle.gib_app.specs.Stops.{IsRunStop};
 
 use crate::lowering::lowered;
 use crate::made::Reason;
@@ -59,6 +60,20 @@ pub struct Ran<M> {
     pub root: Root,
 }
 
+/// Why a run leaves no root.
+#[derive(Clone, Copy)]
+enum RunStop {
+    NoValue(Reason),
+    Memory,
+}
+
+/// How the run of a program ends: with what it leaves, or without a value.
+#[derive(Drop)]
+pub enum RunEnd {
+    Value(Ran<SoleMem>),
+    NoValue(Reason),
+}
+
 /// The root that an answer of the machine is, or why there is none.
 fn root_in(answer: Answer) -> Result<Root, gib_code::Reason>
     ensures { result ≡ root_in answer }
@@ -93,16 +108,16 @@ pub fn ran_of<M: Drop>(
 }
 
 /// What the end of a run of the code is to a run.
-fn end_of(end: Result<Answer, RunFault>) -> Result<Root, Stop<'static>>
+fn end_of(end: Result<Answer, RunFault>) -> Result<Root, RunStop>
     ensures { (l : LoweredParts) (depth forks : ℕ) (v : Datum) (m m' : Memory) → IsRun l depth forks v m m' end → EndsWith l depth forks m.limit v m'.cells result }
 {
     match end {
         Ok(answer) => match root_in(answer) {
             Ok(root) => Ok(root),
-            Err(why) => Err(Stop::NoValue(Reason::Meant(why))),
+            Err(why) => Err(RunStop::NoValue(Reason::Meant(why))),
         },
-        Err(RunFault::Memory) => Err(Stop::Memory),
-        Err(RunFault::Full) => Err(Stop::NoValue(Reason::Full)),
+        Err(RunFault::Memory) => Err(RunStop::Memory),
+        Err(RunFault::Full) => Err(RunStop::NoValue(Reason::Full)),
     }
 }
 
@@ -154,7 +169,7 @@ fn run_loaded<R: Threads + Wait + Sync, G: Gate + Sync>(
     survey: Survey<'_>,
     memory: SoleMem,
     options: Options,
-) -> (Result<Root, Stop<'static>>, SoleMem)
+) -> (Result<Root, RunStop>, SoleMem)
     requires table { survey.table ≡ lowered.now.code.laid.table }
     requires ty { survey.ty ≡ (core_of lowered.now.core).main.parameter }
     requires undrawn { (⟦<SoleMem as Mem>⟧.view memory).drawn ≡ 0 }
@@ -176,8 +191,8 @@ fn run_loaded<R: Threads + Wait + Sync, G: Gate + Sync>(
             let (end, memory) = run_code(alloc, runtime, lowered, loaded, options);
             (end_of(end), memory)
         }
-        Err(LoadFault::Full) => (Err(Stop::NoValue(Reason::Full)), memory),
-        Err(LoadFault::Memory) => (Err(Stop::Memory), memory),
+        Err(LoadFault::Full) => (Err(RunStop::NoValue(Reason::Full)), memory),
+        Err(LoadFault::Memory) => (Err(RunStop::Memory), memory),
     }
 }
 
@@ -196,7 +211,7 @@ fn run_within<R: Threads + Wait + Sync, G: Gate + Sync>(
     survey: Survey<'_>,
     chunks: u32,
     options: Options,
-) -> Result<Rooted, Stop<'static>>
+) -> Result<Rooted, RunStop>
     requires table { survey.table ≡ lowered.now.code.laid.table }
     requires ty { survey.ty ≡ (core_of lowered.now.core).main.parameter }
     ensures limit { IfOk result (λ left. (⟦<SoleMem as Mem>⟧.view left.memory).limit ≡ chunks) }
@@ -207,7 +222,7 @@ fn run_within<R: Threads + Wait + Sync, G: Gate + Sync>(
 {
     let memory = match SoleMem::make(alloc, chunks) {
         Ok(memory) => memory,
-        Err(_) => return Err(Stop::Memory),
+        Err(_) => return Err(RunStop::Memory),
     };
     let (end, memory) = run_loaded(alloc, runtime, lowered, survey, memory, options);
     match end {
@@ -248,7 +263,7 @@ fn run_on<R: Threads + Wait + Sync, G: Gate + Sync>(
     lowered: &Lowered,
     survey: Survey<'_>,
     options: Options,
-) -> Result<Rooted, Stop<'static>>
+) -> Result<Rooted, RunStop>
     requires table { survey.table ≡ lowered.now.code.laid.table }
     requires ty { survey.ty ≡ (core_of lowered.now.core).main.parameter }
     ensures limit { IfOk result (λ left. (⟦<SoleMem as Mem>⟧.view left.memory).limit ≤ options.chunks) }
@@ -269,47 +284,35 @@ fn run_on<R: Threads + Wait + Sync, G: Gate + Sync>(
             options,
         );
         match found {
-            Err(Stop::NoValue(Reason::Full)) => limit = next_limit(limit, options.chunks),
+            Err(RunStop::NoValue(Reason::Full)) => limit = next_limit(limit, options.chunks),
             end => return end,
         }
     }
     run_within(alloc, runtime, lowered, survey, options.chunks, options)
 }
 
-/// Runs the code on the value of a survey. The code is handed back with what is left.
-fn run_survey<R: Threads + Wait + Sync, G: Gate + Sync>(
-    alloc: Global,
-    runtime: Runtime<'_, R, G>,
-    lowered: Lowered,
-    survey: Survey<'_>,
-    options: Options,
-) -> Result<Ran<SoleMem>, Stop<'static>>
-    requires table { survey.table ≡ lowered.code.laid.table }
-    requires ty { survey.ty ≡ (core_of lowered.core).main.parameter }
-    ensures same { IfOk result (λ ran. ran.lowered ≡ lowered) }
-    ensures limit { IfOk result (λ ran. (⟦<SoleMem as Mem>⟧.view ran.memory).limit ≤ options.chunks) }
-    ensures root { IfOk result (λ ran. (v : Datum) → Packed survey.entry.table survey.entry.ty v survey.entry.bytes
-        → IsRootOf lowered.code.laid (⟦<SoleMem as Mem>⟧.view ran.memory).cells (core_of lowered.core).main.result (core_run (core_of lowered.core) options.depth v) ran.root) }
-    ensures halts { IfErr result (λ why. (v : Datum) → Packed survey.entry.table survey.entry.ty v survey.entry.bytes
-        → Halts (core_run (core_of lowered.core) options.depth v) options.chunks (run_cost (core_of lowered.core) options.depth (run_forks options) v) why) }
+/// How the run of a program ends whose code was run so.
+fn ended(lowered: Lowered, left: Result<Rooted, RunStop>) -> Result<RunEnd, Stop<'static>>
+    ensures { result ≡ ended lowered left }
 {
-    match run_on(alloc, runtime, &lowered, survey, options) {
-        Ok(left) => Ok(Ran {
+    match left {
+        Ok(Rooted { memory, root }) => Ok(RunEnd::Value(Ran {
             lowered,
-            memory: left.memory,
-            root: left.root,
-        }),
-        Err(stop) => Err(stop),
+            memory,
+            root,
+        })),
+        Err(RunStop::NoValue(reason)) => Ok(RunEnd::NoValue(reason)),
+        Err(RunStop::Memory) => Err(Stop::Memory),
     }
 }
 
 /// Runs a program on the bytes of a packed file with the depth, the chunks of 4,096 bytes, the workers and the forks of the options; fields are
-/// reached by ends and offsets, or by skips. What the program means stands for the root, in the memory that is handed back, whatever the workers do.
+/// reached by ends and offsets, or by skips. What the program means stands for the root, in the memory that is handed back, whatever the workers do; or
+/// there is no value: `Meant` where the program means none, with the reason, and `Full` where so many chunks may not be enough.
 ///
 /// # Errors
 ///
-/// `Input` where the bytes are no packed file of a value of the type of main's parameter; else `NoValue`: `Meant` where the
-/// program means no value, with the reason, and `Full` where so many chunks may not be enough. `Memory`: want of memory.
+/// `Input` where the bytes are no packed file of a value of the type of main's parameter. `Memory`: want of memory.
 pub fn run_packed<R: Threads + Wait + Sync, G: Gate + Sync>(
     alloc: Global,
     runtime: Runtime<'_, R, G>,
@@ -317,19 +320,20 @@ pub fn run_packed<R: Threads + Wait + Sync, G: Gate + Sync>(
     names: &Texts,
     file: &[u8],
     options: Options,
-) -> Result<Ran<SoleMem>, Stop<'static>>
+) -> Result<RunEnd, Stop<'static>>
     requires short { length file.now ≤ FILE_BYTES }
-    ensures stands { IfOk result (λ ran. StandsMeant (program_of typed.now) names.now options.depth file.now ran.lowered.code.laid (⟦<SoleMem as Mem>⟧.view ran.memory).cells ran.root) }
+    ensures stands { IfOk result (OnEnd (λ ran. StandsMeant (program_of typed.now) names.now options.depth file.now ran.lowered.code.laid (⟦<SoleMem as Mem>⟧.view ran.memory).cells ran.root)
+        (LacksValue (program_of typed.now) names.now options.skips options.depth (run_forks options) options.chunks file.now)) }
     // It is the code of the program's core that ran, in a memory of no more chunks.
-    ensures code { IfOk result (λ ran. ran.lowered.code ≡ lower_program (core_after options.skips 4 (program_of typed.now))) }
-    ensures limit { IfOk result (λ ran. (⟦<SoleMem as Mem>⟧.view ran.memory).limit ≤ options.chunks) }
+    ensures code { IfOk result (OnRan (λ ran. ran.lowered.code ≡ lower_program (core_after options.skips 4 (program_of typed.now)))) }
+    ensures limit { IfOk result (OnRan (λ ran. (⟦<SoleMem as Mem>⟧.view ran.memory).limit ≤ options.chunks)) }
     // The heads lie as those of the program's core.
-    ensures laid { IfOk result (λ ran. ran.lowered.code.laid ≡ layouts_of options.skips (program_of typed.now)) }
-    ensures stop { IfErr result (IsMachineStop (program_of typed.now) names.now options.skips options.depth (run_forks options) options.chunks file.now) }
+    ensures laid { IfOk result (OnRan (λ ran. ran.lowered.code.laid ≡ layouts_of options.skips (program_of typed.now))) }
+    ensures stop { IfErr result (IsRunStop (program_of typed.now) names.now file.now) }
     // The other way round: of which value the file is, and what the program means on it, tells how the run ends.
     ensures only { (v : Datum) → IsInput (program_of typed.now) names.now v file.now
-        → MatchResult result (λ ran. IsRootOf ran.lowered.code.laid (⟦<SoleMem as Mem>⟧.view ran.memory).cells (output_type (program_of typed.now)) (run (program_of typed.now) options.depth v) ran.root)
-        (Halts (run (program_of typed.now) options.depth v) options.chunks (program_cost (program_of typed.now) options.skips options.depth (run_forks options) v)) }
+        → MatchResult result (OnEnd (λ ran. IsRootOf ran.lowered.code.laid (⟦<SoleMem as Mem>⟧.view ran.memory).cells (output_type (program_of typed.now)) (run (program_of typed.now) options.depth v) ran.root)
+        (Lacks (run (program_of typed.now) options.depth v) options.chunks (program_cost (program_of typed.now) options.skips options.depth (run_forks options) v))) (λ stop. stop ≡ Stop.Memory) }
 {
     one_file();
     let survey = match survey_input(alloc, typed, names, file) {
@@ -338,7 +342,10 @@ pub fn run_packed<R: Threads + Wait + Sync, G: Gate + Sync>(
     };
     let _packed = survey.payload();
     match lowered(alloc, typed, options.skips) {
-        Ok(lowered) => run_survey(alloc, runtime, lowered, survey, options),
+        Ok(lowered) => {
+            let left = run_on(alloc, runtime, &lowered, survey, options);
+            ended(lowered, left)
+        }
         Err(_) => Err(Stop::Memory),
     }
 }
@@ -355,16 +362,16 @@ pub fn run_located<R: Threads + Wait + Sync, G: Gate + Sync>(
     names: &Texts,
     file: &[u8],
     options: Options,
-) -> Result<Ran<SoleMem>, Stop<'static>>
+) -> Result<RunEnd, Stop<'static>>
     requires short { length file.now ≤ FILE_BYTES }
     requires numbered { AreNumbered (core_of core) }
     ensures stands { (p : ProgramTree) → RunsFor (core_of core) p names.now
-        → IfOk result (λ ran. StandsMeant p names.now options.depth file.now ran.lowered.code.laid (⟦<SoleMem as Mem>⟧.view ran.memory).cells ran.root) }
+        → IfOk result (OnEnd (λ ran. StandsMeant p names.now options.depth file.now ran.lowered.code.laid (⟦<SoleMem as Mem>⟧.view ran.memory).cells ran.root)
+        (LacksValueBy (core_of core) p names.now options.depth (run_forks options) options.chunks file.now)) }
     // It is the code of this very core that ran, in a memory of no more chunks.
-    ensures code { IfOk result (λ ran. ran.lowered.code ≡ lower_program (core_of core)) }
-    ensures limit { IfOk result (λ ran. (⟦<SoleMem as Mem>⟧.view ran.memory).limit ≤ options.chunks) }
-    ensures stop { (p : ProgramTree) → RunsFor (core_of core) p names.now
-        → IfErr result (IsMachineStopBy (core_of core) p names.now options.depth (run_forks options) options.chunks file.now) }
+    ensures code { IfOk result (OnRan (λ ran. ran.lowered.code ≡ lower_program (core_of core))) }
+    ensures limit { IfOk result (OnRan (λ ran. (⟦<SoleMem as Mem>⟧.view ran.memory).limit ≤ options.chunks)) }
+    ensures stop { (p : ProgramTree) → RunsFor (core_of core) p names.now → IfErr result (IsRunStop p names.now file.now) }
 {
     let lowered = match lower(alloc, core) {
         Ok(lowered) => lowered,
@@ -379,14 +386,8 @@ pub fn run_located<R: Threads + Wait + Sync, G: Gate + Sync>(
         Err(stop) => return Err(stop),
     };
     let _packed = survey.payload();
-    match run_on(alloc, runtime, &lowered, survey, options) {
-        Ok(left) => Ok(Ran {
-            lowered,
-            memory: left.memory,
-            root: left.root,
-        }),
-        Err(stop) => Err(stop),
-    }
+    let left = run_on(alloc, runtime, &lowered, survey, options);
+    ended(lowered, left)
 }
 
 /// Puts the text of what a run leaves and a line feed, in pieces of 4,096 bytes and a last one that may be shorter. The memory of

@@ -11,9 +11,9 @@ ghost use Rattle.gib_app.specs.Running.{Program};
 ghost use Rattle.gib_app.specs.Stops.{IsRunStop};
 
 use crate::located::LocatedCore;
-use crate::machine_run::run_located;
+use crate::machine_run::{RunEnd, run_located};
 use crate::made::{End, Made, Valued};
-use crate::printing::of_stop;
+use crate::printing::no_value;
 use crate::runtime::Runtime;
 use crate::stop::Stop;
 use gib_base::limits::FILE_BYTES;
@@ -46,11 +46,15 @@ pub fn local<R: Threads + Wait + Sync, G: Gate + Sync>(
         → IfErr result (IsRunStop p.tree located.names input.now) }
 {
     let LocatedCore { core, names } = located;
-    match run_located(alloc, runtime, core, &names, input, options) {
-        Ok(ran) => Ok(Made {
+    let end = match run_located(alloc, runtime, core, &names, input, options) {
+        Ok(end) => end,
+        Err(stop) => return Err(stop),
+    };
+    match end {
+        RunEnd::Value(ran) => Ok(Made {
             file: None,
             end: End::Value(Valued { ran, names }),
         }),
-        Err(stop) => of_stop(stop),
+        RunEnd::NoValue(reason) => Ok(no_value(reason)),
     }
 }

@@ -12,9 +12,9 @@ ghost use Rattle.gib_app.specs.Remains.{IsLeft, SumsMemory};
 ghost use Rattle.gib_app.specs.Stops.{IsRunStop};
 
 use crate::compile::Compiled;
-use crate::machine_run::{Ran, run_packed};
+use crate::machine_run::{Ran, RunEnd, run_packed};
 use crate::made::{End, Made};
-use crate::printing::of_stop;
+use crate::printing::no_value;
 use crate::runtime::Runtime;
 use crate::stop::Stop;
 use gib_arena::SoleMem;
@@ -86,7 +86,7 @@ pub fn made_run<R: Threads + Wait + Sync, G: Gate + Sync>(
     ensures region { IfOk result (λ made. SumsMemory (program_of compiled.now.typed) compiled.now.names options input.now made.end) }
     ensures stop { IfErr result (IsRunStop (program_of compiled.now.typed) compiled.now.names input.now) }
 {
-    match run_packed(
+    let end = match run_packed(
         alloc,
         runtime,
         &compiled.typed,
@@ -94,7 +94,11 @@ pub fn made_run<R: Threads + Wait + Sync, G: Gate + Sync>(
         input,
         options,
     ) {
-        Ok(ran) => line_made(alloc, ran, options),
-        Err(stop) => of_stop(stop),
+        Ok(end) => end,
+        Err(stop) => return Err(stop),
+    };
+    match end {
+        RunEnd::Value(ran) => line_made(alloc, ran, options),
+        RunEnd::NoValue(reason) => Ok(no_value(reason)),
     }
 }

@@ -19,10 +19,10 @@ ghost use Rattle.gib_app.specs.Stops.{IsReady, IsRunStop};
 use crate::compile::Compiled;
 use crate::imaging::{image_alone, with_image, with_text};
 use crate::jobs::unpacked;
-use crate::machine_run::run_packed;
+use crate::machine_run::{RunEnd, run_packed};
 use crate::made::{End, Finished, Made, Reason, Valued};
 use crate::packed_result::packed_result;
-use crate::printing::of_stop;
+use crate::printing::no_value;
 use crate::runtime::Runtime;
 use crate::stop::Stop;
 use gib_arena::SoleMem;
@@ -186,8 +186,15 @@ pub fn run<R: Threads + Wait + Sync, G: Gate + Sync>(
     let threads = runtime.threads;
     let Compiled { typed, names } = compiled;
     let ty = typed.output_type();
-    match run_packed(alloc, runtime, &typed, &names, input, options) {
-        Ok(ran) => finish_run(alloc, threads, Valued { ran, names }, ty, options),
-        Err(stop) => unpacked(of_stop(stop)),
+    let end = match run_packed(alloc, runtime, &typed, &names, input, options) {
+        Ok(end) => end,
+        Err(stop) => return Err(stop),
+    };
+    match end {
+        RunEnd::Value(ran) => finish_run(alloc, threads, Valued { ran, names }, ty, options),
+        RunEnd::NoValue(reason) => {
+            let made = no_value(reason);
+            Ok(Finished { made, packed: None })
+        }
     }
 }

@@ -1,61 +1,70 @@
-use Rattle.std.proofs.Common.{◌∙◌, refl, sym, ap, arith}
+use Rattle.std.proofs.Common.{◌≡◌, ◌∙◌, ◌≤◌, Result, IfOk, IfErr, refl, sym, ap, subst}
+use Rattle.gib_lower.specs.Lowering.{lower_program}
+use Rattle.gib_core.specs.LoweredParts.{LoweredParts}
 use Rattle.gib_core.specs.Parts.{Parts, core_of}
 use Rattle.gib_code.specs.Program.{CodeTree}
 use Rattle.gib_arena.specs.Sole.{sole_memory}
+use Rattle.gib_arena.specs.declared.sole_mem.SoleMem.{SoleMem}
+use Rattle.gib_app.specs.declared.machine_run.RunEnd.{RunEnd}
+use Rattle.gib_app.specs.declared.stop.Stop.{Stop}
 use Rattle.gib_app.specs.Jobs.{run_forks}
-use Rattle.gib_app.specs.MachineRun.{cells_of}
-use Rattle.gib_app.proofs.Refusals.{machine_stop, run_stop}
-use Rattle.gib_app.proofs.Roots.{input_of, located_file, located_of, located_refused, root_meant, stop_meant}
+use Rattle.gib_app.specs.MachineRun.{LacksValueBy, OnEnd, OnRan, StandsMeant, cells_of}
+use Rattle.gib_app.specs.Stops.{IsRunStop}
+use Rattle.gib_app.proofs.Refusals.{run_stop}
+use Rattle.gib_app.proofs.Roots.{ended_code, ended_meant, ended_memory, ended_stop, located_file, located_of, located_refused}
 use Rattle.gib_app.proofs.machine_run.run_located.Goals as goal
 
--- src/machine_run.rt
+-- ---- The file is refused
+
 pub returns-in-Err-survey_typed-clause-stop : goal.returns-in-Err-survey_typed-clause-stop
 returns-in-Err-survey_typed-clause-stop g c = λ p runs.
     let core = core_of c.args.core in
     let names = c.args.names.now in
     let file = c.args.file.now in
     let same = c.core-core.ensures.value ∙ c.in-Ok.ensures.core in
-    machine_stop core p names c.args.options.depth (run_forks c.args.options) c.args.options.chunks file c.in-Err-survey_typed.stop
-    (run_stop p names file c.requires.short c.in-Err-survey_typed.stop
+    run_stop p names file c.requires.short c.in-Err-survey_typed.stop
     (located_refused core p names runs c.types-types.result.now c.main-ty.result.parameter file c.in-Err-survey_typed.stop
-    (c.types-types.ensures ∙ ap (λ (x : Parts). x.table) same) (ap (λ m. m.parameter) c.main-ty.ensures.value ∙ ap (λ (x : Parts). x.main.parameter) same) c.in-Err-survey_typed.ensures.refused))
+    (c.types-types.ensures ∙ ap (λ (x : Parts). x.table) same) (ap (λ m. m.parameter) c.main-ty.ensures.value ∙ ap (λ (x : Parts). x.main.parameter) same) c.in-Err-survey_typed.ensures.refused)
 
-pub run_on-requires-clause-table : goal.run_on-requires-clause-table
-run_on-requires-clause-table g c κs within =
+-- ---- Its value was run on
+
+pub run_on-left-requires-clause-table : goal.run_on-left-requires-clause-table
+run_on-left-requires-clause-table g c κs within =
     c.in-Ok-survey_typed.ensures.table ∙ c.types-types.ensures ∙ ap (λ (x : Parts). x.table) (c.core-core.ensures.value ∙ c.in-Ok.ensures.core) ∙ sym (ap (λ (x : CodeTree). x.laid.table) c.in-Ok.ensures.code)
 
-pub run_on-requires-clause-ty : goal.run_on-requires-clause-ty
-run_on-requires-clause-ty g c κs within = c.in-Ok-survey_typed.ensures.ty ∙ ap (λ m. m.parameter) c.main-ty.ensures.value ∙ ap (λ (x : Parts). x.main.parameter) c.core-core.ensures.value
+pub run_on-left-requires-clause-ty : goal.run_on-left-requires-clause-ty
+run_on-left-requires-clause-ty g c κs within = c.in-Ok-survey_typed.ensures.ty ∙ ap (λ m. m.parameter) c.main-ty.ensures.value ∙ ap (λ (x : Parts). x.main.parameter) c.core-core.ensures.value
 
-pub returns-in-Ok-run_on-clause-stands : goal.returns-in-Ok-run_on-clause-stands
-returns-in-Ok-run_on-clause-stands g c = λ p runs.
+pub returns-in-Ok-survey_typed-clause-stands : goal.returns-in-Ok-survey_typed-clause-stands
+returns-in-Ok-survey_typed-clause-stands g c = λ p runs.
     let core = core_of c.args.core in
     let names = c.args.names.now in
+    let o = c.args.options in
     let file = c.args.file.now in
     let s = c.in-Ok-survey_typed.survey in
+    let l = c.in-Ok.lowered in
     let same = c.core-core.ensures.value ∙ c.in-Ok.ensures.core in
-    let packed = c.payload-packed.ensures.packed in
-    root_meant {names = names} core p c.args.options.depth file packed.0 c.in-Ok.lowered (cells_of c.in-Ok-run_on.left.memory) c.in-Ok-run_on.left.root
-    (located_of core p names runs c.args.core c.in-Ok.lowered refl c.in-Ok.ensures.core c.in-Ok.ensures.code)
-    (input_of {names = names} p file s c.requires.short
+    let P : Result RunEnd Stop → Type 0 = λ r. IfOk r (OnEnd (λ ran. StandsMeant p names o.depth file ran.lowered.code.laid (cells_of ran.memory) ran.root) (LacksValueBy core p names o.depth (run_forks o) o.chunks file)) in
+    subst P (sym c.ended.ensures)
+    (ended_meant names core p o.depth (run_forks o) o.chunks file s l (located_of core p names runs c.args.core l refl c.in-Ok.ensures.core c.in-Ok.ensures.code) c.requires.short c.payload-packed.ensures.packed
     (located_file core p names runs c.types-types.result.now c.main-ty.result.parameter file s
-    (c.types-types.ensures ∙ ap (λ (x : Parts). x.table) same) (ap (λ m. m.parameter) c.main-ty.ensures.value ∙ ap (λ (x : Parts). x.main.parameter) same) c.in-Ok-survey_typed.ensures.file) packed.0 packed.1)
-    (c.in-Ok-run_on.ensures.root packed.0 packed.1)
+    (c.types-types.ensures ∙ ap (λ (x : Parts). x.table) same) (ap (λ m. m.parameter) c.main-ty.ensures.value ∙ ap (λ (x : Parts). x.main.parameter) same) c.in-Ok-survey_typed.ensures.file)
+    c.run_on-left.result c.run_on-left.ensures.root c.run_on-left.ensures.halts)
 
-pub returns-clause-stop : goal.returns-clause-stop
-returns-clause-stop g c = λ p runs.
-    let core = core_of c.args.core in
-    let names = c.args.names.now in
-    let file = c.args.file.now in
-    let s = c.in-Ok-survey_typed.survey in
-    let same = c.core-core.ensures.value ∙ c.in-Ok.ensures.core in
-    let packed = c.payload-packed.ensures.packed in
-    stop_meant {names = names} core p c.args.options.depth (run_forks c.args.options) c.args.options.chunks file packed.0 c.in-Ok.lowered
-    (located_of core p names runs c.args.core c.in-Ok.lowered refl c.in-Ok.ensures.core c.in-Ok.ensures.code)
-    (input_of {names = names} p file s c.requires.short
-    (located_file core p names runs c.types-types.result.now c.main-ty.result.parameter file s
-    (c.types-types.ensures ∙ ap (λ (x : Parts). x.table) same) (ap (λ m. m.parameter) c.main-ty.ensures.value ∙ ap (λ (x : Parts). x.main.parameter) same) c.in-Ok-survey_typed.ensures.file) packed.0 packed.1)
-    c.in-Err-run_on.stop (c.in-Err-run_on.ensures.halts packed.0 packed.1)
+pub returns-in-Ok-survey_typed-clause-code : goal.returns-in-Ok-survey_typed-clause-code
+returns-in-Ok-survey_typed-clause-code g c =
+    let code = lower_program (core_of c.args.core) in
+    let C : LoweredParts → Type 0 = λ l. l.code ≡ code in
+    let P : Result RunEnd Stop → Type 0 = λ r. IfOk r (OnRan (λ ran. C ran.lowered)) in
+    subst P (sym c.ended.ensures) (ended_code c.in-Ok.lowered c.run_on-left.result C c.in-Ok.ensures.code)
 
-pub returns-in-Ok-run_on-clause-limit : goal.returns-in-Ok-run_on-clause-limit
-returns-in-Ok-run_on-clause-limit g c = let same = c.in-Ok-run_on.ensures.limit in omega (arith, same)
+pub returns-in-Ok-survey_typed-clause-limit : goal.returns-in-Ok-survey_typed-clause-limit
+returns-in-Ok-survey_typed-clause-limit g c =
+    let M : SoleMem → Type 0 = λ m. (sole_memory m).limit ≤ c.args.options.chunks in
+    let P : Result RunEnd Stop → Type 0 = λ r. IfOk r (OnRan (λ ran. M ran.memory)) in
+    subst P (sym c.ended.ensures) (ended_memory c.in-Ok.lowered c.run_on-left.result M c.run_on-left.ensures.limit)
+
+pub returns-in-Ok-survey_typed-clause-stop : goal.returns-in-Ok-survey_typed-clause-stop
+returns-in-Ok-survey_typed-clause-stop g c = λ p runs.
+    let P : Result RunEnd Stop → Type 0 = λ r. IfErr r (IsRunStop p c.args.names.now c.args.file.now) in
+    subst P (sym c.ended.ensures) (ended_stop c.in-Ok.lowered c.run_on-left.result p c.args.names.now c.args.file.now)

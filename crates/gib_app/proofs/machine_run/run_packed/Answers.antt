@@ -1,38 +1,81 @@
+use Rattle.std.proofs.Common.{◌≡◌, ◌≤◌, Result, IfOk, IfErr, MatchResult, sym, subst}
+use Rattle.gib_lower.specs.Lowering.{lower_program}
+use Rattle.gib_core.specs.LoweredParts.{LoweredParts}
+use Rattle.gib_syntax.specs.Declarations.{output_type}
 use Rattle.gib_syntax.specs.Parts.{program_of}
 use Rattle.gib_syntax.specs.Meaning.{run}
-use Rattle.gib_app.specs.Cores.{core_after}
+use Rattle.gib_arena.specs.Sole.{sole_memory}
+use Rattle.gib_arena.specs.declared.sole_mem.SoleMem.{SoleMem}
+use Rattle.gib_app.specs.declared.machine_run.RunEnd.{RunEnd}
+use Rattle.gib_app.specs.declared.stop.Stop.{Stop}
+use Rattle.gib_app.specs.declared.stop.Stop.TheVariants.{Memory}
+use Rattle.gib_app.specs.Cores.{core_after, layouts_of}
 use Rattle.gib_app.specs.Jobs.{run_forks}
-use Rattle.gib_app.specs.MachineRun.{program_cost}
-use Rattle.gib_app.proofs.Refusals.{machine_stop, run_stop}
-use Rattle.gib_app.proofs.Roots.{refused_halts, survey_only, survey_stands, survey_stops}
+use Rattle.gib_app.specs.MachineRun.{IsRootOf, Lacks, LacksValue, OnEnd, OnRan, StandsMeant, cells_of, program_cost}
+use Rattle.gib_app.specs.Stops.{IsRunStop}
+use Rattle.gib_app.proofs.Refusals.{run_stop}
+use Rattle.gib_app.proofs.Roots.{ended_code, ended_meant, ended_memory, ended_only, ended_stop, of_program, refused_only}
 use Rattle.gib_app.proofs.machine_run.run_packed.Goals as goal
 
+-- ---- The file is refused
+
 pub returns-in-Err-clause-stop : goal.returns-in-Err-clause-stop
-returns-in-Err-clause-stop g c =
-    let p = program_of c.args.typed.now in
-    let file = c.args.file.now in
-    machine_stop (core_after c.args.options.skips 4 p) p c.args.names.now c.args.options.depth (run_forks c.args.options) c.args.options.chunks file c.in-Err.stop (run_stop p c.args.names.now file c.requires.short c.in-Err.stop c.in-Err.ensures.refused)
+returns-in-Err-clause-stop g c = run_stop (program_of c.args.typed.now) c.args.names.now c.args.file.now c.requires.short c.in-Err.stop c.in-Err.ensures.refused
 
 pub returns-in-Err-clause-only : goal.returns-in-Err-clause-only
 returns-in-Err-clause-only g c = λ v is.
     let p = program_of c.args.typed.now in
-    let file = c.args.file.now in
-    refused_halts {names = c.args.names.now} p c.args.options.depth c.args.options.chunks file v (run p c.args.options.depth v) (program_cost p c.args.options.skips c.args.options.depth (run_forks c.args.options) v) is c.in-Err.stop (run_stop p c.args.names.now file c.requires.short c.in-Err.stop c.in-Err.ensures.refused)
+    refused_only {names = c.args.names.now} p c.args.file.now v is c.in-Err.stop (run_stop p c.args.names.now c.args.file.now c.requires.short c.in-Err.stop c.in-Err.ensures.refused)
+
+-- ---- Its value was run on
 
 pub returns-in-Ok-lowered-clause-stands : goal.returns-in-Ok-lowered-clause-stands
 returns-in-Ok-lowered-clause-stands g c =
+    let p = program_of c.args.typed.now in
+    let names = c.args.names.now in
+    let o = c.args.options in
+    let file = c.args.file.now in
     let made = c.in-Ok-lowered.ensures in
-    survey_stands c.args.names.now (program_of c.args.typed.now) c.args.options.skips c.args.options.depth c.args.file.now c.in-Ok.survey c.in-Ok-lowered.lowered (record { core = made.core; means = made.means; laid = made.laid }) c.requires.short
-    c.payload-packed.ensures.packed c.in-Ok.ensures.file c.run_survey.result c.run_survey.ensures.same c.run_survey.ensures.root
+    let l = c.in-Ok-lowered.lowered in
+    let P : Result RunEnd Stop → Type 0 = λ r. IfOk r (OnEnd (λ ran. StandsMeant p names o.depth file ran.lowered.code.laid (cells_of ran.memory) ran.root) (LacksValue p names o.skips o.depth (run_forks o) o.chunks file)) in
+    subst P (sym c.ended.ensures)
+    (ended_meant names (core_after o.skips 4 p) p o.depth (run_forks o) o.chunks file c.in-Ok.survey l (of_program p o.skips l (record { core = made.core; means = made.means; laid = made.laid })) c.requires.short
+    c.payload-packed.ensures.packed c.in-Ok.ensures.file c.run_on-left.result c.run_on-left.ensures.root c.run_on-left.ensures.halts)
+
+pub returns-in-Ok-lowered-clause-code : goal.returns-in-Ok-lowered-clause-code
+returns-in-Ok-lowered-clause-code g c =
+    let code = lower_program (core_after c.args.options.skips 4 (program_of c.args.typed.now)) in
+    let C : LoweredParts → Type 0 = λ l. l.code ≡ code in
+    let P : Result RunEnd Stop → Type 0 = λ r. IfOk r (OnRan (λ ran. C ran.lowered)) in
+    subst P (sym c.ended.ensures) (ended_code c.in-Ok-lowered.lowered c.run_on-left.result C c.in-Ok-lowered.ensures.code)
+
+pub returns-in-Ok-lowered-clause-limit : goal.returns-in-Ok-lowered-clause-limit
+returns-in-Ok-lowered-clause-limit g c =
+    let M : SoleMem → Type 0 = λ m. (sole_memory m).limit ≤ c.args.options.chunks in
+    let P : Result RunEnd Stop → Type 0 = λ r. IfOk r (OnRan (λ ran. M ran.memory)) in
+    subst P (sym c.ended.ensures) (ended_memory c.in-Ok-lowered.lowered c.run_on-left.result M c.run_on-left.ensures.limit)
+
+pub returns-in-Ok-lowered-clause-laid : goal.returns-in-Ok-lowered-clause-laid
+returns-in-Ok-lowered-clause-laid g c =
+    let laid = layouts_of c.args.options.skips (program_of c.args.typed.now) in
+    let C : LoweredParts → Type 0 = λ l. l.code.laid ≡ laid in
+    let P : Result RunEnd Stop → Type 0 = λ r. IfOk r (OnRan (λ ran. C ran.lowered)) in
+    subst P (sym c.ended.ensures) (ended_code c.in-Ok-lowered.lowered c.run_on-left.result C c.in-Ok-lowered.ensures.laid)
 
 pub returns-in-Ok-lowered-clause-stop : goal.returns-in-Ok-lowered-clause-stop
 returns-in-Ok-lowered-clause-stop g c =
-    let made = c.in-Ok-lowered.ensures in
-    survey_stops c.args.names.now (program_of c.args.typed.now) c.args.options.skips c.args.options.depth (run_forks c.args.options) c.args.options.chunks c.args.file.now c.in-Ok.survey c.in-Ok-lowered.lowered (record { core = made.core; means = made.means; laid = made.laid }) c.requires.short
-    c.payload-packed.ensures.packed c.in-Ok.ensures.file c.run_survey.result c.run_survey.ensures.halts
+    let p = program_of c.args.typed.now in
+    let P : Result RunEnd Stop → Type 0 = λ r. IfErr r (IsRunStop p c.args.names.now c.args.file.now) in
+    subst P (sym c.ended.ensures) (ended_stop c.in-Ok-lowered.lowered c.run_on-left.result p c.args.names.now c.args.file.now)
 
 pub returns-in-Ok-lowered-clause-only : goal.returns-in-Ok-lowered-clause-only
-returns-in-Ok-lowered-clause-only g c =
+returns-in-Ok-lowered-clause-only g c = λ v is.
+    let p = program_of c.args.typed.now in
+    let o = c.args.options in
     let made = c.in-Ok-lowered.ensures in
-    survey_only (program_of c.args.typed.now) c.args.options.skips c.args.options.depth (run_forks c.args.options) c.args.options.chunks c.args.file.now c.in-Ok.survey c.in-Ok-lowered.lowered (record { core = made.core; means = made.means; laid = made.laid }) c.requires.short
-    c.payload-packed.ensures.packed c.in-Ok.ensures.file c.one_file.ensures.value c.run_survey.result c.run_survey.ensures.same c.run_survey.ensures.root c.run_survey.ensures.halts
+    let l = c.in-Ok-lowered.lowered in
+    let P : Result RunEnd Stop → Type 0 = λ r.
+    MatchResult r (OnEnd (λ ran. IsRootOf ran.lowered.code.laid (cells_of ran.memory) (output_type p) (run p o.depth v) ran.root) (Lacks (run p o.depth v) o.chunks (program_cost p o.skips o.depth (run_forks o) v))) (λ why. why ≡ Memory) in
+    subst P (sym c.ended.ensures)
+    (ended_only {names = c.args.names.now} p o.skips o.depth (run_forks o) o.chunks c.args.file.now c.in-Ok.survey l (record { core = made.core; means = made.means; laid = made.laid })
+    c.payload-packed.ensures.packed c.in-Ok.ensures.file c.one_file.ensures.value v is c.run_on-left.result c.run_on-left.ensures.root c.run_on-left.ensures.halts)

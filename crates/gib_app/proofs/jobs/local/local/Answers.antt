@@ -1,48 +1,64 @@
-use Rattle.std.proofs.Common.{Option, MatchOption, sym, subst}
+use Rattle.std.proofs.Common.{◌≡◌, ◌≤◌, Option, MatchOption, sym, subst}
 use Rattle.gib_types.specs.Table.{Table}
 use Rattle.gib_value.specs.Text.{AreHeld}
+use Rattle.gib_lower.specs.Lowering.{lower_program}
+use Rattle.gib_arena.specs.Sole.{sole_memory}
 use Rattle.gib_core.specs.Parts.{core_of}
 use Rattle.gib_core.specs.Tree.{CoreTree}
+use Rattle.gib_app.specs.declared.machine_run.RunEnd.{RunEnd}
+use Rattle.gib_app.specs.declared.made.End.{End}
 use Rattle.gib_app.specs.declared.made.Valued.{Valued}
 use Rattle.gib_app.specs.Jobs.{RunsLocated, run_forks}
-use Rattle.gib_app.specs.MachineRun.{LacksValueBy}
+use Rattle.gib_app.specs.MachineRun.{LacksValueBy, OnEnd, OnRan, StandsMeant, cells_of}
 use Rattle.gib_app.specs.Remains.{ComesOfCore, IsLeftBy}
-use Rattle.gib_app.proofs.Doing.{lacks_located}
+use Rattle.gib_app.proofs.Doing.{ends_without, lacks_located}
 use Rattle.gib_app.proofs.Imaged.{located_ends}
-use Rattle.gib_app.proofs.Remaining.{valueless_comes}
-use Rattle.gib_app.proofs.Stopped.{RunRefused, stopped_made, stopped_stop}
 use Rattle.gib_app.proofs.jobs.local.local.Goals as goal
 
-pub returns-in-Ok-clause-made : goal.returns-in-Ok-clause-made
-returns-in-Ok-clause-made g c = λ p located runs.
-    let stands = c.in-Ok.ensures.stands p.tree runs in
-    let H : Table → Type 0 = λ t. AreHeld t c.args.located.names.short in
-    located_ends p c.args.options c.args.input.now (record { ran = c.in-Ok.ran; names = c.args.located.names }) (subst H (sym stands.table) runs.held) stands
+-- ---- It leaves a value
 
-pub returns-clause-made : goal.returns-clause-made
-returns-clause-made g c = λ p located runs.
+pub returns-in-Value-clause-made : goal.returns-in-Value-clause-made
+returns-in-Value-clause-made g c = λ p located runs.
     let core = core_of c.args.located.core in
     let names = c.args.located.names in
     let o = c.args.options in
     let input = c.args.input.now in
-    stopped_made (RunRefused p.tree names input) (LacksValueBy core p.tree names o.depth (run_forks o) o.chunks input) (RunsLocated p names o input) c.in-Err.stop c.of_stop.result (c.in-Err.ensures.stop p.tree runs) c.of_stop.ensures.made
-    (lacks_located core p names o input located)
+    let S : RunEnd → Type 0 = OnEnd (λ ran. StandsMeant p.tree names o.depth input ran.lowered.code.laid (cells_of ran.memory) ran.root) (LacksValueBy core p.tree names o.depth (run_forks o) o.chunks input) in
+    let stands = subst S c.in-Value.is (c.in-Ok.ensures.stands p.tree runs) in
+    let H : Table → Type 0 = λ t. AreHeld t names.short in
+    located_ends p o input (record { ran = c.in-Value.ran; names = names }) (subst H (sym stands.table) runs.held) stands
 
-pub returns-clause-stop : goal.returns-clause-stop
-returns-clause-stop g c = λ p located runs.
+pub returns-in-Value-clause-region : goal.returns-in-Value-clause-region
+returns-in-Value-clause-region g c = λ p located runs.
     let core = core_of c.args.located.core in
     let names = c.args.located.names in
     let o = c.args.options in
     let input = c.args.input.now in
-    stopped_stop (RunRefused p.tree names input) (LacksValueBy core p.tree names o.depth (run_forks o) o.chunks input) c.in-Err.stop c.of_stop.result (c.in-Err.ensures.stop p.tree runs) c.of_stop.ensures.stop
-
-pub returns-in-Ok-clause-region : goal.returns-in-Ok-clause-region
-returns-in-Ok-clause-region g c = λ p located runs.
-    let names = c.args.located.names in
-    let value : Valued = record { ran = c.in-Ok.ran; names = names } in
-    let P : Option CoreTree → Type 0 = λ o. MatchOption o ⊥ (λ core. IsLeftBy core p.tree names c.args.options c.args.input.now value) in
-    let left : IsLeftBy (core_of c.args.located.core) p.tree names c.args.options c.args.input.now value = record { code = c.in-Ok.ensures.code; stands = c.in-Ok.ensures.stands p.tree runs; limit = c.in-Ok.ensures.limit } in
+    let S : RunEnd → Type 0 = OnEnd (λ ran. StandsMeant p.tree names o.depth input ran.lowered.code.laid (cells_of ran.memory) ran.root) (LacksValueBy core p.tree names o.depth (run_forks o) o.chunks input) in
+    let C : RunEnd → Type 0 = OnRan (λ ran. ran.lowered.code ≡ lower_program core) in
+    let M : RunEnd → Type 0 = OnRan (λ ran. (sole_memory ran.memory).limit ≤ o.chunks) in
+    let value : Valued = record { ran = c.in-Value.ran; names = names } in
+    let P : Option CoreTree → Type 0 = λ x. MatchOption x ⊥ (λ y. IsLeftBy y p.tree names o input value) in
+    let left : IsLeftBy core p.tree names o input value = record {
+      code = subst C c.in-Value.is c.in-Ok.ensures.code;
+      stands = subst S c.in-Value.is (c.in-Ok.ensures.stands p.tree runs);
+      limit = subst M c.in-Value.is c.in-Ok.ensures.limit;
+    } in
     subst P (sym located) left
 
-pub returns-clause-region : goal.returns-clause-region
-returns-clause-region g c = λ p located runs. valueless_comes (ComesOfCore p c.args.located.names c.args.options c.args.input.now) c.in-Err.stop c.of_stop.result (λ why. tt {0}) c.of_stop.ensures.made
+-- ---- It leaves none
+
+pub returns-in-NoValue-clause-made : goal.returns-in-NoValue-clause-made
+returns-in-NoValue-clause-made g c = λ p located runs.
+    let core = core_of c.args.located.core in
+    let names = c.args.located.names in
+    let o = c.args.options in
+    let input = c.args.input.now in
+    let S : RunEnd → Type 0 = OnEnd (λ ran. StandsMeant p.tree names o.depth input ran.lowered.code.laid (cells_of ran.memory) ran.root) (LacksValueBy core p.tree names o.depth (run_forks o) o.chunks input) in
+    let why = c.in-NoValue.reason in
+    ends_without c.no_value.result why (RunsLocated p names o input) c.no_value.ensures.file c.no_value.ensures.end (lacks_located core p names o input located why (subst S c.in-NoValue.is (c.in-Ok.ensures.stands p.tree runs)))
+
+pub returns-in-NoValue-clause-region : goal.returns-in-NoValue-clause-region
+returns-in-NoValue-clause-region g c = λ p located runs.
+    let Q : End → Type 0 = ComesOfCore p c.args.located.names c.args.options c.args.input.now in
+    subst Q (sym c.no_value.ensures.end) (tt {0})

@@ -1,40 +1,66 @@
+use Rattle.std.proofs.Common.{◌≡◌, ◌≤◌, sym, subst}
+use Rattle.gib_lower.specs.Lowering.{lower_program}
+use Rattle.gib_arena.specs.Sole.{sole_memory}
 use Rattle.gib_syntax.specs.Parts.{program_of}
+use Rattle.gib_app.specs.declared.machine_run.RunEnd.{RunEnd}
+use Rattle.gib_app.specs.declared.made.End.{End}
+use Rattle.gib_app.specs.Cores.{core_after}
 use Rattle.gib_app.specs.Jobs.{Sums, run_forks}
-use Rattle.gib_app.specs.MachineRun.{LacksValue}
-use Rattle.gib_app.proofs.Doing.{lacks_sums}
-use Rattle.gib_app.proofs.Imaged.{memory_stops}
+use Rattle.gib_app.specs.MachineRun.{LacksValue, OnEnd, OnRan, StandsMeant, cells_of}
 use Rattle.gib_app.specs.Remains.{SumsMemory}
-use Rattle.gib_app.proofs.Remaining.{is_left, valueless_comes}
-use Rattle.gib_app.proofs.Stopped.{RunRefused, stopped_made, stopped_stop}
+use Rattle.gib_app.proofs.Doing.{ends_without, lacks_sums}
+use Rattle.gib_app.proofs.Imaged.{memory_stops}
+use Rattle.gib_app.proofs.Remaining.{is_left}
 use Rattle.gib_app.proofs.jobs.made_run.made_run.Goals as goal
 
-pub returns-in-Ok-clause-stop : goal.returns-in-Ok-clause-stop
-returns-in-Ok-clause-stop g c = memory_stops c.line_made.result (program_of c.args.compiled.now.typed) c.args.compiled.now.names c.args.input.now c.line_made.ensures.memory
+-- ---- It leaves a value
 
-pub returns-in-Err-clause-made : goal.returns-in-Err-clause-made
-returns-in-Err-clause-made g c =
+pub line_made-requires-clause-stands : goal.line_made-requires-clause-stands
+line_made-requires-clause-stands g c κs within =
     let p = program_of c.args.compiled.now.typed in
     let names = c.args.compiled.now.names in
     let o = c.args.options in
     let input = c.args.input.now in
-    stopped_made (RunRefused p names input) (LacksValue p names o.skips o.depth (run_forks o) o.chunks input) (Sums p names o input) c.in-Err.stop c.of_stop.result c.in-Err.ensures.stop c.of_stop.ensures.made
-    (lacks_sums p names o input)
+    let S : RunEnd → Type 0 = OnEnd (λ ran. StandsMeant p names o.depth input ran.lowered.code.laid (cells_of ran.memory) ran.root) (LacksValue p names o.skips o.depth (run_forks o) o.chunks input) in
+    (p, names, input, subst S c.in-Value.is c.in-Ok.ensures.stands)
 
-pub returns-in-Err-clause-stop : goal.returns-in-Err-clause-stop
-returns-in-Err-clause-stop g c =
+pub returns-in-Value-clause-made : goal.returns-in-Value-clause-made
+returns-in-Value-clause-made g c =
     let p = program_of c.args.compiled.now.typed in
     let names = c.args.compiled.now.names in
     let o = c.args.options in
     let input = c.args.input.now in
-    stopped_stop (RunRefused p names input) (LacksValue p names o.skips o.depth (run_forks o) o.chunks input) c.in-Err.stop c.of_stop.result c.in-Err.ensures.stop c.of_stop.ensures.stop
+    let S : RunEnd → Type 0 = OnEnd (λ ran. StandsMeant p names o.depth input ran.lowered.code.laid (cells_of ran.memory) ran.root) (LacksValue p names o.skips o.depth (run_forks o) o.chunks input) in
+    c.line_made.ensures.made p names input (subst S c.in-Value.is c.in-Ok.ensures.stands)
 
-pub returns-in-Ok-clause-region : goal.returns-in-Ok-clause-region
-returns-in-Ok-clause-region g c =
+pub returns-in-Value-clause-region : goal.returns-in-Value-clause-region
+returns-in-Value-clause-region g c =
     let p = program_of c.args.compiled.now.typed in
     let names = c.args.compiled.now.names in
-    let made = c.in-Ok.ensures in
-    c.line_made.ensures.region p names c.args.input.now (is_left p names c.args.options c.args.input.now (record { ran = c.in-Ok.ran; names = names }) made.code made.limit made.stands)
+    let o = c.args.options in
+    let input = c.args.input.now in
+    let S : RunEnd → Type 0 = OnEnd (λ ran. StandsMeant p names o.depth input ran.lowered.code.laid (cells_of ran.memory) ran.root) (LacksValue p names o.skips o.depth (run_forks o) o.chunks input) in
+    let C : RunEnd → Type 0 = OnRan (λ ran. ran.lowered.code ≡ lower_program (core_after o.skips 4 p)) in
+    let M : RunEnd → Type 0 = OnRan (λ ran. (sole_memory ran.memory).limit ≤ o.chunks) in
+    c.line_made.ensures.region p names input
+    (is_left p names o input (record { ran = c.in-Value.ran; names = names }) (subst C c.in-Value.is c.in-Ok.ensures.code) (subst M c.in-Value.is c.in-Ok.ensures.limit) (subst S c.in-Value.is c.in-Ok.ensures.stands))
 
-pub returns-in-Err-clause-region : goal.returns-in-Err-clause-region
-returns-in-Err-clause-region g c =
-    valueless_comes (SumsMemory (program_of c.args.compiled.now.typed) c.args.compiled.now.names c.args.options c.args.input.now) c.in-Err.stop c.of_stop.result (λ why. tt {0}) c.of_stop.ensures.made
+pub returns-in-Value-clause-stop : goal.returns-in-Value-clause-stop
+returns-in-Value-clause-stop g c = memory_stops c.line_made.result (program_of c.args.compiled.now.typed) c.args.compiled.now.names c.args.input.now c.line_made.ensures.memory
+
+-- ---- It leaves none
+
+pub returns-in-NoValue-clause-made : goal.returns-in-NoValue-clause-made
+returns-in-NoValue-clause-made g c =
+    let p = program_of c.args.compiled.now.typed in
+    let names = c.args.compiled.now.names in
+    let o = c.args.options in
+    let input = c.args.input.now in
+    let S : RunEnd → Type 0 = OnEnd (λ ran. StandsMeant p names o.depth input ran.lowered.code.laid (cells_of ran.memory) ran.root) (LacksValue p names o.skips o.depth (run_forks o) o.chunks input) in
+    let why = c.in-NoValue.reason in
+    ends_without c.no_value.result why (Sums p names o input) c.no_value.ensures.file c.no_value.ensures.end (lacks_sums p names o input why (subst S c.in-NoValue.is c.in-Ok.ensures.stands))
+
+pub returns-in-NoValue-clause-region : goal.returns-in-NoValue-clause-region
+returns-in-NoValue-clause-region g c =
+    let Q : End → Type 0 = SumsMemory (program_of c.args.compiled.now.typed) c.args.compiled.now.names c.args.options c.args.input.now in
+    subst Q (sym c.no_value.ensures.end) (tt {0})
