@@ -1,4 +1,5 @@
 -- What reads leave, one after another.
+use Rattle.std.proofs.lemmas.List.{append-nil}
 use Rattle.std.proofs.Common.{◌≡◌, ◌∙◌, refl, sym, ap, subst, List, [], ◌∷◌, ◌++◌, Option, Some, None, option_map, option_to_list, arith}
 use Rattle.gib_edge.specs.Views.{Call, ShelfView}
 use Rattle.gib_app.specs.declared.inputs.Input.{Input as KeptInput}
@@ -9,7 +10,7 @@ use Rattle.gib_app.specs.Formats.{Input}
 use Rattle.gib_words.specs.Kept.{document_of}
 use Rattle.gib_app.specs.Kept.{input_of}
 use Rattle.gib_app.specs.Readings.{HasRead, HasStopped}
-use Rattle.gib_app.proofs.Calling.{added_none, added_some, added_whole, added_two, added_front, added_part, append_nil}
+use Rattle.gib_app.proofs.Calling.{added_none, added_some, added_whole, added_two, added_front, added_part}
 
 pub none_read : (s : ShelfView) → HasRead s s []
 none_read s = record { same = λ name. refl; reads = λ name. refl; writes = λ name. refl; called = added_none s.calls }
@@ -58,7 +59,7 @@ module _ (before mid now : ShelfView) (xs ys : List Call) (h : HasRead before mi
 -- The inputs are the first one and those behind it.
 pub calls_parts : (is : List Input) → input_calls (first_of is) ++ input_calls (further_of is) ≡ input_calls is
 calls_parts [] = refl
-calls_parts (i ∷ rest) = ap (λ calls. calls ++ input_calls rest) (append_nil (read_calls i.document i.most))
+calls_parts (i ∷ rest) = ap (λ calls. calls ++ input_calls rest) (append-nil (read_calls i.document i.most))
 
 module _ (before mid now : ShelfView) (is : List Input) where
   pub inputs_read : HasRead before mid (input_calls (first_of is)) → HasRead mid now (input_calls (further_of is)) → HasRead before now (input_calls is)
@@ -83,7 +84,7 @@ module _ (o : Option KeptInput) (is : List Input) (same : option_to_list (option
   calls_are : (i : KeptInput) → o ≡ Some i → read_calls (document_of i.document) i.most ≡ input_calls is
   calls_are i e =
       let Q : Option KeptInput → Type 0 = λ x. option_to_list (option_map input_of x) ≡ is in
-      sym (append_nil (read_calls (document_of i.document) i.most)) ∙ ap input_calls (subst Q e same)
+      sym (append-nil (read_calls (document_of i.document) i.most)) ∙ ap input_calls (subst Q e same)
 
   pub one_read : (before now : ShelfView) (i : KeptInput) → o ≡ Some i → HasRead before now (read_calls (document_of i.document) i.most) → HasRead before now (input_calls is)
   one_read before now i e h = let P : List Call → Type 0 = HasRead before now in subst P (calls_are i e) h

@@ -1,5 +1,7 @@
 -- Items that are added at an end, in turn.
 use Rattle.std.proofs.Common.{◌≡◌, ◌∙◌, refl, ℕ, zero, suc, List, [], ◌∷◌, ◌++◌, length, take, Option, Some, None, IfSome, Result, Ok, Err, OnOk, OnErr, subst, sym, ap, append_assoc, codes}
+use Rattle.std.proofs.lemmas.List.{append-nil}
+use Rattle.std.proofs.Math.Seq.{take-length}
 use Rattle.gib_edge.specs.Causes.{HasCause, Appends, AppendsPart}
 use Rattle.std.specs.Option.{option_map_or}
 use Rattle.gib_edge.specs.Views.{Call, WriteOf, SinkView}
@@ -7,14 +9,6 @@ use Rattle.gib_words.specs.Plan.{Plan}
 use Rattle.gib_words.specs.Words.{asked}
 use Rattle.gib_app.specs.Calls.{write_calls, calls_of, calls_asked}
 use Rattle.gib_app.specs.Lines.{IsPut, line}
-
-take_length : {X : Type 0} (xs : List X) → take (length xs) xs ≡ xs
-take_length [] = refl
-take_length (x ∷ xs) = ap (λ ys. x ∷ ys) (take_length xs)
-
-pub append_nil : {X : Type 0} (xs : List X) → xs ++ [] ≡ xs
-append_nil [] = refl
-append_nil (x ∷ xs) = ap (λ ys. x ∷ ys) (append_nil xs)
 
 -- the front of a list is one of a longer list
 front_of : {X : Type 0} (n : ℕ) (xs ys : List X) → (m : ℕ) × (take n xs ≡ take m (xs ++ ys))
@@ -29,15 +23,15 @@ front_after (x ∷ xs) n ys = let r = front_after xs n ys in (suc r.0, ap (λ zs
 
 pub added_none : {X : Type 0} (o : Option (List X)) → Appends o o []
 added_none None = tt {0}
-added_none (Some l) = ap Some (sym (append_nil l))
+added_none (Some l) = ap Some (sym (append-nil l))
 
 pub added_some : {X : Type 0} (o : Option (List X)) (xs : List X) → AppendsPart o o xs
 added_some None xs = tt {0}
-added_some (Some l) xs = (0, ap Some (sym (append_nil l)))
+added_some (Some l) xs = (0, ap Some (sym (append-nil l)))
 
 pub added_whole : {X : Type 0} (a b : Option (List X)) (xs : List X) → Appends a b xs → AppendsPart a b xs
 added_whole None b xs h = tt {0}
-added_whole (Some l) b xs h = (length xs, h ∙ ap (λ ys. Some (l ++ ys)) (sym (take_length xs)))
+added_whole (Some l) b xs h = (length xs, h ∙ ap (λ ys. Some (l ++ ys)) (sym (take-length xs)))
 
 pub added_two : {X : Type 0} (a b c : Option (List X)) (xs ys : List X) → Appends a b xs → Appends b c ys → Appends a c (xs ++ ys)
 added_two {X} None b c xs ys h k = tt {0}
@@ -57,7 +51,7 @@ added_part {X} (Some l) b c xs ys h k =
     let m = front_after xs q.0 ys in
     (m.0, q.1 ∙ ap Some (append_assoc l xs (take q.0 ys) ∙ ap (λ zs. l ++ zs) m.1))
 
-not_empty : (xs : List ℕ) (y : ℕ) → xs ++ y ∷ [] ≡ [] → ⊥
+pub not_empty : (xs : List ℕ) (y : ℕ) → xs ++ y ∷ [] ≡ [] → ⊥
 not_empty [] y e = cc
 not_empty (x ∷ xs) y e = cc
 

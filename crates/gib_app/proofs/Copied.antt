@@ -1,5 +1,5 @@
 -- What is known of a source's program and of its copy.
-use Rattle.std.proofs.Common.{◌≡◌, ◌∙◌, refl, ℕ, zero, suc, ◌<◌, List, [], ◌∷◌, ◌++◌, length, Some, Ok, subst, sym, ap, arith}
+use Rattle.std.proofs.Common.{◌≡◌, ◌∙◌, refl, ℕ, zero, suc, List, [], ◌∷◌, ◌++◌, length, Some, Ok, subst, sym, ap}
 use Rattle.std.specs.Prelude.{slice_get, unwrap_or}
 use Rattle.std.specs.List.{AllByRecursion}
 use Rattle.std.proofs.lemmas.Option.{same_Some}
@@ -7,24 +7,24 @@ use Rattle.gib_base.specs.Lexed.{Lexed}
 use Rattle.gib_base.specs.Names.{AreNames}
 use Rattle.gib_base.specs.Texts.{TextsView}
 use Rattle.gib_base.specs.declared.token.Dialect.TheVariants as dialect
+use Rattle.gib_types.proofs.Once.{get_below}
 use Rattle.gib_types.specs.declared.table.Ty.{Ty}
 use Rattle.gib_types.specs.Table.{name_at}
 use Rattle.gib_types.specs.Tree.{Datum, HasType}
 use Rattle.gib_value.specs.Text.{text, AreHeld}
 use Rattle.gib_value.specs.Reading.{IsWord, AreWords, AreApart}
 use Rattle.gib_value.proofs.OneText.{one_text}
-use Rattle.gib_file.proofs.FileLaws.{inside}
 use Rattle.gib_syntax.specs.Tree.{ProgramTree}
 use Rattle.gib_syntax.specs.Fine.{IsFineProgram}
 use Rattle.gib_syntax.specs.Declarations.{table_of_program, input_type, output_type}
-use Rattle.gib_syntax.specs.Meaning.{Reason, Outcome, Gives, Stops, run, OutcomeHas}
+use Rattle.gib_syntax.specs.Meaning.{run, OutcomeHas}
 use Rattle.gib_syntax.proofs.Soundness.{run_has}
 use Rattle.gib_syntax.specs.GenericTree.{GenericProgramTree, GenericRow, rows_of}
 use Rattle.gib_syntax.specs.GenericTyping.{IsTypedGeneric}
 use Rattle.gib_syntax.specs.GenericMeaning.{run_generic}
 use Rattle.gib_syntax.specs.Source.{Spells}
 use Rattle.gib_mono.specs.Copied.{shown, shown_outcome}
-use Rattle.gib_mono.specs.Walk.{Copy, copies_of, copied_program, base_of}
+use Rattle.gib_mono.specs.Walk.{Copy, copies_of, base_of}
 use Rattle.gib_mono.specs.Naming.{entries, naming_of, AreBelow}
 use Rattle.gib_mono.specs.Showing.{source_text, short_texts, long_texts}
 use Rattle.gib_mono.proofs.Below.{copies_below}
@@ -35,7 +35,7 @@ use Rattle.gib_mono.proofs.Theorem.{set_made, copied_typed, copied_fine, copied_
 use Rattle.gib_mono.proofs.Whole.{IsSet}
 use Rattle.gib_app.specs.GenericText.{generic_text, row_text}
 use Rattle.gib_app.specs.Headline.{copy_with}
-use Rattle.gib_app.specs.Running.{IsCopy, IsProgram, IsInput, sourced, text_line}
+use Rattle.gib_app.specs.Running.{IsCopy, IsProgram, sourced, text_line}
 use Rattle.gib_app.specs.Causes.{OnProgram}
 use Rattle.gib_app.specs.Stops.{IsReady}
 use Rattle.gib_app.proofs.Held.{named_below, rows_are_words}
@@ -50,11 +50,6 @@ pub record IsSpelled (source : List ℕ) (l : Lexed) (g : GenericProgramTree) (f
   pub spelled : Spells source l g
   pub typed : IsTypedGeneric g
   pub within : copies_of g ≡ Ok found
-
-held_there : (names : List (List ℕ)) (i : ℕ) (text : List ℕ) → slice_get names i ≡ Some text → i < length names
-held_there [] i text e = absurd cc
-held_there (n ∷ names) zero text e = omega arith
-held_there (n ∷ names) (suc i) text e = let lt = held_there names i text e in omega (arith, lt)
 
 pub row_holds : (P : GenericRow → Type 0) (rows : List GenericRow) (i : ℕ) (row : GenericRow) → AllByRecursion P rows → slice_get rows i ≡ Some row → P row
 row_holds P [] i row h e = absurd cc
@@ -92,7 +87,7 @@ module _ (source : List ℕ) (l : Lexed) (g : GenericProgramTree) (found : List 
       v ty [] h
 
   pub held : AreHeld (table_of_program q) (texts_with l found).short
-  held d at = let s = shown_short g found l.names set below d at in held_there (texts_with l found).short (name_at (table_of_program q) d) (source_text l.names (s.0).name) s.2
+  held d at = let s = shown_short g found l.names set below d at in get_below (texts_with l found).short (name_at (table_of_program q) d) (source_text l.names (s.0).name) s.2
 
   pub words : AreWords (table_of_program q) (texts_with l found).short
   words d at =

@@ -1,6 +1,7 @@
 -- The promise of `run`, from how a call ends.
 use Rattle.gib_base.specs.Texts.{TextsView}
 use Rattle.gib_base.specs.declared.token.Dialect.TheVariants as dialect
+use Rattle.std.proofs.lemmas.Option.{none-some}
 use Rattle.std.proofs.Common.{◌≡◌, ◌∙◌, refl, ℕ, List, [], ◌∷◌, ◌++◌, Option, Some, None, IfSome, ◌⊎◌, inl, inr, subst, subst₂, sym, ap, Bool, true, false, true≢false}
 use Rattle.gib_types.specs.Tree.{Datum}
 use Rattle.gib_syntax.specs.Tree.{ProgramTree}
@@ -20,7 +21,7 @@ use Rattle.gib_mono.specs.Walk.{Copy, base_of}
 use Rattle.gib_mono.specs.Naming.{entries}
 use Rattle.gib_mono.specs.Showing.{long_texts}
 use Rattle.gib_app.specs.GenericText.{generic_text}
-use Rattle.gib_app.proofs.Copied.{IsSpelled, OnCopy, OnTree, texts_with, to_copy, of_copy, has, means, text_is, read_once}
+use Rattle.gib_app.proofs.Copied.{IsSpelled, OnTree, texts_with, to_copy, of_copy, has, means, text_is, read_once}
 use Rattle.gib_code.specs.declared.answer.Reason.{Reason as Why}
 use Rattle.gib_code.specs.declared.answer.Reason.TheVariants as why
 use Rattle.gib_weave.specs.Sound.{means_why}
@@ -45,14 +46,14 @@ use Rattle.gib_app.proofs.Fitting.{image_asked, packs_agrees, valueless_packs}
 use Rattle.gib_app.proofs.FirstWriting.{others_after, written_first}
 use Rattle.gib_app.proofs.JobWriting.{named_of_two, one_named}
 use Rattle.gib_app.proofs.Writing.{written_last}
-use Rattle.gib_app.proofs.Replays.{some_or_none}
+use Rattle.gib_app.proofs.Replays.{one_given, some_or_none}
 use Rattle.gib_app.proofs.CallCauses.{Whole, cause_of}
 use Rattle.gib_app.proofs.EndsDone.{done_due, fit_ends}
 use Rattle.gib_app.proofs.EndsLong.{long_due}
 use Rattle.gib_app.proofs.EndsNone.{none_due, told_by}
-use Rattle.gib_app.proofs.OneEnd.{one_given, one_meaning, packed_or_long, runs_well}
+use Rattle.gib_app.proofs.OneEnd.{one_meaning, packed_or_long, runs_well}
 use Rattle.gib_app.proofs.OneProgram.{Laws, joined, together}
-use Rattle.gib_app.proofs.SameFiles.{same_bytes, same_given}
+use Rattle.gib_app.proofs.SameFiles.{packed_read, same_bytes, same_given}
 
 -- A run of one document on another, with an image and a packed file of its result, or none.
 
@@ -375,10 +376,6 @@ any_full tells words before now out out_now source input options front said r h 
     let on = of_files words before out source input options front r (EndsWithout tells before now Full plan) (asked_is (asked words) plan P r.asks h.0) in
     big_of source input options.skips options.depth (run_forks options) options.chunks (record { texts = on.texts; program = on.program; is_program = on.is_program; holds = on.holds.does.1 })
 
-packed_read : (before now : ShelfView) (d : Document) → ((name : List ℕ) → IsUnread before now d name → ⊥) → (name : List ℕ) → IsUnread before now d name ⊎ ⊥ → ⊥
-packed_read before now d quiet name (inl h) = quiet name h
-packed_read before now d quiet name (inr h) = h
-
 due_of : (tells : Bool) (words : List (List ℕ)) (before now : ShelfView) (out out_now : SinkView) (source input : List ℕ) (options : Options) (front : List ℕ) (r : AnyRun words before out source input options front) →
     NoFault r.program r.packed r.image r.pack before now out out_now → (P : Program → TextsView → Contents → Type 0) → OnProgram dialect.Source source (λ p names. P p names (record { second = input; further = [] })) →
     DueOfFiles tells before now (any_plan r.program r.packed r.image r.pack options) P
@@ -529,9 +526,6 @@ not_either laws source input depth h k =
 
 -- ---- A run without a packed file of its result
 
-no_pack : (name : List ℕ) → None ≡ Some name → ⊥
-no_pack name e = some_or_none name (sym e)
-
 module _ (words : List (List ℕ)) (before : ShelfView) (out : SinkView) (source input : List ℕ) (options : Options) (front : List ℕ) (r : IsRun words before out source input options front) where
   abbrev bare : AnyRun words before out source input options front
   bare = record { program = r.program; packed = r.packed; image = r.image; pack = None; asks = r.asks; source_is = r.source_is; input_is = r.input_is; front_is = r.front_is }
@@ -540,14 +534,14 @@ module _ (words : List (List ℕ)) (before : ShelfView) (out : SinkView) (source
   bare_packs on = absurd (true≢false (sym on ∙ packs_agrees words (any_plan r.program r.packed r.image None options) r.asks refl))
 
   bare_quiet : (now : ShelfView) (out_now : SinkView) → NoneFailed r.program r.packed r.image before now out out_now → NoFault r.program r.packed r.image None before now out out_now
-  bare_quiet now out_now q = record { program_read = q.program_read; packed_read = q.packed_read; image_written = q.image_written; packed_written = λ name e h. no_pack name e; put = q.put }
+  bare_quiet now out_now q = record { program_read = q.program_read; packed_read = q.packed_read; image_written = q.image_written; packed_written = λ name e h. none-some name e; put = q.put }
 
 pub run_done : (tells : Bool) (words : List (List ℕ)) (before now : ShelfView) (out out_now : SinkView) (source input : List ℕ) (options : Options) (front said : List ℕ) → IsRun words before out source input options front → IsEnding tells words before now out out_now status.Done said → (output : List ℕ) × IsResult source input options.depth output × (out_now.taken ≡ Some (front ++ output))
 run_done tells words before now out out_now source input options front said r h = any_done tells words before now out out_now source input options front said (bare words before out source input options front r) h
 
 pub run_image : (tells : Bool) (words : List (List ℕ)) (before now : ShelfView) (out out_now : SinkView) (source input : List ℕ) (options : Options) (front said name : List ℕ) → (r : IsRun words before out source input options front) → r.image ≡ Some name → IsEnding tells words before now out out_now status.Done said →
     (bytes : List ℕ) × (now.kept name ≡ told tells bytes) × IsResultImage source input options.skips options.depth options.chunks bytes
-run_image tells words before now out out_now source input options front said name r named h = any_image tells words before now out out_now source input options front said name (bare words before out source input options front r) named (no_pack name) h
+run_image tells words before now out out_now source input options front said name r named h = any_image tells words before now out out_now source input options front said name (bare words before out source input options front r) named (none-some name) h
 
 pub run_deep : (tells : Bool) (words : List (List ℕ)) (before now : ShelfView) (out out_now : SinkView) (source input : List ℕ) (options : Options) (front said : List ℕ) → IsRun words before out source input options front → IsEnding tells words before now out out_now status.Depth said → IsTooDeep source input options.depth
 run_deep tells words before now out out_now source input options front said r h = any_deep tells words before now out out_now source input options front said (bare words before out source input options front r) h

@@ -1,6 +1,6 @@
 -- The names of a program's declarations are held, and those of its constructors are words.
-use Rattle.std.proofs.Common.{◌≡◌, ℕ, zero, suc, ◌<◌, List, [], ◌∷◌, ◌++◌, length, map, subst, sym, ap, arith, Some}
-use Rattle.std.specs.Prelude.{slice_get}
+use Rattle.std.proofs.Common.{ℕ, ◌<◌, List, [], ◌∷◌, ◌++◌, length, map, subst, sym, ap}
+use Rattle.gib_types.proofs.Once.{get_below}
 use Rattle.std.specs.List.{AllByRecursion}
 use Rattle.gib_base.specs.declared.token.Token.{Token}
 use Rattle.gib_base.specs.declared.token.Piece.TheVariants as kinds
@@ -22,25 +22,20 @@ module _ (names : List (List ℕ)) where
   abbrev W : Token → Type 0
   W = IsWritable names
 
-  inside : (names : List (List ℕ)) (number : ℕ) (text : List ℕ) → slice_get names number ≡ Some text → number < length names
-  inside [] number text e = absurd cc
-  inside (n ∷ names) zero text e = omega arith
-  inside (n ∷ names) (suc number) text e = let lt = inside names number text e in omega (arith, lt)
-
   constructors_below : (cs : List GenericConstructorTree) → AllByRecursion (HasName W) cs → AllByRecursion (λ (k : GenericConstructorTree). k.name.name.0 < length names) cs
   constructors_below [] h = tt {0}
-  constructors_below (c ∷ cs) h = (inside names c.name.name.0 h.0.text h.0.held, constructors_below cs h.1)
+  constructors_below (c ∷ cs) h = (get_below names c.name.name.0 h.0.text h.0.held, constructors_below cs h.1)
 
   datas_below : (ds : List GenericDataTree) → AllByRecursion (HaveNames W) ds → AllByRecursion (λ (d : GenericDataTree). d.name.name.0 < length names) ds
       × AllByRecursion (λ (d : GenericDataTree). AllByRecursion (λ (k : GenericConstructorTree). k.name.name.0 < length names) d.constructors) ds
   datas_below [] h = (tt {0}, tt {0})
   datas_below (d ∷ ds) h =
       let more = datas_below ds h.1 in
-      ((inside names d.name.name.0 h.0.0.text h.0.0.held, more.0), (constructors_below d.constructors h.0.1, more.1))
+      ((get_below names d.name.name.0 h.0.0.text h.0.0.held, more.0), (constructors_below d.constructors h.0.1, more.1))
 
   functions_below : (fs : List GenericFunctionTree) → AllByRecursion (IsFunctionNamed W) fs → AllByRecursion (λ (f : GenericFunctionTree). f.name.name.0 < length names) fs
   functions_below [] h = tt {0}
-  functions_below (f ∷ fs) h = (inside names f.name.name.0 h.0.text h.0.held, functions_below fs h.1)
+  functions_below (f ∷ fs) h = (get_below names f.name.name.0 h.0.text h.0.held, functions_below fs h.1)
 
   abbrev IsRowWord : GenericRow → Type 0
   IsRowWord row = IsWord (source_text names row.name)

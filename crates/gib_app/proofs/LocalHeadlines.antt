@@ -1,6 +1,7 @@
 -- The promise of `local`, from how a call ends.
 use Rattle.gib_base.specs.Texts.{TextsView, plain_texts}
 use Rattle.gib_base.specs.declared.token.Dialect.TheVariants as dialect
+use Rattle.std.proofs.lemmas.Option.{none-some}
 use Rattle.std.proofs.Common.{◌≡◌, ◌∙◌, refl, ℕ, List, [], ◌++◌, Option, Some, None, IfSome, ◌⊎◌, inl, inr, subst, sym, ap, Bool, true≢false}
 use Rattle.gib_types.specs.Tree.{Datum}
 use Rattle.gib_core.specs.Marking.{mark_core}
@@ -14,24 +15,24 @@ use Rattle.gib_app.specs.declared.made.Reason.TheVariants.{Meant, Full, Long}
 use Rattle.gib_words.specs.declared.plan.Options.{Options}
 use Rattle.gib_app.specs.declared.status.Status.{Status}
 use Rattle.gib_app.specs.declared.status.Status.TheVariants as status
-use Rattle.gib_words.specs.Plan.{Contents, Document, Plan, bytes_in}
+use Rattle.gib_words.specs.Plan.{Contents, Plan, bytes_in}
 use Rattle.gib_app.specs.Writes.{at_reading}
 use Rattle.gib_app.specs.Formats.{inputs_of, Accepts}
 use Rattle.gib_words.specs.Words.{asked}
 use Rattle.gib_app.specs.Jobs.{run_forks}
 use Rattle.gib_app.specs.Running.{Program, IsInput, IsLocated, IsNoProgramIn, IsOutput, MeansNone, text_line}
-use Rattle.gib_app.specs.Causes.{OnProgram, OnBoth, OnSource, AsksProgram, EndsWithout, IsUnread}
+use Rattle.gib_app.specs.Causes.{OnProgram, OnBoth, OnSource, AsksProgram, EndsWithout}
 use Rattle.gib_app.specs.Ending.{IsEnding, HasText, DueOfFiles, DueOfSource, DueWithout, TakesAll}
 use Rattle.gib_app.specs.LocalHeadline.{IsLocalRun, MakesCore, LocalGiven, IsLocalResult, HasNoLocalResult, IsLocalTooBig, NoReadFailed, local_plan, program_in}
 use Rattle.gib_app.proofs.CallCauses.{Whole, cause_of}
 use Rattle.gib_app.proofs.EndsDone.{done_due, fit_ends}
 use Rattle.gib_app.proofs.EndsNone.{none_due, told_by}
 use Rattle.gib_app.proofs.EndsRefused.{source_due}
-use Rattle.gib_app.proofs.OneEnd.{one_given, one_meaning, runs_well}
+use Rattle.gib_app.proofs.OneEnd.{one_meaning, runs_well}
 use Rattle.gib_app.proofs.OneProgram.{Laws, together}
-use Rattle.gib_app.proofs.SameFiles.{same_bytes, same_given}
+use Rattle.gib_app.proofs.SameFiles.{packed_read, same_bytes, same_given}
 use Rattle.gib_app.proofs.Performing.{asked_is}
-use Rattle.gib_app.proofs.Replays.{some_or_none}
+use Rattle.gib_app.proofs.Replays.{one_given}
 
 -- The program of a core that is made, and the texts of its names.
 
@@ -120,13 +121,6 @@ one_reason laws source input depth x y h k =
 
 -- ---- From how a call ends
 
-packed_read : (before now : ShelfView) (d : Document) → ((name : List ℕ) → IsUnread before now d name → ⊥) → (name : List ℕ) → IsUnread before now d name ⊎ ⊥ → ⊥
-packed_read before now d quiet name (inl h) = quiet name h
-packed_read before now d quiet name (inr h) = h
-
-no_name : (name : List ℕ) → None ≡ Some name → ⊥
-no_name name e = some_or_none name (sym e)
-
 module _ (tells : Bool) (words : List (List ℕ)) (before now : ShelfView) (out out_now : SinkView) (source input : List ℕ) (options : Options) (front : List ℕ) (r : IsLocalRun words before out source input options front) where
   abbrev plan : Plan
   plan = local_plan r.program r.packed options
@@ -199,7 +193,7 @@ module _ (tells : Bool) (words : List (List ℕ)) (before now : ShelfView) (out 
     }
 
     takes : TakesAll before now out out_now plan
-    takes = record { target = λ name named. absurd (no_name name named); pack = λ name named. absurd (no_name name named); out = quiet.put }
+    takes = record { target = λ name named. absurd (none-some name named); pack = λ name named. absurd (none-some name named); out = quiet.put }
 
     pub ends_done : (output said : List ℕ) (end' : Status) → IsLocalResult source input options.depth output → IsEnding tells words before now out out_now end' said → (end' ≡ status.Done) ⊎ (end' ≡ status.Memory) ⊎ (end' ≡ status.Full)
     ends_done output said end' h ends =
@@ -210,7 +204,7 @@ module _ (tells : Bool) (words : List (List ℕ)) (before now : ShelfView) (out 
     ends_none : (x : Why) (said : List ℕ) (end' : Status) → HasNoLocalResult source input options.depth (means_why x) → IsEnding tells words before now out out_now end' said → (end' ≡ told_by x) ⊎ (end' ≡ status.Memory) ⊎ (end' ≡ status.Full)
     ends_none x said end' h ends =
         let on = of_none source input options.depth (means_why x) h in
-        let due = due_of (DueWithout before now (Meant x) plan) (record { texts = on.texts; program = on.program; is_program = on.is_program; holds = ((None, (refl, on.holds)), λ name bytes named does. absurd (no_name name named)) }) in
+        let due = due_of (DueWithout before now (Meant x) plan) (record { texts = on.texts; program = on.program; is_program = on.is_program; holds = ((None, (refl, on.holds)), λ name bytes named does. absurd (none-some name named)) }) in
         none_due laws tells (record { shelf = before; out = out }) (record { shelf = now; out = out_now }) plan x due end' (cause_of tells words (record { shelf = before; out = out }) (record { shelf = now; out = out_now }) plan r.asks end' said ends)
 
     pub ends_deep : (said : List ℕ) (end' : Status) → HasNoLocalResult source input options.depth Deep → IsEnding tells words before now out out_now end' said → (end' ≡ status.Depth) ⊎ (end' ≡ status.Memory) ⊎ (end' ≡ status.Full)

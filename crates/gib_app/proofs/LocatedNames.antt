@@ -1,5 +1,5 @@
 -- The names of the constructors of a text that writes its places out are held.
-use Rattle.std.proofs.Common.{◌≡◌, ℕ, zero, suc, ◌<◌, List, [], ◌∷◌, ◌++◌, length, map, subst, sym, arith, Some}
+use Rattle.std.proofs.Common.{◌≡◌, ℕ, zero, suc, ◌<◌, List, [], ◌∷◌, ◌++◌, length, map, subst, sym, arith}
 use Rattle.std.specs.Prelude.{slice_get}
 use Rattle.std.specs.List.{AllByRecursion}
 use Rattle.gib_base.specs.Lexed.{Lexed, IsLexedIn}
@@ -8,7 +8,8 @@ use Rattle.gib_base.specs.declared.token.Dialect.TheVariants as dialect
 use Rattle.gib_base.specs.declared.token.Sign.TheVariants as s
 use Rattle.gib_base.specs.declared.token.Token.{Token}
 use Rattle.gib_base.specs.declared.token.Token.TheVariants as t
-use Rattle.gib_types.specs.Table.{Row, Table, name_of}
+use Rattle.gib_types.proofs.Once.{get_below}
+use Rattle.gib_types.specs.Table.{Row, name_of}
 use Rattle.gib_value.specs.Text.{AreHeld}
 use Rattle.gib_syntax.specs.declared.tree.TypeName.{TypeName}
 use Rattle.gib_syntax.specs.Declarations.{row_in, rows_from, table_of_program, type_names}
@@ -50,17 +51,12 @@ module _ (names : List (List ℕ)) where
   abbrev W : Token → Type 0
   W = IsWritableIn dialect.Located names
 
-  there : (names : List (List ℕ)) (number : ℕ) (text : List ℕ) → slice_get names number ≡ Some text → number < length names
-  there [] number text e = absurd cc
-  there (n ∷ names) zero text e = omega arith
-  there (n ∷ names) (suc number) text e = let lt = there names number text e in omega (arith, lt)
-
   abbrev IsRowHeld : Row → Type 0
   IsRowHeld row = row.name < length names
 
   rows_held : (types : List ℕ) (owner : ℕ) (cs : List ConstructorTree) (more : List Row) → AllByRecursion (HasName W) cs → AllByRecursion IsRowHeld more → AllByRecursion IsRowHeld (map (row_in types owner) cs ++ more)
   rows_held types owner [] more h k = k
-  rows_held types owner (c ∷ cs) more h k = (there names c.name.name.0 h.0.text h.0.held, rows_held types owner cs more h.1 k)
+  rows_held types owner (c ∷ cs) more h k = (get_below names c.name.name.0 h.0.text h.0.held, rows_held types owner cs more h.1 k)
 
   all_held : (types : List ℕ) (owner : ℕ) (ds : List DataTree) → AllByRecursion (HaveNames W) ds → AllByRecursion IsRowHeld (rows_from types owner ds)
   all_held types owner [] h = tt {0}

@@ -1,7 +1,7 @@
 -- From a core that a source writes out to what is made of a plan's files.
 use Rattle.gib_base.specs.Texts.{TextsView}
 use Rattle.gib_base.specs.declared.token.Dialect.TheVariants as dialect
-use Rattle.std.proofs.Common.{◌≡◌, ◌∙◌, refl, sym, ap, subst, ℕ, ◌≤◌, List, [], Option, None, Result, Ok, Err, IfOk, IfErr, Some}
+use Rattle.std.proofs.Common.{◌≡◌, ◌∙◌, refl, sym, ap, subst, ℕ, ◌≤◌, List, [], Option, None, Result, Ok, Err, IfOk, IfErr}
 use Rattle.std.specs.Option.{option_map_or}
 use Rattle.gib_edge.specs.Views.{ShelfView}
 use Rattle.gib_app.specs.declared.made.Finished.{Finished}
@@ -11,8 +11,8 @@ use Rattle.gib_words.specs.declared.plan.Job.TheVariants.{Local}
 use Rattle.gib_words.specs.declared.plan.Options.{Options}
 use Rattle.gib_app.specs.declared.stop.Stop.{Stop}
 use Rattle.gib_app.specs.Calls.{input_calls}
-use Rattle.gib_app.specs.Causes.{AreFurther, AreGiven, first_of, further_of, OnSource}
-use Rattle.gib_app.specs.Formats.{dialect_of, format_of, inputs_of, limits_of, most_of, with_limits, dialect_by, format_by, limit_of}
+use Rattle.gib_app.specs.Causes.{AreFurther, AreGiven, first_of, further_of}
+use Rattle.gib_app.specs.Formats.{dialect_of, inputs_of, limits_of, most_of, with_limits, dialect_by, format_by, limit_of}
 use Rattle.gib_app.specs.Formats.{Input as PlanInput}
 use Rattle.gib_app.specs.Rows.{Plainly, ForFiles, ForSummary, ForJournal, ForPlaces, Row, Says, Evaluates, PacksValue, ShowsFile, FollowsJournal, row}
 use Rattle.gib_app.specs.Jobs.{DoesAll, DoesBy, End, PacksResult, RunsLocated, packs_of}
@@ -20,7 +20,7 @@ use Rattle.gib_app.specs.Kept.{EndsBy, EndsByBoth, file_of, packed_of}
 use Rattle.gib_words.specs.Plan.{Contents, Files, Plan}
 use Rattle.gib_app.specs.Readings.{HasRead}
 use Rattle.gib_app.specs.Remains.{ComesOfCore, ComesOfRun}
-use Rattle.gib_app.specs.Running.{Program, IsProgramIn}
+use Rattle.gib_app.specs.Running.{Program}
 use Rattle.gib_app.specs.Stops.{FailsTo, IsRunStop, IsRefusal}
 use Rattle.gib_app.proofs.AfterReads.{inputs_read, none_read}
 use Rattle.gib_app.proofs.Doing.{AcceptsBy, RefusesBy}
@@ -68,14 +68,6 @@ module _ (r : Plan) (is : row r.job ≡ Evaluates ForPlaces) where
   one_input_read before now h =
       let P : List PlanInput → Type 0 = λ i. HasRead now now (input_calls i) in
       inputs_read before now now (inputs_of r) h (subst P (sym (no_further r is)) (none_read now))
-
--- What holds of an answer holds of what it is.
-
-pub ok_here : {T E : Type 0} (r : Result T E) (x : T) (P : T → Type 0) → r ≡ Ok x → IfOk r P → P x
-ok_here r x P is h = subst (λ s. IfOk s P) is h
-
-pub err_here : {T E : Type 0} (r : Result T E) (e : E) (P : E → Type 0) → r ≡ Err e → IfErr r P → P e
-err_here r e P is h = subst (λ s. IfErr s P) is h
 
 -- What the job makes of it.
 

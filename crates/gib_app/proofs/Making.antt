@@ -185,15 +185,12 @@ follows PacksValue documents some = absurd (some (only_first 16777216 documents)
 follows ShowsFile documents some = absurd (some (only_first 268435480 documents))
 follows FollowsJournal documents some = refl
 
-not_none : {X : Type 0} (x : X) (xs : List X) → x ∷ xs ≡ [] → ⊥
-not_none x xs e = cc
-
 module _ (o : Option KeptInput) (r : Plan) (same : option_to_list (option_map input_of o) ≡ further_of (inputs_of r)) where
   one_further : (i : KeptInput) → o ≡ Some i → input_of i ∷ [] ≡ further_of (inputs_of r)
   one_further i e = let Q : Option KeptInput → Type 0 = λ x. option_to_list (option_map input_of x) ≡ further_of (inputs_of r) in subst Q e same
 
   replays : (i : KeptInput) → o ≡ Some i → row r.job ≡ FollowsJournal
-  replays i e = follows (row r.job) r.inputs (λ none'. not_none (input_of i) [] (one_further i e ∙ none'))
+  replays i e = follows (row r.job) r.inputs (λ none'. let same = one_further i e ∙ none' in cc)
 
   pub further_none : (kept : Files) → o ≡ None → AreFurther kept (further_of (inputs_of r)) []
   further_none kept e =
@@ -323,7 +320,7 @@ module _ (before mid now : ShelfView) (r : Plan) (p : Program) (names : TextsVie
       let given : Contents = record { second = first; further = h.bytes ∷ [] } in
       let behind = further_before before.kept mid.kept (further_of (inputs_of r)) (h.bytes ∷ []) same h.held in
       let F : List PlanInput → Type 0 = λ is. AreFurther before.kept is (h.bytes ∷ []) in
-      let replay = follows (row r.job) r.inputs (λ none'. not_none h.bytes [] (subst F none' behind)) in
+      let replay = follows (row r.job) r.inputs (λ none'. let same = subst F none' behind in cc) in
       let R : Row → Type 0 = λ x. RefusesBy (format_by x) r.options p names given fault × (AcceptsBy (format_by x) r.options p names given → ⊥) in
       let L : InputFault → Type 0 = λ f. IsReplayFault p.tree names first h.bytes f in
       let many = h.many in

@@ -115,9 +115,6 @@ module _ (names : List (List ℕ)) where
   byte_apart : (a b : ℕ) (x y : List ℕ) → (a ≡ b → ⊥) → a ∷ x ≡ b ∷ y → ⊥
   byte_apart a b x y not e = not (ap (first_of 0) e)
 
-  nothing_apart : (b : ℕ) (y : List ℕ) → [] ≡ b ∷ y → ⊥
-  nothing_apart b y e = cc
-
   further_ends : (fs : Forms) → Rattle.gib_file.proofs.Words.Stops (further_text names fs)
   further_ends NoForm = refl
   further_ends (MoreForms f fs) = refl
@@ -152,8 +149,8 @@ module _ (names : List (List ℕ)) where
 
       one_tail : (ts us : Forms) → AreKnown ts → AreKnown us → tail_text ts ≡ tail_text us → ts ≡ us
       one_tail NoForm NoForm h k e = refl
-      one_tail NoForm (MoreForms u us) h k e = absurd (nothing_apart 91 (form_text names u ++ further_text names us) e)
-      one_tail (MoreForms t ts) NoForm h k e = absurd (nothing_apart 91 (form_text names t ++ further_text names ts) (sym e))
+      one_tail NoForm (MoreForms u us) h k e = absurd (let same : [] ≡ 91 ∷ (form_text names u ++ further_text names us) = e in cc)
+      one_tail (MoreForms t ts) NoForm h k e = absurd (let same : 91 ∷ (form_text names t ++ further_text names ts) ≡ [] = e in cc)
       one_tail (MoreForms t ts) (MoreForms u us) h k e =
           let cut = first_cut t u ts us h.0 k.0 (ap rest_of e) in
           ap₂ MoreForms (one_form t u h.0 k.0 cut.0) (one_further ts us h.1 k.1 cut.1)

@@ -1,12 +1,12 @@
 -- A job ends in one way: with a text, without a value for one reason, or for want of chunks.
 use Rattle.gib_base.specs.Texts.{TextsView}
-use Rattle.std.proofs.Common.{◌≡◌, ◌∙◌, refl, ap, ℕ, List, Option, Some, None, subst, sym, arith, Bool, false}
+use Rattle.std.proofs.Common.{◌≡◌, refl, ap, ℕ, List, Option, Some, None, subst, sym, arith, Bool, false}
 use Rattle.gib_types.specs.Tree.{Datum}
 use Rattle.gib_syntax.specs.Tree.{ProgramTree}
 use Rattle.gib_syntax.specs.Declarations.{table_of_program, input_type, output_type}
 use Rattle.gib_file.specs.Framed.{File2}
 use Rattle.gib_file.proofs.FileLaws.{file2_length}
-use Rattle.gib_syntax.specs.Meaning.{Outcome, Gives, Stops, run}
+use Rattle.gib_syntax.specs.Meaning.{Gives, Stops, run}
 use Rattle.gib_syntax.specs.Meaning.{Reason as Meaning}
 use Rattle.gib_code.specs.declared.answer.Reason.{Reason as Why}
 use Rattle.gib_weave.specs.Sound.{means_why}
@@ -23,7 +23,7 @@ use Rattle.gib_app.specs.Formats.{format_by, format_of, Accepts}
 use Rattle.gib_app.specs.Jobs.{End, Prints, Does, DoesBy, DoesPack, IsSaid, PacksResult, packs_of, without_image}
 use Rattle.gib_app.specs.Jobs.{NoValue as Without}
 use Rattle.gib_app.specs.Ending.{ends_as, ends_in}
-use Rattle.gib_app.proofs.Replays.{gives_or_stops, some_or_none, one_reason, one_why, shown_or_valueless, shown_or_full, one_valueless, valueless_or_full}
+use Rattle.gib_app.proofs.Replays.{gives_or_stops, one_given, some_or_none, one_reason, one_why, shown_or_valueless, shown_or_full, one_valueless, valueless_or_full}
 use Rattle.gib_app.proofs.Doing.{AcceptsBy, row_accepts}
 use Rattle.gib_app.proofs.Fitting.{valueless_packs}
 use Rattle.gib_app.proofs.OneProgram.{Laws}
@@ -63,9 +63,6 @@ long_well laws p names depth input meant o d =
     let v = laws.filed (table_of_program p) _ (input_type p) d.value o.value input d.is_input.file o.is_input.file in
     let S : Datum → Type 0 = λ x. run p depth x ≡ Stops meant in
     gives_or_stops (run p depth o.value) o.result meant o.means (subst S v d.means)
-
-pub one_given : (o : Outcome) (u v : Datum) → o ≡ Gives u → o ≡ Gives v → u ≡ v
-one_given o u v e f = let both = sym e ∙ f in cc
 
 -- a packed file that is made is not too long
 pub packed_or_long : Laws → (p : ProgramTree) (names : TextsView) (depth : ℕ) (input bytes : List ℕ) → IsPackedResult p names depth input bytes → IsLongResult p names depth input → ⊥

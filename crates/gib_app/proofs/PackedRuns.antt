@@ -36,10 +36,6 @@ use Rattle.gib_app.specs.Running.{Program, IsInput}
 use Rattle.gib_app.proofs.Doing.{ends_without}
 use Rattle.gib_app.proofs.Imaged.{image_made, shown_runs}
 
--- What holds where a call is well, holds of what it gives.
-pub ok_is : {T E : Type 0} (r : Result T E) (x : T) (P : T → Type 0) → r ≡ Ok x → IfOk r P → P x
-ok_is {T} {E} r x P e h = subst (λ (q : Result T E). IfOk q P) e h
-
 -- ---- The value that comes back
 
 -- A value stands in a memory that knows more.

@@ -1,5 +1,6 @@
 -- A call that replays the journal of a trace ends as the call that traced.
 use Rattle.gib_base.specs.Texts.{TextsView}
+use Rattle.std.proofs.lemmas.Option.{none-some}
 use Rattle.std.proofs.Common.{◌≡◌, ◌∙◌, refl, sym, subst, ℕ, List, [], ◌∷◌, ◌++◌, Option, Some, None, IfSome, ◌⊎◌, inl, inr, Bool, true, false}
 use Rattle.gib_base.specs.declared.token.Dialect.TheVariants as dialect
 use Rattle.gib_code.specs.declared.answer.Reason.{Reason as Why}
@@ -58,9 +59,6 @@ left_by tells before left name journal o p names given (Some bytes) e is made st
     let same = told_is tells bytes journal (left name) (written_here tells before left name bytes made) is in
     let F : List ℕ → Type 0 = λ x. Does Trace o p names given (Some x) e in
     subst F same h
-
-no_pack : (file : List ℕ) → None ≡ Some file → ⊥
-no_pack file e = cc
 
 is_stored : (name : List ℕ) (file : Option (List ℕ)) → IsStored (Some name) file → file ≡ None → ⊥
 is_stored name None h e = h
@@ -162,7 +160,7 @@ module _ (laws : Laws) (tells : Bool) (words again : List (List ℕ)) (before le
       let one = traced said h in
       let text = one.0 in
       let due = due_of quiet (HasText second) (map_program r.source (Traced text) (λ p names. HasText second p names given_again) (again_printed text) one.2) in
-      let takes : TakesAll later now out_later out_now second = record { target = quiet.image_written; pack = λ file named. absurd (no_pack file named); out = quiet.put } in
+      let takes : TakesAll later now out_later out_now second = record { target = quiet.image_written; pack = λ file named. absurd (none-some file named); out = quiet.put } in
       let is = ends_as_due laws tells again (record { shelf = later; out = out_later }) (record { shelf = now; out = out_now }) end' said_later k status.Done (asked_of (asked again) second (DueAll tells (record { shelf = later; out = out_later }) (record { shelf = now; out = out_now })) r.replays (due, takes)) in
       let E : Status → Type 0 = λ s. IsEnding tells again later now out_later out_now s said_later in
       elim (due_alone again r.program r.packed r.name r.image r.others r.replays status.Done end' is) [

@@ -16,7 +16,7 @@ use Rattle.gib_app.specs.Jobs.{End, Prints, NoValue, Does, without_image}
 use Rattle.gib_words.specs.Plan.{Contents}
 use Rattle.gib_app.specs.Replaying.{IsEndOf, IsShownEnd, IsTrace, IsValueless, OnJournal, journal_in}
 use Rattle.gib_app.specs.Running.{IsOutput, MeansNone, sourced, text_line}
-use Rattle.gib_app.proofs.Replays.{OneValue, is_stopped, root_there, both_on, some_or_none, shown_or_valueless, shown_or_full, one_valueless, valueless_or_full}
+use Rattle.gib_app.proofs.Replays.{OneValue, is_stopped, root_there, both_on, one_given, some_or_none, shown_or_valueless, shown_or_full, one_valueless, valueless_or_full}
 
 module _ (one : OneValue) (p : ProgramTree) (names : TextsView) (options : Options) (input bytes : List ℕ) (short : length bytes ≤ 16777216) (t : IsTrace p names options input bytes) where
   -- what the program means on the value within the depth of the options, it means within that of the journal
@@ -65,9 +65,6 @@ module _ (one : OneValue) (p : ProgramTree) (names : TextsView) (options : Optio
         holds = record { memory = t.memory; ended = subst E is t.ended; means = means };
       }
 
-one_outcome : (o : Outcome) (u v : Datum) → o ≡ Gives u → o ≡ Gives v → u ≡ v
-one_outcome o u v e f = let both = sym e ∙ f in cc
-
 module _ (one : OneValue) (p : ProgramTree) (names : TextsView) where
   -- the journal is replayed to the same end
   pub replays_again : (o a : Options) (given : Contents) (bytes : List ℕ) (e : End) → length bytes ≤ 16777216 → Does Trace o (sourced p) names given (Some bytes) e →
@@ -83,7 +80,7 @@ module _ (one : OneValue) (p : ProgramTree) (names : TextsView) where
       let both = both_on one p given.second (journal_in given) (IsShownEnd p names o.image file x) (IsShownEnd p names a.image other y) h k in
       let shown = both.3 in
       let again = both.4 in
-      let same = one_outcome (run p both.1.depth both.0) shown.result again.result shown.means again.means in
+      let same = one_given (run p both.1.depth both.0) shown.result again.result shown.means again.means in
       ap Prints (shown.is_text ∙ ap (text_line p names) same ∙ sym again.is_text)
   one_end o a given file other (Prints x) (NoValue (Meant why)) h k = absurd (shown_or_valueless one p names given.second (journal_in given) o.image file x why h k.1)
   one_end o a given file other (Prints x) (NoValue Full) h k = absurd (shown_or_full one p names given.second (journal_in given) o.image file x h k.1)

@@ -126,6 +126,10 @@ module _ (laid : LaidOut) (s : Store) (ty : Ty) (owed : Outcome) (a : Answer) (i
         (w.1 ∙ ap stopped same, w.3 ∙ ap (λ (y : Reason). Stops (means_why y)) same)
   ]
 
+-- One outcome gives one value.
+pub one_given : (o : Outcome) (u v : Datum) → o ≡ Gives u → o ≡ Gives v → u ≡ v
+one_given o u v e f = let both = sym e ∙ f in cc
+
 pub some_or_none : (bytes : List ℕ) → Some bytes ≡ None → ⊥
 some_or_none bytes e = cc
 

@@ -164,3 +164,8 @@ of_two tells before now r p names given name u = stuck_two tells (K tells before
 pub of_job : (tells : Bool) (before now : ShelfView) (r : Plan) (name : List ℕ) → FirstWritten before now r → FailsToWrite tells before now r name → OnBoth (K tells before r) r (λ p names given. IsUnwritten tells before now r p names given name)
 of_job tells before now r name wrote (inl h) = let k = stuck_named tells before.kept r.first before now name h in absurd (wrote name k.0 k.1)
 of_job tells before now r name wrote (inr h) = h
+
+-- no document of an input is unread
+pub packed_read : (before now : ShelfView) (d : Document) → ((name : List ℕ) → IsUnread before now d name → ⊥) → (name : List ℕ) → IsUnread before now d name ⊎ ⊥ → ⊥
+packed_read before now d quiet name (inl h) = quiet name h
+packed_read before now d quiet name (inr h) = h

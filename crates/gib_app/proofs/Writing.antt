@@ -1,4 +1,5 @@
 -- What names hold after writes.
+use Rattle.std.proofs.Math.Seq.{take-length}
 use Rattle.std.proofs.Common.{◌≡◌, ◌≢◌, ◌∙◌, refl, sym, subst, ap, ℕ, zero, suc, List, [], ◌∷◌, length, take, Bool, true, false, cond, ◌++◌, Option, Some, None, bytes_eq, true≢false}
 use Rattle.std.proofs.lemmas.Slice.Eq.{bytes_eq-Decides}
 use Rattle.gib_edge.specs.Causes.{told}
@@ -37,10 +38,6 @@ stays_from tells first f g now status.Input e h = made_from tells f g now first 
 stays_from tells first f g now status.Trap e h = h
 stays_from tells first f g now status.Long e h = h
 
-pub take_all : {X : Type 0} (xs : List X) → take (length xs) xs ≡ xs
-take_all [] = refl
-take_all (x ∷ xs) = ap (λ ys. x ∷ ys) (take_all xs)
-
 -- Where all of the first writes were made and nothing else, that stays.
 pub all_stay : (tells : Bool) (first : List Write) (before now : Files) (end' : Status) → AreMade tells before now first → StaysAfter tells first before now end'
 all_stay tells first before now status.Done h = tt
@@ -48,7 +45,7 @@ all_stay tells first before now status.Source h = h
 all_stay tells first before now status.Usage h = h
 all_stay tells first before now status.Depth h = tt
 all_stay tells first before now status.Full h = tt
-all_stay tells first before now status.Memory h = (length first, let P : List Write → Type 0 = AreMade tells before now in subst P (sym (take_all first)) h)
+all_stay tells first before now status.Memory h = (length first, let P : List Write → Type 0 = AreMade tells before now in subst P (sym (take-length first)) h)
 all_stay tells first before now status.ReadFault h = h
 all_stay tells first before now status.WriteFault h = tt
 all_stay tells first before now status.Input h = h
@@ -64,7 +61,7 @@ first_stay tells before mid now first status.Depth h k = tt
 first_stay tells before mid now first status.Full h k = tt
 first_stay tells before mid now first status.Memory h k =
     let P : List Write → Type 0 = AreMade tells before now in
-    (length first, subst P (sym (take_all first)) (λ name. kept k.0 k.1 name ∙ h name))
+    (length first, subst P (sym (take-length first)) (λ name. kept k.0 k.1 name ∙ h name))
   where
     kept : (n : ℕ) → AreMade tells mid now (take n []) → (name : List ℕ) → now name ≡ mid name
     kept zero made = made

@@ -1,7 +1,7 @@
 -- Words that the commands take ask for something: each value of the plan is there.
 use Rattle.std.proofs.Common.{◌≡◌, ◌∙◌, ◌<◌, ◌||◌, Bool, cond, codes, true, false, not, refl, sym, ap, arith, List, [], ◌∷◌, length, Option, Some, None, is_some, option_map, true≢false, subst}
 use Rattle.std.specs.Prelude.{⊤, find, option_and_then, slice_get}
-use Rattle.std.specs.List.{list_all, list_any}
+use Rattle.std.specs.List.{AllByRecursion, list_all, list_any}
 use Rattle.std.specs.Option.{option_map_or}
 use Rattle.std.specs.Str.{bytes_eq}
 use Rattle.std.proofs.lemmas.Slice.Eq.{bytes_eq-Decides}
@@ -13,11 +13,11 @@ use Rattle.clap.proofs.WalkLemmas.{both}
 use Rattle.gib_words.specs.declared.plan.Job.{Job}
 use Rattle.gib_words.specs.Plan.{Named}
 use Rattle.gib_words.specs.Words.{Target, NoTarget, AtPlace, ByOption, Form, app_for, command_set, file_of, gen_app, made_requested, planned, requested, file_in, target_in, with_value, word_of}
-use Rattle.gib_words.proofs.Filling.{AllFilled, AllKnown, AllOf, Filled, Known, is_valued, level_filled}
+use Rattle.gib_words.proofs.Filling.{AllFilled, AllKnown, Filled, Known, is_valued, level_filled}
 
 -- ---- Rows
 
-pub found_in : {X : Type 0} (P : X → Type 0) (p : X → Bool) (xs : List X) (x : X) → AllOf P xs → find p xs ≡ Some x → P x × (p x ≡ true)
+pub found_in : {X : Type 0} (P : X → Type 0) (p : X → Bool) (xs : List X) (x : X) → AllByRecursion P xs → find p xs ≡ Some x → P x × (p x ≡ true)
 found_in P p [] x all e = absurd (true≢false (sym (ap is_some e)))
 found_in P p (y ∷ ys) x all e = go (p y) refl e (found_in P p ys x all.1)
   where
@@ -81,7 +81,7 @@ required_given s words strict passes =
     let free = both (list_all (λ (a : Rule). a.is_free) s.rules) _ entered.1 in
     rw strict at free.1
 
-all_known : (c : List Rule) → AllOf (Known c) c → AllKnown c
+pub all_known : (c : List Rule) → AllByRecursion (Known c) c → AllKnown c
 all_known c all p a e = (found_in (Known c) p c a all e).0
 
 -- The word of a place is there: its argument is one of the level's, has a value, and has to be there.
@@ -99,11 +99,11 @@ abbrev pub MayRead : Shape → Option Text → Type 0
 MayRead s None = ⊤
 MayRead s (Some id) = Reads s id
 
-all_pass : {X : Type 0} (p : X → Bool) (xs : List X) → list_all p xs ≡ true → AllOf (λ x. p x ≡ true) xs
+all_pass : {X : Type 0} (p : X → Bool) (xs : List X) → list_all p xs ≡ true → AllByRecursion (λ x. p x ≡ true) xs
 all_pass p [] e = tt
 all_pass p (x ∷ xs) e = let steps = both (p x) _ e in (steps.0, all_pass p xs steps.1)
 
-module _ (s : Shape) (words : List Text) (is : AllOf (Known s.rules) s.rules) (strict : s.subcommand_negates_reqs ≡ false) (passes : level_passes s [] nothing_held words false ≡ true) where
+module _ (s : Shape) (words : List Text) (is : AllByRecursion (Known s.rules) s.rules) (strict : s.subcommand_negates_reqs ≡ false) (passes : level_passes s [] nothing_held words false ≡ true) where
   abbrev rows : List Row
   rows = rows_after s.rules [] words
 

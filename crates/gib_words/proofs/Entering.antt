@@ -1,4 +1,5 @@
 -- From the command that a parse entered to what it asks for.
+use Rattle.std.specs.List.{AllByRecursion}
 use Rattle.std.specs.Prelude.{Box, find, option_and_then}
 use Rattle.std.specs.Str.{bytes_eq}
 use Rattle.std.proofs.lemmas.Slice.Eq.{bytes_eq-Decides}
@@ -11,7 +12,6 @@ use Rattle.clap.specs.declared.parser.matches.ArgMatches.TheViews.{out-SubComman
 use Rattle.clap.specs.declared.parser.matches.SubCommand.{SubCommand}
 use Rattle.gib_words.specs.Plan.{Plan}
 use Rattle.gib_words.specs.Words.{Form, requested}
-use Rattle.gib_words.proofs.Filling.{AllOf}
 
 module _ {Z : Type 0} where
   -- the command that is met is known by its name and its rows
@@ -25,7 +25,7 @@ module _ {Z : Type 0} where
       is ∙ ap₂ requested same there
 
 -- Where no form has a name, none is found by it.
-pub absent : (forms : List Form) (name : Text) → AllOf (λ form. form.name ≡ name → ⊥) forms → find (λ form. bytes_eq form.name name) forms ≡ None
+pub absent : (forms : List Form) (name : Text) → AllByRecursion (λ form. form.name ≡ name → ⊥) forms → find (λ form. bytes_eq form.name name) forms ≡ None
 absent [] name all = refl
 absent (form ∷ rest) name all = go (bytes_eq form.name name) refl (absent rest name all.1)
   where

@@ -1,7 +1,7 @@
 -- Where a parse takes the words, each argument that has a value has one that passed.
 use Rattle.std.proofs.Common.{◌≡◌, ◌∙◌, ◌<◌, ◌≤◌, ◌+◌, ◌&&◌, ◌||◌, ℕ, Bool, cond, true, false, not, zero, suc, refl, sym, ap, ap₂, arith, List, [], ◌∷◌, ◌++◌, length, drop, Option, Some, None, is_some, true≢false, eqb-true, leb-true}
-use Rattle.std.specs.Prelude.{⊤, find, fold, nat_le, encode_utf8, slice_get}
-use Rattle.std.specs.List.{list_all}
+use Rattle.std.specs.Prelude.{find, fold, nat_le, encode_utf8, slice_get}
+use Rattle.std.specs.List.{AllByRecursion, list_all}
 use Rattle.std.specs.Option.{option_map_or}
 use Rattle.std.specs.Str.{bytes_eq, chars}
 use Rattle.std.proofs.lemmas.List.{length-append}
@@ -20,10 +20,6 @@ use Rattle.clap.specs.declared.parser.matches.ValueSource.TheVariants.{CommandLi
 use Rattle.clap.specs.declared.builder.action.ArgAction.{ArgAction}
 use Rattle.clap.specs.declared.builder.action.ArgAction.TheVariants as action
 use Rattle.clap.proofs.WalkLemmas.{both}
-
-abbrev pub AllOf : {X : Type 0} → (X → Type 0) → List X → Type 0
-AllOf P [] = ⊤
-AllOf P (x ∷ xs) = P x × AllOf P xs
 
 -- The action sets values or a flag.
 abbrev sets : ArgAction → Bool
@@ -46,11 +42,11 @@ Filled c r = (a : Rule) → arg_by_id c r.id ≡ Some a → is_valued a ≡ true
     → (0 < length r.values) × (values_pass a r.values ≡ true) × (r.reading ≡ reading_by a)
 
 abbrev pub AllFilled : List Rule → List Row → Type 0
-AllFilled c = AllOf (Filled c)
+AllFilled c = AllByRecursion (Filled c)
 
 -- ---- Rows
 
-joined : {X : Type 0} (P : X → Type 0) (xs ys : List X) → AllOf P xs → AllOf P ys → AllOf P (xs ++ ys)
+joined : {X : Type 0} (P : X → Type 0) (xs ys : List X) → AllByRecursion P xs → AllByRecursion P ys → AllByRecursion P (xs ++ ys)
 joined P [] ys p q = q
 joined P (x ∷ xs) ys p q = (p.0, joined P xs ys p.1 q)
 
@@ -311,7 +307,7 @@ module _ (s : Shape) (known : AllKnown s.rules) where
       go true = all
       go false = values a.defaults passes
 
-  defaults_filled : (xs : List Rule) (rows : List Row) → AllOf (Known s.rules) xs → list_all default_passes xs ≡ true → AllFilled s.rules rows
+  defaults_filled : (xs : List Rule) (rows : List Row) → AllByRecursion (Known s.rules) xs → list_all default_passes xs ≡ true → AllFilled s.rules rows
       → AllFilled s.rules (fold with_default rows xs)
   defaults_filled [] rows is passes all = all
   defaults_filled (a ∷ xs) rows is passes all =
@@ -319,7 +315,7 @@ module _ (s : Shape) (known : AllKnown s.rules) where
       defaults_filled xs (with_default rows a) is.1 steps.1 (default_filled a rows is.0 steps.0 all)
 
   -- A level that passes leaves its rows filled.
-  pub level_filled : (words : List Text) → AllOf (Known s.rules) s.rules → level_passes s [] nothing_held words false ≡ true → AllFilled s.rules (rows_after s.rules [] words)
+  pub level_filled : (words : List Text) → AllByRecursion (Known s.rules) s.rules → level_passes s [] nothing_held words false ≡ true → AllFilled s.rules (rows_after s.rules [] words)
   level_filled words is passes =
       let end = (walk s.rules [] nothing_held words).held in
       let steps = both (walk_passes s [] (walk_from nothing_held) words) _ passes in

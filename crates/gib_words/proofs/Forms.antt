@@ -1,7 +1,7 @@
 -- What each command asks for: each value of its plan is there, and its numbers are within their ranges. A new command has a line in both.
 use Rattle.std.proofs.Common.{◌≡◌, ◌||◌, Bool, cond, codes, true, false, not, refl, sym, arith, List, [], ◌∷◌, Option, Some, None, is_some, option_map, true≢false, subst, ℕ, ◌++◌, option_to_list, MatchOption}
 use Rattle.std.specs.Prelude.{⊤, find, option_and_then}
-use Rattle.std.specs.List.{list_all, list_any}
+use Rattle.std.specs.List.{AllByRecursion, list_all, list_any}
 use Rattle.std.specs.Option.{option_map_or}
 use Rattle.clap.specs.Facts.{explicit_source}
 use Rattle.clap.specs.Walk.{Names, Row, Text, nothing_held, rows_after, stop_after, walk, walk_from, finished, answers_to}
@@ -12,7 +12,7 @@ use Rattle.clap.proofs.WalkLemmas.{both}
 use Rattle.gib_words.specs.declared.plan.Job.{Job}
 use Rattle.gib_words.specs.declared.plan.Job.TheVariants.{Run, Plain, Check, Core, Code, Pack, Show, Trace, Replay, Local}
 use Rattle.gib_words.specs.Words.{Target, NoTarget, AtPlace, ByOption, asked_by_command, command_set, file_of, made_requested, planned, requested, file_in, target_in, with_value, word_of, check_form, code_form, core_form, local_form, pack_form, plain_form, replay_form, run_form, show_form, trace_form, asked, made_plan, options_of, pack_in, usual}
-use Rattle.gib_words.proofs.Filling.{AllOf, Known}
+use Rattle.gib_words.proofs.Filling.{Known}
 use Rattle.gib_words.specs.Plan.{Document, Plan}
 use Rattle.gib_words.specs.Ranges.{AreInRange, AreOfRun, AreOfMade}
 use Rattle.gib_words.proofs.Asking.{Asks, built_form, built_gen, found_in, made_there, plan_there}
@@ -65,7 +65,7 @@ unfolding clap_on_literals
 gen_asks words passes =
     made_there built_gen words ((refl, refl), ((refl, refl), ((refl, refl), ((refl, refl), ((refl, refl), ((refl, refl), ((refl, refl), ((refl, refl), ((refl, refl), tt))))))))) refl passes (_, refl, refl, refl) (_, refl, refl, refl)
 
-all_ask : AllOf Asks (built command_set).subs
+all_ask : AllByRecursion Asks (built command_set).subs
 unfolding clap_on_literals
 all_ask = (run_asks, (plain_asks, (check_asks, (core_asks, (code_asks, (pack_asks, (show_asks, (trace_asks, (replay_asks, (local_asks, (gen_asks, tt)))))))))))
 
@@ -74,7 +74,7 @@ unfolding clap_on_literals
 needs_command = refl
 
 -- What the commands take asks for something.
-entered_asks : (a : App) (stop : Option (Text × List Text)) → AllOf Asks a.subs → entered_passes a stop ≡ true → is_some (entered a stop) ≡ true
+entered_asks : (a : App) (stop : Option (Text × List Text)) → AllByRecursion Asks a.subs → entered_passes a stop ≡ true → is_some (entered a stop) ≡ true
     → is_some (option_and_then (λ e. requested e.0 e.1) (entered a stop)) ≡ true
 entered_asks a None asks passes some = absurd (true≢false (sym some))
 entered_asks a (Some p) asks passes some = go (find (λ s. answers_to p.0 (label_of s)) a.subs) refl passes some
@@ -94,7 +94,7 @@ command_there s names words has wants passes =
     let helped = both (not s.arg_required_else_help || (has || list_any (λ r. explicit_source r.source) rows)) _ last.1 in
     rw wants at (both (not s.subcommand_required || has) _ helped.1).0
 
-built_asks : (a : App) (words : List Text) → a.top.subcommand_required ≡ true → AllOf Asks a.subs → built_takes a nothing_held words ≡ true
+built_asks : (a : App) (words : List Text) → a.top.subcommand_required ≡ true → AllByRecursion Asks a.subs → built_takes a nothing_held words ≡ true
     → is_some (option_and_then (λ e. requested e.0 e.1) (entered a (stop_after a.top.rules (names_of a) words))) ≡ true
 built_asks a words wants asks passes =
     let stop = stop_after a.top.rules (names_of a) words in
@@ -186,7 +186,7 @@ local_keeps words passes =
     planned_within Local (Some (codes "input")) None NoTarget None (rows_after (built_form local_form).rules [] words)
     (run_within (built_form local_form) words ((refl, refl), ((refl, refl), ((refl, refl), ((refl, refl), ((refl, refl), ((refl, refl), tt)))))) passes (_, refl, refl, refl) (_, refl, refl, refl) (_, refl, refl, refl) (_, refl, refl, refl))
 
-gen_known : AllOf (Known built_gen.rules) built_gen.rules
+gen_known : AllByRecursion (Known built_gen.rules) built_gen.rules
 unfolding clap_on_literals
 gen_known = ((refl, refl), ((refl, refl), ((refl, refl), ((refl, refl), ((refl, refl), ((refl, refl), ((refl, refl), ((refl, refl), ((refl, refl), tt)))))))))
 
@@ -199,11 +199,11 @@ gen_keeps words passes =
       levels_most = (byte_within built_gen words gen_known passes (codes "levels") 0 18 0 (_, refl, refl, refl) (omega arith, omega arith)).1;
     })
 
-all_keep : AllOf Keeps (built command_set).subs
+all_keep : AllByRecursion Keeps (built command_set).subs
 unfolding clap_on_literals
 all_keep = (run_keeps, (plain_keeps, (check_keeps, (core_keeps, (code_keeps, (pack_keeps, (show_keeps, (trace_keeps, (replay_keeps, (local_keeps, (gen_keeps, tt)))))))))))
 
-entered_within : (a : App) (stop : Option (Text × List Text)) → AllOf Keeps a.subs → entered_passes a stop ≡ true → MatchOption (option_and_then (λ e. requested e.0 e.1) (entered a stop)) ⊤ InRange
+entered_within : (a : App) (stop : Option (Text × List Text)) → AllByRecursion Keeps a.subs → entered_passes a stop ≡ true → MatchOption (option_and_then (λ e. requested e.0 e.1) (entered a stop)) ⊤ InRange
 entered_within a None keeps passes = tt
 entered_within a (Some p) keeps passes = go (find (λ s. answers_to p.0 (label_of s)) a.subs) refl passes
   where

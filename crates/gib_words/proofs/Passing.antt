@@ -1,5 +1,6 @@
 -- A parse of a simple command that has no fault takes the words.
 use Rattle.std.proofs.Common.{◌≡◌, ◌∙◌, ◌+◌, ◌&&◌, ◌||◌, ◌==◌, ℕ, Bool, cond, codes, true, false, not, zero, suc, refl, sym, ap, ap₂, arith, List, [], ◌∷◌, length, min, Option, Some, None, is_some, true≢false, nat_lt, le-leb, ltb-false, eqb-true}
+use Rattle.std.proofs.lemmas.Bool.{or_parts}
 use Rattle.std.specs.Prelude.{slice_get, nat_le, find}
 use Rattle.std.specs.List.{list_all, list_any}
 use Rattle.std.specs.Option.{option_map_or}
@@ -225,15 +226,11 @@ one_given true true e = refl
 one_given true false e = absurd (true≢false e)
 one_given false given e = refl
 
-neither : (a b : Bool) → (a || b) ≡ false → (a ≡ false) × (b ≡ false)
-neither true b e = absurd (true≢false e)
-neither false b e = (refl, e)
-
 all_given : (rows : List Row) (xs : List Rule) → list_any (λ a. a.required && not (is_given a.id rows)) xs ≡ false
     → list_all (λ a. not a.required || is_given a.id rows) xs ≡ true
 all_given rows [] e = refl
 all_given rows (a ∷ rest) e =
-    let both = neither (a.required && not (is_given a.id rows)) _ e in
+    let both = or_parts (a.required && not (is_given a.id rows)) _ e in
     ap₂ (λ x y. x && y) (one_given a.required (is_given a.id rows) both.0) (all_given rows rest both.1)
 
 arguments_given : (spared missing given : Bool) → (missing ≡ false → given ≡ true) → (not spared && missing) ≡ false → (spared || given) ≡ true

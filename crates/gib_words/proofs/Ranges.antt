@@ -1,4 +1,5 @@
 -- The numbers that words ask for are within their ranges.
+use Rattle.std.specs.List.{AllByRecursion}
 use Rattle.std.proofs.Common.{◌≡◌, ◌∙◌, ◌<◌, ◌≤◌, ℕ, Bool, cond, codes, true, false, refl, sym, ap, arith, subst, List, [], ◌∷◌, length, Option, Some, None, option_map}
 use Rattle.std.specs.Prelude.{find, option_and_then, slice_get, nat_lt}
 use Rattle.std.specs.Option.{option_map_or}
@@ -19,8 +20,8 @@ use Rattle.clap.proofs.ValueTestLemmas.{accepts-Accepts}
 use Rattle.clap.proofs.WalkLemmas.{both}
 use Rattle.gib_words.specs.Ranges.{AreOfRun}
 use Rattle.gib_words.specs.Words.{byte_of, byte_or, number_in, number_or, options_of}
-use Rattle.gib_words.proofs.Asking.{found_in}
-use Rattle.gib_words.proofs.Filling.{AllFilled, AllKnown, AllOf, Filled, Known, is_valued, level_filled}
+use Rattle.gib_words.proofs.Asking.{all_known, found_in}
+use Rattle.gib_words.proofs.Filling.{AllFilled, Filled, Known, is_valued, level_filled}
 
 -- ---- Numbers of rows
 
@@ -86,10 +87,7 @@ byte_reads least most default otherwise text here = go (is_unsigned_in 0 4294967
 abbrev pub Numbered : Shape → Text → (least most : ℕ) → Type 0
 Numbered s id least most = (a : Rule) × (arg_by_id s.rules id ≡ Some a) × (is_valued a ≡ true) × (a.parser ≡ Some (vp.Unsigned least most))
 
-all_known : (c : List Rule) → AllOf (Known c) c → AllKnown c
-all_known c all p a e = (found_in (Known c) p c a all e).0
-
-module _ (s : Shape) (words : List Text) (is : AllOf (Known s.rules) s.rules) (passes : level_passes s [] nothing_held words false ≡ true) where
+module _ (s : Shape) (words : List Text) (is : AllByRecursion (Known s.rules) s.rules) (passes : level_passes s [] nothing_held words false ≡ true) where
   abbrev rows : List Row
   rows = rows_after s.rules [] words
 

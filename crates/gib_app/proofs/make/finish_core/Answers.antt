@@ -8,7 +8,8 @@ use Rattle.gib_words.specs.Plan.{Contents}
 use Rattle.gib_app.specs.Remains.{ComesOfCore}
 use Rattle.gib_app.specs.Stops.{IsRunStop}
 use Rattle.gib_app.proofs.AfterReads.{first_stopped, stopped_behind}
-use Rattle.gib_app.proofs.Locating.{err_here, is_local, local_most, located_comes, located_made, located_stop, ok_here, one_given, one_input_read}
+use Rattle.std.proofs.lemmas.Result.{IfErr-at_err, IfOk-at_ok}
+use Rattle.gib_app.proofs.Locating.{is_local, local_most, located_comes, located_made, located_stop, one_given, one_input_read}
 use Rattle.gib_app.proofs.Making.{first_stops, inputs_refused}
 use Rattle.gib_app.proofs.make.finish_core.Goals as goal
 
@@ -46,8 +47,8 @@ returns-in-Ok-unpacked-clause-made g c = λ p located runs.
     record {
       given = given;
       given_held = one_given r is before.kept c.in-Ok.second.items c.in-Ok.ensures.bytes;
-      done = ok_here c.unpacked.result c.in-Ok-unpacked.finished _ c.in-Ok-unpacked.is made;
-      comes = ok_here c.unpacked.result c.in-Ok-unpacked.finished _ c.in-Ok-unpacked.is comes;
+      done = IfOk-at_ok _ c.in-Ok-unpacked.is made;
+      comes = IfOk-at_ok _ c.in-Ok-unpacked.is comes;
     }
 
 pub returns-in-Ok-unpacked-clause-read : goal.returns-in-Ok-unpacked-clause-read
@@ -66,7 +67,7 @@ returns-clause-stop g c = λ p located runs.
     let M : List ℕ → Type 0 = λ bytes. IfErr c.local.result (IsRunStop p.tree names bytes) in
     let stops = located_stop r.job is r.options p names given c.local.result c.unpacked.result c.unpacked.ensures.stop (subst M c.deref.ensures.value (c.local.ensures.stop p located runs)) in
     inputs_refused before (g.S.Shelf.view c.read_second.new.shelf) r p names given (one_given r is before.kept c.in-Ok.second.items c.in-Ok.ensures.bytes)
-    c.in-Err-unpacked.stop (err_here c.unpacked.result c.in-Err-unpacked.stop _ c.in-Err-unpacked.is stops)
+    c.in-Err-unpacked.stop (IfErr-at_err _ c.in-Err-unpacked.is stops)
 
 pub returns-clause-stopped : goal.returns-clause-stopped
 returns-clause-stopped g c =

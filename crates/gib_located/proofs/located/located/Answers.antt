@@ -5,7 +5,8 @@ use Rattle.gib_app.specs.Stopping.{Answer}
 use Rattle.gib_words.specs.Words.{bytes_of}
 use Rattle.gib_located.specs.LocatedSource.{IsEnd}
 use Rattle.gib_located.specs.LocatedScript.{halt_for}
-use Rattle.gib_located.proofs.Saying.{nothing_put, line_put}
+use Rattle.gib_app.proofs.Calling.{is_put}
+use Rattle.gib_located.proofs.Saying.{nothing_put}
 use Rattle.gib_located.proofs.Scripted.{status_of_fault}
 use Rattle.gib_located.proofs.Leaving.{same, reads_later, reads, writes, quiet, calls}
 use Rattle.gib_located.proofs.located.located.Goals as goal
@@ -26,7 +27,7 @@ returns-clause-ends g c =
     let P : Answer → Type 0 = λ x. IsEnd words before now a b x.status (line x.said) in (
       line (said_text c.answer-answer.result.said),
       subst P (sym c.answer-answer.ensures) (inr (c.in-Err.fault, c.in-Err.ensures.fault, refl, refl)),
-      line_put c.put_line.result (g.E.Sink.view c.args.err.now) (g.E.Sink.view c.put_line.new.err) (said_text c.answer-answer.result.said) c.put_line.ensures.ok c.put_line.ensures.part c.put_line.ensures.cause,
+      is_put c.put_line.result (g.E.Sink.view c.args.err.now) (g.E.Sink.view c.put_line.new.err) (said_text c.answer-answer.result.said) c.put_line.ensures.ok c.put_line.ensures.part c.put_line.ensures.cause,
     )
 
 pub returns-clause-follows : goal.returns-clause-follows

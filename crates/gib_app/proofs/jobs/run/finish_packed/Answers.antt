@@ -1,11 +1,12 @@
-use Rattle.std.proofs.Common.{◌≡◌, ◌∙◌, ◌≤◌, List, ℕ, length, Err, ap, arith, sym, subst, subst₂}
+use Rattle.std.proofs.Common.{◌∙◌, ◌≤◌, length, Err, ap, arith, sym, subst, subst₂}
 use Rattle.gib_types.specs.Table.{Table}
 use Rattle.gib_types.specs.declared.table.Ty.{Ty}
 use Rattle.gib_file.specs.Framed.{File2}
 use Rattle.gib_packed.specs.Stands.{Stands}
 use Rattle.gib_compact.specs.declared.fault.CompactFault.{CompactFault}
 use Rattle.gib_app.specs.MachineRun.{cells_of}
-use Rattle.gib_app.proofs.PackedRuns.{ok_is, stands_named, packed_run, long_run}
+use Rattle.std.proofs.lemmas.Result.{IfOk-at_ok}
+use Rattle.gib_app.proofs.PackedRuns.{stands_named, packed_run, long_run}
 use Rattle.gib_app.proofs.Remaining.{left_again, stands_left, packed_comes, long_comes}
 use Rattle.gib_app.proofs.jobs.run.finish_packed.Goals as goal
 
@@ -32,8 +33,8 @@ returns-in-Ok-clause-made g c = λ p input ty laid limit s.
     let new = c.packed_result-packed.result.1 in
     let again = c.packed_result-packed.ensures.again in
     let S : Ty → Type 0 = λ t. Stands value.ran.lowered.code.laid (cells_of value.ran.memory) value.ran.root t s.result in
-    let file = ok_is _ _ (λ file. File2 value.ran.lowered.code.laid.table value.names.long c.args.ty s.result file.items) c.in-Ok.is (c.packed_result-packed.ensures.file s.result (subst S (sym ty) s.stands)) in
-    let few = ok_is _ _ (λ file. length file.items ≤ 16777216) c.in-Ok.is c.packed_result-packed.ensures.few in
+    let file = IfOk-at_ok (λ file. File2 value.ran.lowered.code.laid.table value.names.long c.args.ty s.result file.items) c.in-Ok.is (c.packed_result-packed.ensures.file s.result (subst S (sym ty) s.stands)) in
+    let few = IfOk-at_ok (λ file. length file.items ≤ 16777216) c.in-Ok.is c.packed_result-packed.ensures.few in
     let F : Table → Ty → Type 0 = λ t y. File2 t value.names.long y s.result c.in-Ok.packed.items in
     packed_run p o input value new again laid limit c.requires.packs s c.in-Ok.packed.items (subst₂ F s.table ty file) few c.with_packed.result
     (c.with_packed.ensures.shown p o.depth input (stands_named p o.depth input value new again s)) c.with_packed.ensures.packed
