@@ -20,7 +20,7 @@ use Rattle.gib_app.specs.Cores.{layouts_of}
 use Rattle.gib_app.specs.Imaging.{IsShownWith}
 use Rattle.gib_app.specs.Jobs.{RunsLocated, MakesImage, Runs}
 use Rattle.gib_app.specs.Kept.{EndsBy}
-use Rattle.gib_app.specs.MachineRun.{StandsMeant, cells_of}
+use Rattle.gib_app.specs.MachineRun.{IsMeantBy, StandsMeant}
 use Rattle.gib_app.specs.Replaying.{IsImageFile}
 use Rattle.gib_app.specs.Running.{Program, text_line}
 use Rattle.gib_app.specs.declared.stop.Stop.{Stop}
@@ -78,7 +78,7 @@ shown_runs p names o input laid m place s bounded same limit b asked file (ends.
 
 -- A value in region memory ends one that is not.
 pub value_ends : (p : ProgramTree) (o : Options) (input : List ℕ) (value : Valued) → AreHeld value.ran.lowered.code.laid.table value.names.short → o.image ≡ false
-    → StandsMeant p value.names o.depth input value.ran.lowered.code.laid (cells_of value.ran.memory) value.ran.root → EndsBy None (ends.Value value) (Runs p value.names o input)
+    → IsMeantBy p value.names o.depth input value.ran → EndsBy None (ends.Value value) (Runs p value.names o input)
 value_ends p o input value held off s =
     let M : Bool → Type 0 = λ b. MakesImage b p value.names o.skips o.depth o.chunks input None in (
       refl,
@@ -89,7 +89,7 @@ value_ends p o input value held off s =
 
 -- The same of a core that is written out.
 pub located_ends : (p : Program) (o : Options) (input : List ℕ) (value : Valued) → AreHeld value.ran.lowered.code.laid.table value.names.short
-    → StandsMeant p.tree value.names o.depth input value.ran.lowered.code.laid (cells_of value.ran.memory) value.ran.root → EndsBy None (ends.Value value) (RunsLocated p value.names o input)
+    → IsMeantBy p.tree value.names o.depth input value.ran → EndsBy None (ends.Value value) (RunsLocated p value.names o input)
 located_ends p o input value held s = (
   refl,
   text_line p.tree value.names s.result,

@@ -30,7 +30,7 @@ use Rattle.gib_app.specs.Rows.{row}
 use Rattle.gib_words.specs.Plan.{Contents}
 use Rattle.gib_app.specs.Jobs.{End, Prints, NoValue, Does, DoesAll, PacksResult, Runs, RunsBoth, packs_of}
 use Rattle.gib_app.specs.Kept.{EndsBy, EndsByBoth, StandsAgain, file_of, packed_of}
-use Rattle.gib_app.specs.MachineRun.{StandsMeant, cells_of}
+use Rattle.gib_app.specs.MachineRun.{IsMeant, IsMeantBy, cells_of}
 use Rattle.gib_app.specs.Replaying.{IsImageFile}
 use Rattle.gib_app.specs.Running.{Program, IsInput}
 use Rattle.gib_app.proofs.Doing.{ends_without}
@@ -39,8 +39,8 @@ use Rattle.gib_app.proofs.Imaged.{image_made, shown_runs}
 -- ---- The value that comes back
 
 -- A value stands in a memory that knows more.
-abbrev pub stands_later : {names : TextsView} (p : ProgramTree) (depth : ℕ) (input : List ℕ) (old new : Valued) → StandsAgain old new → StandsMeant p names depth input old.ran.lowered.code.laid (cells_of old.ran.memory) old.ran.root
-    → StandsMeant p names depth input new.ran.lowered.code.laid (cells_of new.ran.memory) new.ran.root
+abbrev pub stands_later : {names : TextsView} (p : ProgramTree) (depth : ℕ) (input : List ℕ) (old new : Valued) → StandsAgain old new → IsMeantBy p names depth input old.ran
+    → IsMeantBy p names depth input new.ran
 stands_later p depth input old new again s =
     let one = Stands-grows again.known s.stands in
     let two = subst (λ (l : LoweredParts). Stands l.code.laid (cells_of new.ran.memory) old.ran.root (output_type p) s.result) (sym again.lowered) one in
@@ -54,8 +54,8 @@ stands_later p depth input old new again s =
     }
 
 -- The same with the names that come back.
-abbrev pub stands_named : (p : ProgramTree) (depth : ℕ) (input : List ℕ) (old new : Valued) → StandsAgain old new → StandsMeant p old.names depth input old.ran.lowered.code.laid (cells_of old.ran.memory) old.ran.root
-    → StandsMeant p new.names depth input new.ran.lowered.code.laid (cells_of new.ran.memory) new.ran.root
+abbrev pub stands_named : (p : ProgramTree) (depth : ℕ) (input : List ℕ) (old new : Valued) → StandsAgain old new → IsMeantBy p old.names depth input old.ran
+    → IsMeantBy p new.names depth input new.ran
 stands_named p depth input old new again s =
     let later = stands_later {names = old.names} p depth input old new again s in
     record {
@@ -67,13 +67,17 @@ stands_named p depth input old new again s =
       stands = later.stands;
     }
 
+-- So a value that comes back is what its program means.
+pub meant_again : (old new : Valued) → StandsAgain old new → IsMeant old → IsMeant new
+meant_again old new again m = record { program = m.program; depth = m.depth; input = m.input; meant = stands_named m.program m.depth m.input old new again m.meant }
+
 pub held_again : (old new : Valued) → StandsAgain old new → AreHeld old.ran.lowered.code.laid.table old.names.short → AreHeld new.ran.lowered.code.laid.table new.names.short
 held_again old new again held = subst₂ (λ (t : Table) (ns : TextsView). AreHeld t ns.short) (ap (λ (l : LoweredParts). l.code.laid.table) (sym again.lowered)) (sym again.names) held
 
 -- ---- How a run ends whose result is packed
 
 module _ (p : ProgramTree) (o : Options) (input : List ℕ) (old new : Valued) (again : StandsAgain old new) (laid : old.ran.lowered.code.laid ≡ layouts_of o.skips p) (limit : (sole_memory old.ran.memory).limit ≤ o.chunks) (packs : o.packs ≡ true)
-    (s : StandsMeant p old.names o.depth input old.ran.lowered.code.laid (cells_of old.ran.memory) old.ran.root) where
+    (s : IsMeantBy p old.names o.depth input old.ran) where
   laid_again : new.ran.lowered.code.laid ≡ layouts_of o.skips p
   laid_again = ap (λ (l : LoweredParts). l.code.laid) again.lowered ∙ laid
 

@@ -24,7 +24,7 @@ use Rattle.gib_app.specs.Cores.{core_after, layouts_of}
 use Rattle.gib_app.specs.Imaging.{IsShownWith}
 use Rattle.gib_app.specs.Jobs.{run_forks}
 use Rattle.gib_app.specs.Kept.{StandsAgain, file_of, packed_of}
-use Rattle.gib_app.specs.MachineRun.{StandsMeant, LacksValue, cells_of}
+use Rattle.gib_app.specs.MachineRun.{IsMeantBy, LacksValue}
 use Rattle.gib_app.specs.Remains.{IsLeft, ComesOfMemory, ComesOfRun, SumsMemory}
 use Rattle.gib_app.specs.Rows.{row}
 use Rattle.gib_app.specs.Running.{Program}
@@ -38,14 +38,14 @@ abbrev pub laid_left : (p : ProgramTree) (names : TextsView) (o : Options) (inpu
 laid_left p names o input value left = ap (λ (c : CodeTree). c.laid) left.code
 
 abbrev pub stands_left : (p : ProgramTree) (names : TextsView) (o : Options) (input : List ℕ) (value : Valued) → IsLeft p names o input value
-    → StandsMeant p names o.depth input value.ran.lowered.code.laid (cells_of value.ran.memory) value.ran.root
+    → IsMeantBy p names o.depth input value.ran
 stands_left p names o input value left =
     let m = sole_memory value.ran.memory in
     stands_again {names = names} p o.depth input (layouts_of o.skips p) value.ran.lowered.code.laid m m value.ran.root value.ran.root (laid_left p names o input value left) refl refl left.remains.stands
 
 -- What a run leaves that stands by the layouts of its code.
 pub is_left : (p : ProgramTree) (names : TextsView) (o : Options) (input : List ℕ) (value : Valued) → value.ran.lowered.code ≡ lower_program (core_after o.skips 4 p)
-    → (sole_memory value.ran.memory).limit ≤ o.chunks → StandsMeant p names o.depth input value.ran.lowered.code.laid (cells_of value.ran.memory) value.ran.root → IsLeft p names o input value
+    → (sole_memory value.ran.memory).limit ≤ o.chunks → IsMeantBy p names o.depth input value.ran → IsLeft p names o input value
 is_left p names o input value code limit s =
     let m = sole_memory value.ran.memory in
     let laid = value.ran.lowered.code.laid in

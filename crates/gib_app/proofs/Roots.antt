@@ -54,7 +54,7 @@ use Rattle.gib_app.specs.Cores.{core_after, layouts_of}
 use Rattle.gib_app.specs.Replaying.{root_in}
 use Rattle.gib_app.specs.Running.{IsInput}
 use Rattle.gib_app.specs.Stops.{IsPackedStop, IsRunStop}
-use Rattle.gib_app.specs.MachineRun.{cells_of, StandsMeant, RunsFor, LacksValueBy, IsRootOf, Lacks, Halts, EndsWith, OnEnd, OnRan, ended, program_cost}
+use Rattle.gib_app.specs.MachineRun.{IsRunEnd, cells_of, StandsMeant, RunsFor, LacksValueBy, IsRootOf, Lacks, Halts, EndsWith, OnEnd, OnRan, ended, program_cost}
 
 -- A value that was loaded is where a run may start.
 pub start_of : (l : LoweredParts) (laid : LaidOut) (ty : Ty) (v : Datum) (m : Memory) (place : Root) (tails : List ℕ) → laid ≡ l.code.laid → ty ≡ (core_of l.core).main.parameter
@@ -211,7 +211,7 @@ module _ (names : TextsView) (core : CoreTree) (p : ProgramTree) (depth forks ch
   pub ended_meant : ((v : Datum) → Packed s.table s.ty v s.bytes → File (table_of_program p) names.long (input_type p) v input) → (left : Result Rooted RunStop)
       → IfOk left (λ x. (v : Datum) → Packed s.table s.ty v s.bytes → IsRootOf l.code.laid (cells_of x.memory) (core_of l.core).main.result (core_run (core_of l.core) depth v) x.root)
       → IfErr left (λ why. (v : Datum) → Packed s.table s.ty v s.bytes → Halts (core_run (core_of l.core) depth v) chunks (run_cost (core_of l.core) depth forks v) why)
-      → IfOk (ended l left) (OnEnd (λ ran. StandsMeant p names depth input ran.lowered.code.laid (cells_of ran.memory) ran.root) (LacksValueBy core p names depth forks chunks input))
+      → IfOk (ended l left) (IsRunEnd core p names depth forks chunks input)
   ended_meant file (Ok x) root halts =
       root_meant {names = names} core p depth input packed.0 l (cells_of x.memory) x.root of (input_of {names = names} p input s short file packed.0 packed.1) (root packed.0 packed.1)
   ended_meant file (Err (run_stop.NoValue why)) root halts =

@@ -14,7 +14,7 @@ use Rattle.gib_words.specs.Plan.{Contents}
 use Rattle.gib_app.specs.Jobs.{End, Prints, NoValue}
 use Rattle.gib_mem.specs.Memory.{Grows}
 use Rattle.gib_arena.specs.Sole.{sole_memory}
-use Rattle.gib_app.specs.MachineRun.{StandsMeant, cells_of}
+use Rattle.gib_app.specs.MachineRun.{IsMeantBy, cells_of}
 use Rattle.gib_app.specs.Running.{text_line}
 use Rattle.gib_words.specs.Kept.{document_of}
 
@@ -39,7 +39,7 @@ pub record IsTextOf (value : Valued) (text : List ℕ) : Type 0 where
   pub program : ProgramTree
   pub depth : ℕ
   pub input : List ℕ
-  pub stands : StandsMeant program value.names depth input value.ran.lowered.code.laid (cells_of value.ran.memory) value.ran.root
+  pub stands : IsMeantBy program value.names depth input value.ran
   pub held : AreHeld value.ran.lowered.code.laid.table value.names.short
   pub is_text : text ≡ text_line program value.names stands.result
 

@@ -5,7 +5,7 @@ use Rattle.gib_types.specs.declared.table.Ty.{Ty}
 use Rattle.gib_types.specs.Layout.{LaidOut}
 use Rattle.gib_types.specs.Tree.{Datum}
 use Rattle.gib_value.specs.Text.{AreHeld}
-use Rattle.gib_mem.specs.Memory.{Store}
+use Rattle.gib_mem.specs.Memory.{Memory, Store}
 use Rattle.gib_arena.specs.Sole.{sole_memory}
 use Rattle.gib_arena.specs.declared.sole_mem.SoleMem.{SoleMem}
 use Rattle.gib_packed.specs.Stands.{Stands}
@@ -28,8 +28,9 @@ use Rattle.gib_app.specs.declared.machine_run.RunEnd.{RunEnd}
 use Rattle.gib_app.specs.declared.machine_run.RunEnd.TheVariants as ends
 use Rattle.gib_app.specs.declared.machine_run.RunStop.{RunStop}
 use Rattle.gib_app.specs.declared.machine_run.RunStop.TheVariants as stop
+use Rattle.gib_app.specs.declared.made.Valued.{Valued}
 use Rattle.gib_app.specs.declared.stop.Stop.{Stop}
-use Rattle.gib_app.specs.declared.stop.Stop.TheVariants.{Memory}
+use Rattle.gib_app.specs.declared.stop.Stop.TheVariants.{Memory as Wanted}
 use Rattle.gib_app.specs.Cores.{core_after}
 use Rattle.gib_app.specs.Running.{IsInput, MeansNone, FillsUpBy}
 
@@ -45,6 +46,29 @@ pub record StandsMeant (p : ProgramTree) (names : TextsView) (depth : ℕ) (inpu
   pub means : run p depth value ≡ Gives result
   pub table : laid.table ≡ table_of_program p
   pub stands : Stands laid s place (output_type p) result
+
+-- So it is of what was run by this code, in this memory.
+abbrev pub StandsIn : ProgramTree → TextsView → (depth : ℕ) → (input : List ℕ) → LoweredParts → Memory → Root → Type 0
+StandsIn p names depth input l memory place = StandsMeant p names depth input l.code.laid memory.cells place
+
+-- So it is of some program and some input.
+pub record SomeStandsIn (names : TextsView) (l : LoweredParts) (memory : Memory) (place : Root) : Type 0 where
+  pub program : ProgramTree
+  pub depth : ℕ
+  pub input : List ℕ
+  pub meant : StandsIn program names depth input l memory place
+
+-- What a run left is what the program means.
+abbrev pub IsMeantBy : ProgramTree → TextsView → (depth : ℕ) → (input : List ℕ) → Ran SoleMem → Type 0
+IsMeantBy p names depth input ran = StandsIn p names depth input ran.lowered (sole_memory ran.memory) ran.root
+
+-- A value is what some program means.
+abbrev pub IsMeant : Valued → Type 0
+IsMeant value = SomeStandsIn value.names value.ran.lowered (sole_memory value.ran.memory) value.ran.root
+
+-- It is one whose results have this type.
+abbrev pub IsMeantAs : Ty → Valued → Type 0
+IsMeantAs ty value = (m : IsMeant value) × (ty ≡ output_type m.program)
 
 -- What a run of a program on a value costs at most, where so many calls and forks may be nested: that of the core that the passes make.
 abbrev pub program_cost : ProgramTree → (skips : Bool) → (depth forks : ℕ) → Datum → Cost
@@ -97,7 +121,7 @@ EndsWith l depth forks chunks v s end =
 abbrev pub ended : LoweredParts → Result Rooted RunStop → Result RunEnd Stop
 ended l (Ok left) = Ok (ends.Value (record { lowered = l; memory = left.memory; root = left.root }))
 ended l (Err (stop.NoValue why)) = Ok (ends.NoValue why)
-ended l (Err stop.Memory) = Err Memory
+ended l (Err stop.Memory) = Err Wanted
 
 -- This holds of what the run of a program leaves, and that of the reason why there is no value.
 abbrev pub OnEnd : (Ran SoleMem → Type 0) → (Reason → Type 0) → RunEnd → Type 0
@@ -107,3 +131,7 @@ OnEnd P Q (ends.NoValue why) = Q why
 -- This holds of what it leaves.
 abbrev pub OnRan : (Ran SoleMem → Type 0) → RunEnd → Type 0
 OnRan P = OnEnd P (λ why. ⊤)
+
+-- What a run of a program by this core leaves is what it means, or there is none for this reason.
+abbrev pub IsRunEnd : CoreTree → ProgramTree → TextsView → (depth forks chunks : ℕ) → (input : List ℕ) → RunEnd → Type 0
+IsRunEnd core p names depth forks chunks input = OnEnd (IsMeantBy p names depth input) (LacksValueBy core p names depth forks chunks input)

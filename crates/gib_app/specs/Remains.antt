@@ -15,7 +15,7 @@ use Rattle.gib_app.specs.declared.made.Reason.TheVariants.{Meant, Full, Long}
 use Rattle.gib_app.specs.declared.made.Valued.{Valued}
 use Rattle.gib_words.specs.declared.plan.Options.{Options}
 use Rattle.gib_app.specs.Cores.{core_after, layouts_of}
-use Rattle.gib_app.specs.MachineRun.{StandsMeant, cells_of}
+use Rattle.gib_app.specs.MachineRun.{IsMeantBy, StandsMeant}
 use Rattle.gib_app.specs.Replaying.{IsImageFile}
 use Rattle.gib_app.specs.Rows.{Row, Evaluates, ForFiles, ForSummary, ForPlaces}
 use Rattle.gib_app.specs.Running.{Program, text_line}
@@ -72,7 +72,7 @@ SumsMemory p names options input (ends.NoValue reason) = ⊤
 -- In a memory of no more chunks than are asked for, as the code of a core that is written out left it, what the program means stands for the root.
 pub record IsLeftBy (core : CoreTree) (p : ProgramTree) (names : TextsView) (options : Options) (input : List ℕ) (value : Valued) : Type 0 where
   pub code : value.ran.lowered.code ≡ lower_program core
-  pub stands : StandsMeant p names options.depth input value.ran.lowered.code.laid (cells_of value.ran.memory) value.ran.root
+  pub stands : IsMeantBy p names options.depth input value.ran
   pub limit : (sole_memory value.ran.memory).limit ≤ options.chunks
 
 -- A value is printed from the memory that the code of the program's own core left.

@@ -11,7 +11,7 @@ ghost use Rattle.gib_syntax.specs.Declarations.{output_type};
 ghost use Rattle.gib_syntax.specs.Tree.{ProgramTree};
 ghost use Rattle.gib_app.specs.Imaging.{IsShownWith};
 ghost use Rattle.gib_app.specs.Kept.{file_of};
-ghost use Rattle.gib_app.specs.MachineRun.{StandsMeant};
+ghost use Rattle.gib_app.specs.MachineRun.{StandsIn, SomeStandsIn, IsMeant, IsMeantBy};
 ghost use Rattle.gib_app.specs.Replaying.{IsImageFile};
 ghost use Rattle.gib_app.specs.Running.{text_line};
 
@@ -53,8 +53,8 @@ fn image_of<M: Mem>(alloc: Global, ran: &mut Ran<M>) -> Result<Vec<u8>, Memory>
 /// Want of memory.
 pub fn text_of<M: Mem>(alloc: Global, ran: &mut Ran<M>, names: &Texts) -> Result<Vec<u8>, Memory>
     requires names { AreHeld ran.old.lowered.code.laid.table names.now.short }
-    requires stands { (p : ProgramTree) × (depth : ℕ) × (input : List ℕ) × StandsMeant p names.now depth input ran.old.lowered.code.laid (M.view ran.old.memory).cells ran.old.root }
-    ensures { (p : ProgramTree) (depth : ℕ) (input : List ℕ) (s : StandsMeant p names.now depth input ran.old.lowered.code.laid (M.view ran.old.memory).cells ran.old.root)
+    requires stands { SomeStandsIn names.now ran.old.lowered (M.view ran.old.memory) ran.old.root }
+    ensures { (p : ProgramTree) (depth : ℕ) (input : List ℕ) (s : StandsIn p names.now depth input ran.old.lowered (M.view ran.old.memory) ran.old.root)
         → IfOk result (λ text. text.items ≡ text_line p names.now s.result) }
 {
     let mut buffer = Buffer::new(alloc);
@@ -70,9 +70,9 @@ fn imaged<M: Mem + Drop>(alloc: Global, mut ran: Ran<M>, names: &Texts) -> Resul
     requires alone { (M.view ran.memory).alone ≡ true }
     requires there { (q : ℕ) → q < 4096 * (M.view ran.memory).drawn → IsThere ((M.view ran.memory).cells q) }
     requires names { AreHeld ran.lowered.code.laid.table names.now.short }
-    requires stands { (p : ProgramTree) × (depth : ℕ) × (input : List ℕ) × StandsMeant p names.now depth input ran.lowered.code.laid (M.view ran.memory).cells ran.root }
+    requires stands { SomeStandsIn names.now ran.lowered (M.view ran.memory) ran.root }
     requires few { (M.view ran.memory).limit ≤ 65536 }
-    ensures { (p : ProgramTree) (depth : ℕ) (input : List ℕ) (s : StandsMeant p names.now depth input ran.lowered.code.laid (M.view ran.memory).cells ran.root)
+    ensures { (p : ProgramTree) (depth : ℕ) (input : List ℕ) (s : StandsIn p names.now depth input ran.lowered (M.view ran.memory) ran.root)
         → IfOk result (λ made. IsShownWith true ran.lowered.code.laid (M.view ran.memory) ran.root p names.now s.result (file_of made) made.end) }
 {
     let bytes = image_of(alloc, &mut ran)?;
@@ -90,9 +90,9 @@ fn imaged<M: Mem + Drop>(alloc: Global, mut ran: Ran<M>, names: &Texts) -> Resul
 /// Want of memory.
 pub fn with_image(alloc: Global, mut value: Valued) -> Result<Made, Memory>
     requires names { AreHeld value.ran.lowered.code.laid.table value.names.short }
-    requires stands { (p : ProgramTree) × (depth : ℕ) × (input : List ℕ) × StandsMeant p value.names depth input value.ran.lowered.code.laid (⟦<SoleMem as Mem>⟧.view value.ran.memory).cells value.ran.root }
+    requires stands { IsMeant value }
     requires few { (⟦<SoleMem as Mem>⟧.view value.ran.memory).limit ≤ 65536 }
-    ensures { (p : ProgramTree) (depth : ℕ) (input : List ℕ) (s : StandsMeant p value.names depth input value.ran.lowered.code.laid (⟦<SoleMem as Mem>⟧.view value.ran.memory).cells value.ran.root)
+    ensures { (p : ProgramTree) (depth : ℕ) (input : List ℕ) (s : IsMeantBy p value.names depth input value.ran)
         → IfOk result (λ made. IsShownWith true value.ran.lowered.code.laid (⟦<SoleMem as Mem>⟧.view value.ran.memory) value.ran.root p value.names s.result (file_of made) made.end) }
 {
     value.ran.memory.owns_all();
@@ -111,9 +111,9 @@ pub fn shown(
     image: bool,
 ) -> Result<Made, Memory>
     requires names { AreHeld ran.lowered.code.laid.table names.now.short }
-    requires stands { (p : ProgramTree) × (depth : ℕ) × (input : List ℕ) × StandsMeant p names.now depth input ran.lowered.code.laid (⟦<PlainMem as Mem>⟧.view ran.memory).cells ran.root }
+    requires stands { SomeStandsIn names.now ran.lowered (⟦<PlainMem as Mem>⟧.view ran.memory) ran.root }
     requires few { (⟦<PlainMem as Mem>⟧.view ran.memory).limit ≤ 65536 }
-    ensures { (p : ProgramTree) (depth : ℕ) (input : List ℕ) (s : StandsMeant p names.now depth input ran.lowered.code.laid (⟦<PlainMem as Mem>⟧.view ran.memory).cells ran.root)
+    ensures { (p : ProgramTree) (depth : ℕ) (input : List ℕ) (s : StandsIn p names.now depth input ran.lowered (⟦<PlainMem as Mem>⟧.view ran.memory) ran.root)
         → IfOk result (λ made. IsShownWith image ran.lowered.code.laid (⟦<PlainMem as Mem>⟧.view ran.memory) ran.root p names.now s.result (file_of made) made.end) }
 {
     if image {
@@ -133,9 +133,9 @@ pub fn shown(
 /// Want of memory.
 pub fn with_text(alloc: Global, mut value: Valued, image: bool) -> Result<Made, Memory>
     requires names { AreHeld value.ran.lowered.code.laid.table value.names.short }
-    requires stands { (p : ProgramTree) × (depth : ℕ) × (input : List ℕ) × StandsMeant p value.names depth input value.ran.lowered.code.laid (⟦<SoleMem as Mem>⟧.view value.ran.memory).cells value.ran.root }
+    requires stands { IsMeant value }
     requires few { (⟦<SoleMem as Mem>⟧.view value.ran.memory).limit ≤ 65536 }
-    ensures { (p : ProgramTree) (depth : ℕ) (input : List ℕ) (s : StandsMeant p value.names depth input value.ran.lowered.code.laid (⟦<SoleMem as Mem>⟧.view value.ran.memory).cells value.ran.root)
+    ensures { (p : ProgramTree) (depth : ℕ) (input : List ℕ) (s : IsMeantBy p value.names depth input value.ran)
         → IfOk result (λ made. IsShownWith image value.ran.lowered.code.laid (⟦<SoleMem as Mem>⟧.view value.ran.memory) value.ran.root p value.names s.result (file_of made) made.end) }
 {
     if image {
@@ -153,9 +153,9 @@ pub fn with_text(alloc: Global, mut value: Valued, image: bool) -> Result<Made, 
 ///
 /// Want of memory.
 pub fn image_alone(alloc: Global, mut value: Valued, image: bool) -> Result<Option<Vec<u8>>, Memory>
-    requires stands { (p : ProgramTree) × (depth : ℕ) × (input : List ℕ) × StandsMeant p value.names depth input value.ran.lowered.code.laid (⟦<SoleMem as Mem>⟧.view value.ran.memory).cells value.ran.root }
+    requires stands { IsMeant value }
     requires few { (⟦<SoleMem as Mem>⟧.view value.ran.memory).limit ≤ 65536 }
-    ensures { (p : ProgramTree) (depth : ℕ) (input : List ℕ) (s : StandsMeant p value.names depth input value.ran.lowered.code.laid (⟦<SoleMem as Mem>⟧.view value.ran.memory).cells value.ran.root)
+    ensures { (p : ProgramTree) (depth : ℕ) (input : List ℕ) (s : IsMeantBy p value.names depth input value.ran)
         → IfOk result (λ file. IsImageFile image value.ran.lowered.code.laid (output_type p) (⟦<SoleMem as Mem>⟧.view value.ran.memory) value.ran.root s.result (option_map (λ bytes. bytes.items) file)) }
 {
     if !image {

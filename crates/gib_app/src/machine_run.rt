@@ -22,7 +22,7 @@ ghost use Rattle.gib_app.specs.Cores.{core_after, layouts_of};
 ghost use Rattle.gib_app.specs.Jobs.{run_forks};
 ghost use Rattle.gib_app.specs.Running.{IsInput, text_line};
 ghost use Rattle.gib_app.specs.Replaying.{root_in};
-ghost use Rattle.gib_app.specs.MachineRun.{StandsMeant, RunsFor, LacksValue, LacksValueBy, IsRootOf, Lacks, Halts, EndsWith, OnEnd, OnRan, ended, program_cost};
+ghost use Rattle.gib_app.specs.MachineRun.{StandsIn, SomeStandsIn, IsRunEnd, RunsFor, IsRootOf, Lacks, Halts, EndsWith, OnEnd, OnRan, ended, program_cost};
 ghost use Rattle.gib_app.specs.Stops.{IsRunStop};
 
 use crate::lowering::lowered;
@@ -322,8 +322,7 @@ pub fn run_packed<R: Threads + Wait + Sync, G: Gate + Sync>(
     options: Options,
 ) -> Result<RunEnd, Stop<'static>>
     requires short { length file.now ≤ FILE_BYTES }
-    ensures stands { IfOk result (OnEnd (λ ran. StandsMeant (program_of typed.now) names.now options.depth file.now ran.lowered.code.laid (⟦<SoleMem as Mem>⟧.view ran.memory).cells ran.root)
-        (LacksValue (program_of typed.now) names.now options.skips options.depth (run_forks options) options.chunks file.now)) }
+    ensures stands { IfOk result (IsRunEnd (core_after options.skips 4 (program_of typed.now)) (program_of typed.now) names.now options.depth (run_forks options) options.chunks file.now) }
     // It is the code of the program's core that ran, in a memory of no more chunks.
     ensures code { IfOk result (OnRan (λ ran. ran.lowered.code ≡ lower_program (core_after options.skips 4 (program_of typed.now)))) }
     ensures limit { IfOk result (OnRan (λ ran. (⟦<SoleMem as Mem>⟧.view ran.memory).limit ≤ options.chunks)) }
@@ -366,8 +365,7 @@ pub fn run_located<R: Threads + Wait + Sync, G: Gate + Sync>(
     requires short { length file.now ≤ FILE_BYTES }
     requires numbered { AreNumbered (core_of core) }
     ensures stands { (p : ProgramTree) → RunsFor (core_of core) p names.now
-        → IfOk result (OnEnd (λ ran. StandsMeant p names.now options.depth file.now ran.lowered.code.laid (⟦<SoleMem as Mem>⟧.view ran.memory).cells ran.root)
-        (LacksValueBy (core_of core) p names.now options.depth (run_forks options) options.chunks file.now)) }
+        → IfOk result (IsRunEnd (core_of core) p names.now options.depth (run_forks options) options.chunks file.now) }
     // It is the code of this very core that ran, in a memory of no more chunks.
     ensures code { IfOk result (OnRan (λ ran. ran.lowered.code ≡ lower_program (core_of core))) }
     ensures limit { IfOk result (OnRan (λ ran. (⟦<SoleMem as Mem>⟧.view ran.memory).limit ≤ options.chunks)) }
@@ -403,17 +401,17 @@ pub fn print_ran<M: Mem, O: Sink>(
     out: &mut O,
 ) -> Result<(), PrintFault>
     requires names { AreHeld ran.old.lowered.code.laid.table names.now.short }
-    requires stands { (p : ProgramTree) × (depth : ℕ) × (input : List ℕ) × StandsMeant p names.now depth input ran.old.lowered.code.laid (M.view ran.old.memory).cells ran.old.root }
-    ensures done { (p : ProgramTree) (depth : ℕ) (input : List ℕ) (s : StandsMeant p names.now depth input ran.old.lowered.code.laid (M.view ran.old.memory).cells ran.old.root)
+    requires stands { SomeStandsIn names.now ran.old.lowered (M.view ran.old.memory) ran.old.root }
+    ensures done { (p : ProgramTree) (depth : ℕ) (input : List ℕ) (s : StandsIn p names.now depth input ran.old.lowered (M.view ran.old.memory) ran.old.root)
         → OnOk result (Appends (O.view out.old).taken (O.view out.new).taken (text_line p names.now s.result)) }
-    ensures part { (p : ProgramTree) (depth : ℕ) (input : List ℕ) (s : StandsMeant p names.now depth input ran.old.lowered.code.laid (M.view ran.old.memory).cells ran.old.root)
+    ensures part { (p : ProgramTree) (depth : ℕ) (input : List ℕ) (s : StandsIn p names.now depth input ran.old.lowered (M.view ran.old.memory) ran.old.root)
         → IsErrOf result PrintFault.Write → AppendsPart (O.view out.old).taken (O.view out.new).taken (text_line p names.now s.result) }
     ensures cause { IsErrOf result PrintFault.Write → Rose (O.view out.old).faults (O.view out.new).faults }
     ensures later { (O.view out.old).faults ≤ (O.view out.new).faults }
     ensures quiet { (IsErrOf result PrintFault.Write → ⊥) → (O.view out.new).faults ≡ (O.view out.old).faults }
-    ensures pieces { (p : ProgramTree) (depth : ℕ) (input : List ℕ) (s : StandsMeant p names.now depth input ran.old.lowered.code.laid (M.view ran.old.memory).cells ran.old.root)
+    ensures pieces { (p : ProgramTree) (depth : ℕ) (input : List ℕ) (s : StandsIn p names.now depth input ran.old.lowered (M.view ran.old.memory) ran.old.root)
         → OnOk result (PutsPieces (O.view out.old) (O.view out.new) (length (text_line p names.now s.result))) }
-    ensures some { (p : ProgramTree) (depth : ℕ) (input : List ℕ) (s : StandsMeant p names.now depth input ran.old.lowered.code.laid (M.view ran.old.memory).cells ran.old.root)
+    ensures some { (p : ProgramTree) (depth : ℕ) (input : List ℕ) (s : StandsIn p names.now depth input ran.old.lowered (M.view ran.old.memory) ran.old.root)
         → IsErrOf result PrintFault.Write → PutsSomePieces (O.view out.old) (O.view out.new) (length (text_line p names.now s.result)) }
     ensures still { IsErrOf result PrintFault.Memory → O.view out.new ≡ O.view out.old }
     ensures same { M.view ran.new.memory ≡ M.view ran.old.memory }

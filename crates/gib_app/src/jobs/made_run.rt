@@ -7,7 +7,7 @@ ghost use Rattle.gib_syntax.specs.Tree.{ProgramTree};
 ghost use Rattle.gib_syntax.specs.Parts.{program_of};
 ghost use Rattle.gib_app.specs.Jobs.{Sums};
 ghost use Rattle.gib_app.specs.Kept.{EndsBy, file_of};
-ghost use Rattle.gib_app.specs.MachineRun.{StandsMeant};
+ghost use Rattle.gib_app.specs.MachineRun.{SomeStandsIn, IsMeantBy};
 ghost use Rattle.gib_app.specs.Remains.{IsLeft, SumsMemory};
 ghost use Rattle.gib_app.specs.Stops.{IsRunStop};
 
@@ -34,8 +34,8 @@ use std::thread::Threads;
 ///
 /// Want of memory.
 fn line_of(alloc: Global, ran: &mut Ran<SoleMem>, options: Options) -> Result<Vec<u8>, Memory>
-    requires stands { (p : ProgramTree) × (names : TextsView) × (depth : ℕ) × (input : List ℕ) × StandsMeant p names depth input ran.old.lowered.code.laid (⟦<SoleMem as Mem>⟧.view ran.old.memory).cells ran.old.root }
-    ensures { (p : ProgramTree) (names : TextsView) (depth : ℕ) (input : List ℕ) (s : StandsMeant p names depth input ran.old.lowered.code.laid (⟦<SoleMem as Mem>⟧.view ran.old.memory).cells ran.old.root)
+    requires stands { (names : TextsView) × SomeStandsIn names ran.old.lowered (⟦<SoleMem as Mem>⟧.view ran.old.memory) ran.old.root }
+    ensures { (p : ProgramTree) (names : TextsView) (depth : ℕ) (input : List ℕ) (s : IsMeantBy p names depth input ran.old)
         → IfOk result (λ line. line.items ≡ summary_line options.number options.levels s.result) }
 {
     let layouts = ran.lowered.code().layouts();
@@ -51,8 +51,8 @@ fn line_of(alloc: Global, ran: &mut Ran<SoleMem>, options: Options) -> Result<Ve
 
 /// What is printed of what a run leaves.
 fn line_made(alloc: Global, mut ran: Ran<SoleMem>, options: Options) -> Result<Made, Stop<'static>>
-    requires stands { (p : ProgramTree) × (names : TextsView) × (input : List ℕ) × StandsMeant p names options.depth input ran.lowered.code.laid (⟦<SoleMem as Mem>⟧.view ran.memory).cells ran.root }
-    ensures made { (p : ProgramTree) (names : TextsView) (input : List ℕ) (s : StandsMeant p names options.depth input ran.lowered.code.laid (⟦<SoleMem as Mem>⟧.view ran.memory).cells ran.root)
+    requires stands { (names : TextsView) × SomeStandsIn names ran.lowered (⟦<SoleMem as Mem>⟧.view ran.memory) ran.root }
+    ensures made { (p : ProgramTree) (names : TextsView) (input : List ℕ) (s : IsMeantBy p names options.depth input ran)
         → IfOk result (λ made. EndsBy (file_of made) made.end (Sums p names options input)) }
     // It is about the value in the memory that the run left.
     ensures region { (p : ProgramTree) (names : TextsView) (input : List ℕ) → IsLeft p names options input (record { ran = ran; names = names })

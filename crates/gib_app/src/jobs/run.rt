@@ -10,7 +10,7 @@ ghost use Rattle.gib_app.specs.Cores.{layouts_of};
 ghost use Rattle.gib_app.specs.Imaging.{IsShownWith};
 ghost use Rattle.gib_app.specs.Jobs.{Runs, RunsBoth};
 ghost use Rattle.gib_app.specs.Kept.{EndsBy, EndsByBoth, file_of, packed_of};
-ghost use Rattle.gib_app.specs.MachineRun.{StandsMeant};
+ghost use Rattle.gib_app.specs.MachineRun.{IsMeant, IsMeantAs, IsMeantBy};
 ghost use Rattle.gib_words.specs.Ranges.{AreOfRun};
 ghost use Rattle.gib_app.specs.Remains.{ComesOfMemory, IsLeft};
 ghost use Rattle.gib_app.specs.Replaying.{IsImageFile};
@@ -39,10 +39,10 @@ use std::thread::Threads;
 /// What a run makes that leaves a value: its image too, where that is asked for.
 fn finish(alloc: Global, value: Valued, image: bool) -> Result<Made, Stop<'static>>
     requires names { AreHeld value.ran.lowered.code.laid.table value.names.short }
-    requires stands { (p : ProgramTree) × (depth : ℕ) × (input : List ℕ) × StandsMeant p value.names depth input value.ran.lowered.code.laid (⟦<SoleMem as Mem>⟧.view value.ran.memory).cells value.ran.root }
+    requires stands { IsMeant value }
     requires few { (⟦<SoleMem as Mem>⟧.view value.ran.memory).limit ≤ 65536 }
     ensures made { (p : ProgramTree) (options : OptionValues) (input : List ℕ) → value.ran.lowered.code.laid ≡ layouts_of options.skips p → options.image ≡ image → (⟦<SoleMem as Mem>⟧.view value.ran.memory).limit ≤ options.chunks
-        → (s : StandsMeant p value.names options.depth input value.ran.lowered.code.laid (⟦<SoleMem as Mem>⟧.view value.ran.memory).cells value.ran.root)
+        → (s : IsMeantBy p value.names options.depth input value.ran)
         → IfOk result (λ made. EndsBy (file_of made) made.end (Runs p value.names options input)) }
     // It comes from the memory that the run left.
     ensures region { (p : ProgramTree) (options : OptionValues) (input : List ℕ) → options.image ≡ image → IsLeft p value.names options input value
@@ -69,9 +69,9 @@ fn with_packed(
     packed: Vec<u8>,
 ) -> Result<Finished, Stop<'static>>
     requires names { AreHeld value.ran.lowered.code.laid.table value.names.short }
-    requires stands { (p : ProgramTree) × (depth : ℕ) × (input : List ℕ) × StandsMeant p value.names depth input value.ran.lowered.code.laid (⟦<SoleMem as Mem>⟧.view value.ran.memory).cells value.ran.root }
+    requires stands { IsMeant value }
     requires few { (⟦<SoleMem as Mem>⟧.view value.ran.memory).limit ≤ 65536 }
-    ensures shown { (p : ProgramTree) (depth : ℕ) (input : List ℕ) (s : StandsMeant p value.names depth input value.ran.lowered.code.laid (⟦<SoleMem as Mem>⟧.view value.ran.memory).cells value.ran.root)
+    ensures shown { (p : ProgramTree) (depth : ℕ) (input : List ℕ) (s : IsMeantBy p value.names depth input value.ran)
         → IfOk result (λ finished. IsShownWith image value.ran.lowered.code.laid (⟦<SoleMem as Mem>⟧.view value.ran.memory) value.ran.root p value.names s.result (file_of finished.made) finished.made.end) }
     ensures packed { IfOk result (λ finished. packed_of finished ≡ Some packed.items) }
     ensures memory { IfErr result (λ stop. stop ≡ Stop.Memory) }
@@ -87,9 +87,9 @@ fn with_packed(
 
 /// What a run makes whose result would have too long a packed file: the image of its memory, where that is asked for.
 fn without_packed(alloc: Global, value: Valued, image: bool) -> Result<Finished, Stop<'static>>
-    requires stands { (p : ProgramTree) × (depth : ℕ) × (input : List ℕ) × StandsMeant p value.names depth input value.ran.lowered.code.laid (⟦<SoleMem as Mem>⟧.view value.ran.memory).cells value.ran.root }
+    requires stands { IsMeant value }
     requires few { (⟦<SoleMem as Mem>⟧.view value.ran.memory).limit ≤ 65536 }
-    ensures image { (p : ProgramTree) (depth : ℕ) (input : List ℕ) (s : StandsMeant p value.names depth input value.ran.lowered.code.laid (⟦<SoleMem as Mem>⟧.view value.ran.memory).cells value.ran.root)
+    ensures image { (p : ProgramTree) (depth : ℕ) (input : List ℕ) (s : IsMeantBy p value.names depth input value.ran)
         → IfOk result (λ finished. IsImageFile image value.ran.lowered.code.laid (output_type p) (⟦<SoleMem as Mem>⟧.view value.ran.memory) value.ran.root s.result (file_of finished.made)) }
     ensures long { IfOk result (λ finished. (finished.made.end ≡ End.NoValue Reason.Long) × (packed_of finished ≡ None)) }
     ensures memory { IfErr result (λ stop. stop ≡ Stop.Memory) }
@@ -116,11 +116,11 @@ fn finish_packed<R: Threads + Sync>(
     options: Options,
 ) -> Result<Finished, Stop<'static>>
     requires names { AreHeld value.ran.lowered.code.laid.table value.names.short }
-    requires stands { (p : ProgramTree) × (depth : ℕ) × (input : List ℕ) × (ty ≡ output_type p) × StandsMeant p value.names depth input value.ran.lowered.code.laid (⟦<SoleMem as Mem>⟧.view value.ran.memory).cells value.ran.root }
+    requires stands { IsMeantAs ty value }
     requires packs { options.packs ≡ true }
     requires few { (⟦<SoleMem as Mem>⟧.view value.ran.memory).limit ≤ 65536 }
     ensures made { (p : ProgramTree) (input : List ℕ) → ty ≡ output_type p → value.ran.lowered.code.laid ≡ layouts_of options.skips p → (⟦<SoleMem as Mem>⟧.view value.ran.memory).limit ≤ options.chunks
-        → (s : StandsMeant p value.names options.depth input value.ran.lowered.code.laid (⟦<SoleMem as Mem>⟧.view value.ran.memory).cells value.ran.root)
+        → (s : IsMeantBy p value.names options.depth input value.ran)
         → IfOk result (λ finished. EndsByBoth (file_of finished.made) (packed_of finished) finished.made.end (RunsBoth p value.names options input)) }
     // It comes from the memory that the run left.
     ensures region { (p : ProgramTree) (input : List ℕ) → IsLeft p value.names options input value
@@ -146,10 +146,10 @@ fn finish_run<R: Threads + Sync>(
     options: Options,
 ) -> Result<Finished, Stop<'static>>
     requires names { AreHeld value.ran.lowered.code.laid.table value.names.short }
-    requires stands { (p : ProgramTree) × (depth : ℕ) × (input : List ℕ) × (ty ≡ output_type p) × StandsMeant p value.names depth input value.ran.lowered.code.laid (⟦<SoleMem as Mem>⟧.view value.ran.memory).cells value.ran.root }
+    requires stands { IsMeantAs ty value }
     requires few { (⟦<SoleMem as Mem>⟧.view value.ran.memory).limit ≤ 65536 }
     ensures made { (p : ProgramTree) (input : List ℕ) → ty ≡ output_type p → value.ran.lowered.code.laid ≡ layouts_of options.skips p → (⟦<SoleMem as Mem>⟧.view value.ran.memory).limit ≤ options.chunks
-        → (s : StandsMeant p value.names options.depth input value.ran.lowered.code.laid (⟦<SoleMem as Mem>⟧.view value.ran.memory).cells value.ran.root)
+        → (s : IsMeantBy p value.names options.depth input value.ran)
         → IfOk result (λ finished. EndsByBoth (file_of finished.made) (packed_of finished) finished.made.end (RunsBoth p value.names options input)) }
     // It comes from the memory that the run left.
     ensures region { (p : ProgramTree) (input : List ℕ) → IsLeft p value.names options input value

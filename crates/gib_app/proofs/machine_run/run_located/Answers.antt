@@ -8,7 +8,7 @@ use Rattle.gib_arena.specs.declared.sole_mem.SoleMem.{SoleMem}
 use Rattle.gib_app.specs.declared.machine_run.RunEnd.{RunEnd}
 use Rattle.gib_app.specs.declared.stop.Stop.{Stop}
 use Rattle.gib_app.specs.Jobs.{run_forks}
-use Rattle.gib_app.specs.MachineRun.{LacksValueBy, OnEnd, OnRan, StandsMeant, cells_of}
+use Rattle.gib_app.specs.MachineRun.{IsRunEnd, OnRan}
 use Rattle.gib_app.specs.Stops.{IsRunStop}
 use Rattle.gib_app.proofs.Refusals.{run_stop}
 use Rattle.gib_app.proofs.Roots.{ended_code, ended_meant, ended_memory, ended_stop, located_file, located_of, located_refused}
@@ -44,7 +44,7 @@ returns-in-Ok-survey_typed-clause-stands g c = λ p runs.
     let s = c.in-Ok-survey_typed.survey in
     let l = c.in-Ok.lowered in
     let same = c.core-core.ensures.value ∙ c.in-Ok.ensures.core in
-    let P : Result RunEnd Stop → Type 0 = λ r. IfOk r (OnEnd (λ ran. StandsMeant p names o.depth file ran.lowered.code.laid (cells_of ran.memory) ran.root) (LacksValueBy core p names o.depth (run_forks o) o.chunks file)) in
+    let P : Result RunEnd Stop → Type 0 = λ r. IfOk r (IsRunEnd core p names o.depth (run_forks o) o.chunks file) in
     subst P (sym c.ended.ensures)
     (ended_meant names core p o.depth (run_forks o) o.chunks file s l (located_of core p names runs c.args.core l refl c.in-Ok.ensures.core c.in-Ok.ensures.code) c.requires.short c.payload-packed.ensures.packed
     (located_file core p names runs c.types-types.result.now c.main-ty.result.parameter file s

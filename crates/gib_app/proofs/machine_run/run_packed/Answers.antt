@@ -11,7 +11,7 @@ use Rattle.gib_app.specs.declared.stop.Stop.{Stop}
 use Rattle.gib_app.specs.declared.stop.Stop.TheVariants.{Memory}
 use Rattle.gib_app.specs.Cores.{core_after, layouts_of}
 use Rattle.gib_app.specs.Jobs.{run_forks}
-use Rattle.gib_app.specs.MachineRun.{IsRootOf, Lacks, LacksValue, OnEnd, OnRan, StandsMeant, cells_of, program_cost}
+use Rattle.gib_app.specs.MachineRun.{IsRunEnd, IsRootOf, Lacks, OnEnd, OnRan, cells_of, program_cost}
 use Rattle.gib_app.specs.Stops.{IsRunStop}
 use Rattle.gib_app.proofs.Refusals.{run_stop}
 use Rattle.gib_app.proofs.Roots.{ended_code, ended_meant, ended_memory, ended_only, ended_stop, of_program, refused_only}
@@ -37,7 +37,7 @@ returns-in-Ok-lowered-clause-stands g c =
     let file = c.args.file.now in
     let made = c.in-Ok-lowered.ensures in
     let l = c.in-Ok-lowered.lowered in
-    let P : Result RunEnd Stop → Type 0 = λ r. IfOk r (OnEnd (λ ran. StandsMeant p names o.depth file ran.lowered.code.laid (cells_of ran.memory) ran.root) (LacksValue p names o.skips o.depth (run_forks o) o.chunks file)) in
+    let P : Result RunEnd Stop → Type 0 = λ r. IfOk r (IsRunEnd (core_after o.skips 4 p) p names o.depth (run_forks o) o.chunks file) in
     subst P (sym c.ended.ensures)
     (ended_meant names (core_after o.skips 4 p) p o.depth (run_forks o) o.chunks file c.in-Ok.survey l (of_program p o.skips l (record { core = made.core; means = made.means; laid = made.laid })) c.requires.short
     c.payload-packed.ensures.packed c.in-Ok.ensures.file c.run_on-left.result c.run_on-left.ensures.root c.run_on-left.ensures.halts)

@@ -19,3 +19,6 @@ returns-clause-part g c = λ text t failed.
     let b = g.O.Sink.view c.print_ran.new.out in
     let W : List ℕ → Type 0 = λ bytes. AppendsPart a.taken b.taken bytes × PutsSomePieces a b (length bytes) in
     subst W (sym t.is_text) (c.print_ran.ensures.part t.program t.depth t.input t.stands failed, c.print_ran.ensures.some t.program t.depth t.input t.stands failed)
+
+pub print_ran-requires-clause-stands : goal.print_ran-requires-clause-stands
+print_ran-requires-clause-stands g c = let t = c.requires.1 in record { program = t.program; depth = t.depth; input = t.input; meant = t.stands }

@@ -9,7 +9,7 @@ use Rattle.gib_app.specs.declared.machine_run.RunEnd.{RunEnd}
 use Rattle.gib_app.specs.declared.made.End.{End}
 use Rattle.gib_app.specs.declared.made.Valued.{Valued}
 use Rattle.gib_app.specs.Jobs.{RunsLocated, run_forks}
-use Rattle.gib_app.specs.MachineRun.{LacksValueBy, OnEnd, OnRan, StandsMeant, cells_of}
+use Rattle.gib_app.specs.MachineRun.{IsRunEnd, OnRan}
 use Rattle.gib_app.specs.Remains.{ComesOfCore, IsLeftBy}
 use Rattle.gib_app.proofs.Doing.{ends_without, lacks_located}
 use Rattle.gib_app.proofs.Imaged.{located_ends}
@@ -23,7 +23,7 @@ returns-in-Value-clause-made g c = λ p located runs.
     let names = c.args.located.names in
     let o = c.args.options in
     let input = c.args.input.now in
-    let S : RunEnd → Type 0 = OnEnd (λ ran. StandsMeant p.tree names o.depth input ran.lowered.code.laid (cells_of ran.memory) ran.root) (LacksValueBy core p.tree names o.depth (run_forks o) o.chunks input) in
+    let S : RunEnd → Type 0 = IsRunEnd core p.tree names o.depth (run_forks o) o.chunks input in
     let stands = subst S c.in-Value.is (c.in-Ok.ensures.stands p.tree runs) in
     let H : Table → Type 0 = λ t. AreHeld t names.short in
     located_ends p o input (record { ran = c.in-Value.ran; names = names }) (subst H (sym stands.table) runs.held) stands
@@ -34,7 +34,7 @@ returns-in-Value-clause-region g c = λ p located runs.
     let names = c.args.located.names in
     let o = c.args.options in
     let input = c.args.input.now in
-    let S : RunEnd → Type 0 = OnEnd (λ ran. StandsMeant p.tree names o.depth input ran.lowered.code.laid (cells_of ran.memory) ran.root) (LacksValueBy core p.tree names o.depth (run_forks o) o.chunks input) in
+    let S : RunEnd → Type 0 = IsRunEnd core p.tree names o.depth (run_forks o) o.chunks input in
     let C : RunEnd → Type 0 = OnRan (λ ran. ran.lowered.code ≡ lower_program core) in
     let M : RunEnd → Type 0 = OnRan (λ ran. (sole_memory ran.memory).limit ≤ o.chunks) in
     let value : Valued = record { ran = c.in-Value.ran; names = names } in
@@ -54,7 +54,7 @@ returns-in-NoValue-clause-made g c = λ p located runs.
     let names = c.args.located.names in
     let o = c.args.options in
     let input = c.args.input.now in
-    let S : RunEnd → Type 0 = OnEnd (λ ran. StandsMeant p.tree names o.depth input ran.lowered.code.laid (cells_of ran.memory) ran.root) (LacksValueBy core p.tree names o.depth (run_forks o) o.chunks input) in
+    let S : RunEnd → Type 0 = IsRunEnd core p.tree names o.depth (run_forks o) o.chunks input in
     let why = c.in-NoValue.reason in
     ends_without c.no_value.result why (RunsLocated p names o input) c.no_value.ensures.file c.no_value.ensures.end (lacks_located core p names o input located why (subst S c.in-NoValue.is (c.in-Ok.ensures.stands p.tree runs)))
 

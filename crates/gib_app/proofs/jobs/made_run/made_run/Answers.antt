@@ -6,7 +6,7 @@ use Rattle.gib_app.specs.declared.machine_run.RunEnd.{RunEnd}
 use Rattle.gib_app.specs.declared.made.End.{End}
 use Rattle.gib_app.specs.Cores.{core_after}
 use Rattle.gib_app.specs.Jobs.{Sums, run_forks}
-use Rattle.gib_app.specs.MachineRun.{LacksValue, OnEnd, OnRan, StandsMeant, cells_of}
+use Rattle.gib_app.specs.MachineRun.{IsRunEnd, OnRan}
 use Rattle.gib_app.specs.Remains.{SumsMemory}
 use Rattle.gib_app.proofs.Doing.{ends_without, lacks_sums}
 use Rattle.gib_app.proofs.Imaged.{memory_stops}
@@ -21,8 +21,8 @@ line_made-requires-clause-stands g c κs within =
     let names = c.args.compiled.now.names in
     let o = c.args.options in
     let input = c.args.input.now in
-    let S : RunEnd → Type 0 = OnEnd (λ ran. StandsMeant p names o.depth input ran.lowered.code.laid (cells_of ran.memory) ran.root) (LacksValue p names o.skips o.depth (run_forks o) o.chunks input) in
-    (p, names, input, subst S c.in-Value.is c.in-Ok.ensures.stands)
+    let S : RunEnd → Type 0 = IsRunEnd (core_after o.skips 4 p) p names o.depth (run_forks o) o.chunks input in
+    (names, record { program = p; depth = o.depth; input = input; meant = subst S c.in-Value.is c.in-Ok.ensures.stands })
 
 pub returns-in-Value-clause-made : goal.returns-in-Value-clause-made
 returns-in-Value-clause-made g c =
@@ -30,7 +30,7 @@ returns-in-Value-clause-made g c =
     let names = c.args.compiled.now.names in
     let o = c.args.options in
     let input = c.args.input.now in
-    let S : RunEnd → Type 0 = OnEnd (λ ran. StandsMeant p names o.depth input ran.lowered.code.laid (cells_of ran.memory) ran.root) (LacksValue p names o.skips o.depth (run_forks o) o.chunks input) in
+    let S : RunEnd → Type 0 = IsRunEnd (core_after o.skips 4 p) p names o.depth (run_forks o) o.chunks input in
     c.line_made.ensures.made p names input (subst S c.in-Value.is c.in-Ok.ensures.stands)
 
 pub returns-in-Value-clause-region : goal.returns-in-Value-clause-region
@@ -39,7 +39,7 @@ returns-in-Value-clause-region g c =
     let names = c.args.compiled.now.names in
     let o = c.args.options in
     let input = c.args.input.now in
-    let S : RunEnd → Type 0 = OnEnd (λ ran. StandsMeant p names o.depth input ran.lowered.code.laid (cells_of ran.memory) ran.root) (LacksValue p names o.skips o.depth (run_forks o) o.chunks input) in
+    let S : RunEnd → Type 0 = IsRunEnd (core_after o.skips 4 p) p names o.depth (run_forks o) o.chunks input in
     let C : RunEnd → Type 0 = OnRan (λ ran. ran.lowered.code ≡ lower_program (core_after o.skips 4 p)) in
     let M : RunEnd → Type 0 = OnRan (λ ran. (sole_memory ran.memory).limit ≤ o.chunks) in
     c.line_made.ensures.region p names input
@@ -56,7 +56,7 @@ returns-in-NoValue-clause-made g c =
     let names = c.args.compiled.now.names in
     let o = c.args.options in
     let input = c.args.input.now in
-    let S : RunEnd → Type 0 = OnEnd (λ ran. StandsMeant p names o.depth input ran.lowered.code.laid (cells_of ran.memory) ran.root) (LacksValue p names o.skips o.depth (run_forks o) o.chunks input) in
+    let S : RunEnd → Type 0 = IsRunEnd (core_after o.skips 4 p) p names o.depth (run_forks o) o.chunks input in
     let why = c.in-NoValue.reason in
     ends_without c.no_value.result why (Sums p names o input) c.no_value.ensures.file c.no_value.ensures.end (lacks_sums p names o input why (subst S c.in-NoValue.is c.in-Ok.ensures.stands))
 

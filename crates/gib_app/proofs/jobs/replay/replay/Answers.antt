@@ -31,7 +31,12 @@ shown-requires-clause-stands c =
     let ran = c.in-Ok-ran_of.ran in
     let on = replayed_on p c.args.file.now c.args.journal.now run.lowered.code.laid ran.lowered.code.laid (view run.replayed.memory) (view ran.memory) run.replayed.answer
     (ap (λ (l : LoweredParts). l.code.laid) c.in-Ok-ran_of.ensures.some.2) (ap view c.in-Ok-ran_of.ensures.some.1) c.in-Ok.ensures.ends in
-    (p, on.settings.depth, c.args.file.now, replayed_stands p c.args.file.now c.args.journal.now ran.lowered.code.laid (view ran.memory) run.replayed.answer ran.root on c.in-Ok-ran_of.ensures.some.0)
+    record {
+      program = p;
+      depth = on.settings.depth;
+      input = c.args.file.now;
+      meant = replayed_stands p c.args.file.now c.args.journal.now ran.lowered.code.laid (view ran.memory) run.replayed.answer ran.root on c.in-Ok-ran_of.ensures.some.0;
+    }
 
 pub returns-in-Ok-shown-clause-made : goal.returns-in-Ok-shown-clause-made
 returns-in-Ok-shown-clause-made c =

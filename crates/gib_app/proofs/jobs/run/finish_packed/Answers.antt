@@ -6,22 +6,20 @@ use Rattle.gib_packed.specs.Stands.{Stands}
 use Rattle.gib_compact.specs.declared.fault.CompactFault.{CompactFault}
 use Rattle.gib_app.specs.MachineRun.{cells_of}
 use Rattle.std.proofs.lemmas.Result.{IfOk-at_ok}
-use Rattle.gib_app.proofs.PackedRuns.{stands_named, packed_run, long_run}
+use Rattle.gib_app.proofs.PackedRuns.{meant_again, stands_named, packed_run, long_run}
 use Rattle.gib_app.proofs.Remaining.{left_again, stands_left, packed_comes, long_comes}
 use Rattle.gib_app.proofs.jobs.run.finish_packed.Goals as goal
 
 pub with_packed-requires-clause-stands : goal.with_packed-requires-clause-stands
 with_packed-requires-clause-stands g c =
-    let r = c.requires.stands in
-    (r.0, r.1, r.2, stands_named r.0 r.1 r.2 c.args.value c.packed_result-packed.result.1 c.packed_result-packed.ensures.again r.4)
+    meant_again c.args.value c.packed_result-packed.result.1 c.packed_result-packed.ensures.again c.requires.stands.0
 
 pub with_packed-requires-clause-few : goal.with_packed-requires-clause-few
 with_packed-requires-clause-few g c = let same = c.packed_result-packed.ensures.again.limit in let few = c.requires.few in omega (arith, same, few)
 
 pub without_packed-requires-clause-stands : goal.without_packed-requires-clause-stands
 without_packed-requires-clause-stands g c =
-    let r = c.requires.stands in
-    (r.0, r.1, r.2, stands_named r.0 r.1 r.2 c.args.value c.packed_result-packed.result.1 c.packed_result-packed.ensures.again r.4)
+    meant_again c.args.value c.packed_result-packed.result.1 c.packed_result-packed.ensures.again c.requires.stands.0
 
 pub without_packed-requires-clause-few : goal.without_packed-requires-clause-few
 without_packed-requires-clause-few g c = let same = c.packed_result-packed.ensures.again.limit in let few = c.requires.few in omega (arith, same, few)

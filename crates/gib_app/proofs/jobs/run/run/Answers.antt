@@ -9,7 +9,7 @@ use Rattle.gib_app.specs.declared.made.End.{End}
 use Rattle.gib_app.specs.Cores.{core_after, layouts_of}
 use Rattle.gib_app.specs.Jobs.{RunsBoth, run_forks}
 use Rattle.gib_app.specs.Kept.{file_of}
-use Rattle.gib_app.specs.MachineRun.{LacksValue, OnEnd, OnRan, StandsMeant, cells_of}
+use Rattle.gib_app.specs.MachineRun.{IsRunEnd, OnRan}
 use Rattle.gib_app.specs.Remains.{ComesOfMemory}
 use Rattle.gib_app.proofs.Doing.{lacks_runs}
 use Rattle.gib_app.proofs.Imaged.{memory_stops}
@@ -25,7 +25,7 @@ finish_run-requires-clause-names g c κs within =
     let names = c.args.compiled.names in
     let o = c.args.options in
     let input = c.args.input.now in
-    let S : RunEnd → Type 0 = OnEnd (λ ran. StandsMeant p names o.depth input ran.lowered.code.laid (cells_of ran.memory) ran.root) (LacksValue p names o.skips o.depth (run_forks o) o.chunks input) in
+    let S : RunEnd → Type 0 = IsRunEnd (core_after o.skips 4 p) p names o.depth (run_forks o) o.chunks input in
     let stands = subst S c.in-Value.is c.in-Ok.ensures.stands in
     let H : Table → Type 0 = λ t. AreHeld t names.short in
     subst H (sym stands.table) c.requires.ready.held
@@ -36,8 +36,8 @@ finish_run-requires-clause-stands g c κs within =
     let names = c.args.compiled.names in
     let o = c.args.options in
     let input = c.args.input.now in
-    let S : RunEnd → Type 0 = OnEnd (λ ran. StandsMeant p names o.depth input ran.lowered.code.laid (cells_of ran.memory) ran.root) (LacksValue p names o.skips o.depth (run_forks o) o.chunks input) in
-    (p, o.depth, input, c.output_type-ty.ensures, subst S c.in-Value.is c.in-Ok.ensures.stands)
+    let S : RunEnd → Type 0 = IsRunEnd (core_after o.skips 4 p) p names o.depth (run_forks o) o.chunks input in
+    (record { program = p; depth = o.depth; input = input; meant = subst S c.in-Value.is c.in-Ok.ensures.stands }, c.output_type-ty.ensures)
 
 pub finish_run-requires-clause-few : goal.finish_run-requires-clause-few
 finish_run-requires-clause-few g c κs within =
@@ -52,7 +52,7 @@ returns-in-Value-clause-made g c =
     let names = c.args.compiled.names in
     let o = c.args.options in
     let input = c.args.input.now in
-    let S : RunEnd → Type 0 = OnEnd (λ ran. StandsMeant p names o.depth input ran.lowered.code.laid (cells_of ran.memory) ran.root) (LacksValue p names o.skips o.depth (run_forks o) o.chunks input) in
+    let S : RunEnd → Type 0 = IsRunEnd (core_after o.skips 4 p) p names o.depth (run_forks o) o.chunks input in
     let L : RunEnd → Type 0 = OnRan (λ ran. ran.lowered.code.laid ≡ layouts_of o.skips p) in
     let M : RunEnd → Type 0 = OnRan (λ ran. (sole_memory ran.memory).limit ≤ o.chunks) in
     c.finish_run.ensures.made p input c.output_type-ty.ensures (subst L c.in-Value.is c.in-Ok.ensures.laid) (subst M c.in-Value.is c.in-Ok.ensures.limit) (subst S c.in-Value.is c.in-Ok.ensures.stands)
@@ -63,7 +63,7 @@ returns-in-Value-clause-region g c =
     let names = c.args.compiled.names in
     let o = c.args.options in
     let input = c.args.input.now in
-    let S : RunEnd → Type 0 = OnEnd (λ ran. StandsMeant p names o.depth input ran.lowered.code.laid (cells_of ran.memory) ran.root) (LacksValue p names o.skips o.depth (run_forks o) o.chunks input) in
+    let S : RunEnd → Type 0 = IsRunEnd (core_after o.skips 4 p) p names o.depth (run_forks o) o.chunks input in
     let C : RunEnd → Type 0 = OnRan (λ ran. ran.lowered.code ≡ lower_program (core_after o.skips 4 p)) in
     let M : RunEnd → Type 0 = OnRan (λ ran. (sole_memory ran.memory).limit ≤ o.chunks) in
     c.finish_run.ensures.region p input
@@ -80,7 +80,7 @@ returns-in-NoValue-clause-made g c =
     let names = c.args.compiled.names in
     let o = c.args.options in
     let input = c.args.input.now in
-    let S : RunEnd → Type 0 = OnEnd (λ ran. StandsMeant p names o.depth input ran.lowered.code.laid (cells_of ran.memory) ran.root) (LacksValue p names o.skips o.depth (run_forks o) o.chunks input) in
+    let S : RunEnd → Type 0 = IsRunEnd (core_after o.skips 4 p) p names o.depth (run_forks o) o.chunks input in
     let why = c.in-NoValue.reason in
     both_without c.no_value-made.result why (RunsBoth p names o input) c.no_value-made.ensures.file c.no_value-made.ensures.end (runs_valueless p names o input why (lacks_runs p names o input why (subst S c.in-NoValue.is c.in-Ok.ensures.stands)))
 
@@ -90,7 +90,7 @@ returns-in-NoValue-clause-region g c =
     let names = c.args.compiled.names in
     let o = c.args.options in
     let input = c.args.input.now in
-    let S : RunEnd → Type 0 = OnEnd (λ ran. StandsMeant p names o.depth input ran.lowered.code.laid (cells_of ran.memory) ran.root) (LacksValue p names o.skips o.depth (run_forks o) o.chunks input) in
+    let S : RunEnd → Type 0 = IsRunEnd (core_after o.skips 4 p) p names o.depth (run_forks o) o.chunks input in
     let file = file_of c.no_value-made.result in
     let Q : End → Type 0 = ComesOfMemory p names o input file in
     subst Q (sym c.no_value-made.ensures.end) (lacks_comes p names o input file c.in-NoValue.reason (subst S c.in-NoValue.is c.in-Ok.ensures.stands))

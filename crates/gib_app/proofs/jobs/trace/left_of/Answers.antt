@@ -23,13 +23,14 @@ text_of-requires-clause-stands c =
     let t = c.requires.traced in
     let traced = c.args.run.traced in
     let ran = c.in-Ok-ran_of.ran in
-    let laid = ap (λ (l : LoweredParts). l.code.laid) c.in-Ok-ran_of.ensures.some.2 ∙ t.4 in (
-      t.0,
-      t.1.depth,
-      t.2,
-      ran_stands t.0 t.1 t.2 traced.journal.settings traced.journal.lines.all.items (view traced.memory) (view ran.memory) traced.answer ran.lowered.code.laid ran.root
-          t.3 laid (ap view c.in-Ok-ran_of.ensures.some.1) c.in-Ok-ran_of.ensures.some.0,
-    )
+    let laid = ap (λ (l : LoweredParts). l.code.laid) c.in-Ok-ran_of.ensures.some.2 ∙ t.4 in
+    record {
+      program = t.0;
+      depth = t.1.depth;
+      input = t.2;
+      meant = ran_stands t.0 t.1 t.2 traced.journal.settings traced.journal.lines.all.items (view traced.memory) (view ran.memory) traced.answer ran.lowered.code.laid ran.root
+          t.3 laid (ap view c.in-Ok-ran_of.ensures.some.1) c.in-Ok-ran_of.ensures.some.0;
+    }
 
 pub returns-in-Ok-text_of-clause-made : goal.returns-in-Ok-text_of-clause-made
 returns-in-Ok-text_of-clause-made c = λ p o input h is_laid.
