@@ -1,6 +1,6 @@
 //! A source text to a typed program without type parameters.
 
-ghost use Rattle.std.specs.Prelude.{◌≡◌, ℕ, List, Ok, Err, length, IfOk, IfErr, MatchResult};
+ghost use Rattle.std.specs.Prelude.{◌≡◌, List, Ok, Err, length, IfOk, IfErr, MatchResult};
 ghost use Rattle.std.specs.List.{AllByRecursion};
 ghost use Rattle.gib_base.specs.Lexed.{Lexed, IsLexed};
 ghost use Rattle.gib_base.specs.Texts.{TextsView};

@@ -1,6 +1,6 @@
 //! Makes and writes the files that a plan writes before it reads.
 
-ghost use Rattle.std.specs.Prelude.{◌≡◌, [], ◌∷◌, IfErr, OnOk};
+ghost use Rattle.std.specs.Prelude.{[], ◌∷◌, IfErr, OnOk};
 ghost use Rattle.gib_app.specs.Ending.{StaysAfter};
 ghost use Rattle.gib_app.specs.FirstWrites.{HasWritten, HasStuck};
 ghost use Rattle.gib_words.specs.Kept.{plan_of};

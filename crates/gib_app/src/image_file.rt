@@ -1,7 +1,7 @@
 //! The bytes of an image to their value.
 
 ghost use Rattle.gib_base.specs.Texts.{TextsView};
-ghost use Rattle.std.specs.Prelude.{◌≡◌, ◌≤◌, ◌↔◌, IsTrue, ℕ, List, length, IfOk, IfErr};
+ghost use Rattle.std.specs.Prelude.{◌≡◌, ◌≤◌, ◌↔◌, IsTrue, length, IfOk, IfErr};
 ghost use Rattle.gib_print.specs.ImageReading.{IsRead};
 ghost use Rattle.gib_syntax.specs.Parts.{program_of};
 ghost use Rattle.gib_syntax.specs.Declarations.{output_type};

@@ -1,6 +1,6 @@
 //! A source that writes its places out to its core.
 
-ghost use Rattle.std.specs.Prelude.{◌≡◌, ℕ, List, IfOk, IfErr};
+ghost use Rattle.std.specs.Prelude.{◌≡◌, IfOk, IfErr};
 ghost use Rattle.gib_base.specs.Texts.{TextsView};
 ghost use Rattle.gib_core.specs.Parts.{core_of};
 ghost use Rattle.gib_app.specs.Located.{IsWritten, IsLocatedStop};

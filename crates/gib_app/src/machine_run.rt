@@ -1,6 +1,6 @@
 //! Runs a program by one worker or more, from the bytes of a packed file to a root in region memory, and prints from there.
 
-ghost use Rattle.std.specs.Prelude.{◌≡◌, ◌≤◌, ◌<◌, ◌+◌, ◌++◌, ◌∷◌, ℕ, List, length, IfOk, IfErr, OnOk, OnErr, IsErrOf, MatchResult, Ok, Err};
+ghost use Rattle.std.specs.Prelude.{◌≡◌, ◌≤◌, ◌<◌, ◌+◌, ℕ, List, length, IfOk, IfErr, OnOk, IsErrOf, MatchResult, Ok, Err};
 ghost use Rattle.gib_edge.specs.Causes.{Rose, Appends, AppendsPart, PutsPieces, PutsSomePieces};
 ghost use Rattle.gib_types.specs.Tree.{Datum};
 ghost use Rattle.gib_mem.specs.Memory.{Memory};

@@ -1,6 +1,6 @@
 //! `replay`: prints the value to which the events of a journal lead.
 
-ghost use Rattle.std.specs.Prelude.{◌≡◌, ◌≤◌, [], ◌∷◌, length, IfOk, IfErr};
+ghost use Rattle.std.specs.Prelude.{◌≤◌, [], ◌∷◌, length, IfOk, IfErr};
 ghost use Rattle.gib_syntax.specs.Parts.{program_of};
 ghost use Rattle.gib_app.specs.Jobs.{Replays};
 ghost use Rattle.gib_app.specs.Kept.{EndsBy, file_of};
