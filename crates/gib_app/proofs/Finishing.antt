@@ -9,7 +9,7 @@ use Rattle.gib_core.specs.Numbering.{AreNumbered}
 use Rattle.gib_core.specs.Parts.{core_of}
 use Rattle.gib_app.specs.declared.compile.Compiled.{Compiled}
 use Rattle.gib_app.specs.declared.located.LocatedCore.{LocatedCore}
-use Rattle.gib_app.specs.declared.made.Finished.{Finished}
+use Rattle.gib_app.specs.declared.made.Made.{Made}
 use Rattle.gib_app.specs.declared.make.Taken.{Taken}
 use Rattle.gib_app.specs.declared.make.Taken.TheVariants as taken
 use Rattle.gib_app.specs.declared.stop.Stop.{Stop}
@@ -76,7 +76,7 @@ pub by_core : (d : Dialect) (l : LocatedCore) (p : Program) (names : TextsView) 
 by_core dialect.Source l p names Q h q = absurd h
 by_core dialect.Located l p names Q h q = subst Q (sym h.texts) (q h.core h.runs)
 
--- What is finished of what a source left is made of the plan's files.
+-- What is made of what a source left is made of the plan's files.
 
 module _ (before : ShelfView) (r : Plan) (dl : Dialect) (e : dialect_of r.job ≡ dl) (left : Taken) (on : OnSource before.kept r.source (IsTaken dl left)) where
   own_stands : StandsFor (dialect_of r.job) left on.holds.program on.holds.names
@@ -89,18 +89,18 @@ module _ (before : ShelfView) (r : Plan) (dl : Dialect) (e : dialect_of r.job �
   pub taken_stands : (p : Program) × (names : TextsView) × StandsFor (dialect_of r.job) left p names
   taken_stands = (on.holds.program, on.holds.names, own_stands)
 
-  pub all_done : (mid : ShelfView) → ((name : List ℕ) → mid.kept name ≡ before.kept name) → (finished : Finished)
-      → ((p : Program) (names : TextsView) → StandsFor (dialect_of r.job) left p names → IsFinished mid.kept r p names finished) → IsDone before.kept r (file_of finished.made) (packed_of finished) finished.made.end
-  all_done mid same finished h =
+  pub all_done : (mid : ShelfView) → ((name : List ℕ) → mid.kept name ≡ before.kept name) → (made : Made)
+      → ((p : Program) (names : TextsView) → StandsFor (dialect_of r.job) left p names → IsFinished mid.kept r p names made) → IsDone before.kept r (file_of made) (packed_of made) made.end
+  all_done mid same made h =
       let f = h on.holds.program on.holds.names own_stands in
-      on_both before.kept r r.source on.holds.program on.holds.names f.given (λ q ns given. EndsByBoth (file_of finished.made) (packed_of finished) finished.made.end (DoesAll r.job r.options q ns given)) refl own_source
+      on_both before.kept r r.source on.holds.program on.holds.names f.given (λ q ns given. EndsByBoth (file_of made) (packed_of made) made.end (DoesAll r.job r.options q ns given)) refl own_source
       (held_before before.kept mid.kept (inputs_of r) f.given same f.given_held) f.done
 
-  pub all_comes : (mid : ShelfView) → ((name : List ℕ) → mid.kept name ≡ before.kept name) → (finished : Finished)
-      → ((p : Program) (names : TextsView) → StandsFor (dialect_of r.job) left p names → IsFinished mid.kept r p names finished) → IsOfRun before.kept r (file_of finished.made) finished.made.end
-  all_comes mid same finished h =
+  pub all_comes : (mid : ShelfView) → ((name : List ℕ) → mid.kept name ≡ before.kept name) → (made : Made)
+      → ((p : Program) (names : TextsView) → StandsFor (dialect_of r.job) left p names → IsFinished mid.kept r p names made) → IsOfRun before.kept r (file_of made) made.end
+  all_comes mid same made h =
       let f = h on.holds.program on.holds.names own_stands in
-      on_both before.kept r r.source on.holds.program on.holds.names f.given (λ q ns given. ComesOfRun (row r.job) q ns r.options given.second (file_of finished.made) finished.made.end) refl own_source
+      on_both before.kept r r.source on.holds.program on.holds.names f.given (λ q ns given. ComesOfRun (row r.job) q ns r.options given.second (file_of made) made.end) refl own_source
       (held_before before.kept mid.kept (inputs_of r) f.given same f.given_held) f.comes
 
   pub all_stops : (mid now : ShelfView) → HasRead before mid (read_calls r.source 1048576) → (stop : Stop)

@@ -4,7 +4,6 @@ use Rattle.gib_base.specs.declared.token.Dialect.TheVariants as dialect
 use Rattle.std.proofs.Common.{◌≡◌, ◌∙◌, refl, sym, ap, subst, ℕ, ◌≤◌, List, [], Option, None, Result, Ok, Err, IfOk, IfErr}
 use Rattle.std.specs.Option.{option_map_or}
 use Rattle.gib_edge.specs.Views.{ShelfView}
-use Rattle.gib_app.specs.declared.made.Finished.{Finished}
 use Rattle.gib_app.specs.declared.made.Made.{Made}
 use Rattle.gib_words.specs.declared.plan.Job.{Job}
 use Rattle.gib_words.specs.declared.plan.Job.TheVariants.{Local}
@@ -25,8 +24,7 @@ use Rattle.gib_app.specs.Stops.{FailsTo, IsRunStop, IsRefusal}
 use Rattle.gib_app.proofs.AfterReads.{inputs_read, none_read}
 use Rattle.gib_app.proofs.Doing.{AcceptsBy, RefusesBy}
 use Rattle.gib_app.proofs.Making.{inputs_given, only_first}
-use Rattle.gib_app.proofs.PackedRuns.{finished_alone, stopped_alone}
-use Rattle.gib_app.proofs.Remaining.{comes_alone}
+use Rattle.gib_app.proofs.PackedRuns.{made_alone}
 
 -- The job that takes a source with its places written out.
 
@@ -75,19 +73,16 @@ module _ (job : Job) (is : row job ≡ Evaluates ForPlaces) (o : Options) (p : P
   does_located : (f : Option (List ℕ)) (x : End) → RunsLocated p names o given.second f x → DoesAll job o p names given f None x
   does_located f x h = let P : Row → Type 0 = λ r. DoesBy r o p names given f x × PacksResult (packs_of r o) p.tree names o.depth given.second None x in subst P (sym is) (h, refl)
 
-  pub located_made : (made : Result Made Stop) (r : Result Finished Stop) → IfOk r (λ finished. (made ≡ Ok finished.made) × (finished.packed ≡ None)) → IfOk made (λ m. EndsBy (file_of m) m.end (RunsLocated p names o given.second))
-      → IfOk r (λ finished. EndsByBoth (file_of finished.made) (packed_of finished) finished.made.end (DoesAll job o p names given))
-  located_made made r alone h = finished_alone made r (RunsLocated p names o given.second) (DoesAll job o p names given) alone does_located h
+  pub located_made : (r : Result Made Stop) → IfOk r (λ made. made.packed ≡ None) → IfOk r (λ made. EndsBy (file_of made) made.end (RunsLocated p names o given.second))
+      → IfOk r (λ made. EndsByBoth (file_of made) (packed_of made) made.end (DoesAll job o p names given))
+  located_made r alone h = made_alone r (RunsLocated p names o given.second) (DoesAll job o p names given) alone does_located h
 
-  pub located_comes : (made : Result Made Stop) (r : Result Finished Stop) → IfOk r (λ finished. (made ≡ Ok finished.made) × (finished.packed ≡ None))
-      → IfOk made (λ m. ComesOfCore p names o given.second m.end) → IfOk r (λ finished. ComesOfRun (row job) p names o given.second (file_of finished.made) finished.made.end)
-  located_comes made r alone h =
-      let P : Row → Type 0 = λ x. IfOk r (λ finished. ComesOfRun x p names o given.second (file_of finished.made) finished.made.end) in
-      subst P (sym is) (comes_alone (λ file end. ComesOfCore p names o given.second end) made r alone h)
+  pub located_comes : (r : Result Made Stop) → IfOk r (λ made. ComesOfCore p names o given.second made.end) → IfOk r (λ made. ComesOfRun (row job) p names o given.second (file_of made) made.end)
+  located_comes r h = let P : Row → Type 0 = λ x. IfOk r (λ made. ComesOfRun x p names o given.second (file_of made) made.end) in subst P (sym is) h
 
   fails_located : (stop : Stop) → IsRunStop p.tree names given.second stop → FailsTo job o p names given stop
   fails_located stop h = let P : Row → Type 0 = λ r. IsRefusal (λ fault. RefusesBy (format_by r) o p names given fault × (AcceptsBy (format_by r) o p names given → ⊥)) stop in subst P (sym is) h
 
-  pub located_stop : (made : Result Made Stop) (r : Result Finished Stop) → IfErr r (λ stop. made ≡ Err stop) → IfErr made (IsRunStop p.tree names given.second) → IfErr r (FailsTo job o p names given)
-  located_stop made (Ok finished) alone h = tt {0}
-  located_stop made (Err stop) alone h = fails_located stop (stopped_alone made (Err stop) (IsRunStop p.tree names given.second) alone h)
+  pub located_stop : (r : Result Made Stop) → IfErr r (IsRunStop p.tree names given.second) → IfErr r (FailsTo job o p names given)
+  located_stop (Ok made) h = tt {0}
+  located_stop (Err stop) h = fails_located stop h

@@ -1,6 +1,6 @@
 -- What a run makes whose result is packed.
 use Rattle.gib_base.specs.Texts.{TextsView}
-use Rattle.std.proofs.Common.{◌≡◌, ◌∙◌, ◌≤◌, ◌<◌, refl, ap, sym, subst, subst₂, arith, ℕ, List, length, Option, Some, None, Bool, true, false, Result, Ok, Err, IfOk, IfErr}
+use Rattle.std.proofs.Common.{◌≡◌, ◌∙◌, ◌≤◌, ◌<◌, refl, ap, sym, subst, subst₂, arith, ℕ, List, length, Option, Some, None, Bool, true, false, Result, Ok, Err, IfOk}
 use Rattle.gib_types.specs.Table.{Table}
 use Rattle.gib_types.specs.Tree.{HasType}
 use Rattle.gib_value.specs.Text.{AreHeld}
@@ -16,7 +16,6 @@ use Rattle.gib_syntax.specs.Tree.{ProgramTree}
 use Rattle.gib_syntax.specs.Declarations.{table_of_program, output_type}
 use Rattle.gib_app.specs.declared.made.End.{End as KeptEnd}
 use Rattle.gib_app.specs.declared.made.End.TheVariants as ends
-use Rattle.gib_app.specs.declared.made.Finished.{Finished}
 use Rattle.gib_app.specs.declared.made.Made.{Made}
 use Rattle.gib_app.specs.declared.made.Reason.{Reason}
 use Rattle.gib_app.specs.declared.made.Reason.TheVariants.{Long}
@@ -109,18 +108,18 @@ module _ (p : ProgramTree) (o : Options) (input : List ℕ) (old new : Valued) (
       ) in
       subst E (sym is) there
 
-  pub packed_run : (bytes : List ℕ) → File2 (table_of_program p) old.names.long (output_type p) s.result bytes → length bytes ≤ 16777216 → (r : Result Finished Stop)
-      → IfOk r (λ finished. IsShownWith o.image new.ran.lowered.code.laid (sole_memory new.ran.memory) new.ran.root p new.names s.result (file_of finished.made) finished.made.end) → IfOk r (λ finished. packed_of finished ≡ Some bytes)
-      → IfOk r (λ finished. EndsByBoth (file_of finished.made) (packed_of finished) finished.made.end (RunsBoth p old.names o input))
-  packed_run bytes is_file few (Ok finished) h made =
-      let S : TextsView → Type 0 = λ ns. IsShownWith o.image new.ran.lowered.code.laid (sole_memory new.ran.memory) new.ran.root p ns s.result (file_of finished.made) finished.made.end in
-      with_file bytes is_file few (file_of finished.made) (packed_of finished) finished.made.end (subst S again.names h) made
-  packed_run bytes is_file few (Err stop) h made = tt {0}
+  pub packed_run : (bytes : List ℕ) → File2 (table_of_program p) old.names.long (output_type p) s.result bytes → length bytes ≤ 16777216 → (r : Result Made Stop)
+      → IfOk r (λ made. IsShownWith o.image new.ran.lowered.code.laid (sole_memory new.ran.memory) new.ran.root p new.names s.result (file_of made) made.end) → IfOk r (λ made. packed_of made ≡ Some bytes)
+      → IfOk r (λ made. EndsByBoth (file_of made) (packed_of made) made.end (RunsBoth p old.names o input))
+  packed_run bytes is_file few (Ok made) h is =
+      let S : TextsView → Type 0 = λ ns. IsShownWith o.image new.ran.lowered.code.laid (sole_memory new.ran.memory) new.ran.root p ns s.result (file_of made) made.end in
+      with_file bytes is_file few (file_of made) (packed_of made) made.end (subst S again.names h) is
+  packed_run bytes is_file few (Err stop) h is = tt {0}
 
-  pub long_run : ((bytes : List ℕ) → File2 (table_of_program p) old.names.long (output_type p) s.result bytes → 16777216 < length bytes) → (r : Result Finished Stop)
-      → IfOk r (λ finished. IsImageFile o.image new.ran.lowered.code.laid (output_type p) (sole_memory new.ran.memory) new.ran.root s.result (file_of finished.made)) → IfOk r (λ finished. (finished.made.end ≡ ends.NoValue Long) × (packed_of finished ≡ None))
-      → IfOk r (λ finished. EndsByBoth (file_of finished.made) (packed_of finished) finished.made.end (RunsBoth p old.names o input))
-  long_run long (Ok finished) h none = without_file long (file_of finished.made) (packed_of finished) finished.made.end h none.0 none.1
+  pub long_run : ((bytes : List ℕ) → File2 (table_of_program p) old.names.long (output_type p) s.result bytes → 16777216 < length bytes) → (r : Result Made Stop)
+      → IfOk r (λ made. IsImageFile o.image new.ran.lowered.code.laid (output_type p) (sole_memory new.ran.memory) new.ran.root s.result (file_of made)) → IfOk r (λ made. (made.end ≡ ends.NoValue Long) × (packed_of made ≡ None))
+      → IfOk r (λ made. EndsByBoth (file_of made) (packed_of made) made.end (RunsBoth p old.names o input))
+  long_run long (Ok made) h none = without_file long (file_of made) (packed_of made) made.end h none.0 none.1
   long_run long (Err stop) h none = tt {0}
 
 -- ---- What makes no packed file
@@ -132,17 +131,13 @@ ends_alone file packed (ends.Prints text) P Q none go h = subst (λ (q : Option 
 ends_alone file packed (ends.Value value) P Q none go h = (h.0, none, h.1, h.2, subst (λ (q : Option (List ℕ)). Q file q (Prints h.1)) (sym none) (go file (Prints h.1) h.3))
 ends_alone file packed (ends.NoValue reason) P Q none go h = subst (λ (q : Option (List ℕ)). Q file q (NoValue reason)) (sym none) (go file (NoValue reason) h)
 
-pub finished_alone : (made : Result Made Stop) (r : Result Finished Stop) (P : Option (List ℕ) → End → Type 0) (Q : Option (List ℕ) → Option (List ℕ) → End → Type 0) → IfOk r (λ finished. (made ≡ Ok finished.made) × (finished.packed ≡ None)) → ((f : Option (List ℕ)) (x : End) → P f x → Q f None x)
-    → IfOk made (λ m. EndsBy (file_of m) m.end P) → IfOk r (λ finished. EndsByBoth (file_of finished.made) (packed_of finished) finished.made.end Q)
-finished_alone made (Ok finished) P Q is go h =
-    let M : Result Made Stop → Type 0 = λ m. IfOk m (λ x. EndsBy (file_of x) x.end P) in
-    let none : packed_of finished ≡ None = let e = is.1 in cc in
-    ends_alone (file_of finished.made) (packed_of finished) finished.made.end P Q none go (subst M is.0 h)
-finished_alone made (Err stop) P Q is go h = tt {0}
+none_packed : (made : Made) → made.packed ≡ None → packed_of made ≡ None
+none_packed made none = cc
 
-pub stopped_alone : (made : Result Made Stop) (r : Result Finished Stop) (I : Stop → Type 0) → IfErr r (λ stop. made ≡ Err stop) → IfErr made I → IfErr r I
-stopped_alone made (Ok finished) I is h = tt {0}
-stopped_alone made (Err stop) I is h = let M : Result Made Stop → Type 0 = λ m. IfErr m I in subst M is h
+pub made_alone : (r : Result Made Stop) (P : Option (List ℕ) → End → Type 0) (Q : Option (List ℕ) → Option (List ℕ) → End → Type 0) → IfOk r (λ made. made.packed ≡ None) → ((f : Option (List ℕ)) (x : End) → P f x → Q f None x)
+    → IfOk r (λ made. EndsBy (file_of made) made.end P) → IfOk r (λ made. EndsByBoth (file_of made) (packed_of made) made.end Q)
+made_alone (Ok made) P Q none go h = ends_alone (file_of made) (packed_of made) made.end P Q (none_packed made none) go h
+made_alone (Err stop) P Q none go h = tt {0}
 
 -- A run that is asked for none makes none.
 pub runs_alone : (p : ProgramTree) (names : TextsView) (o : Options) (input : List ℕ) → o.packs ≡ false → (f : Option (List ℕ)) (x : End) → Runs p names o input f x → RunsBoth p names o input f None x
@@ -156,8 +151,10 @@ runs_valueless p names o input why h = (h, go o.packs)
     go false = refl
     go true = refl
 
-pub both_without : (made : Made) (why : Reason) (Q : Option (List ℕ) → Option (List ℕ) → End → Type 0) → made.file ≡ None → made.end ≡ ends.NoValue why → Q None None (NoValue why) → EndsByBoth (file_of made) None made.end Q
-both_without made why Q file end' h = ends_without made why (λ f x. Q f None x) file end' h
+pub both_without : (made : Made) (why : Reason) (Q : Option (List ℕ) → Option (List ℕ) → End → Type 0) → made.file ≡ None → made.packed ≡ None → made.end ≡ ends.NoValue why → Q None None (NoValue why)
+    → EndsByBoth (file_of made) (packed_of made) made.end Q
+both_without made why Q file packed end' h =
+    ends_alone (file_of made) (packed_of made) made.end (λ f x. Q f None x) Q (none_packed made packed) (λ f x k. k) (ends_without made why (λ f x. Q f None x) file end' h)
 
 -- Nor does a job that makes none.
 pub does_alone : (job : Job) (o : Options) (p : Program) (names : TextsView) (given : Contents) → packs_of (row job) o ≡ false → (f : Option (List ℕ)) (x : End) → Does job o p names given f x → DoesAll job o p names given f None x

@@ -11,7 +11,6 @@ use Rattle.gib_syntax.specs.Tree.{ProgramTree}
 use Rattle.gib_syntax.specs.Declarations.{output_type}
 use Rattle.gib_app.specs.declared.made.End.{End as KeptEnd}
 use Rattle.gib_app.specs.declared.made.End.TheVariants as ends
-use Rattle.gib_app.specs.declared.made.Finished.{Finished}
 use Rattle.gib_app.specs.declared.made.Made.{Made}
 use Rattle.gib_app.specs.declared.made.Reason.{Reason}
 use Rattle.gib_app.specs.declared.made.Reason.TheVariants as reason
@@ -102,46 +101,41 @@ module _ (p : ProgramTree) (o : Options) (input : List ℕ) (old new : Valued) (
   comes_named : (file : Option (List ℕ)) (e : KeptEnd) → ComesOfMemory p new.names o input file e → ComesOfMemory p old.names o input file e
   comes_named file e h = subst (λ (ns : TextsView). ComesOfMemory p ns o input file e) again.names h
 
-  pub packed_comes : (r : Result Finished Stop)
-      → IfOk r (λ finished. IsShownWith o.image new.ran.lowered.code.laid (sole_memory new.ran.memory) new.ran.root p new.names left.remains.stands.result (file_of finished.made) finished.made.end)
-      → IfOk r (λ finished. ComesOfMemory p old.names o input (file_of finished.made) finished.made.end)
-  packed_comes (Ok finished) h = comes_named (file_of finished.made) finished.made.end (shown_here p new.names o input new left o.image refl (file_of finished.made) finished.made.end h)
+  pub packed_comes : (r : Result Made Stop)
+      → IfOk r (λ made. IsShownWith o.image new.ran.lowered.code.laid (sole_memory new.ran.memory) new.ran.root p new.names left.remains.stands.result (file_of made) made.end)
+      → IfOk r (λ made. ComesOfMemory p old.names o input (file_of made) made.end)
+  packed_comes (Ok made) h = comes_named (file_of made) made.end (shown_here p new.names o input new left o.image refl (file_of made) made.end h)
   packed_comes (Err stop) h = tt {0}
 
-  pub long_comes : (r : Result Finished Stop)
-      → IfOk r (λ finished. IsImageFile o.image new.ran.lowered.code.laid (output_type p) (sole_memory new.ran.memory) new.ran.root left.remains.stands.result (file_of finished.made))
-      → IfOk r (λ finished. (finished.made.end ≡ ends.NoValue reason.Long) × (packed_of finished ≡ None))
-      → IfOk r (λ finished. ComesOfMemory p old.names o input (file_of finished.made) finished.made.end)
-  long_comes (Ok finished) h is = comes_named (file_of finished.made) finished.made.end (long_here p new.names o input new left (file_of finished.made) finished.made.end h is.0)
+  pub long_comes : (r : Result Made Stop)
+      → IfOk r (λ made. IsImageFile o.image new.ran.lowered.code.laid (output_type p) (sole_memory new.ran.memory) new.ran.root left.remains.stands.result (file_of made))
+      → IfOk r (λ made. (made.end ≡ ends.NoValue reason.Long) × (packed_of made ≡ None))
+      → IfOk r (λ made. ComesOfMemory p old.names o input (file_of made) made.end)
+  long_comes (Ok made) h is = comes_named (file_of made) made.end (long_here p new.names o input new left (file_of made) made.end h is.0)
   long_comes (Err stop) h is = tt {0}
 
 -- ---- What is made without a packed file
 
-pub comes_alone : (Q : Option (List ℕ) → KeptEnd → Type 0) (made : Result Made Stop) (r : Result Finished Stop) → IfOk r (λ finished. (made ≡ Ok finished.made) × (finished.packed ≡ None))
-    → IfOk made (λ m. Q (file_of m) m.end) → IfOk r (λ finished. Q (file_of finished.made) finished.made.end)
-comes_alone Q made (Ok finished) is h = let M : Result Made Stop → Type 0 = λ m. IfOk m (λ x. Q (file_of x) x.end) in subst M is.0 h
-comes_alone Q made (Err stop) is h = tt {0}
-
 -- Of a job that makes no value in region memory nothing is said.
-of_none : (r : Result Finished Stop) → IfOk r (λ finished. ⊤)
-of_none (Ok finished) = tt {0}
+of_none : (r : Result Made Stop) → IfOk r (λ made. ⊤)
+of_none (Ok made) = tt {0}
 of_none (Err stop) = tt {0}
 
 -- A job beside `run`, whose source leaves the places to the passes.
-pub comes_beside : (job : Job) (p : Program) (names : TextsView) (o : Options) (input : List ℕ) (made : Result Made Stop) (r : Result Finished Stop)
-    → (job ≡ Run → ⊥) → (job ≡ Local → ⊥) → IfOk r (λ finished. (made ≡ Ok finished.made) × (finished.packed ≡ None)) → (job ≡ Gen → IfOk made (λ m. SumsMemory p.tree names o input m.end))
-    → IfOk r (λ finished. ComesOfRun (row job) p names o input (file_of finished.made) finished.made.end)
-comes_beside Run p names o input made r other here is h = absurd (other refl)
-comes_beside Plain p names o input made r other here is h = of_none r
-comes_beside Check p names o input made r other here is h = of_none r
-comes_beside Core p names o input made r other here is h = of_none r
-comes_beside Code p names o input made r other here is h = of_none r
-comes_beside Pack p names o input made r other here is h = of_none r
-comes_beside Show p names o input made r other here is h = of_none r
-comes_beside Gen p names o input made r other here is h = comes_alone (λ file end. SumsMemory p.tree names o input end) made r is (h refl)
-comes_beside Trace p names o input made r other here is h = of_none r
-comes_beside Replay p names o input made r other here is h = of_none r
-comes_beside Local p names o input made r other here is h = absurd (here refl)
+pub comes_beside : (job : Job) (p : Program) (names : TextsView) (o : Options) (input : List ℕ) (r : Result Made Stop)
+    → (job ≡ Run → ⊥) → (job ≡ Local → ⊥) → (job ≡ Gen → IfOk r (λ made. SumsMemory p.tree names o input made.end))
+    → IfOk r (λ made. ComesOfRun (row job) p names o input (file_of made) made.end)
+comes_beside Run p names o input r other here h = absurd (other refl)
+comes_beside Plain p names o input r other here h = of_none r
+comes_beside Check p names o input r other here h = of_none r
+comes_beside Core p names o input r other here h = of_none r
+comes_beside Code p names o input r other here h = of_none r
+comes_beside Pack p names o input r other here h = of_none r
+comes_beside Show p names o input r other here h = of_none r
+comes_beside Gen p names o input r other here h = h refl
+comes_beside Trace p names o input r other here h = of_none r
+comes_beside Replay p names o input r other here h = of_none r
+comes_beside Local p names o input r other here h = absurd (here refl)
 
 -- Without a value nothing comes from there, where not for the length of its packed file.
 pub lacks_comes : (p : ProgramTree) (names : TextsView) (o : Options) (input : List ℕ) (file : Option (List ℕ)) (why : Reason) → LacksValue p names o.skips o.depth (run_forks o) o.chunks input why

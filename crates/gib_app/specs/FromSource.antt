@@ -8,7 +8,7 @@ use Rattle.gib_core.specs.Numbering.{AreNumbered}
 use Rattle.gib_core.specs.Parts.{core_of}
 use Rattle.gib_app.specs.declared.compile.Compiled.{Compiled}
 use Rattle.gib_app.specs.declared.located.LocatedCore.{LocatedCore}
-use Rattle.gib_app.specs.declared.made.Finished.{Finished}
+use Rattle.gib_app.specs.declared.made.Made.{Made}
 use Rattle.gib_app.specs.declared.make.Taken.{Taken}
 use Rattle.gib_app.specs.declared.make.Taken.TheVariants as taken
 use Rattle.gib_app.specs.declared.stop.Stop.{Stop}
@@ -57,8 +57,8 @@ IsTakingStop Source source = IsCompileStop source
 IsTakingStop Located source = IsLocatedStop source
 
 -- The job of a plan was done, for this program, with the bytes of its inputs; where it ran in region memory, what it made comes from there.
-pub record IsFinished (kept : Files) (plan : Plan) (p : Program) (names : TextsView) (finished : Finished) : Type 0 where
+pub record IsFinished (kept : Files) (plan : Plan) (p : Program) (names : TextsView) (made : Made) : Type 0 where
   pub given : Contents
   pub given_held : AreGiven kept (inputs_of plan) given
-  pub done : EndsByBoth (file_of finished.made) (packed_of finished) finished.made.end (DoesAll plan.job plan.options p names given)
-  pub comes : ComesOfRun (row plan.job) p names plan.options given.second (file_of finished.made) finished.made.end
+  pub done : EndsByBoth (file_of made) (packed_of made) made.end (DoesAll plan.job plan.options p names given)
+  pub comes : ComesOfRun (row plan.job) p names plan.options given.second (file_of made) made.end

@@ -5,7 +5,6 @@ use Rattle.gib_syntax.specs.Tree.{ProgramTree}
 use Rattle.gib_app.specs.declared.made.End.{End as KeptEnd}
 use Rattle.gib_app.specs.declared.made.End.TheVariants as ends
 use Rattle.gib_app.specs.declared.jobs.Given.{Given}
-use Rattle.gib_app.specs.declared.made.Finished.{Finished}
 use Rattle.gib_app.specs.declared.made.Made.{Made}
 use Rattle.gib_app.specs.declared.made.Valued.{Valued}
 use Rattle.gib_app.specs.declared.inputs.Input.{Input as KeptInput}
@@ -31,8 +30,8 @@ abbrev pub file_of : Made → Option (List ℕ)
 file_of made = option_map (λ bytes. bytes.items) made.file
 
 -- The packed file of the result of a job.
-abbrev pub packed_of : Finished → Option (List ℕ)
-packed_of finished = option_map (λ bytes. bytes.items) finished.packed
+abbrev pub packed_of : Made → Option (List ℕ)
+packed_of made = option_map (λ bytes. bytes.items) made.packed
 
 -- The text of a value in region memory, with a line feed: the value stands for the root, and some program means it on some input.
 pub record IsTextOf (value : Valued) (text : List ℕ) : Type 0 where

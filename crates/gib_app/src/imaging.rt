@@ -1,6 +1,6 @@
 //! The image of what a run leaves, and its text.
 
-ghost use Rattle.std.specs.Prelude.{◌≡◌, ◌<◌, ◌≤◌, ◌*◌, ℕ, List, true, option_map, IfOk};
+ghost use Rattle.std.specs.Prelude.{◌≡◌, ◌<◌, ◌≤◌, ◌*◌, ℕ, List, None, true, option_map, IfOk};
 ghost use Rattle.gib_mem.specs.Memory.{IsThere};
 ghost use Rattle.gib_types.specs.declared.table.Ty.{Ty as Type_of};
 ghost use Rattle.gib_types.specs.Tree.{Datum};
@@ -72,13 +72,15 @@ fn imaged<M: Mem + Drop>(alloc: Global, mut ran: Ran<M>, names: &Texts) -> Resul
     requires names { AreHeld ran.lowered.code.laid.table names.now.short }
     requires stands { SomeStandsIn names.now ran.lowered (M.view ran.memory) ran.root }
     requires few { (M.view ran.memory).limit ≤ 65536 }
-    ensures { (p : ProgramTree) (depth : ℕ) (input : List ℕ) (s : StandsIn p names.now depth input ran.lowered (M.view ran.memory) ran.root)
+    ensures shown { (p : ProgramTree) (depth : ℕ) (input : List ℕ) (s : StandsIn p names.now depth input ran.lowered (M.view ran.memory) ran.root)
         → IfOk result (λ made. IsShownWith true ran.lowered.code.laid (M.view ran.memory) ran.root p names.now s.result (file_of made) made.end) }
+    ensures alone { IfOk result (λ made. made.packed ≡ None) }
 {
     let bytes = image_of(alloc, &mut ran)?;
     let text = text_of(alloc, &mut ran, names)?;
     Ok(Made {
         file: Some(bytes),
+        packed: None,
         end: End::Prints(text),
     })
 }
@@ -92,8 +94,9 @@ pub fn with_image(alloc: Global, mut value: Valued) -> Result<Made, Memory>
     requires names { AreHeld value.ran.lowered.code.laid.table value.names.short }
     requires stands { IsMeant value }
     requires few { (⟦<SoleMem as Mem>⟧.view value.ran.memory).limit ≤ 65536 }
-    ensures { (p : ProgramTree) (depth : ℕ) (input : List ℕ) (s : IsMeantBy p value.names depth input value.ran)
+    ensures shown { (p : ProgramTree) (depth : ℕ) (input : List ℕ) (s : IsMeantBy p value.names depth input value.ran)
         → IfOk result (λ made. IsShownWith true value.ran.lowered.code.laid (⟦<SoleMem as Mem>⟧.view value.ran.memory) value.ran.root p value.names s.result (file_of made) made.end) }
+    ensures alone { IfOk result (λ made. made.packed ≡ None) }
 {
     value.ran.memory.owns_all();
     imaged(alloc, value.ran, &value.names)
@@ -113,8 +116,9 @@ pub fn shown(
     requires names { AreHeld ran.lowered.code.laid.table names.now.short }
     requires stands { SomeStandsIn names.now ran.lowered (⟦<PlainMem as Mem>⟧.view ran.memory) ran.root }
     requires few { (⟦<PlainMem as Mem>⟧.view ran.memory).limit ≤ 65536 }
-    ensures { (p : ProgramTree) (depth : ℕ) (input : List ℕ) (s : StandsIn p names.now depth input ran.lowered (⟦<PlainMem as Mem>⟧.view ran.memory) ran.root)
+    ensures shown { (p : ProgramTree) (depth : ℕ) (input : List ℕ) (s : StandsIn p names.now depth input ran.lowered (⟦<PlainMem as Mem>⟧.view ran.memory) ran.root)
         → IfOk result (λ made. IsShownWith image ran.lowered.code.laid (⟦<PlainMem as Mem>⟧.view ran.memory) ran.root p names.now s.result (file_of made) made.end) }
+    ensures alone { IfOk result (λ made. made.packed ≡ None) }
 {
     if image {
         ran.memory.owns_all();
@@ -135,8 +139,9 @@ pub fn with_text(alloc: Global, mut value: Valued, image: bool) -> Result<Made, 
     requires names { AreHeld value.ran.lowered.code.laid.table value.names.short }
     requires stands { IsMeant value }
     requires few { (⟦<SoleMem as Mem>⟧.view value.ran.memory).limit ≤ 65536 }
-    ensures { (p : ProgramTree) (depth : ℕ) (input : List ℕ) (s : IsMeantBy p value.names depth input value.ran)
+    ensures shown { (p : ProgramTree) (depth : ℕ) (input : List ℕ) (s : IsMeantBy p value.names depth input value.ran)
         → IfOk result (λ made. IsShownWith image value.ran.lowered.code.laid (⟦<SoleMem as Mem>⟧.view value.ran.memory) value.ran.root p value.names s.result (file_of made) made.end) }
+    ensures alone { IfOk result (λ made. made.packed ≡ None) }
 {
     if image {
         return with_image(alloc, value);

@@ -24,7 +24,7 @@ mod show;
 mod trace;
 
 use crate::compile::Compiled;
-use crate::made::{Finished, Made};
+use crate::made::Made;
 use crate::runtime::Runtime;
 use crate::stop::Stop;
 use gib_base::limits::FILE_BYTES;
@@ -53,6 +53,7 @@ fn do_replay(
     requires short { IfSome given.journal (λ j. length j.now ≤ FILE_BYTES) }
     ensures made { IfOk result (λ made. EndsBy (file_of made) made.end (Replays (program_of compiled.now.typed) compiled.now.names image (contents_of given.entry))) }
     ensures stop { IfErr result (IsReplayStop (program_of compiled.now.typed) compiled.now.names (contents_of given.entry)) }
+    ensures alone { IfOk result (λ made. made.packed ≡ None) }
 {
     match given.journal {
         Some(journal) => replay::replay(alloc, compiled, image, given.second, journal),
@@ -78,7 +79,8 @@ fn do_beside<R: Threads + Wait + Sync, G: Gate + Sync>(
     ensures made { IfOk result (λ made. EndsBy (file_of made) made.end (Does job options (sourced (program_of compiled.now.typed)) compiled.now.names (contents_of given.entry))) }
     ensures stop { IfErr result (FailsTo job options (sourced (program_of compiled.now.typed)) compiled.now.names (contents_of given.entry)) }
     ensures region { job ≡ Job.Gen → IfOk result (λ made. SumsMemory (program_of compiled.now.typed) compiled.now.names options given.entry.second.now made.end) }
-    ensures alone { packs_of (row job) options ≡ false }
+    ensures beside { packs_of (row job) options ≡ false }
+    ensures alone { IfOk result (λ made. made.packed ≡ None) }
 {
     match job {
         Job::Run => unreachable!(),
@@ -95,17 +97,6 @@ fn do_beside<R: Threads + Wait + Sync, G: Gate + Sync>(
     }
 }
 
-/// What a job made that makes no packed file of its result.
-pub fn unpacked(made: Result<Made, Stop<'static>>) -> Result<Finished, Stop<'static>>
-    ensures made { IfOk result (λ finished. (made.entry ≡ Ok finished.made) × (finished.packed ≡ None)) }
-    ensures stop { IfErr result (λ stop. made.entry ≡ Err stop) }
-{
-    match made {
-        Ok(made) => Ok(Finished { made, packed: None }),
-        Err(stop) => Err(stop),
-    }
-}
-
 /// What a job makes, for a program whose places are left to the passes, of the bytes of its inputs.
 ///
 /// # Errors
@@ -118,19 +109,19 @@ pub fn do_job<R: Threads + Wait + Sync, G: Gate + Sync>(
     job: Job,
     options: Options,
     given: Given<'_>,
-) -> Result<Finished, Stop<'static>>
+) -> Result<Made, Stop<'static>>
     requires ready { IsReady (program_of compiled.typed) compiled.names }
     requires here { job ≡ Job.Local → ⊥ }
     requires most { length given.second.now ≤ most_of job }
     requires short { IfSome given.journal (λ j. length j.now ≤ 16777216) }
     requires range { AreInRange job options }
-    ensures made { IfOk result (λ finished. EndsByBoth (file_of finished.made) (packed_of finished) finished.made.end (DoesAll job options (sourced (program_of compiled.typed)) compiled.names (contents_of given.entry))) }
+    ensures made { IfOk result (λ made. EndsByBoth (file_of made) (packed_of made) made.end (DoesAll job options (sourced (program_of compiled.typed)) compiled.names (contents_of given.entry))) }
     // Where it ran in region memory, what it made comes from there.
-    ensures region { IfOk result (λ finished. ComesOfRun (row job) (sourced (program_of compiled.typed)) compiled.names options given.entry.second.now (file_of finished.made) finished.made.end) }
+    ensures region { IfOk result (λ made. ComesOfRun (row job) (sourced (program_of compiled.typed)) compiled.names options given.entry.second.now (file_of made) made.end) }
     ensures stop { IfErr result (FailsTo job options (sourced (program_of compiled.typed)) compiled.names (contents_of given.entry)) }
 {
     match job {
         Job::Run => run::run(alloc, runtime, compiled, options, given.second),
-        _ => unpacked(do_beside(alloc, runtime, &compiled, job, options, given)),
+        _ => do_beside(alloc, runtime, &compiled, job, options, given),
     }
 }

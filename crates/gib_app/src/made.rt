@@ -32,16 +32,11 @@ pub enum End {
     NoValue(Reason),
 }
 
-/// What a job made: a file that is to be written, or none, and its end.
+/// What a job made: a file that is to be written, or none; the packed file of its result, where that is asked for, which is written behind the
+/// other one; and its end.
 #[derive(Drop)]
 pub struct Made {
     pub file: Option<Vec<u8>>,
-    pub end: End,
-}
-
-/// What a job made, and the packed file of its result, where that is asked for: it is written behind the other one.
-#[derive(Drop)]
-pub struct Finished {
-    pub made: Made,
     pub packed: Option<Vec<u8>>,
+    pub end: End,
 }

@@ -24,9 +24,9 @@ use crate::documents::read_document;
 use crate::input_fault::InputFault;
 use crate::inputs::{dialect_of, second_input, third_input};
 use crate::jobs::local::local;
-use crate::jobs::{Given, do_job, unpacked};
+use crate::jobs::{Given, do_job};
 use crate::located::{LocatedCore, locate};
-use crate::made::Finished;
+use crate::made::Made;
 use crate::packed::survey_input;
 use crate::runtime::Runtime;
 use crate::source_fault::SourceFault;
@@ -222,11 +222,11 @@ fn finish_program<'a, R: Threads + Wait + Sync, S: Shelf, G: Gate + Sync>(
     shelf: &mut S,
     plan: Plan<'a>,
     compiled: Compiled,
-) -> Result<Finished, Stop<'a>>
+) -> Result<Made, Stop<'a>>
     requires dialect { dialect_of plan.job ≡ Sources }
     requires range { AreInRange plan.job plan.options }
     requires ready { IsReady (program_of compiled.typed) compiled.names }
-    ensures made { IfOk result (λ finished. IsFinished (S.view shelf.old).kept (plan_of plan.entry) (sourced (program_of compiled.typed)) compiled.names finished) }
+    ensures made { IfOk result (λ made. IsFinished (S.view shelf.old).kept (plan_of plan.entry) (sourced (program_of compiled.typed)) compiled.names made) }
     ensures stop { IfErr result (IsInputsStop (S.view shelf.old) (S.view shelf.new) (plan_of plan.entry) (sourced (program_of compiled.typed)) compiled.names) }
     ensures read { OnOk result (HasRead (S.view shelf.old) (S.view shelf.new) (input_calls (inputs_of (plan_of plan.entry)))) }
     ensures stopped { IfErr result (HasStopped (S.view shelf.old) (S.view shelf.new) (input_calls (inputs_of (plan_of plan.entry)))) }
@@ -243,7 +243,7 @@ fn finish_program<'a, R: Threads + Wait + Sync, S: Shelf, G: Gate + Sync>(
         plan.options,
         given(&inputs),
     ) {
-        Ok(finished) => Ok(finished),
+        Ok(made) => Ok(made),
         Err(stop) => Err(stop),
     }
 }
@@ -259,11 +259,11 @@ fn finish_core<'a, R: Threads + Wait + Sync, S: Shelf, G: Gate + Sync>(
     shelf: &mut S,
     plan: Plan<'a>,
     located: LocatedCore,
-) -> Result<Finished, Stop<'a>>
+) -> Result<Made, Stop<'a>>
     requires dialect { dialect_of plan.job ≡ Locateds }
     requires numbered { AreNumbered (core_of located.core) }
     ensures made { (p : Program) → p.located ≡ Some (core_of located.core) → RunsFor (core_of located.core) p.tree located.names
-        → IfOk result (λ finished. IsFinished (S.view shelf.old).kept (plan_of plan.entry) p located.names finished) }
+        → IfOk result (λ made. IsFinished (S.view shelf.old).kept (plan_of plan.entry) p located.names made) }
     ensures stop { (p : Program) → p.located ≡ Some (core_of located.core) → RunsFor (core_of located.core) p.tree located.names
         → IfErr result (IsInputsStop (S.view shelf.old) (S.view shelf.new) (plan_of plan.entry) p located.names) }
     ensures read { OnOk result (HasRead (S.view shelf.old) (S.view shelf.new) (input_calls (inputs_of (plan_of plan.entry)))) }
@@ -273,8 +273,8 @@ fn finish_core<'a, R: Threads + Wait + Sync, S: Shelf, G: Gate + Sync>(
         Ok(second) => second,
         Err(stop) => return Err(stop),
     };
-    match unpacked(local(alloc, runtime, located, plan.options, &second)) {
-        Ok(finished) => Ok(finished),
+    match local(alloc, runtime, located, plan.options, &second) {
+        Ok(made) => Ok(made),
         Err(stop) => Err(stop),
     }
 }
@@ -290,11 +290,11 @@ fn finish<'a, R: Threads + Wait + Sync, S: Shelf, G: Gate + Sync>(
     shelf: &mut S,
     plan: Plan<'a>,
     taken: Taken,
-) -> Result<Finished, Stop<'a>>
+) -> Result<Made, Stop<'a>>
     requires stands { (p : Program) × (names : TextsView) × StandsFor (dialect_of plan.job) taken p names }
     requires range { AreInRange plan.job plan.options }
     ensures made { (p : Program) (names : TextsView) → StandsFor (dialect_of plan.entry.job) taken p names
-        → IfOk result (λ finished. IsFinished (S.view shelf.old).kept (plan_of plan.entry) p names finished) }
+        → IfOk result (λ made. IsFinished (S.view shelf.old).kept (plan_of plan.entry) p names made) }
     ensures stop { (p : Program) (names : TextsView) → StandsFor (dialect_of plan.entry.job) taken p names
         → IfErr result (IsInputsStop (S.view shelf.old) (S.view shelf.new) (plan_of plan.entry) p names) }
     ensures read { OnOk result (HasRead (S.view shelf.old) (S.view shelf.new) (input_calls (inputs_of (plan_of plan.entry)))) }
@@ -317,11 +317,11 @@ pub fn make<'a, R: Threads + Wait + Sync, S: Shelf, G: Gate + Sync>(
     runtime: Runtime<'_, R, G>,
     shelf: &mut S,
     plan: Plan<'a>,
-) -> Result<Finished, Stop<'a>>
+) -> Result<Made, Stop<'a>>
     requires range { AreInRange plan.job plan.options }
-    ensures made { IfOk result (λ finished. IsDone (S.view shelf.old).kept (plan_of plan.entry) (file_of finished.made) (packed_of finished) finished.made.end) }
+    ensures made { IfOk result (λ made. IsDone (S.view shelf.old).kept (plan_of plan.entry) (file_of made) (packed_of made) made.end) }
     // Where the job ran in region memory, what it made comes from there.
-    ensures region { IfOk result (λ finished. IsOfRun (S.view shelf.old).kept (plan_of plan.entry) (file_of finished.made) finished.made.end) }
+    ensures region { IfOk result (λ made. IsOfRun (S.view shelf.old).kept (plan_of plan.entry) (file_of made) made.end) }
     ensures stop { IfErr result (IsMakeStop (S.view shelf.old) (S.view shelf.new) (plan_of plan.entry)) }
     ensures read { OnOk result (HasRead (S.view shelf.old) (S.view shelf.new) (reads_of (plan_of plan.entry))) }
     ensures stopped { IfErr result (HasStopped (S.view shelf.old) (S.view shelf.new) (reads_of (plan_of plan.entry))) }
@@ -331,7 +331,7 @@ pub fn make<'a, R: Threads + Wait + Sync, S: Shelf, G: Gate + Sync>(
         Err(stop) => return Err(stop),
     };
     match finish(alloc, runtime, shelf, plan, taken) {
-        Ok(finished) => Ok(finished),
+        Ok(made) => Ok(made),
         Err(stop) => Err(stop),
     }
 }

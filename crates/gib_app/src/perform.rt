@@ -11,7 +11,7 @@ ghost use Rattle.gib_app.specs.Stopping.{answer_for};
 ghost use Rattle.gib_words.specs.Words.{asked};
 
 use crate::first::{write_first, write_named};
-use crate::made::{End, Finished};
+use crate::made::{End, Made};
 use crate::make::make;
 use crate::runtime::Runtime;
 use crate::stop::Stop;
@@ -53,21 +53,21 @@ fn write_files<'a, S: Shelf>(
     alloc: Global,
     shelf: &mut S,
     plan: Plan<'a>,
-    finished: &Finished,
+    made: &Made,
 ) -> Result<(), Stop<'a>>
     ensures written { OnOk result (HasWritten S.tells (S.view shelf.old) (S.view shelf.new)
-        (job_writes (plan_of plan.entry) (file_of finished.now.made) (packed_of finished.now))) }
+        (job_writes (plan_of plan.entry) (file_of made.now) (packed_of made.now))) }
     ensures stuck { IfErr result (HasStuck S.tells (S.view shelf.old) (S.view shelf.new)
-        (job_writes (plan_of plan.entry) (file_of finished.now.made) (packed_of finished.now))) }
+        (job_writes (plan_of plan.entry) (file_of made.now) (packed_of made.now))) }
     ensures same { IfErr result (λ stop. StaysAfter S.tells [] (S.view shelf.old).kept (S.view shelf.new).kept (answer_for stop).status
         ⊎ IsHalfway S.tells (S.view shelf.old).kept (S.view shelf.new).kept (plan_of plan.entry)
-        (file_of finished.now.made) (packed_of finished.now) (answer_for stop).status) }
+        (file_of made.now) (packed_of made.now) (answer_for stop).status) }
 {
-    match write_file(alloc, shelf, plan.target, &finished.made.file) {
+    match write_file(alloc, shelf, plan.target, &made.file) {
         Ok(()) => {}
         Err(stop) => return Err(stop),
     }
-    match write_file(alloc, shelf, plan.pack, &finished.packed) {
+    match write_file(alloc, shelf, plan.pack, &made.packed) {
         Ok(()) => Ok(()),
         Err(stop) => Err(stop),
     }
@@ -94,12 +94,12 @@ pub fn perform<'a, R: Threads + Wait + Sync, S: Shelf, G: Gate + Sync>(
         Ok(()) => {}
         Err(stop) => return Err(stop),
     }
-    let finished = match make(alloc, runtime, shelf, plan) {
-        Ok(finished) => finished,
+    let made = match make(alloc, runtime, shelf, plan) {
+        Ok(made) => made,
         Err(stop) => return Err(stop),
     };
-    match write_files(alloc, shelf, plan, &finished) {
-        Ok(()) => Ok(finished.made.end),
+    match write_files(alloc, shelf, plan, &made) {
+        Ok(()) => Ok(made.end),
         Err(stop) => Err(stop),
     }
 }

@@ -35,10 +35,12 @@ pub fn value_line(alloc: Global, compiled: &Compiled, value: &Value) -> Result<V
 /// What a job made that makes no file and ends with a text.
 pub fn only_prints(text: Vec<u8>) -> Made
     ensures file { result.file ≡ None }
+    ensures packed { result.packed ≡ None }
     ensures end { result.end ≡ End.Prints text }
 {
     Made {
         file: None,
+        packed: None,
         end: End::Prints(text),
     }
 }
@@ -46,10 +48,12 @@ pub fn only_prints(text: Vec<u8>) -> Made
 /// What a job made that makes no file and ends without a value.
 pub fn no_value(reason: Reason) -> Made
     ensures file { result.file ≡ None }
+    ensures packed { result.packed ≡ None }
     ensures end { result.end ≡ End.NoValue reason }
 {
     Made {
         file: None,
+        packed: None,
         end: End::NoValue(reason),
     }
 }
@@ -61,6 +65,7 @@ pub fn no_value(reason: Reason) -> Made
 /// The stop, where there is another cause.
 pub fn of_stop(stop: Stop<'static>) -> Result<Made, Stop<'static>>
     ensures made { IfOk result (λ made. (reason : Reasons) × (reason_of stop.entry ≡ Some reason) × (made.file ≡ None) × (made.end ≡ End.NoValue reason)) }
+    ensures alone { IfOk result (λ made. made.packed ≡ None) }
     ensures stop { IfErr result (λ other. (other ≡ stop.entry) × (reason_of stop.entry ≡ None)) }
 {
     match stop.reason() {

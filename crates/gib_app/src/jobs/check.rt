@@ -1,6 +1,6 @@
 //! `check`: says that a source is a typed program.
 
-ghost use Rattle.std.specs.Prelude.{◌≡◌, IfOk, IfErr};
+ghost use Rattle.std.specs.Prelude.{◌≡◌, IfOk, IfErr, None};
 ghost use Rattle.gib_app.specs.Jobs.{OnlyPrints};
 ghost use Rattle.gib_app.specs.Rows.{ok_line};
 ghost use Rattle.gib_app.specs.Kept.{EndsBy, file_of};
@@ -18,6 +18,7 @@ use std::alloc::Global;
 pub fn check(alloc: Global) -> Result<Made, Stop<'static>>
     ensures made { IfOk result (λ made. EndsBy (file_of made) made.end (OnlyPrints (λ text. text ≡ ok_line))) }
     ensures memory { IfErr result (λ e. e ≡ Stop.Memory) }
+    ensures alone { IfOk result (λ made. made.packed ≡ None) }
 {
     match ok_answer(alloc) {
         Ok(text) => Ok(only_prints(text)),

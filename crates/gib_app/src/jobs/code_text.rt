@@ -1,6 +1,6 @@
 //! `code`: prints the code of a program.
 
-ghost use Rattle.std.specs.Prelude.{◌≡◌, IfOk, IfErr};
+ghost use Rattle.std.specs.Prelude.{◌≡◌, IfOk, IfErr, None};
 ghost use Rattle.gib_syntax.specs.Parts.{program_of};
 ghost use Rattle.gib_code.specs.ListingText.{listing_text};
 ghost use Rattle.gib_lower.specs.Lowering.{lower_program};
@@ -33,6 +33,7 @@ fn print_code(alloc: Global, compiled: &Compiled, skips: bool) -> Result<Vec<u8>
 pub fn code_text(alloc: Global, compiled: &Compiled, skips: bool) -> Result<Made, Stop<'static>>
     ensures made { IfOk result (λ made. EndsBy (file_of made) made.end (OnlyPrints (λ text. text ≡ listing_text compiled.now.names.long (lower_program (core_after skips 4 (program_of compiled.now.typed)))))) }
     ensures memory { IfErr result (λ e. e ≡ Stop.Memory) }
+    ensures alone { IfOk result (λ made. made.packed ≡ None) }
 {
     match print_code(alloc, compiled, skips) {
         Ok(text) => Ok(only_prints(text)),

@@ -1,6 +1,6 @@
 //! `core`: prints the core of a program after a pass.
 
-ghost use Rattle.std.specs.Prelude.{◌≡◌, IfOk, IfErr};
+ghost use Rattle.std.specs.Prelude.{◌≡◌, IfOk, IfErr, None};
 ghost use Rattle.gib_syntax.specs.Parts.{program_of};
 ghost use Rattle.gib_core.specs.Parts.{core_of};
 ghost use Rattle.gib_core.specs.CoreText.{core_text as text_of_core};
@@ -66,6 +66,7 @@ pub fn core_text(
 ) -> Result<Made, Stop<'static>>
     ensures made { IfOk result (λ made. EndsBy (file_of made) made.end (OnlyPrints (λ text. text ≡ text_of_core compiled.now.names.long (core_after skips pass (program_of compiled.now.typed))))) }
     ensures memory { IfErr result (λ e. e ≡ Stop.Memory) }
+    ensures alone { IfOk result (λ made. made.packed ≡ None) }
 {
     match print_after(alloc, compiled, skips, pass) {
         Ok(text) => Ok(only_prints(text)),

@@ -1,6 +1,6 @@
 //! `local`: prints what a program means that writes its places out.
 
-ghost use Rattle.std.specs.Prelude.{◌≡◌, ◌≤◌, Some, length, IfOk, IfErr};
+ghost use Rattle.std.specs.Prelude.{◌≡◌, ◌≤◌, Some, length, IfOk, IfErr, None};
 ghost use Rattle.gib_core.specs.Numbering.{AreNumbered};
 ghost use Rattle.gib_core.specs.Parts.{core_of};
 ghost use Rattle.gib_app.specs.Jobs.{RunsLocated};
@@ -44,6 +44,7 @@ pub fn local<R: Threads + Wait + Sync, G: Gate + Sync>(
         → IfOk result (λ made. ComesOfCore p located.names options input.now made.end) }
     ensures stop { (p : Program) → p.located ≡ Some (core_of located.core) → RunsFor (core_of located.core) p.tree located.names
         → IfErr result (IsRunStop p.tree located.names input.now) }
+    ensures alone { IfOk result (λ made. made.packed ≡ None) }
 {
     let LocatedCore { core, names } = located;
     let end = match run_located(alloc, runtime, core, &names, input, options) {
@@ -53,6 +54,7 @@ pub fn local<R: Threads + Wait + Sync, G: Gate + Sync>(
     match end {
         RunEnd::Value(ran) => Ok(Made {
             file: None,
+            packed: None,
             end: End::Value(Valued { ran, names }),
         }),
         RunEnd::NoValue(reason) => Ok(no_value(reason)),

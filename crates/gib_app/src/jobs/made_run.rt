@@ -1,7 +1,7 @@
 //! `gen`: prints a line about what a program that was made means on an input that was made.
 
 ghost use Rattle.gib_base.specs.Texts.{TextsView};
-ghost use Rattle.std.specs.Prelude.{◌≡◌, ◌≤◌, ℕ, List, length, IfOk, IfErr};
+ghost use Rattle.std.specs.Prelude.{◌≡◌, ◌≤◌, ℕ, List, length, IfOk, IfErr, None};
 ghost use Rattle.gib_gen.specs.Summary.{summary_line};
 ghost use Rattle.gib_syntax.specs.Tree.{ProgramTree};
 ghost use Rattle.gib_syntax.specs.Parts.{program_of};
@@ -58,10 +58,12 @@ fn line_made(alloc: Global, mut ran: Ran<SoleMem>, options: Options) -> Result<M
     ensures region { (p : ProgramTree) (names : TextsView) (input : List ℕ) → IsLeft p names options input (record { ran = ran; names = names })
         → IfOk result (λ made. SumsMemory p names options input made.end) }
     ensures memory { IfErr result (λ stop. stop ≡ Stop.Memory) }
+    ensures alone { IfOk result (λ made. made.packed ≡ None) }
 {
     match line_of(alloc, &mut ran, options) {
         Ok(line) => Ok(Made {
             file: None,
+            packed: None,
             end: End::Prints(line),
         }),
         Err(_) => Err(Stop::Memory),
@@ -85,6 +87,7 @@ pub fn made_run<R: Threads + Wait + Sync, G: Gate + Sync>(
     // It is about the value in the region memory that the run left.
     ensures region { IfOk result (λ made. SumsMemory (program_of compiled.now.typed) compiled.now.names options input.now made.end) }
     ensures stop { IfErr result (IsRunStop (program_of compiled.now.typed) compiled.now.names input.now) }
+    ensures alone { IfOk result (λ made. made.packed ≡ None) }
 {
     let end = match run_packed(
         alloc,

@@ -1,6 +1,6 @@
 //! `pack`: makes the packed file of a value that is given as text, or by a packed file.
 
-ghost use Rattle.std.specs.Prelude.{◌≡◌, ◌≤◌, length, IfOk, IfErr, IfSome};
+ghost use Rattle.std.specs.Prelude.{◌≡◌, ◌≤◌, length, IfOk, IfErr, IfSome, None};
 ghost use Rattle.gib_types.specs.Tree.{Datum, HasType};
 ghost use Rattle.gib_value.specs.Reading.{IsTextOf};
 ghost use Rattle.gib_syntax.specs.Parts.{program_of};
@@ -198,6 +198,7 @@ pub fn pack(
     requires short { length bytes.now ≤ FILE_BYTES }
     ensures made { IfOk result (λ made. EndsBy (file_of made) made.end (Packs (program_of compiled.now.typed) compiled.now.names options bytes.now)) }
     ensures stop { IfErr result (IsPackStop options.repacks options.first_version (program_of compiled.now.typed) compiled.now.names bytes.now) }
+    ensures alone { IfOk result (λ made. made.packed ≡ None) }
 {
     let file = match file_made(alloc, compiled, options, bytes) {
         Ok(file) => file,
@@ -208,6 +209,7 @@ pub fn pack(
     };
     Ok(Made {
         file: Some(file),
+        packed: None,
         end: End::Prints(answer),
     })
 }

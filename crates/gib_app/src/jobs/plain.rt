@@ -1,6 +1,6 @@
 //! `plain`: prints what a program means on an input, by the plain evaluator.
 
-ghost use Rattle.std.specs.Prelude.{◌≡◌, ◌≤◌, length, IfOk, IfErr, MatchResult};
+ghost use Rattle.std.specs.Prelude.{◌≡◌, ◌≤◌, length, IfOk, IfErr, MatchResult, None};
 ghost use Rattle.gib_types.specs.Tree.{Datum, HasType};
 ghost use Rattle.gib_syntax.specs.Parts.{program_of};
 ghost use Rattle.gib_syntax.specs.Declarations.{table_of_program, input_type};
@@ -66,6 +66,7 @@ pub fn plain(
     requires short { length input.now ≤ FILE_BYTES }
     ensures made { IfOk result (λ made. EndsBy (file_of made) made.end (Means (program_of compiled.now.typed) compiled.now.names options input.now)) }
     ensures stop { IfErr result (IsRunStop (program_of compiled.now.typed) compiled.now.names input.now) }
+    ensures alone { IfOk result (λ made. made.packed ≡ None) }
 {
     let value = match read_packed(alloc, &compiled.typed, &compiled.names, input) {
         Ok(value) => value,

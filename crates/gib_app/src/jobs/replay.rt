@@ -1,6 +1,6 @@
 //! `replay`: prints the value to which the events of a journal lead.
 
-ghost use Rattle.std.specs.Prelude.{◌≤◌, [], ◌∷◌, length, IfOk, IfErr};
+ghost use Rattle.std.specs.Prelude.{◌≡◌, ◌≤◌, [], ◌∷◌, length, IfOk, IfErr, None};
 ghost use Rattle.gib_syntax.specs.Parts.{program_of};
 ghost use Rattle.gib_app.specs.Jobs.{Replays};
 ghost use Rattle.gib_app.specs.Kept.{EndsBy, file_of};
@@ -34,6 +34,7 @@ pub fn replay(
     requires few { length journal.now ≤ FILE_BYTES }
     ensures made { IfOk result (λ made. EndsBy (file_of made) made.end (Replays (program_of compiled.now.typed) compiled.now.names image (record { second = file.now; further = journal.now ∷ [] }))) }
     ensures stop { IfErr result (IsReplayStop (program_of compiled.now.typed) compiled.now.names (record { second = file.now; further = journal.now ∷ [] })) }
+    ensures alone { IfOk result (λ made. made.packed ≡ None) }
 {
     let ReplayedRun { lowered, replayed } = match replay_packed(
         alloc,

@@ -18,9 +18,8 @@ ghost use Rattle.gib_app.specs.Stops.{IsReady, IsRunStop};
 
 use crate::compile::Compiled;
 use crate::imaging::{image_alone, with_image, with_text};
-use crate::jobs::unpacked;
 use crate::machine_run::{RunEnd, run_packed};
-use crate::made::{End, Finished, Made, Reason, Valued};
+use crate::made::{End, Made, Reason, Valued};
 use crate::packed_result::packed_result;
 use crate::printing::no_value;
 use crate::runtime::Runtime;
@@ -48,10 +47,12 @@ fn finish(alloc: Global, value: Valued, image: bool) -> Result<Made, Stop<'stati
     ensures region { (p : ProgramTree) (options : OptionValues) (input : List ℕ) → options.image ≡ image → IsLeft p value.names options input value
         → IfOk result (λ made. ComesOfMemory p value.names options input (file_of made) made.end) }
     ensures memory { IfErr result (λ stop. stop ≡ Stop.Memory) }
+    ensures alone { IfOk result (λ made. made.packed ≡ None) }
 {
     if !image {
         return Ok(Made {
             file: None,
+            packed: None,
             end: End::Value(value),
         });
     }
@@ -67,40 +68,38 @@ fn with_packed(
     value: Valued,
     image: bool,
     packed: Vec<u8>,
-) -> Result<Finished, Stop<'static>>
+) -> Result<Made, Stop<'static>>
     requires names { AreHeld value.ran.lowered.code.laid.table value.names.short }
     requires stands { IsMeant value }
     requires few { (⟦<SoleMem as Mem>⟧.view value.ran.memory).limit ≤ 65536 }
     ensures shown { (p : ProgramTree) (depth : ℕ) (input : List ℕ) (s : IsMeantBy p value.names depth input value.ran)
-        → IfOk result (λ finished. IsShownWith image value.ran.lowered.code.laid (⟦<SoleMem as Mem>⟧.view value.ran.memory) value.ran.root p value.names s.result (file_of finished.made) finished.made.end) }
-    ensures packed { IfOk result (λ finished. packed_of finished ≡ Some packed.items) }
+        → IfOk result (λ made. IsShownWith image value.ran.lowered.code.laid (⟦<SoleMem as Mem>⟧.view value.ran.memory) value.ran.root p value.names s.result (file_of made) made.end) }
+    ensures packed { IfOk result (λ made. packed_of made ≡ Some packed.items) }
     ensures memory { IfErr result (λ stop. stop ≡ Stop.Memory) }
 {
     match with_text(alloc, value, image) {
-        Ok(made) => Ok(Finished {
-            made,
-            packed: Some(packed),
-        }),
+        Ok(mut made) => {
+            made.packed = Some(packed);
+            Ok(made)
+        }
         Err(_) => Err(Stop::Memory),
     }
 }
 
 /// What a run makes whose result would have too long a packed file: the image of its memory, where that is asked for.
-fn without_packed(alloc: Global, value: Valued, image: bool) -> Result<Finished, Stop<'static>>
+fn without_packed(alloc: Global, value: Valued, image: bool) -> Result<Made, Stop<'static>>
     requires stands { IsMeant value }
     requires few { (⟦<SoleMem as Mem>⟧.view value.ran.memory).limit ≤ 65536 }
     ensures image { (p : ProgramTree) (depth : ℕ) (input : List ℕ) (s : IsMeantBy p value.names depth input value.ran)
-        → IfOk result (λ finished. IsImageFile image value.ran.lowered.code.laid (output_type p) (⟦<SoleMem as Mem>⟧.view value.ran.memory) value.ran.root s.result (file_of finished.made)) }
-    ensures long { IfOk result (λ finished. (finished.made.end ≡ End.NoValue Reason.Long) × (packed_of finished ≡ None)) }
+        → IfOk result (λ made. IsImageFile image value.ran.lowered.code.laid (output_type p) (⟦<SoleMem as Mem>⟧.view value.ran.memory) value.ran.root s.result (file_of made)) }
+    ensures long { IfOk result (λ made. (made.end ≡ End.NoValue Reason.Long) × (packed_of made ≡ None)) }
     ensures memory { IfErr result (λ stop. stop ≡ Stop.Memory) }
 {
     match image_alone(alloc, value, image) {
-        Ok(file) => Ok(Finished {
-            made: Made {
-                file,
-                end: End::NoValue(Reason::Long),
-            },
+        Ok(file) => Ok(Made {
+            file,
             packed: None,
+            end: End::NoValue(Reason::Long),
         }),
         Err(_) => Err(Stop::Memory),
     }
@@ -114,17 +113,17 @@ fn finish_packed<R: Threads + Sync>(
     value: Valued,
     ty: Ty,
     options: Options,
-) -> Result<Finished, Stop<'static>>
+) -> Result<Made, Stop<'static>>
     requires names { AreHeld value.ran.lowered.code.laid.table value.names.short }
     requires stands { IsMeantAs ty value }
     requires packs { options.packs ≡ true }
     requires few { (⟦<SoleMem as Mem>⟧.view value.ran.memory).limit ≤ 65536 }
     ensures made { (p : ProgramTree) (input : List ℕ) → ty ≡ output_type p → value.ran.lowered.code.laid ≡ layouts_of options.skips p → (⟦<SoleMem as Mem>⟧.view value.ran.memory).limit ≤ options.chunks
         → (s : IsMeantBy p value.names options.depth input value.ran)
-        → IfOk result (λ finished. EndsByBoth (file_of finished.made) (packed_of finished) finished.made.end (RunsBoth p value.names options input)) }
+        → IfOk result (λ made. EndsByBoth (file_of made) (packed_of made) made.end (RunsBoth p value.names options input)) }
     // It comes from the memory that the run left.
     ensures region { (p : ProgramTree) (input : List ℕ) → IsLeft p value.names options input value
-        → IfOk result (λ finished. ComesOfMemory p value.names options input (file_of finished.made) finished.made.end) }
+        → IfOk result (λ made. ComesOfMemory p value.names options input (file_of made) made.end) }
     ensures memory { IfErr result (λ stop. stop ≡ Stop.Memory) }
 {
     let (packed, value) = packed_result(alloc, threads, value, ty, options.workers);
@@ -144,22 +143,22 @@ fn finish_run<R: Threads + Sync>(
     value: Valued,
     ty: Ty,
     options: Options,
-) -> Result<Finished, Stop<'static>>
+) -> Result<Made, Stop<'static>>
     requires names { AreHeld value.ran.lowered.code.laid.table value.names.short }
     requires stands { IsMeantAs ty value }
     requires few { (⟦<SoleMem as Mem>⟧.view value.ran.memory).limit ≤ 65536 }
     ensures made { (p : ProgramTree) (input : List ℕ) → ty ≡ output_type p → value.ran.lowered.code.laid ≡ layouts_of options.skips p → (⟦<SoleMem as Mem>⟧.view value.ran.memory).limit ≤ options.chunks
         → (s : IsMeantBy p value.names options.depth input value.ran)
-        → IfOk result (λ finished. EndsByBoth (file_of finished.made) (packed_of finished) finished.made.end (RunsBoth p value.names options input)) }
+        → IfOk result (λ made. EndsByBoth (file_of made) (packed_of made) made.end (RunsBoth p value.names options input)) }
     // It comes from the memory that the run left.
     ensures region { (p : ProgramTree) (input : List ℕ) → IsLeft p value.names options input value
-        → IfOk result (λ finished. ComesOfMemory p value.names options input (file_of finished.made) finished.made.end) }
+        → IfOk result (λ made. ComesOfMemory p value.names options input (file_of made) made.end) }
     ensures memory { IfErr result (λ stop. stop ≡ Stop.Memory) }
 {
     if options.packs {
         return finish_packed(alloc, threads, value, ty, options);
     }
-    unpacked(finish(alloc, value, options.image))
+    finish(alloc, value, options.image)
 }
 
 /// What a program means on the bytes of an input, within the depth, in memory of so many chunks, by so many workers.
@@ -173,14 +172,14 @@ pub fn run<R: Threads + Wait + Sync, G: Gate + Sync>(
     compiled: Compiled,
     options: Options,
     input: &[u8],
-) -> Result<Finished, Stop<'static>>
+) -> Result<Made, Stop<'static>>
     requires ready { IsReady (program_of compiled.typed) compiled.names }
     requires short { length input.now ≤ FILE_BYTES }
     requires range { AreOfRun options }
-    ensures made { IfOk result (λ finished. EndsByBoth (file_of finished.made) (packed_of finished) finished.made.end (RunsBoth (program_of compiled.typed) compiled.names options input.now)) }
+    ensures made { IfOk result (λ made. EndsByBoth (file_of made) (packed_of made) made.end (RunsBoth (program_of compiled.typed) compiled.names options input.now)) }
     // What is printed stands in the region memory that the run left, in as many chunks as are asked for, and where an image is asked for, it is
     // of that memory.
-    ensures region { IfOk result (λ finished. ComesOfMemory (program_of compiled.typed) compiled.names options input.now (file_of finished.made) finished.made.end) }
+    ensures region { IfOk result (λ made. ComesOfMemory (program_of compiled.typed) compiled.names options input.now (file_of made) made.end) }
     ensures stop { IfErr result (IsRunStop (program_of compiled.typed) compiled.names input.now) }
 {
     let threads = runtime.threads;
@@ -192,9 +191,6 @@ pub fn run<R: Threads + Wait + Sync, G: Gate + Sync>(
     };
     match end {
         RunEnd::Value(ran) => finish_run(alloc, threads, Valued { ran, names }, ty, options),
-        RunEnd::NoValue(reason) => {
-            let made = no_value(reason);
-            Ok(Finished { made, packed: None })
-        }
+        RunEnd::NoValue(reason) => Ok(no_value(reason)),
     }
 }

@@ -1,6 +1,6 @@
 //! `show`: prints the value of a packed file, or of an image.
 
-ghost use Rattle.std.specs.Prelude.{◌≡◌, ◌≤◌, length, IfOk, IfErr};
+ghost use Rattle.std.specs.Prelude.{◌≡◌, ◌≤◌, length, IfOk, IfErr, None};
 ghost use Rattle.gib_types.specs.Tree.{Datum};
 ghost use Rattle.gib_syntax.specs.Declarations.{table_of_program, input_type};
 ghost use Rattle.gib_syntax.specs.Parts.{program_of};
@@ -113,6 +113,7 @@ pub fn show(
     requires short { length file.now ≤ 268435480 }
     ensures made { IfOk result (λ made. EndsBy (file_of made) made.end (OnlyPrints (IsShown (program_of compiled.now.typed) compiled.now.names skips file.now))) }
     ensures stop { IfErr result (IsShowStop (program_of compiled.now.typed) compiled.now.names skips file.now) }
+    ensures alone { IfOk result (λ made. made.packed ≡ None) }
 {
     match show_file(alloc, compiled, skips, file) {
         Ok(text) => Ok(only_prints(text)),

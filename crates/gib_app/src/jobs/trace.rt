@@ -1,6 +1,6 @@
 //! `trace`: prints what a program means on an input, and makes the journal of a run by workers.
 
-ghost use Rattle.std.specs.Prelude.{◌≡◌, ◌≤◌, ℕ, List, length, IfOk, IfErr};
+ghost use Rattle.std.specs.Prelude.{◌≡◌, ◌≤◌, ℕ, List, length, IfOk, IfErr, None};
 ghost use Rattle.gib_value.specs.Text.{AreHeld};
 ghost use Rattle.gib_syntax.specs.Tree.{ProgramTree};
 ghost use Rattle.gib_syntax.specs.Parts.{program_of};
@@ -38,6 +38,7 @@ fn left_of(alloc: Global, run: TracedRun, names: &Texts) -> Result<Made, Stop<'s
     ensures made { (p : ProgramTree) (options : OptionValues) (input : List ℕ) → IsTraced p names.now options input run.traced.journal.settings run.traced.journal.lines.all.items (⟦<PlainMem as Mem>⟧.view run.traced.memory) run.traced.answer
         → run.lowered.code.laid ≡ layouts_of options.skips p → IfOk result (λ made. EndsBy (file_of made) made.end (Traces p names.now options input)) }
     ensures memory { IfErr result (λ stop. stop ≡ Stop.Memory) }
+    ensures alone { IfOk result (λ made. made.packed ≡ None) }
 {
     let TracedRun { lowered, traced } = run;
     let Traced {
@@ -53,6 +54,7 @@ fn left_of(alloc: Global, run: TracedRun, names: &Texts) -> Result<Made, Stop<'s
         Err(why) => {
             return Ok(Made {
                 file: Some(file),
+                packed: None,
                 end: End::NoValue(Reason::Meant(why)),
             });
         }
@@ -60,6 +62,7 @@ fn left_of(alloc: Global, run: TracedRun, names: &Texts) -> Result<Made, Stop<'s
     match text_of(alloc, &mut ran, names) {
         Ok(text) => Ok(Made {
             file: Some(file),
+            packed: None,
             end: End::Prints(text),
         }),
         Err(_) => Err(Stop::Memory),
@@ -84,6 +87,7 @@ pub fn trace<R: Threads + Wait + Sync, G: Gate + Sync>(
     requires range { AreOfRun options }
     ensures made { IfOk result (λ made. EndsBy (file_of made) made.end (Traces (program_of compiled.now.typed) compiled.now.names options input.now)) }
     ensures stop { IfErr result (IsRunStop (program_of compiled.now.typed) compiled.now.names input.now) }
+    ensures alone { IfOk result (λ made. made.packed ≡ None) }
 {
     match trace_packed(
         alloc,

@@ -4,8 +4,8 @@ use Rattle.gib_syntax.specs.Declarations.{output_type}
 use Rattle.gib_app.proofs.Imaged.{file_shown, text_moved}
 use Rattle.gib_app.proofs.imaging.imaged.Goals as goal
 
-pub returns : goal.returns
-returns g c = λ p depth input s.
+pub returns-clause-shown : goal.returns-clause-shown
+returns-clause-shown g c = λ p depth input s.
     let before = c.args.ran in
     let after = c.image_of.new.ran in
     let made = c.in_ok-bytes.ensures in

@@ -5,14 +5,14 @@ use Rattle.gib_app.specs.Imaging.{IsShownWith}
 use Rattle.gib_app.specs.Kept.{file_of}
 use Rattle.gib_app.proofs.imaging.shown.Goals as goal
 
-pub returns-then-image : goal.returns-then-image
-returns-then-image c = λ p depth input s.
+pub returns-then-image-clause-shown : goal.returns-then-image-clause-shown
+returns-then-image-clause-shown c = λ p depth input s.
     let ran = c.args.ran in
     let m = plain_memory ran.memory.bytes.items ran.memory.drawn ran.memory.limit in
-    subst (λ (b : Bool). IfOk c.imaged.result (λ made. IsShownWith b ran.lowered.code.laid m ran.root p c.args.names.now s.result (file_of made) made.end)) (sym c.if-image.true) (c.imaged.ensures p depth input s)
+    subst (λ (b : Bool). IfOk c.imaged.result (λ made. IsShownWith b ran.lowered.code.laid m ran.root p c.args.names.now s.result (file_of made) made.end)) (sym c.if-image.true) (c.imaged.ensures.shown p depth input s)
 
-pub returns-in-Ok : goal.returns-in-Ok
-returns-in-Ok c = λ p depth input s.
+pub returns-in-Ok-clause-shown : goal.returns-in-Ok-clause-shown
+returns-in-Ok-clause-shown c = λ p depth input s.
     let ran = c.args.ran in
     let m = plain_memory ran.memory.bytes.items ran.memory.drawn ran.memory.limit in
     let made = c.only_prints.result in

@@ -6,11 +6,11 @@ use Rattle.gib_app.specs.Kept.{file_of}
 use Rattle.gib_app.proofs.Imaged.{stands_again}
 use Rattle.gib_app.proofs.imaging.with_image.Goals as goal
 
-pub returns : goal.returns
-returns c = λ p depth input s.
+pub returns-clause-shown : goal.returns-clause-shown
+returns-clause-shown c = λ p depth input s.
     let ran = c.args.value.ran in
     let laid = ran.lowered.code.laid in
     let before = sole_memory ran.memory in
     let after = sole_memory c.owns_all.new.self in
     let there = stands_again p depth input laid laid before after ran.root ran.root refl c.owns_all.ensures.same refl s in
-    subst (λ (m : Memory). IfOk c.imaged.result (λ made. IsShownWith Rattle.std.specs.Prelude.true laid m ran.root p c.args.value.names s.result (file_of made) made.end)) c.owns_all.ensures.same (c.imaged.ensures p depth input there)
+    subst (λ (m : Memory). IfOk c.imaged.result (λ made. IsShownWith Rattle.std.specs.Prelude.true laid m ran.root p c.args.value.names s.result (file_of made) made.end)) c.owns_all.ensures.same (c.imaged.ensures.shown p depth input there)

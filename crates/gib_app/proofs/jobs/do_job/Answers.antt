@@ -2,8 +2,7 @@ use Rattle.gib_syntax.specs.Parts.{program_of}
 use Rattle.gib_app.specs.Jobs.{Does, DoesAll}
 use Rattle.gib_app.specs.Kept.{contents_of}
 use Rattle.gib_app.specs.Running.{sourced}
-use Rattle.gib_app.specs.Stops.{FailsTo}
-use Rattle.gib_app.proofs.PackedRuns.{does_alone, finished_alone, stopped_alone}
+use Rattle.gib_app.proofs.PackedRuns.{does_alone, made_alone}
 use Rattle.gib_app.proofs.Remaining.{comes_beside}
 use Rattle.gib_app.proofs.jobs.do_job.Goals as goal
 
@@ -15,7 +14,7 @@ returns g c =
     let names = c.args.compiled.names in
     let given = contents_of c.args.given in
     record {
-      made = finished_alone c.do_beside.result c.unpacked.result (Does job o p names given) (DoesAll job o p names given) c.unpacked.ensures.made (does_alone job o p names given c.do_beside.ensures.alone) c.do_beside.ensures.made;
-      region = comes_beside job p names o c.args.given.second.now c.do_beside.result c.unpacked.result c.in_default.not-Run c.requires.here c.unpacked.ensures.made c.do_beside.ensures.region;
-      stop = stopped_alone c.do_beside.result c.unpacked.result (FailsTo job o p names given) c.unpacked.ensures.stop c.do_beside.ensures.stop;
+      made = made_alone c.do_beside.result (Does job o p names given) (DoesAll job o p names given) c.do_beside.ensures.alone (does_alone job o p names given c.do_beside.ensures.beside) c.do_beside.ensures.made;
+      region = comes_beside job p names o c.args.given.second.now c.do_beside.result c.in_default.not-Run c.requires.here c.do_beside.ensures.region;
+      stop = c.do_beside.ensures.stop;
     }

@@ -2,7 +2,7 @@ use Rattle.std.proofs.Common.{subst}
 use Rattle.std.specs.Prelude.{option_map, option_to_list}
 use Rattle.gib_syntax.specs.Parts.{program_of}
 use Rattle.gib_app.specs.Running.{sourced}
-use Rattle.gib_app.specs.declared.made.Finished.{Finished}
+use Rattle.gib_app.specs.declared.made.Made.{Made}
 use Rattle.gib_app.specs.Calls.{input_calls}
 use Rattle.gib_app.specs.Formats.{inputs_of}
 use Rattle.gib_app.specs.Jobs.{DoesAll}
@@ -22,11 +22,11 @@ use Rattle.gib_app.proofs.make.finish_program.Goals as goal
 pub returns-in-Ok-do_job-clause-made : goal.returns-in-Ok-do_job-clause-made
 returns-in-Ok-do_job-clause-made g c =
     let r = plan_of c.args.plan in
-    let done' : Finished = c.in-Ok-do_job.finished in
+    let made : Made = c.in-Ok-do_job.made in
     let p = sourced (program_of c.args.compiled.typed) in
     let names = c.args.compiled.names in
     let P : Contents → Type 0 = λ given.
-    EndsByBoth (file_of done'.made) (packed_of done') done'.made.end (DoesAll r.job r.options p names given) × ComesOfRun (row r.job) p names r.options given.second (file_of done'.made) done'.made.end in
+    EndsByBoth (file_of made) (packed_of made) made.end (DoesAll r.job r.options p names given) × ComesOfRun (row r.job) p names r.options given.second (file_of made) made.end in
     let all = subst P c.given.ensures.contents (c.in-Ok-do_job.ensures.made, c.in-Ok-do_job.ensures.region) in
     record {
       given = record { second = c.in-Ok.inputs.second.items; further = option_to_list (option_map (λ bytes. bytes.items) c.in-Ok.inputs.journal) };

@@ -32,12 +32,12 @@ finish-requires-clause-stands g c κs within =
 pub returns-in-Ok-finish-clause-made : goal.returns-in-Ok-finish-clause-made
 returns-in-Ok-finish-clause-made g c =
     all_done (g.S.Shelf.view c.args.shelf.now) (plan_of c.args.plan) c.dialect_of.result (sym c.dialect_of.ensures) c.in-Ok.taken c.in-Ok.ensures.taken
-    (g.S.Shelf.view c.take_source.new.shelf) c.in-Ok.ensures.read.same c.in-Ok-finish.finished c.in-Ok-finish.ensures.made
+    (g.S.Shelf.view c.take_source.new.shelf) c.in-Ok.ensures.read.same c.in-Ok-finish.made c.in-Ok-finish.ensures.made
 
 pub returns-in-Ok-finish-clause-region : goal.returns-in-Ok-finish-clause-region
 returns-in-Ok-finish-clause-region g c =
     all_comes (g.S.Shelf.view c.args.shelf.now) (plan_of c.args.plan) c.dialect_of.result (sym c.dialect_of.ensures) c.in-Ok.taken c.in-Ok.ensures.taken
-    (g.S.Shelf.view c.take_source.new.shelf) c.in-Ok.ensures.read.same c.in-Ok-finish.finished c.in-Ok-finish.ensures.made
+    (g.S.Shelf.view c.take_source.new.shelf) c.in-Ok.ensures.read.same c.in-Ok-finish.made c.in-Ok-finish.ensures.made
 
 pub returns-in-Ok-finish-clause-read : goal.returns-in-Ok-finish-clause-read
 returns-in-Ok-finish-clause-read g c =

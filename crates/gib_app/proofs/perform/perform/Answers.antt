@@ -19,16 +19,16 @@ returns-in-Err-make-clause-stop g c =
 -- It was written.
 pub returns-in-Ok-write_files-clause-done : goal.returns-in-Ok-write_files-clause-done
 returns-in-Ok-write_files-clause-done g c =
-    let finished = c.in-Ok-make.finished in
+    let made = c.in-Ok-make.made in
     performed g.S.Shelf.tells (g.S.Shelf.view c.args.shelf.now) (g.S.Shelf.view c.write_first.new.shelf) (g.S.Shelf.view c.make.new.shelf) (g.S.Shelf.view c.write_files.new.shelf) (plan_of c.args.plan)
-    c.requires.asked c.in-Ok.ensures.written c.in-Ok-make.ensures.read (file_of finished.made) (packed_of finished) finished.made.end c.in-Ok-make.ensures.made c.in-Ok-write_files.ensures.written
+    c.requires.asked c.in-Ok.ensures.written c.in-Ok-make.ensures.read (file_of made) (packed_of made) made.end c.in-Ok-make.ensures.made c.in-Ok-write_files.ensures.written
 
 -- One of these writes failed.
 pub returns-clause-stop : goal.returns-clause-stop
 returns-clause-stop g c =
-    let finished = c.in-Ok-make.finished in
+    let made = c.in-Ok-make.made in
     unwritten g.S.Shelf.tells (g.S.Shelf.view c.args.shelf.now) (g.S.Shelf.view c.write_first.new.shelf) (g.S.Shelf.view c.make.new.shelf) (g.S.Shelf.view c.write_files.new.shelf) (plan_of c.args.plan)
-    c.requires.asked c.in-Ok.ensures.written c.in-Ok-make.ensures.read (file_of finished.made) (packed_of finished) finished.made.end c.in-Ok-make.ensures.made
+    c.requires.asked c.in-Ok.ensures.written c.in-Ok-make.ensures.read (file_of made) (packed_of made) made.end c.in-Ok-make.ensures.made
     c.in-Err-write_files.stop c.in-Err-write_files.ensures.stuck c.in-Err-write_files.ensures.same
 
 -- What its words ask for is within the ranges.

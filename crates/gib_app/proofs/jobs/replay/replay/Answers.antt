@@ -48,7 +48,7 @@ returns-in-Ok-shown-clause-made c =
     (ap (λ (l : LoweredParts). l.code.laid) c.in-Ok-ran_of.ensures.some.2) (ap view c.in-Ok-ran_of.ensures.some.1) c.in-Ok.ensures.ends in
     let there = c.in-Ok-ran_of.ensures.some.0 in
     shown_replays p c.args.compiled.now.names c.args.image c.args.file.now c.args.journal.now ran.lowered.code.laid (view ran.memory) run.replayed.answer ran.root on there (file_of made) made.end
-    (c.in-Ok-shown.ensures p on.settings.depth c.args.file.now (replayed_stands p c.args.file.now c.args.journal.now ran.lowered.code.laid (view ran.memory) run.replayed.answer ran.root on there))
+    (c.in-Ok-shown.ensures.shown p on.settings.depth c.args.file.now (replayed_stands p c.args.file.now c.args.journal.now ran.lowered.code.laid (view ran.memory) run.replayed.answer ran.root on there))
 
 pub shown-requires-clause-few : goal.shown-requires-clause-few
 shown-requires-clause-few c = subst (λ (m : Memory). m.limit ≤ 65536) (sym (ap view c.in-Ok-ran_of.ensures.some.1)) c.in-Ok.ensures.limit

@@ -12,7 +12,7 @@ pub returns-in-Ok-clause-made : goal.returns-in-Ok-clause-made
 returns-in-Ok-clause-made c = λ p options input laid asked limit s.
     let ran = c.args.value.ran in
     shown_runs p c.args.value.names options input ran.lowered.code.laid (sole_memory ran.memory) ran.root s (sole_bounded ran.memory) laid limit true (asked ∙ c.if-not-image.false) (file_of c.in-Ok.made) c.in-Ok.made.end
-    (c.in-Ok.ensures p options.depth input s)
+    (c.in-Ok.ensures.shown p options.depth input s)
 
 pub returns-then-not-image-clause-region : goal.returns-then-not-image-clause-region
 returns-then-not-image-clause-region c = λ p options input asked left. left
@@ -21,4 +21,4 @@ pub returns-in-Ok-clause-region : goal.returns-in-Ok-clause-region
 returns-in-Ok-clause-region c = λ p options input asked left.
     let value = c.args.value in
     shown_here p value.names options input value left true (asked ∙ c.if-not-image.false) (file_of c.in-Ok.made) c.in-Ok.made.end
-    (c.in-Ok.ensures p options.depth input (stands_left p value.names options input value left))
+    (c.in-Ok.ensures.shown p options.depth input (stands_left p value.names options input value left))

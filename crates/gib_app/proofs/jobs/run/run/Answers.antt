@@ -82,7 +82,7 @@ returns-in-NoValue-clause-made g c =
     let input = c.args.input.now in
     let S : RunEnd → Type 0 = IsRunEnd (core_after o.skips 4 p) p names o.depth (run_forks o) o.chunks input in
     let why = c.in-NoValue.reason in
-    both_without c.no_value-made.result why (RunsBoth p names o input) c.no_value-made.ensures.file c.no_value-made.ensures.end (runs_valueless p names o input why (lacks_runs p names o input why (subst S c.in-NoValue.is c.in-Ok.ensures.stands)))
+    both_without c.no_value.result why (RunsBoth p names o input) c.no_value.ensures.file c.no_value.ensures.packed c.no_value.ensures.end (runs_valueless p names o input why (lacks_runs p names o input why (subst S c.in-NoValue.is c.in-Ok.ensures.stands)))
 
 pub returns-in-NoValue-clause-region : goal.returns-in-NoValue-clause-region
 returns-in-NoValue-clause-region g c =
@@ -91,6 +91,6 @@ returns-in-NoValue-clause-region g c =
     let o = c.args.options in
     let input = c.args.input.now in
     let S : RunEnd → Type 0 = IsRunEnd (core_after o.skips 4 p) p names o.depth (run_forks o) o.chunks input in
-    let file = file_of c.no_value-made.result in
+    let file = file_of c.no_value.result in
     let Q : End → Type 0 = ComesOfMemory p names o input file in
-    subst Q (sym c.no_value-made.ensures.end) (lacks_comes p names o input file c.in-NoValue.reason (subst S c.in-NoValue.is c.in-Ok.ensures.stands))
+    subst Q (sym c.no_value.ensures.end) (lacks_comes p names o input file c.in-NoValue.reason (subst S c.in-NoValue.is c.in-Ok.ensures.stands))
