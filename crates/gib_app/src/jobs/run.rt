@@ -96,11 +96,11 @@ fn without_packed(alloc: Global, value: Valued, image: bool) -> Result<Made, Sto
     ensures memory { IfErr result (λ stop. stop ≡ Stop.Memory) }
 {
     match image_alone(alloc, value, image) {
-        Ok(file) => Ok(Made {
-            file,
-            packed: None,
-            end: End::NoValue(Reason::Long),
-        }),
+        Ok(file) => {
+            let mut made = no_value(Reason::Long);
+            made.file = file;
+            Ok(made)
+        }
         Err(_) => Err(Stop::Memory),
     }
 }
