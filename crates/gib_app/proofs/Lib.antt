@@ -32,6 +32,7 @@ mod Imaged
 mod Summed
 mod Calling
 mod Headlines
+mod Results
 mod Roots
 mod Refusals
 mod InputLaws

@@ -1,5 +1,6 @@
 use Rattle.gib_app.proofs.OneProgram.{Laws}
-use Rattle.gib_app.proofs.Headlines.{pack_done, pack_packed, pack_image, pack_long, pack_long_image, pack_unwritten, pack_deep, pack_trapped, pack_full, file_text, long_text, pack_ends_done, pack_ends_long, pack_ends_deep, pack_ends_trapped, pack_fits, one_packed, short_or_long}
+use Rattle.gib_app.proofs.Headlines.{pack_done, pack_packed, pack_image, pack_long, pack_long_image, pack_unwritten, pack_deep, pack_trapped, pack_full, pack_ends_done, pack_ends_long, pack_ends_deep, pack_ends_trapped, pack_fits}
+use Rattle.gib_app.proofs.Results.{file_text, long_text, one_packed, short_or_long}
 use Rattle.gib_app.proofs.headline.run_packs_what_is_meant.Goals as goal
 
 pub returns-clause-done : goal.returns-clause-done

@@ -1,5 +1,6 @@
 use Rattle.gib_app.proofs.OneProgram.{Laws}
-use Rattle.gib_app.proofs.Headlines.{run_done, run_image, run_deep, run_trapped, run_full, run_ends_done, run_ends_deep, run_ends_trapped, run_fits, one_result, no_result, not_either}
+use Rattle.gib_app.proofs.Headlines.{run_done, run_image, run_deep, run_trapped, run_full, run_ends_done, run_ends_deep, run_ends_trapped, run_fits}
+use Rattle.gib_app.proofs.Results.{one_result, no_result, not_either}
 use Rattle.gib_app.proofs.headline.run_prints_what_is_meant.Goals as goal
 
 pub returns-clause-done : goal.returns-clause-done

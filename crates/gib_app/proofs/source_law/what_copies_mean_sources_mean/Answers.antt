@@ -1,5 +1,5 @@
 use Rattle.gib_app.proofs.Copied.{text_of_copy}
-use Rattle.gib_app.proofs.Headlines.{copy_result, copy_none, result_copy, none_copy}
+use Rattle.gib_app.proofs.Results.{copy_result, copy_none, result_copy, none_copy}
 use Rattle.gib_app.proofs.source_law.what_copies_mean_sources_mean.Goals as goal
 
 pub returns : goal.returns
