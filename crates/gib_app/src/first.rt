@@ -38,7 +38,8 @@ fn write_made<'a, S: Shelf>(
     names: MadeNames<'a>,
     options: Options,
 ) -> Result<(), Stop<'a>>
-    ensures written { OnOk result (HasWritten S.tells (S.view shelf.old) (S.view shelf.new) (first_writes options names.entry.source.now names.entry.input.now)) }
+    ensures written { OnOk result (HasWritten S.tells (S.view shelf.old) (S.view shelf.new)
+        (first_writes options names.entry.source.now names.entry.input.now)) }
     ensures stuck { IfErr result (HasStuck S.tells (S.view shelf.old) (S.view shelf.new) (first_writes options names.entry.source.now names.entry.input.now)) }
 {
     let made = match make(alloc, options.number, options.levels) {

@@ -95,7 +95,8 @@ pub fn with_image(alloc: Global, mut value: Valued) -> Result<Made, Memory>
     requires stands { IsMeant value }
     requires few { (⟦<SoleMem as Mem>⟧.view value.ran.memory).limit ≤ 65536 }
     ensures shown { (p : ProgramTree) (depth : ℕ) (input : List ℕ) (s : IsMeantBy p value.names depth input value.ran)
-        → IfOk result (λ made. IsShownWith true value.ran.lowered.code.laid (⟦<SoleMem as Mem>⟧.view value.ran.memory) value.ran.root p value.names s.result (file_of made) made.end) }
+        → IfOk result (λ made. IsShownWith true value.ran.lowered.code.laid (⟦<SoleMem as Mem>⟧.view value.ran.memory) value.ran.root p value.names s.result
+        (file_of made) made.end) }
     ensures alone { IfOk result (λ made. made.packed ≡ None) }
 {
     value.ran.memory.owns_all();
@@ -116,8 +117,10 @@ pub fn shown(
     requires names { AreHeld ran.lowered.code.laid.table names.now.short }
     requires stands { SomeStandsIn names.now ran.lowered (⟦<PlainMem as Mem>⟧.view ran.memory) ran.root }
     requires few { (⟦<PlainMem as Mem>⟧.view ran.memory).limit ≤ 65536 }
-    ensures shown { (p : ProgramTree) (depth : ℕ) (input : List ℕ) (s : StandsIn p names.now depth input ran.lowered (⟦<PlainMem as Mem>⟧.view ran.memory) ran.root)
-        → IfOk result (λ made. IsShownWith image ran.lowered.code.laid (⟦<PlainMem as Mem>⟧.view ran.memory) ran.root p names.now s.result (file_of made) made.end) }
+    ensures shown { (p : ProgramTree) (depth : ℕ) (input : List ℕ)
+        (s : StandsIn p names.now depth input ran.lowered (⟦<PlainMem as Mem>⟧.view ran.memory) ran.root)
+        → IfOk result (λ made. IsShownWith image ran.lowered.code.laid (⟦<PlainMem as Mem>⟧.view ran.memory) ran.root p names.now s.result
+        (file_of made) made.end) }
     ensures alone { IfOk result (λ made. made.packed ≡ None) }
 {
     if image {
@@ -140,7 +143,8 @@ pub fn with_text(alloc: Global, mut value: Valued, image: bool) -> Result<Made, 
     requires stands { IsMeant value }
     requires few { (⟦<SoleMem as Mem>⟧.view value.ran.memory).limit ≤ 65536 }
     ensures shown { (p : ProgramTree) (depth : ℕ) (input : List ℕ) (s : IsMeantBy p value.names depth input value.ran)
-        → IfOk result (λ made. IsShownWith image value.ran.lowered.code.laid (⟦<SoleMem as Mem>⟧.view value.ran.memory) value.ran.root p value.names s.result (file_of made) made.end) }
+        → IfOk result (λ made. IsShownWith image value.ran.lowered.code.laid (⟦<SoleMem as Mem>⟧.view value.ran.memory) value.ran.root p value.names s.result
+        (file_of made) made.end) }
     ensures alone { IfOk result (λ made. made.packed ≡ None) }
 {
     if image {
@@ -161,7 +165,8 @@ pub fn image_alone(alloc: Global, mut value: Valued, image: bool) -> Result<Opti
     requires stands { IsMeant value }
     requires few { (⟦<SoleMem as Mem>⟧.view value.ran.memory).limit ≤ 65536 }
     ensures { (p : ProgramTree) (depth : ℕ) (input : List ℕ) (s : IsMeantBy p value.names depth input value.ran)
-        → IfOk result (λ file. IsImageFile image value.ran.lowered.code.laid (output_type p) (⟦<SoleMem as Mem>⟧.view value.ran.memory) value.ran.root s.result (option_map (λ bytes. bytes.items) file)) }
+        → IfOk result (λ file. IsImageFile image value.ran.lowered.code.laid (output_type p)
+        (⟦<SoleMem as Mem>⟧.view value.ran.memory) value.ran.root s.result (option_map (λ bytes. bytes.items) file)) }
 {
     if !image {
         return Ok(None);

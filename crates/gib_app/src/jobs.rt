@@ -51,7 +51,8 @@ fn do_replay(
     requires ready { IsReady (program_of compiled.now.typed) compiled.now.names }
     requires most { length given.second.now ≤ FILE_BYTES }
     requires short { IfSome given.journal (λ j. length j.now ≤ FILE_BYTES) }
-    ensures made { IfOk result (λ made. EndsBy (file_of made) made.end (Replays (program_of compiled.now.typed) compiled.now.names image (contents_of given.entry))) }
+    ensures made { IfOk result (λ made. EndsBy (file_of made) made.end
+        (Replays (program_of compiled.now.typed) compiled.now.names image (contents_of given.entry))) }
     ensures stop { IfErr result (IsReplayStop (program_of compiled.now.typed) compiled.now.names (contents_of given.entry)) }
     ensures alone { IfOk result (λ made. made.packed ≡ None) }
 {
@@ -76,9 +77,11 @@ fn do_beside<R: Threads + Wait + Sync, G: Gate + Sync>(
     requires most { length given.second.now ≤ most_of job }
     requires short { IfSome given.journal (λ j. length j.now ≤ 16777216) }
     requires range { AreInRange job options }
-    ensures made { IfOk result (λ made. EndsBy (file_of made) made.end (Does job options (sourced (program_of compiled.now.typed)) compiled.now.names (contents_of given.entry))) }
+    ensures made { IfOk result (λ made. EndsBy (file_of made) made.end
+        (Does job options (sourced (program_of compiled.now.typed)) compiled.now.names (contents_of given.entry))) }
     ensures stop { IfErr result (FailsTo job options (sourced (program_of compiled.now.typed)) compiled.now.names (contents_of given.entry)) }
-    ensures region { job ≡ Job.Gen → IfOk result (λ made. SumsMemory (program_of compiled.now.typed) compiled.now.names options given.entry.second.now made.end) }
+    ensures region { job ≡ Job.Gen → IfOk result (λ made. SumsMemory
+        (program_of compiled.now.typed) compiled.now.names options given.entry.second.now made.end) }
     ensures beside { packs_of (row job) options ≡ false }
     ensures alone { IfOk result (λ made. made.packed ≡ None) }
 {
@@ -115,9 +118,11 @@ pub fn do_job<R: Threads + Wait + Sync, G: Gate + Sync>(
     requires most { length given.second.now ≤ most_of job }
     requires short { IfSome given.journal (λ j. length j.now ≤ 16777216) }
     requires range { AreInRange job options }
-    ensures made { IfOk result (λ made. EndsByBoth (file_of made) (packed_of made) made.end (DoesAll job options (sourced (program_of compiled.typed)) compiled.names (contents_of given.entry))) }
+    ensures made { IfOk result (λ made. EndsByBoth (file_of made) (packed_of made) made.end
+        (DoesAll job options (sourced (program_of compiled.typed)) compiled.names (contents_of given.entry))) }
     // Where it ran in region memory, what it made comes from there.
-    ensures region { IfOk result (λ made. ComesOfRun (row job) (sourced (program_of compiled.typed)) compiled.names options given.entry.second.now (file_of made) made.end) }
+    ensures region { IfOk result (λ made. ComesOfRun (row job) (sourced (program_of compiled.typed)) compiled.names options given.entry.second.now
+        (file_of made) made.end) }
     ensures stop { IfErr result (FailsTo job options (sourced (program_of compiled.typed)) compiled.names (contents_of given.entry)) }
 {
     match job {

@@ -45,9 +45,11 @@ pub fn one_source_fault()
 pub fn one_input_fault(compiled: &Compiled)
     requires ready { IsReady (program_of compiled.now.typed) compiled.now.names }
     ensures one { (job : Job) (options : Options) (given : Contents) (f g : InputFault)
-        → Refuses job options (sourced (program_of compiled.now.typed)) compiled.now.names given f → Refuses job options (sourced (program_of compiled.now.typed)) compiled.now.names given g → f ≡ g }
+        → Refuses job options (sourced (program_of compiled.now.typed)) compiled.now.names given f
+        → Refuses job options (sourced (program_of compiled.now.typed)) compiled.now.names given g → f ≡ g }
     ensures none { (job : Job) (options : Options) (given : Contents) (f : InputFault)
-        → Refuses job options (sourced (program_of compiled.now.typed)) compiled.now.names given f → Accepts job options (sourced (program_of compiled.now.typed)) compiled.now.names given → ⊥ }
+        → Refuses job options (sourced (program_of compiled.now.typed)) compiled.now.names given f
+        → Accepts job options (sourced (program_of compiled.now.typed)) compiled.now.names given → ⊥ }
 {
     refused_header();
     refused_description();
@@ -63,10 +65,14 @@ pub fn one_input_fault(compiled: &Compiled)
 /// A replay repeats its trace: the journal that a trace writes, where it is not too long, is accepted by a replay on the same input,
 /// which ends with the same text, or without a value for the same reason.
 pub fn a_replay_repeats_its_trace()
-    ensures same { (options others : Options) (p : Program) (names : TextsView) (given : Contents) (journal : List ℕ) (file : Option (List ℕ)) (ended again : End) → length journal ≤ 16777216
-        → Does Trace options p names given (Some journal) ended → Does Replay others p names (record { second = given.second; further = journal ∷ [] }) file again → ended ≡ again }
-    ensures accepted { (options others : Options) (p : Program) (names : TextsView) (given : Contents) (journal : List ℕ) (ended : End) → length journal ≤ 16777216
-        → Does Trace options p names given (Some journal) ended → Does Replay (without_image others) p names (record { second = given.second; further = journal ∷ [] }) None ended }
+    ensures same { (options others : Options) (p : Program) (names : TextsView) (given : Contents) (journal : List ℕ) (file : Option (List ℕ))
+        (ended again : End) → length journal ≤ 16777216
+        → Does Trace options p names given (Some journal) ended
+        → Does Replay others p names (record { second = given.second; further = journal ∷ [] }) file again → ended ≡ again }
+    ensures accepted { (options others : Options) (p : Program) (names : TextsView) (given : Contents) (journal : List ℕ) (ended : End)
+        → length journal ≤ 16777216
+        → Does Trace options p names given (Some journal) ended
+        → Does Replay (without_image others) p names (record { second = given.second; further = journal ∷ [] }) None ended }
 {
     one_file();
 }

@@ -101,7 +101,8 @@ fn put_count<E: Sink>(err: &mut E, count: u64) -> Result<(), Failed>
 /// Puts words, and then the number of a rule and that of a term.
 fn put_rule<E: Sink>(err: &mut E, words: &[u8], rule: u64, term: u64) -> Result<(), Failed>
     ensures ok { OnOk result (Appends (E.view err.old).taken (E.view err.new).taken (words.now ++ (decimal rule ++ (codes " at term " ++ decimal term)))) }
-    ensures part { OnErr result (AppendsPart (E.view err.old).taken (E.view err.new).taken (words.now ++ (decimal rule ++ (codes " at term " ++ decimal term)))) }
+    ensures part { OnErr result (AppendsPart (E.view err.old).taken (E.view err.new).taken
+        (words.now ++ (decimal rule ++ (codes " at term " ++ decimal term)))) }
     ensures cause { HasCause (E.view err.old).faults (E.view err.new).faults result }
 {
     put_all(err, words)?;

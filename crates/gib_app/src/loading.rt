@@ -31,7 +31,8 @@ pub fn load_input(
     ensures loaded { IfOk result (λ made. (v : Datum) → Packed survey.entry.table survey.entry.ty v survey.entry.bytes
         → IsLoaded lowered.now chunks v (⟦<PlainMem as Mem>⟧.view made.memory) made.root made.tails) }
     ensures limit { IfOk result (λ made. (⟦<PlainMem as Mem>⟧.view made.memory).limit ≡ chunks) }
-    ensures full { IsErrOf result LoadFault.Full → (v : Datum) → Packed survey.entry.table survey.entry.ty v survey.entry.bytes → IsOver lowered.now.code.laid chunks v }
+    ensures full { IsErrOf result LoadFault.Full → (v : Datum) → Packed survey.entry.table survey.entry.ty v survey.entry.bytes
+        → IsOver lowered.now.code.laid chunks v }
 {
     refused_loads_do_not_go_in();
     let _packed = survey.payload();

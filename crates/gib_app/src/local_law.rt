@@ -21,46 +21,66 @@ use gib_parse::law::one_program;
 pub fn local_prints_what_is_meant()
     // Status 0: the source makes a core that breaks no build rule, and exactly the text of the value that it means on the input within the
     // depth, with a line feed, was put.
-    ensures done { (tells : Bool) (words : List (List ℕ)) (before now : ShelfView) (out out_now : SinkView) (source input : List ℕ) (options : OptionValues) (front said : List ℕ)
+    ensures done { (tells : Bool) (words : List (List ℕ)) (before now : ShelfView) (out out_now : SinkView) (source input : List ℕ) (options : OptionValues)
+        (front said : List ℕ)
         → IsLocalRun words before out source input options front → IsEnding tells words before now out out_now Status.Done said
         → (output : List ℕ) × IsLocalResult source input options.depth output × (out_now.taken ≡ Some (front ++ output)) }
     // Status 3: the meaning runs out of depth.
-    ensures deep { (tells : Bool) (words : List (List ℕ)) (before now : ShelfView) (out out_now : SinkView) (source input : List ℕ) (options : OptionValues) (front said : List ℕ)
-        → IsLocalRun words before out source input options front → IsEnding tells words before now out out_now Status.Depth said → HasNoLocalResult source input options.depth Deep }
+    ensures deep { (tells : Bool) (words : List (List ℕ)) (before now : ShelfView) (out out_now : SinkView) (source input : List ℕ) (options : OptionValues)
+        (front said : List ℕ)
+        → IsLocalRun words before out source input options front → IsEnding tells words before now out out_now Status.Depth said
+        → HasNoLocalResult source input options.depth Deep }
     // Status 9: the meaning is a division by 0.
-    ensures trapped { (tells : Bool) (words : List (List ℕ)) (before now : ShelfView) (out out_now : SinkView) (source input : List ℕ) (options : OptionValues) (front said : List ℕ)
-        → IsLocalRun words before out source input options front → IsEnding tells words before now out out_now Status.Trap said → HasNoLocalResult source input options.depth Trap }
+    ensures trapped { (tells : Bool) (words : List (List ℕ)) (before now : ShelfView) (out out_now : SinkView) (source input : List ℕ)
+        (options : OptionValues) (front said : List ℕ)
+        → IsLocalRun words before out source input options front → IsEnding tells words before now out out_now Status.Trap said
+        → HasNoLocalResult source input options.depth Trap }
     // Status 4: the chunks of memory may not be enough for what the run of this core costs.
-    ensures full { (tells : Bool) (words : List (List ℕ)) (before now : ShelfView) (out out_now : SinkView) (source input : List ℕ) (options : OptionValues) (front said : List ℕ)
-        → IsLocalRun words before out source input options front → IsEnding tells words before now out out_now Status.Full said → IsLocalTooBig source input options.depth (run_forks options) options.chunks }
+    ensures full { (tells : Bool) (words : List (List ℕ)) (before now : ShelfView) (out out_now : SinkView) (source input : List ℕ) (options : OptionValues)
+        (front said : List ℕ)
+        → IsLocalRun words before out source input options front → IsEnding tells words before now out out_now Status.Full said
+        → IsLocalTooBig source input options.depth (run_forks options) options.chunks }
     // Status 1: the source makes no such core.
-    ensures refused { (tells : Bool) (words : List (List ℕ)) (before now : ShelfView) (out out_now : SinkView) (source input : List ℕ) (options : OptionValues) (front said : List ℕ)
+    ensures refused { (tells : Bool) (words : List (List ℕ)) (before now : ShelfView) (out out_now : SinkView) (source input : List ℕ)
+        (options : OptionValues) (front said : List ℕ)
         → IsLocalRun words before out source input options front → IsEnding tells words before now out out_now Status.Source said → MakesCore source → ⊥ }
 
     // The other way round, unless memory or its chunks run out, or a file or `out` failed.
-    ensures ends_done { (tells : Bool) (words : List (List ℕ)) (before now : ShelfView) (out out_now : SinkView) (source input : List ℕ) (options : OptionValues) (front output said : List ℕ) (status : Statuses)
-        → (r : IsLocalRun words before out source input options front) → NoReadFailed r.program r.packed before now out out_now → IsLocalResult source input options.depth output
+    ensures ends_done { (tells : Bool) (words : List (List ℕ)) (before now : ShelfView) (out out_now : SinkView) (source input : List ℕ)
+        (options : OptionValues) (front output said : List ℕ) (status : Statuses)
+        → (r : IsLocalRun words before out source input options front) → NoReadFailed r.program r.packed before now out out_now
+        → IsLocalResult source input options.depth output
         → IsEnding tells words before now out out_now status said → (status ≡ Status.Done) ⊎ (status ≡ Status.Memory) ⊎ (status ≡ Status.Full) }
-    ensures ends_deep { (tells : Bool) (words : List (List ℕ)) (before now : ShelfView) (out out_now : SinkView) (source input : List ℕ) (options : OptionValues) (front said : List ℕ) (status : Statuses)
-        → (r : IsLocalRun words before out source input options front) → NoReadFailed r.program r.packed before now out out_now → HasNoLocalResult source input options.depth Deep
+    ensures ends_deep { (tells : Bool) (words : List (List ℕ)) (before now : ShelfView) (out out_now : SinkView) (source input : List ℕ)
+        (options : OptionValues) (front said : List ℕ) (status : Statuses)
+        → (r : IsLocalRun words before out source input options front) → NoReadFailed r.program r.packed before now out out_now
+        → HasNoLocalResult source input options.depth Deep
         → IsEnding tells words before now out out_now status said → (status ≡ Status.Depth) ⊎ (status ≡ Status.Memory) ⊎ (status ≡ Status.Full) }
-    ensures ends_trapped { (tells : Bool) (words : List (List ℕ)) (before now : ShelfView) (out out_now : SinkView) (source input : List ℕ) (options : OptionValues) (front said : List ℕ) (status : Statuses)
-        → (r : IsLocalRun words before out source input options front) → NoReadFailed r.program r.packed before now out out_now → HasNoLocalResult source input options.depth Trap
+    ensures ends_trapped { (tells : Bool) (words : List (List ℕ)) (before now : ShelfView) (out out_now : SinkView) (source input : List ℕ)
+        (options : OptionValues) (front said : List ℕ) (status : Statuses)
+        → (r : IsLocalRun words before out source input options front) → NoReadFailed r.program r.packed before now out out_now
+        → HasNoLocalResult source input options.depth Trap
         → IsEnding tells words before now out out_now status said → (status ≡ Status.Trap) ⊎ (status ≡ Status.Memory) ⊎ (status ≡ Status.Full) }
     // Where the source makes no such core, the status is 1, unless memory runs out.
-    ensures ends_refused { (tells : Bool) (words : List (List ℕ)) (before now : ShelfView) (out out_now : SinkView) (source input : List ℕ) (options : OptionValues) (front said : List ℕ) (status : Statuses)
+    ensures ends_refused { (tells : Bool) (words : List (List ℕ)) (before now : ShelfView) (out out_now : SinkView) (source input : List ℕ)
+        (options : OptionValues) (front said : List ℕ) (status : Statuses)
         → (r : IsLocalRun words before out source input options front) → NoReadFailed r.program r.packed before now out out_now → (MakesCore source → ⊥)
         → IsEnding tells words before now out out_now status said → (status ≡ Status.Source) ⊎ (status ≡ Status.Memory) }
     // Where so many chunks are enough for what the run costs, they do not run out.
-    ensures fits { (tells : Bool) (words : List (List ℕ)) (before now : ShelfView) (out out_now : SinkView) (source input : List ℕ) (options : OptionValues) (front said : List ℕ) (status : Statuses)
+    ensures fits { (tells : Bool) (words : List (List ℕ)) (before now : ShelfView) (out out_now : SinkView) (source input : List ℕ) (options : OptionValues)
+        (front said : List ℕ) (status : Statuses)
         → (r : IsLocalRun words before out source input options front) → NoReadFailed r.program r.packed before now out out_now → LocalGiven source input
         → (IsLocalTooBig source input options.depth (run_forks options) options.chunks → ⊥)
-        → IsEnding tells words before now out out_now status said → (status ≡ Status.Done) ⊎ (status ≡ Status.Depth) ⊎ (status ≡ Status.Trap) ⊎ (status ≡ Status.Memory) }
+        → IsEnding tells words before now out out_now status said
+        → (status ≡ Status.Done) ⊎ (status ≡ Status.Depth) ⊎ (status ≡ Status.Trap) ⊎ (status ≡ Status.Memory) }
 
     // There is one result at most, and none where there is no value, for one reason.
-    ensures one { (source input : List ℕ) (depth : ℕ) (output other : List ℕ) → IsLocalResult source input depth output → IsLocalResult source input depth other → output ≡ other }
-    ensures none { (source input : List ℕ) (depth : ℕ) (output : List ℕ) (why : Meaning) → IsLocalResult source input depth output → HasNoLocalResult source input depth why → ⊥ }
-    ensures reason { (source input : List ℕ) (depth : ℕ) (why other : Meaning) → HasNoLocalResult source input depth why → HasNoLocalResult source input depth other → why ≡ other }
+    ensures one { (source input : List ℕ) (depth : ℕ) (output other : List ℕ) → IsLocalResult source input depth output
+        → IsLocalResult source input depth other → output ≡ other }
+    ensures none { (source input : List ℕ) (depth : ℕ) (output : List ℕ) (why : Meaning) → IsLocalResult source input depth output
+        → HasNoLocalResult source input depth why → ⊥ }
+    ensures reason { (source input : List ℕ) (depth : ℕ) (why other : Meaning) → HasNoLocalResult source input depth why
+        → HasNoLocalResult source input depth other → why ≡ other }
 {
     one_reading();
     one_program();

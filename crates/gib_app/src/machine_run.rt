@@ -109,7 +109,8 @@ pub fn ran_of<M: Drop>(
 
 /// What the end of a run of the code is to a run.
 fn end_of(end: Result<Answer, RunFault>) -> Result<Root, RunStop>
-    ensures { (l : LoweredParts) (depth forks : ℕ) (v : Datum) (m m' : Memory) → IsRun l depth forks v m m' end → EndsWith l depth forks m.limit v m'.cells result }
+    ensures { (l : LoweredParts) (depth forks : ℕ) (v : Datum) (m m' : Memory) → IsRun l depth forks v m m' end
+        → EndsWith l depth forks m.limit v m'.cells result }
 {
     match end {
         Ok(answer) => match root_in(answer) {
@@ -216,7 +217,8 @@ fn run_within<R: Threads + Wait + Sync, G: Gate + Sync>(
     requires ty { survey.ty ≡ (core_of lowered.now.core).main.parameter }
     ensures limit { IfOk result (λ left. (⟦<SoleMem as Mem>⟧.view left.memory).limit ≡ chunks) }
     ensures root { IfOk result (λ left. (v : Datum) → Packed survey.entry.table survey.entry.ty v survey.entry.bytes
-        → IsRootOf lowered.now.code.laid (⟦<SoleMem as Mem>⟧.view left.memory).cells (core_of lowered.now.core).main.result (core_run (core_of lowered.now.core) options.depth v) left.root) }
+        → IsRootOf lowered.now.code.laid (⟦<SoleMem as Mem>⟧.view left.memory).cells (core_of lowered.now.core).main.result
+        (core_run (core_of lowered.now.core) options.depth v) left.root) }
     ensures halts { IfErr result (λ why. (v : Datum) → Packed survey.entry.table survey.entry.ty v survey.entry.bytes
         → Halts (core_run (core_of lowered.now.core) options.depth v) chunks (run_cost (core_of lowered.now.core) options.depth (run_forks options) v) why) }
 {
@@ -268,9 +270,11 @@ fn run_on<R: Threads + Wait + Sync, G: Gate + Sync>(
     requires ty { survey.ty ≡ (core_of lowered.now.core).main.parameter }
     ensures limit { IfOk result (λ left. (⟦<SoleMem as Mem>⟧.view left.memory).limit ≤ options.chunks) }
     ensures root { IfOk result (λ left. (v : Datum) → Packed survey.entry.table survey.entry.ty v survey.entry.bytes
-        → IsRootOf lowered.now.code.laid (⟦<SoleMem as Mem>⟧.view left.memory).cells (core_of lowered.now.core).main.result (core_run (core_of lowered.now.core) options.depth v) left.root) }
+        → IsRootOf lowered.now.code.laid (⟦<SoleMem as Mem>⟧.view left.memory).cells (core_of lowered.now.core).main.result
+        (core_run (core_of lowered.now.core) options.depth v) left.root) }
     ensures halts { IfErr result (λ why. (v : Datum) → Packed survey.entry.table survey.entry.ty v survey.entry.bytes
-        → Halts (core_run (core_of lowered.now.core) options.depth v) options.chunks (run_cost (core_of lowered.now.core) options.depth (run_forks options) v) why) }
+        → Halts (core_run (core_of lowered.now.core) options.depth v) options.chunks
+        (run_cost (core_of lowered.now.core) options.depth (run_forks options) v) why) }
 {
     let mut limit = first_limit(survey.payload().len(), options.chunks);
     'limits: while limit < options.chunks {
@@ -322,7 +326,8 @@ pub fn run_packed<R: Threads + Wait + Sync, G: Gate + Sync>(
     options: Options,
 ) -> Result<RunEnd, Stop<'static>>
     requires short { length file.now ≤ FILE_BYTES }
-    ensures stands { IfOk result (IsRunEnd (core_after options.skips 4 (program_of typed.now)) (program_of typed.now) names.now options.depth (run_forks options) options.chunks file.now) }
+    ensures stands { IfOk result (IsRunEnd (core_after options.skips 4 (program_of typed.now)) (program_of typed.now) names.now options.depth
+        (run_forks options) options.chunks file.now) }
     // It is the code of the program's core that ran, in a memory of no more chunks.
     ensures code { IfOk result (OnRan (λ ran. ran.lowered.code ≡ lower_program (core_after options.skips 4 (program_of typed.now)))) }
     ensures limit { IfOk result (OnRan (λ ran. (⟦<SoleMem as Mem>⟧.view ran.memory).limit ≤ options.chunks)) }
@@ -331,8 +336,10 @@ pub fn run_packed<R: Threads + Wait + Sync, G: Gate + Sync>(
     ensures stop { IfErr result (IsRunStop (program_of typed.now) names.now file.now) }
     // The other way round: of which value the file is, and what the program means on it, tells how the run ends.
     ensures only { (v : Datum) → IsInput (program_of typed.now) names.now v file.now
-        → MatchResult result (OnEnd (λ ran. IsRootOf ran.lowered.code.laid (⟦<SoleMem as Mem>⟧.view ran.memory).cells (output_type (program_of typed.now)) (run (program_of typed.now) options.depth v) ran.root)
-        (Lacks (run (program_of typed.now) options.depth v) options.chunks (program_cost (program_of typed.now) options.skips options.depth (run_forks options) v))) (λ stop. stop ≡ Stop.Memory) }
+        → MatchResult result (OnEnd (λ ran. IsRootOf ran.lowered.code.laid (⟦<SoleMem as Mem>⟧.view ran.memory).cells (output_type (program_of typed.now))
+        (run (program_of typed.now) options.depth v) ran.root)
+        (Lacks (run (program_of typed.now) options.depth v) options.chunks
+        (program_cost (program_of typed.now) options.skips options.depth (run_forks options) v))) (λ stop. stop ≡ Stop.Memory) }
 {
     one_file();
     let survey = match survey_input(alloc, typed, names, file) {

@@ -105,7 +105,8 @@ fn read_second<'a, S: Shelf>(
     shelf: &mut S,
     plan: Plan<'a>,
 ) -> Result<Vec<u8>, Stop<'a>>
-    ensures bytes { IfOk result (λ bytes. AreGiven (S.view shelf.old).kept (first_of (inputs_of (plan_of plan.entry))) (record { second = bytes.items; further = [] })) }
+    ensures bytes { IfOk result (λ bytes. AreGiven (S.view shelf.old).kept (first_of (inputs_of (plan_of plan.entry)))
+        (record { second = bytes.items; further = [] })) }
     ensures most { IfOk result (λ bytes. length bytes.items ≤ most_of plan.entry.job) }
     ensures stop { IfErr result (IsInputStop (S.view shelf.old) (S.view shelf.new) (plan_of plan.entry)) }
     ensures read { OnOk result (HasRead (S.view shelf.old) (S.view shelf.new) (input_calls (first_of (inputs_of (plan_of plan.entry))))) }
@@ -136,9 +137,11 @@ fn read_third<'a, S: Shelf>(
     second: &[u8],
 ) -> Result<Option<Vec<u8>>, Stop<'a>>
     requires most { length second.now ≤ most_of plan.job }
-    ensures bytes { IfOk result (λ found. AreFurther (S.view shelf.old).kept (further_of (inputs_of (plan_of plan.entry))) (option_to_list (option_map (λ bytes. bytes.items) found))) }
+    ensures bytes { IfOk result (λ found. AreFurther (S.view shelf.old).kept (further_of (inputs_of (plan_of plan.entry)))
+        (option_to_list (option_map (λ bytes. bytes.items) found))) }
     ensures most { IfOk result (λ found. IfSome found (λ bytes. length bytes.items ≤ 16777216)) }
-    ensures stop { IfErr result (IsFurtherStop (S.view shelf.old) (S.view shelf.new) (plan_of plan.entry) (sourced (program_of typed.now)) names.now second.now) }
+    ensures stop { IfErr result (IsFurtherStop (S.view shelf.old) (S.view shelf.new) (plan_of plan.entry)
+        (sourced (program_of typed.now)) names.now second.now) }
     ensures read { OnOk result (HasRead (S.view shelf.old) (S.view shelf.new) (input_calls (further_of (inputs_of (plan_of plan.entry))))) }
     ensures stopped { IfErr result (HasStopped (S.view shelf.old) (S.view shelf.new) (input_calls (further_of (inputs_of (plan_of plan.entry))))) }
 {
@@ -168,10 +171,12 @@ fn read_inputs<'a, S: Shelf>(
     plan: Plan<'a>,
     compiled: &Compiled,
 ) -> Result<Inputs, Stop<'a>>
-    ensures bytes { IfOk result (λ inputs. AreGiven (S.view shelf.old).kept (inputs_of (plan_of plan.entry)) (record { second = inputs.second.items; further = option_to_list (option_map (λ bytes. bytes.items) inputs.journal) })) }
+    ensures bytes { IfOk result (λ inputs. AreGiven (S.view shelf.old).kept (inputs_of (plan_of plan.entry))
+        (record { second = inputs.second.items; further = option_to_list (option_map (λ bytes. bytes.items) inputs.journal) })) }
     ensures most { IfOk result (λ inputs. length inputs.second.items ≤ most_of plan.entry.job) }
     ensures short { IfOk result (λ inputs. IfSome inputs.journal (λ bytes. length bytes.items ≤ 16777216)) }
-    ensures stop { IfErr result (IsInputsStop (S.view shelf.old) (S.view shelf.new) (plan_of plan.entry) (sourced (program_of compiled.now.typed)) compiled.now.names) }
+    ensures stop { IfErr result (IsInputsStop (S.view shelf.old) (S.view shelf.new) (plan_of plan.entry)
+        (sourced (program_of compiled.now.typed)) compiled.now.names) }
     ensures read { OnOk result (HasRead (S.view shelf.old) (S.view shelf.new) (input_calls (inputs_of (plan_of plan.entry)))) }
     ensures stopped { IfErr result (HasStopped (S.view shelf.old) (S.view shelf.new) (input_calls (inputs_of (plan_of plan.entry)))) }
 {
@@ -195,7 +200,10 @@ fn read_inputs<'a, S: Shelf>(
 /// The bytes of the inputs as a job takes them.
 fn given(inputs: &Inputs) -> Given<'_>
     requires short { IfSome inputs.now.journal (λ bytes. length bytes.items ≤ 16777216) }
-    ensures contents { contents_of result ≡ record { second = inputs.now.second.items; further = option_to_list (option_map (λ bytes. bytes.items) inputs.now.journal) } }
+    ensures contents { contents_of result ≡ record {
+      second = inputs.now.second.items;
+      further = option_to_list (option_map (λ bytes. bytes.items) inputs.now.journal);
+    } }
     ensures second { result.second.now ≡ inputs.now.second.items }
     ensures short { IfSome result.journal (λ bytes. length bytes.now ≤ 16777216) }
 {

@@ -11,5 +11,6 @@ ghost use Rattle.gib_words.specs.Words.{asked};
 pub fn options_are_in_range()
     ensures range { (words : List (List ℕ)) (plan : Plan) → asked words ≡ Some plan → AreInRange plan.job plan.options }
     // So each run by workers over one lock that words ask for has settings.
-    ensures settings { (words : List (List ℕ)) (plan : Plan) → asked words ≡ Some plan → plan.job ≡ Trace → are_settings plan.options.depth plan.options.chunks plan.options.fork ≡ true }
+    ensures settings { (words : List (List ℕ)) (plan : Plan) → asked words ≡ Some plan → plan.job ≡ Trace
+        → are_settings plan.options.depth plan.options.chunks plan.options.fork ≡ true }
 {}

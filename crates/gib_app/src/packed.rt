@@ -99,7 +99,8 @@ pub fn survey_input<'a>(
 ) -> Result<Survey<'a>, Stop<'static>>
     ensures table { IfOk result (λ s. s.table ≡ table_of_program (program_of typed.now)) }
     ensures ty { IfOk result (λ s. s.ty ≡ input_type (program_of typed.now)) }
-    ensures file { IfOk result (λ s. (v : Datum) → Packed s.table s.ty v s.bytes → File (table_of_program (program_of typed.now)) names.now.long (input_type (program_of typed.now)) v bytes.now) }
+    ensures file { IfOk result (λ s. (v : Datum) → Packed s.table s.ty v s.bytes
+        → File (table_of_program (program_of typed.now)) names.now.long (input_type (program_of typed.now)) v bytes.now) }
     ensures refused { IfErr result (IsPackedStop (table_of_program (program_of typed.now)) names.now.long (input_type (program_of typed.now)) bytes.now) }
 {
     let types = typed.types();

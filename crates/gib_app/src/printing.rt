@@ -88,8 +88,10 @@ pub fn ok_answer(alloc: Global) -> Result<Vec<u8>, Memory>
 /// `Memory`, and the sink was not called; `Write` where the sink failed, which took a front of the text.
 pub fn put_value<O: Sink>(alloc: Global, mut value: Valued, out: &mut O) -> Result<(), PrintFault>
     requires { (text : List ℕ) × IsTextOf value text }
-    ensures done { (text : List ℕ) → IsTextOf value text → OnOk result (Appends (O.view out.old).taken (O.view out.new).taken text × PutsPieces (O.view out.old) (O.view out.new) (length text)) }
-    ensures part { (text : List ℕ) → IsTextOf value text → IsErrOf result PrintFault.Write → AppendsPart (O.view out.old).taken (O.view out.new).taken text × PutsSomePieces (O.view out.old) (O.view out.new) (length text) }
+    ensures done { (text : List ℕ) → IsTextOf value text
+        → OnOk result (Appends (O.view out.old).taken (O.view out.new).taken text × PutsPieces (O.view out.old) (O.view out.new) (length text)) }
+    ensures part { (text : List ℕ) → IsTextOf value text → IsErrOf result PrintFault.Write
+        → AppendsPart (O.view out.old).taken (O.view out.new).taken text × PutsSomePieces (O.view out.old) (O.view out.new) (length text) }
     ensures cause { IsErrOf result PrintFault.Write → Rose (O.view out.old).faults (O.view out.new).faults }
     ensures quiet { (IsErrOf result PrintFault.Write → ⊥) → (O.view out.new).faults ≡ (O.view out.old).faults }
     ensures still { IsErrOf result PrintFault.Memory → O.view out.new ≡ O.view out.old }

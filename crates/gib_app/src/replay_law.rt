@@ -16,17 +16,21 @@ use gib_parse::law::one_program;
 /// reason. `IsEnding` stands in the clause `ends` of `gib`. Want of memory alone is free, in the second call.
 pub fn a_replay_ends_as_its_trace()
     // Where the first call ends with status 0, the second one does, and puts the same text.
-    ensures done { (tells : Bool) (words again : List (List ℕ)) (before left later now : ShelfView) (out out_left out_later out_now : SinkView) (front front_later said said_later : List ℕ) (status : Statuses)
-        → (r : IsRepeated words again before left later) → NoneFails r.program r.packed r.name r.image later now out_later out_now → out.taken ≡ Some front → out_later.taken ≡ Some front_later
+    ensures done { (tells : Bool) (words again : List (List ℕ)) (before left later now : ShelfView) (out out_left out_later out_now : SinkView)
+        (front front_later said said_later : List ℕ) (status : Statuses)
+        → (r : IsRepeated words again before left later) → NoneFails r.program r.packed r.name r.image later now out_later out_now → out.taken ≡ Some front
+        → out_later.taken ≡ Some front_later
         → IsEnding tells words before left out out_left Status.Done said → IsEnding tells again later now out_later out_now status said_later
         → ((status ≡ Status.Done) × PutAlike out out_left out_later out_now front front_later) ⊎ (status ≡ Status.Memory) }
     // Where the first call ends with status 3, so does the second one.
-    ensures deep { (tells : Bool) (words again : List (List ℕ)) (before left later now : ShelfView) (out out_left out_later out_now : SinkView) (said said_later : List ℕ) (status : Statuses)
+    ensures deep { (tells : Bool) (words again : List (List ℕ)) (before left later now : ShelfView) (out out_left out_later out_now : SinkView)
+        (said said_later : List ℕ) (status : Statuses)
         → (r : IsRepeated words again before left later) → NoneFails r.program r.packed r.name r.image later now out_later out_now
         → IsEnding tells words before left out out_left Status.Depth said → IsEnding tells again later now out_later out_now status said_later
         → (status ≡ Status.Depth) ⊎ (status ≡ Status.Memory) }
     // Where the first call ends with status 9, so does the second one.
-    ensures trapped { (tells : Bool) (words again : List (List ℕ)) (before left later now : ShelfView) (out out_left out_later out_now : SinkView) (said said_later : List ℕ) (status : Statuses)
+    ensures trapped { (tells : Bool) (words again : List (List ℕ)) (before left later now : ShelfView) (out out_left out_later out_now : SinkView)
+        (said said_later : List ℕ) (status : Statuses)
         → (r : IsRepeated words again before left later) → NoneFails r.program r.packed r.name r.image later now out_later out_now
         → IsEnding tells words before left out out_left Status.Trap said → IsEnding tells again later now out_later out_now status said_later
         → (status ≡ Status.Trap) ⊎ (status ≡ Status.Memory) }

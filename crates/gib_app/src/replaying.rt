@@ -115,7 +115,8 @@ pub fn replay_packed(
 ) -> Result<ReplayedRun, Stop<'static>>
     requires short { length file.now ≤ FILE_BYTES }
     requires few { length bytes.now ≤ FILE_BYTES }
-    ensures ends { IfOk result (λ run. IsReplayed (program_of typed.now) names.now file.now bytes.now run.lowered.code.laid (⟦<PlainMem as Mem>⟧.view run.replayed.memory) run.replayed.answer) }
+    ensures ends { IfOk result (λ run. IsReplayed (program_of typed.now) names.now file.now bytes.now run.lowered.code.laid
+        (⟦<PlainMem as Mem>⟧.view run.replayed.memory) run.replayed.answer) }
     ensures limit { IfOk result (λ run. (⟦<PlainMem as Mem>⟧.view run.replayed.memory).limit ≤ 65536) }
     ensures stop { IfErr result (IsNotReplayed (program_of typed.now) names.now file.now bytes.now) }
 {

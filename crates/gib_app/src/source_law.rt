@@ -24,13 +24,18 @@ ghost use Rattle.gib_app.specs.Running.{IsProgram, IsOutput, MeansNone, text_lin
 /// of the values as which the copy's are read.
 pub fn what_copies_mean_sources_mean()
     // The text of what the copy means on an input is that of what the source means, and the other way round.
-    ensures output { (source input output : List ℕ) (depth : ℕ) (names : TextsView) (p : ProgramTree) → IsProgram source names p → IsOutput p names depth input output → IsResult source input depth output }
-    ensures result { (source input output : List ℕ) (depth : ℕ) → IsResult source input depth output → (names : TextsView) × (p : ProgramTree) × IsProgram source names p × IsOutput p names depth input output }
+    ensures output { (source input output : List ℕ) (depth : ℕ) (names : TextsView) (p : ProgramTree) → IsProgram source names p
+        → IsOutput p names depth input output → IsResult source input depth output }
+    ensures result { (source input output : List ℕ) (depth : ℕ) → IsResult source input depth output
+        → (names : TextsView) × (p : ProgramTree) × IsProgram source names p × IsOutput p names depth input output }
     // Where the copy means none, the source means none, for the same reason, and the other way round.
-    ensures none { (source input : List ℕ) (depth : ℕ) (why : Reason) (names : TextsView) (p : ProgramTree) → IsProgram source names p → MeansNone p names depth input why → HasNoResult source input depth why }
-    ensures lacks { (source input : List ℕ) (depth : ℕ) (why : Reason) → HasNoResult source input depth why → (names : TextsView) × (p : ProgramTree) × IsProgram source names p × MeansNone p names depth input why }
+    ensures none { (source input : List ℕ) (depth : ℕ) (why : Reason) (names : TextsView) (p : ProgramTree) → IsProgram source names p
+        → MeansNone p names depth input why → HasNoResult source input depth why }
+    ensures lacks { (source input : List ℕ) (depth : ℕ) (why : Reason) → HasNoResult source input depth why
+        → (names : TextsView) × (p : ProgramTree) × IsProgram source names p × MeansNone p names depth input why }
     // A value of the copy has the text of the value as which it is read.
-    ensures text { (source : List ℕ) (names : TextsView) (p : ProgramTree) (is : IsProgram source names p) (v : Datum) (ty : Ty) → HasType (table_of_program p) v ty
+    ensures text { (source : List ℕ) (names : TextsView) (p : ProgramTree) (is : IsProgram source names p) (v : Datum) (ty : Ty)
+        → HasType (table_of_program p) v ty
         → text_line p names v ≡ generic_text (rows_of is.generic.datas) is.lexed.names (shown (base_of (rows_of is.generic.datas) is.copy.found) v) ++ 10 ∷ [] }
 {}
 

@@ -85,7 +85,8 @@ fn text_of(alloc: Global, source: &[u8]) -> Result<Vec<u8>, Fault<'static>>
 
 /// The one name that stands behind the program's.
 fn source_name(words: &[String]) -> Option<&str>
-    ensures { MatchOption result ((program name : List ℕ) → bytes_of words.now ≡ program ∷ name ∷ [] → ⊥) (λ name. (program : List ℕ) × (bytes_of words.now ≡ program ∷ name.now ∷ [])) }
+    ensures { MatchOption result ((program name : List ℕ) → bytes_of words.now ≡ program ∷ name ∷ [] → ⊥)
+        (λ name. (program : List ℕ) × (bytes_of words.now ≡ program ∷ name.now ∷ [])) }
 {
     match words {
         [_, name] => Some(name.as_str()),
@@ -177,7 +178,8 @@ pub fn located<S: Shelf, O: Sink, E: Sink>(
 ) -> Status
     // Each status comes only by its cause, and its line is put on `err`, or a front of the line where the count of `err` rose. `Done` comes
     // only where exactly the text of the core of the source was put.
-    ensures ends { (said : List ℕ) × IsEnd (bytes_of words.now) (S.view shelf.old) (S.view shelf.new) (O.view out.old) (O.view out.new) result said × IsPut (E.view err.old) (E.view err.new) said }
+    ensures ends { (said : List ℕ) × IsEnd (bytes_of words.now) (S.view shelf.old) (S.view shelf.new) (O.view out.old) (O.view out.new) result said
+        × IsPut (E.view err.old) (E.view err.new) said }
 
     // The calls follow the script of the words, and the status tells how it ended. The clauses below are what that leaves.
     ensures follows { IsRun S.tells (bytes_of words.now) (S.view shelf.old) (S.view shelf.new) (O.view out.old) (O.view out.new) result }

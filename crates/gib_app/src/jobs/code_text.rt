@@ -31,7 +31,8 @@ fn print_code(alloc: Global, compiled: &Compiled, skips: bool) -> Result<Vec<u8>
 ///
 /// Want of memory alone.
 pub fn code_text(alloc: Global, compiled: &Compiled, skips: bool) -> Result<Made, Stop<'static>>
-    ensures made { IfOk result (λ made. EndsBy (file_of made) made.end (OnlyPrints (λ text. text ≡ listing_text compiled.now.names.long (lower_program (core_after skips 4 (program_of compiled.now.typed)))))) }
+    ensures made { IfOk result (λ made. EndsBy (file_of made) made.end
+        (OnlyPrints (λ text. text ≡ listing_text compiled.now.names.long (lower_program (core_after skips 4 (program_of compiled.now.typed)))))) }
     ensures memory { IfErr result (λ e. e ≡ Stop.Memory) }
     ensures alone { IfOk result (λ made. made.packed ≡ None) }
 {

@@ -64,7 +64,8 @@ pub fn core_text(
     skips: bool,
     pass: u32,
 ) -> Result<Made, Stop<'static>>
-    ensures made { IfOk result (λ made. EndsBy (file_of made) made.end (OnlyPrints (λ text. text ≡ text_of_core compiled.now.names.long (core_after skips pass (program_of compiled.now.typed))))) }
+    ensures made { IfOk result (λ made. EndsBy (file_of made) made.end
+        (OnlyPrints (λ text. text ≡ text_of_core compiled.now.names.long (core_after skips pass (program_of compiled.now.typed))))) }
     ensures memory { IfErr result (λ e. e ≡ Stop.Memory) }
     ensures alone { IfOk result (λ made. made.packed ≡ None) }
 {

@@ -167,7 +167,8 @@ fn file_made(
 ) -> Result<Vec<u8>, Stop<'static>>
     requires ready { IsReady (program_of compiled.now.typed) compiled.now.names }
     requires short { length bytes.now ≤ FILE_BYTES }
-    ensures file { IfOk result (λ file. IsPackedBy options.repacks options.first_version (program_of compiled.now.typed) compiled.now.names bytes.now file.items) }
+    ensures file { IfOk result (λ file. IsPackedBy options.repacks options.first_version
+        (program_of compiled.now.typed) compiled.now.names bytes.now file.items) }
     ensures stop { IfErr result (IsPackStop options.repacks options.first_version (program_of compiled.now.typed) compiled.now.names bytes.now) }
 {
     one_file();

@@ -34,7 +34,8 @@ fn evaluate(
     requires ready { IsReady (program_of compiled.now.typed) compiled.now.names }
     requires typed { HasType (table_of_program (program_of compiled.now.typed)) value (input_type (program_of compiled.now.typed)) }
     ensures { IfOk result (λ found. MatchResult found
-        (λ output. (u : Datum) × (run (program_of compiled.now.typed) depth value ≡ Gives u) × (output.items ≡ text_line (program_of compiled.now.typed) compiled.now.names u))
+        (λ output. (u : Datum) × (run (program_of compiled.now.typed) depth value ≡ Gives u)
+        × (output.items ≡ text_line (program_of compiled.now.typed) compiled.now.names u))
         (λ why. run (program_of compiled.now.typed) depth value ≡ Stops (means_why why))) }
 {
     let _program = compiled.typed.program();

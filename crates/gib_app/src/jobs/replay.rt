@@ -32,7 +32,8 @@ pub fn replay(
     requires ready { IsReady (program_of compiled.now.typed) compiled.now.names }
     requires short { length file.now ≤ FILE_BYTES }
     requires few { length journal.now ≤ FILE_BYTES }
-    ensures made { IfOk result (λ made. EndsBy (file_of made) made.end (Replays (program_of compiled.now.typed) compiled.now.names image (record { second = file.now; further = journal.now ∷ [] }))) }
+    ensures made { IfOk result (λ made. EndsBy (file_of made) made.end
+        (Replays (program_of compiled.now.typed) compiled.now.names image (record { second = file.now; further = journal.now ∷ [] }))) }
     ensures stop { IfErr result (IsReplayStop (program_of compiled.now.typed) compiled.now.names (record { second = file.now; further = journal.now ∷ [] })) }
     ensures alone { IfOk result (λ made. made.packed ≡ None) }
 {

@@ -40,7 +40,8 @@ fn finish(alloc: Global, value: Valued, image: bool) -> Result<Made, Stop<'stati
     requires names { AreHeld value.ran.lowered.code.laid.table value.names.short }
     requires stands { IsMeant value }
     requires few { (⟦<SoleMem as Mem>⟧.view value.ran.memory).limit ≤ 65536 }
-    ensures made { (p : ProgramTree) (options : OptionValues) (input : List ℕ) → value.ran.lowered.code.laid ≡ layouts_of options.skips p → options.image ≡ image → (⟦<SoleMem as Mem>⟧.view value.ran.memory).limit ≤ options.chunks
+    ensures made { (p : ProgramTree) (options : OptionValues) (input : List ℕ) → value.ran.lowered.code.laid ≡ layouts_of options.skips p
+        → options.image ≡ image → (⟦<SoleMem as Mem>⟧.view value.ran.memory).limit ≤ options.chunks
         → (s : IsMeantBy p value.names options.depth input value.ran)
         → IfOk result (λ made. EndsBy (file_of made) made.end (Runs p value.names options input)) }
     // It comes from the memory that the run left.
@@ -73,7 +74,8 @@ fn with_packed(
     requires stands { IsMeant value }
     requires few { (⟦<SoleMem as Mem>⟧.view value.ran.memory).limit ≤ 65536 }
     ensures shown { (p : ProgramTree) (depth : ℕ) (input : List ℕ) (s : IsMeantBy p value.names depth input value.ran)
-        → IfOk result (λ made. IsShownWith image value.ran.lowered.code.laid (⟦<SoleMem as Mem>⟧.view value.ran.memory) value.ran.root p value.names s.result (file_of made) made.end) }
+        → IfOk result (λ made. IsShownWith image value.ran.lowered.code.laid (⟦<SoleMem as Mem>⟧.view value.ran.memory) value.ran.root p value.names s.result
+        (file_of made) made.end) }
     ensures packed { IfOk result (λ made. packed_of made ≡ Some packed.items) }
     ensures memory { IfErr result (λ stop. stop ≡ Stop.Memory) }
 {
@@ -91,7 +93,8 @@ fn without_packed(alloc: Global, value: Valued, image: bool) -> Result<Made, Sto
     requires stands { IsMeant value }
     requires few { (⟦<SoleMem as Mem>⟧.view value.ran.memory).limit ≤ 65536 }
     ensures image { (p : ProgramTree) (depth : ℕ) (input : List ℕ) (s : IsMeantBy p value.names depth input value.ran)
-        → IfOk result (λ made. IsImageFile image value.ran.lowered.code.laid (output_type p) (⟦<SoleMem as Mem>⟧.view value.ran.memory) value.ran.root s.result (file_of made)) }
+        → IfOk result (λ made. IsImageFile image value.ran.lowered.code.laid (output_type p)
+        (⟦<SoleMem as Mem>⟧.view value.ran.memory) value.ran.root s.result (file_of made)) }
     ensures long { IfOk result (λ made. (made.end ≡ End.NoValue Reason.Long) × (packed_of made ≡ None)) }
     ensures memory { IfErr result (λ stop. stop ≡ Stop.Memory) }
 {
@@ -118,7 +121,8 @@ fn finish_packed<R: Threads + Sync>(
     requires stands { IsMeantAs ty value }
     requires packs { options.packs ≡ true }
     requires few { (⟦<SoleMem as Mem>⟧.view value.ran.memory).limit ≤ 65536 }
-    ensures made { (p : ProgramTree) (input : List ℕ) → ty ≡ output_type p → value.ran.lowered.code.laid ≡ layouts_of options.skips p → (⟦<SoleMem as Mem>⟧.view value.ran.memory).limit ≤ options.chunks
+    ensures made { (p : ProgramTree) (input : List ℕ) → ty ≡ output_type p → value.ran.lowered.code.laid ≡ layouts_of options.skips p
+        → (⟦<SoleMem as Mem>⟧.view value.ran.memory).limit ≤ options.chunks
         → (s : IsMeantBy p value.names options.depth input value.ran)
         → IfOk result (λ made. EndsByBoth (file_of made) (packed_of made) made.end (RunsBoth p value.names options input)) }
     // It comes from the memory that the run left.
@@ -147,7 +151,8 @@ fn finish_run<R: Threads + Sync>(
     requires names { AreHeld value.ran.lowered.code.laid.table value.names.short }
     requires stands { IsMeantAs ty value }
     requires few { (⟦<SoleMem as Mem>⟧.view value.ran.memory).limit ≤ 65536 }
-    ensures made { (p : ProgramTree) (input : List ℕ) → ty ≡ output_type p → value.ran.lowered.code.laid ≡ layouts_of options.skips p → (⟦<SoleMem as Mem>⟧.view value.ran.memory).limit ≤ options.chunks
+    ensures made { (p : ProgramTree) (input : List ℕ) → ty ≡ output_type p → value.ran.lowered.code.laid ≡ layouts_of options.skips p
+        → (⟦<SoleMem as Mem>⟧.view value.ran.memory).limit ≤ options.chunks
         → (s : IsMeantBy p value.names options.depth input value.ran)
         → IfOk result (λ made. EndsByBoth (file_of made) (packed_of made) made.end (RunsBoth p value.names options input)) }
     // It comes from the memory that the run left.
@@ -176,7 +181,8 @@ pub fn run<R: Threads + Wait + Sync, G: Gate + Sync>(
     requires ready { IsReady (program_of compiled.typed) compiled.names }
     requires short { length input.now ≤ FILE_BYTES }
     requires range { AreOfRun options }
-    ensures made { IfOk result (λ made. EndsByBoth (file_of made) (packed_of made) made.end (RunsBoth (program_of compiled.typed) compiled.names options input.now)) }
+    ensures made { IfOk result (λ made. EndsByBoth (file_of made) (packed_of made) made.end
+        (RunsBoth (program_of compiled.typed) compiled.names options input.now)) }
     // What is printed stands in the region memory that the run left, in as many chunks as are asked for, and where an image is asked for, it is
     // of that memory.
     ensures region { IfOk result (λ made. ComesOfMemory (program_of compiled.typed) compiled.names options input.now (file_of made) made.end) }

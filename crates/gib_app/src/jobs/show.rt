@@ -51,7 +51,8 @@ fn packed_line(alloc: Global, compiled: &Compiled, file: &[u8]) -> Result<Vec<u8
     requires short { length file.now ≤ FILE_BYTES }
     ensures output { IfOk result (λ output. (v : Datum) × IsInput (program_of compiled.now.typed) compiled.now.names v file.now
         × (output.items ≡ text_line (program_of compiled.now.typed) compiled.now.names v)) }
-    ensures refused { IfErr result (IsPackedStop (table_of_program (program_of compiled.now.typed)) compiled.now.names.long (input_type (program_of compiled.now.typed)) file.now) }
+    ensures refused { IfErr result (IsPackedStop (table_of_program (program_of compiled.now.typed)) compiled.now.names.long
+        (input_type (program_of compiled.now.typed)) file.now) }
 {
     let survey = match survey_input(alloc, &compiled.typed, &compiled.names, file) {
         Ok(survey) => survey,
@@ -111,7 +112,8 @@ pub fn show(
 ) -> Result<Made, Stop<'static>>
     requires ready { IsReady (program_of compiled.now.typed) compiled.now.names }
     requires short { length file.now ≤ 268435480 }
-    ensures made { IfOk result (λ made. EndsBy (file_of made) made.end (OnlyPrints (IsShown (program_of compiled.now.typed) compiled.now.names skips file.now))) }
+    ensures made { IfOk result (λ made. EndsBy (file_of made) made.end
+        (OnlyPrints (IsShown (program_of compiled.now.typed) compiled.now.names skips file.now))) }
     ensures stop { IfErr result (IsShowStop (program_of compiled.now.typed) compiled.now.names skips file.now) }
     ensures alone { IfOk result (λ made. made.packed ≡ None) }
 {

@@ -33,9 +33,13 @@ use std::thread::Threads;
 /// What such a run leaves: its journal, and the text of its value or why there is none.
 fn left_of(alloc: Global, run: TracedRun, names: &Texts) -> Result<Made, Stop<'static>>
     requires names { AreHeld run.lowered.code.laid.table names.now.short }
-    requires traced { (p : ProgramTree) × (options : OptionValues) × (input : List ℕ) × IsTraced p names.now options input run.traced.journal.settings run.traced.journal.lines.all.items (⟦<PlainMem as Mem>⟧.view run.traced.memory) run.traced.answer
+    requires traced { (p : ProgramTree) × (options : OptionValues) × (input : List ℕ)
+        × IsTraced p names.now options input run.traced.journal.settings run.traced.journal.lines.all.items
+        (⟦<PlainMem as Mem>⟧.view run.traced.memory) run.traced.answer
         × (run.lowered.code.laid ≡ layouts_of options.skips p) }
-    ensures made { (p : ProgramTree) (options : OptionValues) (input : List ℕ) → IsTraced p names.now options input run.traced.journal.settings run.traced.journal.lines.all.items (⟦<PlainMem as Mem>⟧.view run.traced.memory) run.traced.answer
+    ensures made { (p : ProgramTree) (options : OptionValues) (input : List ℕ)
+        → IsTraced p names.now options input run.traced.journal.settings run.traced.journal.lines.all.items
+        (⟦<PlainMem as Mem>⟧.view run.traced.memory) run.traced.answer
         → run.lowered.code.laid ≡ layouts_of options.skips p → IfOk result (λ made. EndsBy (file_of made) made.end (Traces p names.now options input)) }
     ensures memory { IfErr result (λ stop. stop ≡ Stop.Memory) }
     ensures alone { IfOk result (λ made. made.packed ≡ None) }
