@@ -33,6 +33,7 @@ mod source_fault;
 mod source_law;
 mod status;
 pub mod stop;
+mod text_result;
 mod top;
 mod tracing;
 

@@ -24,6 +24,7 @@ use crate::packed_result::packed_result;
 use crate::printing::no_value;
 use crate::runtime::Runtime;
 use crate::stop::Stop;
+use crate::text_result::printed_by;
 use gib_arena::SoleMem;
 use gib_base::limits::FILE_BYTES;
 use gib_compact::CompactFault;
@@ -36,7 +37,13 @@ use std::sync::Wait;
 use std::thread::Threads;
 
 /// What a run makes that leaves a value: its image too, where that is asked for.
-fn finish(alloc: Global, value: Valued, image: bool) -> Result<Made, Stop<'static>>
+fn finish<R: Threads + Sync>(
+    alloc: Global,
+    threads: &R,
+    value: Valued,
+    image: bool,
+    workers: u32,
+) -> Result<Made, Stop<'static>>
     requires names { AreHeld value.ran.lowered.code.laid.table value.names.short }
     requires stands { IsMeant value }
     requires few { (⟦<SoleMem as Mem>⟧.view value.ran.memory).limit ≤ 65536 }
@@ -51,11 +58,7 @@ fn finish(alloc: Global, value: Valued, image: bool) -> Result<Made, Stop<'stati
     ensures alone { IfOk result (λ made. made.packed ≡ None) }
 {
     if !image {
-        return Ok(Made {
-            file: None,
-            packed: None,
-            end: End::Value(value),
-        });
+        return Ok(printed_by(alloc, threads, value, workers));
     }
     match with_image(alloc, value) {
         Ok(made) => Ok(made),
@@ -163,7 +166,7 @@ fn finish_run<R: Threads + Sync>(
     if options.packs {
         return finish_packed(alloc, threads, value, ty, options);
     }
-    finish(alloc, value, options.image)
+    finish(alloc, threads, value, options.image, options.workers)
 }
 
 /// What a program means on the bytes of an input, within the depth, in memory of so many chunks, by so many workers.
