@@ -284,9 +284,9 @@ gives_single words (result.One run) h = (type_in words run, refl)
 gives_single words (result.Several runs) h = absurd h
 
 functions_single : (a : Arena) (fs : List GenericFunction) → AreSingleTrees a → AllByRecursion (GenericFunctionInside a) fs → AllByRecursion IsPlainHere fs → AllByRecursion IsSingleFunction (map (function_in a) fs)
-functions_single a [] single slice_get_within h = tt {0}
-functions_single a (f ∷ fs) single slice_get_within h =
-    ((gives_single a.words f.result h.0.1, single f.body.0 slice_get_within.0.2), functions_single a fs single slice_get_within.1 h.1)
+functions_single a [] single inside h = tt {0}
+functions_single a (f ∷ fs) single inside h =
+    ((gives_single a.words f.result h.0.1, single f.body.0 inside.0.2), functions_single a fs single inside.1 h.1)
 
 -- a function of one thing whose type variables are none is so where it is kept
 one_given : (words : List Word) (r : ResultRuns) (t : WrittenType) → results_in words r ≡ One t → GivesOne r
@@ -298,11 +298,11 @@ functions_here a [] h s = tt {0}
 functions_here a (f ∷ fs) h s = ((h.0, one_given a.words f.result s.0.0.0 s.0.0.1), functions_here a fs h.1 s.1)
 
 pub program_plain : (p : GenericParts) → GenericInside p → AllByRecursion IsPlainKept p.datas → AllByRecursion IsPlainHere p.functions → AreSingleTrees p.exprs → IsPlainProgram (generic_program_of p)
-program_plain p slice_get_within h k single = record {
+program_plain p inside h k single = record {
   datas = datas_plain p.exprs.words p.datas h;
   functions = functions_plain p.exprs p.functions k;
-  singles = functions_single p.exprs p.functions single slice_get_within.functions k;
-  main = single p.main.body.0 slice_get_within.main;
+  singles = functions_single p.exprs p.functions single inside.functions k;
+  main = single p.main.body.0 inside.main;
 }
 
 -- Each copied type has a constructor
@@ -333,7 +333,7 @@ pub record Bares (p : GenericParts) (made : Parts) : Type 0 where
   pub exprs : AreBare p.exprs (length p.exprs.nodes) made.exprs
   pub datas : map data_tree made.data_decls ≡ map bare_data (map (data_in p.exprs.words) p.datas)
   pub functions : map (function_tree (bare_tree p.exprs)) made.functions ≡ map bare_function (map (function_in p.exprs) p.functions)
-  pub slice_get_within : AllByRecursion (IsFunctionInside (length p.exprs.nodes)) made.functions
+  pub inside : AllByRecursion (IsFunctionInside (length p.exprs.nodes)) made.functions
   pub main : main_tree (bare_tree p.exprs) made.main ≡ bare_main (main_in p.exprs p.main)
   pub body : made.main.body ≡ p.main.body
 
@@ -341,31 +341,31 @@ pub record Bares (p : GenericParts) (made : Parts) : Type 0 where
 pub bares_of : (p : GenericParts) (made : Parts) (a b c d : Arena) (ds : List GenericData) (fs : List GenericFunction) (m : GenericMain) → a ≡ p.exprs → b ≡ p.exprs → c ≡ p.exprs → d ≡ p.exprs → ds ≡ p.datas → fs ≡ p.functions → m ≡ p.main
     → AreBare d (length d.nodes) made.exprs → map data_tree made.data_decls ≡ map bare_data (map (data_in a.words) ds) → map (function_tree (bare_tree b)) made.functions ≡ map bare_function (map (function_in b) fs) → AllByRecursion (IsFunctionInside (length b.nodes)) made.functions
     → main_tree (bare_tree c) made.main ≡ bare_main (main_in c m) → made.main.body ≡ m.body → Bares p made
-bares_of p made a b c d ds fs m ea eb ec ed eds efs em exprs datas functions slice_get_within main body = record {
+bares_of p made a b c d ds fs m ea eb ec ed eds efs em exprs datas functions inside main body = record {
   exprs = subst (λ (z : Arena). AreBare z (length z.nodes) made.exprs) ed exprs;
   datas = datas ∙ ap₂ (λ (z : Arena) (l : List GenericData). map bare_data (map (data_in z.words) l)) ea eds;
   functions = subst (λ (z : Arena). map (function_tree (bare_tree z)) made.functions ≡ map bare_function (map (function_in z) p.functions)) eb (functions ∙ ap (λ (l : List GenericFunction). map bare_function (map (function_in b) l)) efs);
-  slice_get_within = subst (λ (z : Arena). AllByRecursion (IsFunctionInside (length z.nodes)) made.functions) eb slice_get_within;
+  inside = subst (λ (z : Arena). AllByRecursion (IsFunctionInside (length z.nodes)) made.functions) eb inside;
   main = subst (λ (z : Arena). main_tree (bare_tree z) made.main ≡ bare_main (main_in z p.main)) ec (main ∙ ap (λ (f : GenericMain). bare_main (main_in c f)) em);
   body = body ∙ ap (λ (f : GenericMain). f.body) em;
 }
 
 main_below : (p : GenericParts) (made : Parts) → GenericInside p → Bares p made → made.main.body.0 < length p.exprs.nodes
-main_below p made slice_get_within h = subst (λ (i : ExprId). i.0 < length p.exprs.nodes) (sym h.body) slice_get_within.main
+main_below p made inside h = subst (λ (i : ExprId). i.0 < length p.exprs.nodes) (sym h.body) inside.main
 
 pub parts_inside : (p : GenericParts) (made : Parts) → GenericInside p → Bares p made → AreInside made
-parts_inside p made slice_get_within h = record {
+parts_inside p made inside h = record {
   functions = functions_inside p.exprs made.exprs made.functions h.exprs h.inside;
-  main = (let l = main_below p made slice_get_within h in let m = h.exprs.many in omega (arith, l, m));
-  constructors = subst (AllByRecursion Rattle.gib_syntax.specs.Fine.HasConstructor) (sym h.datas) (have_constructors (map (data_in p.exprs.words) p.datas) slice_get_within.constructors);
+  main = (let l = main_below p made inside h in let m = h.exprs.many in omega (arith, l, m));
+  constructors = subst (AllByRecursion Rattle.gib_syntax.specs.Fine.HasConstructor) (sym h.datas) (have_constructors (map (data_in p.exprs.words) p.datas) inside.constructors);
 }
 
 pub whole_bare : (p : GenericParts) (made : Parts) → GenericInside p → Bares p made → program_of made ≡ bare_program (generic_program_of p)
-whole_bare p made slice_get_within h =
+whole_bare p made inside h =
     ap (λ (a : List DataTree). let t : ProgramTree = record { datas = a; functions = map (function_tree (tree_of made.exprs)) made.functions; main = main_tree (tree_of made.exprs) made.main } in t) h.datas
     ∙ ap₂ (λ (b : List FunctionTree) (c : MainTree). let t : ProgramTree = record { datas = map bare_data (map (data_in p.exprs.words) p.datas); functions = b; main = c } in t)
     (functions_there p.exprs made.exprs made.functions h.exprs h.inside ∙ h.functions)
-    (ap (λ (b : Expression). let t : MainTree = record { parameter = made.main.parameter; result = made.main.result; body = b } in t) (h.exprs.trees made.main.body.0 (main_below p made slice_get_within h)) ∙ h.main)
+    (ap (λ (b : Expression). let t : MainTree = record { parameter = made.main.parameter; result = made.main.result; body = b } in t) (h.exprs.trees made.main.body.0 (main_below p made inside h)) ∙ h.main)
 
 -- The names of its copies
 
