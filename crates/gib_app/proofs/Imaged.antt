@@ -1,15 +1,16 @@
 -- What a run makes, with its image and without.
 use Rattle.gib_base.specs.Texts.{TextsView}
-use Rattle.std.proofs.Common.{◌≡◌, ◌∙◌, refl, ap, ℕ, ◌+◌, ◌≤◌, arith, length, List, [], ◌++◌, Option, Some, None, Bool, true, false, Result, Ok, Err, IfErr, subst, sym}
+use Rattle.std.proofs.Common.{◌≡◌, ◌∙◌, refl, ap, ℕ, zero, suc, ◌+◌, ◌*◌, ◌≤◌, arith, length, length-append, List, [], ◌∷◌, ◌++◌, Option, Some, None, Bool, true, false, Result, Ok, Err, IfErr, subst, sym}
 use Rattle.gib_types.specs.declared.table.Ty.{Ty}
 use Rattle.gib_types.specs.Layout.{LaidOut}
 use Rattle.gib_types.specs.Tree.{Datum}
-use Rattle.gib_mem.specs.Memory.{Memory, IsBounded}
+use Rattle.std.specs.Int.{w64, to_le_bytes}
+use Rattle.gib_mem.specs.Memory.{Memory, Store, look_of, IsBounded}
 use Rattle.gib_value.specs.Text.{AreHeld}
 use Rattle.gib_packed.specs.Stands.{Stands}
 use Rattle.gib_packed.specs.declared.root.Root.{Root}
-use Rattle.gib_print.proofs.ImageLemmas.{image-long}
-use Rattle.gib_print.specs.Image.{image_of, chunk_count, IsImageOf}
+use Rattle.gib_packed.specs.declared.root.Root.TheVariants.{Whole, Truth, At}
+use Rattle.gib_print.specs.Image.{shown, header, answer_of, image_of, chunk_count, IsImageOf}
 use Rattle.gib_syntax.specs.Tree.{ProgramTree}
 use Rattle.gib_syntax.specs.Declarations.{output_type}
 use Rattle.gib_app.specs.declared.made.End.{End as KeptEnd}
@@ -38,11 +39,32 @@ image_stands law laid m place bytes bounded few is ty v stands = subst (λ (l : 
 pub file_shown : (laid : LaidOut) (m : Memory) (place : Root) (bytes : List ℕ) (ty : Ty) (v : Datum) → bytes ≡ image_of m place → IsImageOf laid ty bytes v → IsImageOf laid ty (image_of m place) v
 file_shown laid m place bytes ty v is h = subst (λ (l : List ℕ). IsImageOf laid ty l v) is h
 
+-- How long the image of a memory is.
+
+shown_long : (s : Store) (n : ℕ) → length (shown s n) ≡ n
+shown_long s zero = refl
+shown_long s (suc n) = omega (arith, length-append (shown s n) (look_of (s n) ∷ []), shown_long s n)
+
+answer_long : (place : Root) → length (answer_of place) ≡ 8
+answer_long (Whole z) = refl
+answer_long (Truth b) = refl
+answer_long (At a) = refl
+
+image_long : (m : Memory) (place : Root) → length (image_of m place) ≡ 24 + 4096 * m.drawn
+image_long m place =
+    omega (
+      arith,
+      length-append (header place m.drawn) (shown m.cells (4096 * m.drawn)),
+      length-append (answer_of place) (to_le_bytes w64 m.drawn),
+      answer_long place,
+      shown_long m.cells (4096 * m.drawn),
+    )
+
 -- It has as many chunks as are drawn, and these are no more than there may be.
 pub image_few : (laid : LaidOut) (m : Memory) (place : Root) (bytes : List ℕ) → IsBounded m → bytes ≡ image_of m place → (ty : Ty) (v : Datum) → IsImageOf laid ty bytes v → chunk_count bytes ≤ m.limit
 image_few laid m place bytes bounded is ty v image =
     let long = image.formed.long in
-    let size = image-long m place in
+    let size = image_long m place in
     let same = ap length is in
     let order = bounded.order in
     omega (arith, long, size, same, order)

@@ -30,7 +30,7 @@ mod Targets
 mod Fitting
 mod Imaged
 mod Summed
-mod Calling
+pub mod Calling
 mod Headlines
 mod Results
 mod Roots
