@@ -8,7 +8,7 @@ use Rattle.gib_words.specs.declared.plan.Job.{Job}
 use Rattle.gib_app.specs.declared.inputs.Format.{Format}
 use Rattle.gib_app.specs.declared.inputs.Format.TheVariants.{Packed, Packable, Shown, Journaled}
 use Rattle.gib_words.specs.declared.plan.Options.{Options}
-use Rattle.gib_words.specs.Plan.{Write, Plan, Files, bytes_in, Contents}
+use Rattle.gib_words.specs.Plan.{Write, Plan, Files, Document, bytes_in, Contents}
 use Rattle.gib_app.specs.Writes.{with_write, writes_of, IsStuckIn, IsNamedIn}
 use Rattle.gib_app.specs.Running.{IsInput, IsSourceIn, IsNoProgramIn, Program, IsShownValue}
 use Rattle.gib_app.specs.Packing.{IsPackedBy}

@@ -35,8 +35,8 @@ run_on-left-requires-clause-table g c κs within =
 pub run_on-left-requires-clause-ty : goal.run_on-left-requires-clause-ty
 run_on-left-requires-clause-ty g c κs within = c.in-Ok-survey_typed.ensures.ty ∙ ap (λ m. m.parameter) c.main-ty.ensures.value ∙ ap (λ (x : Parts). x.main.parameter) c.core-core.ensures.value
 
-pub returns-in-Ok-survey_typed-clause-stands : goal.returns-in-Ok-survey_typed-clause-stands
-returns-in-Ok-survey_typed-clause-stands g c = λ p runs.
+pub returns-clause-stands : goal.returns-clause-stands
+returns-clause-stands g c = λ p runs.
     let core = core_of c.args.core in
     let names = c.args.names.now in
     let o = c.args.options in
@@ -51,20 +51,20 @@ returns-in-Ok-survey_typed-clause-stands g c = λ p runs.
     (c.types-types.ensures ∙ ap (λ (x : Parts). x.table) same) (ap (λ m. m.parameter) c.main-ty.ensures.value ∙ ap (λ (x : Parts). x.main.parameter) same) c.in-Ok-survey_typed.ensures.file)
     c.run_on-left.result c.run_on-left.ensures.root c.run_on-left.ensures.halts)
 
-pub returns-in-Ok-survey_typed-clause-code : goal.returns-in-Ok-survey_typed-clause-code
-returns-in-Ok-survey_typed-clause-code g c =
+pub returns-clause-code : goal.returns-clause-code
+returns-clause-code g c =
     let code = lower_program (core_of c.args.core) in
     let C : LoweredParts → Type 0 = λ l. l.code ≡ code in
     let P : Result RunEnd Stop → Type 0 = λ r. IfOk r (OnRan (λ ran. C ran.lowered)) in
     subst P (sym c.ended.ensures) (ended_code c.in-Ok.lowered c.run_on-left.result C c.in-Ok.ensures.code)
 
-pub returns-in-Ok-survey_typed-clause-limit : goal.returns-in-Ok-survey_typed-clause-limit
-returns-in-Ok-survey_typed-clause-limit g c =
+pub returns-clause-limit : goal.returns-clause-limit
+returns-clause-limit g c =
     let M : SoleMem → Type 0 = λ m. (sole_memory m).limit ≤ c.args.options.chunks in
     let P : Result RunEnd Stop → Type 0 = λ r. IfOk r (OnRan (λ ran. M ran.memory)) in
     subst P (sym c.ended.ensures) (ended_memory c.in-Ok.lowered c.run_on-left.result M c.run_on-left.ensures.limit)
 
-pub returns-in-Ok-survey_typed-clause-stop : goal.returns-in-Ok-survey_typed-clause-stop
-returns-in-Ok-survey_typed-clause-stop g c = λ p runs.
+pub returns-clause-stop : goal.returns-clause-stop
+returns-clause-stop g c = λ p runs.
     let P : Result RunEnd Stop → Type 0 = λ r. IfErr r (IsRunStop p c.args.names.now c.args.file.now) in
     subst P (sym c.ended.ensures) (ended_stop c.in-Ok.lowered c.run_on-left.result p c.args.names.now c.args.file.now)

@@ -1,4 +1,6 @@
-use Rattle.std.proofs.Common.{◌≡◌, ℕ, List, Option, None, option_map, refl, sym, ap, subst, subst₂}
+use Rattle.std.proofs.Common.{◌≡◌, ℕ, List, Option, None, Result, IfOk, option_map, refl, sym, ap, subst, subst₂}
+use Rattle.std.specs.Global.{Vec}
+use Rattle.std.specs.declared.alloc.AllocError.{AllocError}
 use Rattle.gib_base.specs.Texts.{TextsView}
 use Rattle.gib_arena.specs.Sole.{sole_memory, sole_bounded}
 use Rattle.gib_app.specs.declared.made.End.{End as KeptEnd}
@@ -7,6 +9,7 @@ use Rattle.gib_app.specs.Imaging.{IsShownWith}
 use Rattle.gib_app.specs.Jobs.{Runs}
 use Rattle.gib_app.specs.Kept.{EndsBy, file_of}
 use Rattle.gib_app.specs.Remains.{ComesOfMemory}
+use Rattle.gib_app.specs.Running.{text_line}
 use Rattle.gib_app.proofs.Imaged.{shown_runs, value_ends}
 use Rattle.gib_app.proofs.PackedRuns.{held_again, stands_named}
 use Rattle.gib_app.proofs.Remaining.{shown_here, stands_left, left_again}
@@ -25,7 +28,8 @@ returns-in-Ok-clause-made g c = λ p options input laid asked limit s.
     let made = c.only_prints.result in
     let none : file_of made ≡ None = ap (option_map (λ bytes. bytes.items)) c.only_prints.ensures.file in
     let E : Option (List ℕ) → KeptEnd → Type 0 = λ f e. IsShownWith Rattle.std.specs.Prelude.false ran.lowered.code.laid (sole_memory ran.memory) ran.root p value.names s.result f e in
-    let there : E (file_of made) made.end = subst₂ E (sym none) (sym c.only_prints.ensures.end) (refl, c.in-Ok.ensures.text p options.depth input s) in
+    let T : Result (Vec ℕ) AllocError → Type 0 = λ r. IfOk r (λ text. text.items ≡ text_line p value.names s.result) in
+    let there : E (file_of made) made.end = subst₂ E (sym none) (sym c.only_prints.ensures.end) (refl, subst T c.in-Ok.is (c.text_result-text.ensures.text p options.depth input s)) in
     shown_runs p value.names options input ran.lowered.code.laid (sole_memory ran.memory) ran.root s (sole_bounded ran.memory) laid limit Rattle.std.specs.Prelude.false asked (file_of made) made.end there
 
 pub returns-in-Ok-clause-region : goal.returns-in-Ok-clause-region
@@ -36,7 +40,8 @@ returns-in-Ok-clause-region g c = λ p options input asked left.
     let s = stands_left p value.names options input value left in
     let none : file_of made ≡ None = ap (option_map (λ bytes. bytes.items)) c.only_prints.ensures.file in
     let E : Option (List ℕ) → KeptEnd → Type 0 = λ f e. IsShownWith Rattle.std.specs.Prelude.false ran.lowered.code.laid (sole_memory ran.memory) ran.root p value.names s.result f e in
-    let there : E (file_of made) made.end = subst₂ E (sym none) (sym c.only_prints.ensures.end) (refl, c.in-Ok.ensures.text p options.depth input s) in
+    let T : Result (Vec ℕ) AllocError → Type 0 = λ r. IfOk r (λ text. text.items ≡ text_line p value.names s.result) in
+    let there : E (file_of made) made.end = subst₂ E (sym none) (sym c.only_prints.ensures.end) (refl, subst T c.in-Ok.is (c.text_result-text.ensures.text p options.depth input s)) in
     shown_here p value.names options input value left Rattle.std.specs.Prelude.false asked (file_of made) made.end there
 
 pub returns-in-Err-clause-made : goal.returns-in-Err-clause-made

@@ -48,8 +48,8 @@ returns-in-Value-clause-region g c = λ p located runs.
 
 -- ---- It leaves none
 
-pub returns-in-NoValue-clause-made : goal.returns-in-NoValue-clause-made
-returns-in-NoValue-clause-made g c = λ p located runs.
+pub returns-clause-made : goal.returns-clause-made
+returns-clause-made g c = λ p located runs.
     let core = core_of c.args.located.core in
     let names = c.args.located.names in
     let o = c.args.options in
@@ -58,7 +58,7 @@ returns-in-NoValue-clause-made g c = λ p located runs.
     let why = c.in-NoValue.reason in
     ends_without c.no_value.result why (RunsLocated p names o input) c.no_value.ensures.file c.no_value.ensures.end (lacks_located core p names o input located why (subst S c.in-NoValue.is (c.in-Ok.ensures.stands p.tree runs)))
 
-pub returns-in-NoValue-clause-region : goal.returns-in-NoValue-clause-region
-returns-in-NoValue-clause-region g c = λ p located runs.
+pub returns-clause-region : goal.returns-clause-region
+returns-clause-region g c = λ p located runs.
     let Q : End → Type 0 = ComesOfCore p c.args.located.names c.args.options c.args.input.now in
     subst Q (sym c.no_value.ensures.end) (tt {0})

@@ -15,8 +15,8 @@ use Rattle.gib_app.proofs.jobs.made_run.made_run.Goals as goal
 
 -- ---- It leaves a value
 
-pub line_made-requires-clause-stands : goal.line_made-requires-clause-stands
-line_made-requires-clause-stands g c κs within =
+pub line_made-requires : goal.line_made-requires
+line_made-requires g c =
     let p = program_of c.args.compiled.now.typed in
     let names = c.args.compiled.now.names in
     let o = c.args.options in

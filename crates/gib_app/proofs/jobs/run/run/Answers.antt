@@ -74,8 +74,8 @@ returns-in-Value-clause-stop g c = memory_stops c.finish_run.result (program_of 
 
 -- ---- It leaves none
 
-pub returns-in-NoValue-clause-made : goal.returns-in-NoValue-clause-made
-returns-in-NoValue-clause-made g c =
+pub returns-clause-made : goal.returns-clause-made
+returns-clause-made g c =
     let p = program_of c.args.compiled.typed in
     let names = c.args.compiled.names in
     let o = c.args.options in
@@ -84,8 +84,8 @@ returns-in-NoValue-clause-made g c =
     let why = c.in-NoValue.reason in
     both_without c.no_value.result why (RunsBoth p names o input) c.no_value.ensures.file c.no_value.ensures.packed c.no_value.ensures.end (runs_valueless p names o input why (lacks_runs p names o input why (subst S c.in-NoValue.is c.in-Ok.ensures.stands)))
 
-pub returns-in-NoValue-clause-region : goal.returns-in-NoValue-clause-region
-returns-in-NoValue-clause-region g c =
+pub returns-clause-region : goal.returns-clause-region
+returns-clause-region g c =
     let p = program_of c.args.compiled.typed in
     let names = c.args.compiled.names in
     let o = c.args.options in
