@@ -14,7 +14,7 @@ use Rattle.gib_app.specs.Running.{IsInput, IsSourceIn, IsNoProgramIn, Program, I
 use Rattle.gib_app.specs.Packing.{IsPackedBy}
 use Rattle.gib_app.specs.Formats.{format_of, inputs_of, dialect_of, Accepts}
 use Rattle.gib_app.specs.Formats.{Input as PlanInput}
-use Rattle.gib_app.specs.Causes.{AreFurther, AreGiven, AreReached, AreUnread, first_of, further_of, OnProgram, OnSource, OnBoth, OnReached, IsUnwritten, FailsToRead, FailsToWrite}
+use Rattle.gib_app.specs.Causes.{IsUnread, AreFurther, AreGiven, AreReached, AreUnread, first_of, further_of, OnProgram, OnSource, OnBoth, OnReached, IsUnwritten, FailsToRead, FailsToWrite}
 use Rattle.gib_app.specs.Ending.{AreFurtherTold, AreTold, FirstWritten, DueOfSource, DueOfFiles}
 use Rattle.gib_app.proofs.Doing.{AcceptsBy}
 use Rattle.gib_app.proofs.CallCauses.{K}

@@ -22,7 +22,7 @@ line_made-requires g c =
     let o = c.args.options in
     let input = c.args.input.now in
     let S : RunEnd → Type 0 = IsRunEnd (core_after o.skips 4 p) p names o.depth (run_forks o) o.chunks input in
-    (names, record { program = p; depth = o.depth; input = input; meant = subst S c.in-Value.is c.in-Ok.ensures.stands })
+    record { stands = (names, record { program = p; depth = o.depth; input = input; meant = subst S c.in-Value.is c.in-Ok.ensures.stands }) }
 
 pub returns-in-Value-clause-made : goal.returns-in-Value-clause-made
 returns-in-Value-clause-made g c =
