@@ -8,7 +8,8 @@ use Rattle.gib_syntax.specs.declared.tree.Ident.{Ident}
 use Rattle.gib_syntax.specs.Tree.{Expression, Arms, Var, Num, Bit, Paren, Op, Call, Make, Let, Par, If, Case, Tuple, LetSeveral, ParSeveral, LastArm, NextArm, FunctionTree}
 use Rattle.gib_syntax.specs.Results.{One, Several}
 use Rattle.gib_syntax.specs.Declarations.{number_of, type_of_name, function_named}
-use Rattle.gib_syntax.specs.Typing.{Globals, Scope, type_in, IsNew, bound, BindsAll, names_of, types_of, operator_type, one_type, result_types, Has, HaveArms}
+use Rattle.gib_syntax.specs.Typing.{Globals, Scope, type_in, IsNew, bound, BindsAll, names_of, types_of, one_type, result_types, Has, HaveArms}
+use Rattle.gib_types.specs.Operators.{operator_type}
 use Rattle.gib_check.specs.declared.origin.TypeOrigin.{TypeOrigin}
 use Rattle.gib_check.specs.declared.origin.TypeOrigin.TheVariants.{Fixed, Variable}
 use Rattle.gib_check.specs.Origins.{fields_if}

@@ -5,7 +5,7 @@ use Rattle.gib_types.specs.declared.types.TypeId.{TypeId}
 use Rattle.gib_types.specs.Form.{Form, WholeForm, TruthForm, DataForm}
 use Rattle.gib_types.specs.Types.{form_at, forms_of}
 use Rattle.gib_syntax.specs.declared.tree.Ident.{Ident}
-use Rattle.gib_syntax.specs.declared.tree.Operator.{Operator}
+use Rattle.gib_types.specs.declared.operator.Operator.{Operator}
 use Rattle.gib_syntax.specs.Forms.{WrittenTypes, formed_all, count_written}
 use Rattle.gib_syntax.specs.Results.{Results, One, Several}
 use Rattle.gib_syntax.specs.GenericTree.{GenericExpression, GenericOp, GenericLet, GenericPar, GenericIf, GenericLetSeveral, GenericParSeveral, GenericFunctionTree, GenericRow}

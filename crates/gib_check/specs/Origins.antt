@@ -6,7 +6,8 @@ use Rattle.gib_types.specs.Table.{Table, owner_at, fields_at}
 use Rattle.gib_syntax.specs.declared.tree.Ident.{Ident}
 use Rattle.gib_syntax.specs.Tree.{Expression, Arms, Var, Num, Bit, Paren, Op, Call, Make, Let, Par, If, Case, Tuple, LetSeveral, ParSeveral, LastArm, NextArm, FunctionTree}
 use Rattle.gib_syntax.specs.Declarations.{number_of, constructor_named, function_named}
-use Rattle.gib_syntax.specs.Typing.{Globals, Scope, type_in, names_of, types_of, result_type, operator_type}
+use Rattle.gib_syntax.specs.Typing.{Globals, Scope, type_in, names_of, types_of, result_type}
+use Rattle.gib_types.specs.Operators.{operator_type}
 use Rattle.gib_check.specs.declared.origin.TypeOrigin.{TypeOrigin}
 use Rattle.gib_check.specs.declared.origin.TypeOrigin.TheVariants.{Fixed, Variable}
 

@@ -25,7 +25,8 @@ use crate::standing::{Standing, may_stand, standing_for};
 use crate::state::State;
 use crate::uses::{fields_named, given, parameter_types, result_types, row_fields, type_arguments};
 use gib_base::Span;
-use gib_syntax::{Arm, Bound, ExprId, GenericNode, Ident, Operator, Run};
+use gib_syntax::{Arm, Bound, ExprId, GenericNode, Ident, Run};
+use gib_types::Operator;
 use gib_types::types::{TypeId, TypeNode};
 
 /// An expression's number, and where it stands.

@@ -7,8 +7,8 @@ use Rattle.gib_base.specs.declared.name.Name.{Name}
 use Rattle.gib_types.specs.Table.{Table, name_at}
 use Rattle.gib_code.specs.declared.instruction.Operand.{Operand}
 use Rattle.gib_code.specs.declared.instruction.Operand.TheVariants as o
-use Rattle.gib_code.specs.declared.instruction.Operation.{Operation}
-use Rattle.gib_code.specs.declared.instruction.Operation.TheVariants as f
+use Rattle.gib_types.specs.declared.operator.Operator.{Operator}
+use Rattle.gib_types.specs.declared.operator.Operator.TheVariants as f
 use Rattle.gib_code.specs.declared.instruction.Kind.{Kind}
 use Rattle.gib_code.specs.declared.instruction.Kind.TheVariants as k
 use Rattle.gib_code.specs.declared.instruction.Arm.{Arm}
@@ -37,14 +37,14 @@ operand_text (o.Slot n) = slot_text n
 operand_text (o.Number w) = 32 ∷ signed_decimal (cast_signed w64 w)
 
 -- The word of an operation.
-abbrev pub operation_text : Operation → List ℕ
+abbrev pub operation_text : Operator → List ℕ
 operation_text f.Add = codes " add"
-operation_text f.Sub = codes " sub"
-operation_text f.Mul = codes " mul"
-operation_text f.Eq = codes " eq"
-operation_text f.Lt = codes " lt"
-operation_text f.Quot = codes " quot"
-operation_text f.Rem = codes " rem"
+operation_text f.Subtract = codes " sub"
+operation_text f.Multiply = codes " mul"
+operation_text f.Equal = codes " eq"
+operation_text f.Less = codes " lt"
+operation_text f.Quotient = codes " quot"
+operation_text f.Remainder = codes " rem"
 
 -- The word for how a side's value is put.
 abbrev pub kind_text : Kind → List ℕ

@@ -23,10 +23,8 @@ pub enum Answer {
     At(u64),
     /// Several parts in declared order: the words of scalars and the addresses at which packed values begin; 0 behind them.
     Parts([u64; 8]),
-    /// A call had no depth left.
-    Deep,
-    /// A number was divided by 0.
-    Trap,
+    /// None.
+    NoValue(Reason),
 }
 
 /// A right side that waits for a machine.

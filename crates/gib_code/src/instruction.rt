@@ -5,7 +5,7 @@
 //! number of an instruction. A place counts bytes from the start of a head.
 
 use gib_base::Name;
-use gib_types::Ty;
+use gib_types::{Operator, Ty};
 
 /// A slot or a literal.
 #[derive(Clone, Copy, PartialEq, Eq)]
@@ -14,20 +14,6 @@ pub enum Operand {
     Slot(u32),
     /// A number in two's complement, a truth value as 0 or 1.
     Number(u64),
-}
-
-/// What is done with two operands.
-#[derive(Clone, Copy, PartialEq, Eq)]
-pub enum Operation {
-    Add,
-    Sub,
-    Mul,
-    Eq,
-    Lt,
-    /// The quotient, cut towards zero; the task unwinds where the right operand is 0.
-    Quot,
-    /// What is left of that quotient; the task unwinds where the right operand is 0.
-    Rem,
 }
 
 /// Where the value of a right side is put.
@@ -86,7 +72,7 @@ pub enum Instr {
     },
     Operate {
         to: u32,
-        operation: Operation,
+        operator: Operator,
         left: Operand,
         right: Operand,
     },

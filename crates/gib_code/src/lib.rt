@@ -9,5 +9,5 @@ mod text;
 
 pub use answer::{Answer, Reason, Side};
 pub use code::Code;
-pub use instruction::{AnswerType, Arm, Entry, Fork, Instr, Kind, Operand, Operation, Targets};
+pub use instruction::{AnswerType, Arm, Entry, Fork, Instr, Kind, Operand, Targets};
 pub use text::listing;

@@ -10,10 +10,10 @@ ghost use Rattle.gib_code.specs.Families.{family_of, Setting, Putting, Jumping, 
 ghost use Rattle.gib_code.specs.ListingText.{name_text, number_text, slot_text, operand_text, operation_text, kind_text, constructor_text, called, function_text, label_text, instruction_text, line_text, title, head_text, head_at, later_than, lines_text, listing_text};
 
 use crate::code::Code;
-use crate::instruction::{Arm, Entry, Instr, Kind, Operand, Operation, Targets};
+use crate::instruction::{Arm, Entry, Instr, Kind, Operand, Targets};
 use crate::names::{push_name, push_name_behind_space};
 use gib_base::{Memory, Name, Texts, push_decimal, push_signed};
-use gib_types::{ConId, TypeTable};
+use gib_types::{ConId, Operator, TypeTable};
 use std::alloc::Global;
 
 /// What the lines of a listing are written with.
@@ -137,17 +137,17 @@ fn push_labels(alloc: Global, out: &mut Vec<u8>, arms: &[Arm]) -> Result<(), Mem
     Ok(())
 }
 
-fn operation_text(operation: Operation) -> &'static [u8]
-    ensures { result.now ≡ operation_text operation }
+fn operation_text(operator: Operator) -> &'static [u8]
+    ensures { result.now ≡ operation_text operator }
 {
-    match operation {
-        Operation::Add => b" add",
-        Operation::Sub => b" sub",
-        Operation::Mul => b" mul",
-        Operation::Eq => b" eq",
-        Operation::Lt => b" lt",
-        Operation::Quot => b" quot",
-        Operation::Rem => b" rem",
+    match operator {
+        Operator::Add => b" add",
+        Operator::Subtract => b" sub",
+        Operator::Multiply => b" mul",
+        Operator::Equal => b" eq",
+        Operator::Less => b" lt",
+        Operator::Quotient => b" quot",
+        Operator::Remainder => b" rem",
     }
 }
 
@@ -222,11 +222,11 @@ fn push_setting(alloc: Global, out: &mut Vec<u8>, instr: &Instr) -> Result<(), M
         }
         Instr::Operate {
             to,
-            operation,
+            operator,
             left,
             right,
         } => {
-            push_one(alloc, out, operation_text(*operation), *to)?;
+            push_one(alloc, out, operation_text(*operator), *to)?;
             push_operand(alloc, out, *left)?;
             push_operand(alloc, out, *right)
         }

@@ -10,10 +10,10 @@ use Rattle.gib_syntax.specs.Results as results
 use Rattle.gib_syntax.specs.Results.{AreSeveral}
 use Rattle.std.specs.List.{AllByRecursion}
 use Rattle.gib_types.specs.Layout.{is_among as is_number_among, numbers_of}
-use Rattle.gib_syntax.specs.declared.tree.Operator.{Operator}
-use Rattle.gib_syntax.specs.declared.tree.Operator.TheVariants as o
+use Rattle.gib_types.specs.declared.operator.Operator.{Operator}
+use Rattle.gib_types.specs.declared.operator.Operator.TheVariants as o
 use Rattle.gib_syntax.specs.Meaning.{is_scalar}
-use Rattle.gib_syntax.specs.Typing.{operator_type}
+use Rattle.gib_types.specs.Operators.{operator_type}
 use Rattle.gib_core.specs.declared.atom.Variable.{Variable}
 use Rattle.gib_core.specs.declared.atom.Atom.{Atom}
 use Rattle.gib_core.specs.declared.atom.Atom.TheVariants as a

@@ -6,7 +6,7 @@ use Rattle.gib_types.specs.declared.table.Ty.{Ty}
 use Rattle.gib_types.specs.declared.table.Ty.TheVariants.{Whole, Truth, Tree}
 use Rattle.gib_types.specs.Table.{Row, Table, scalar_types, IsTable, IsTyBelow, fields_at, fields_of, con_at, if_owned}
 use Rattle.gib_syntax.specs.Meaning.{is_scalar}
-use Rattle.gib_syntax.specs.Typing.{operator_type}
+use Rattle.gib_types.specs.Operators.{operator_type}
 use Rattle.std.proofs.lemmas.Bool.Decides.{nat_tests}
 use Rattle.gib_core.specs.declared.atom.Atom.{Atom}
 use Rattle.gib_core.specs.declared.atom.Access.TheVariants as by

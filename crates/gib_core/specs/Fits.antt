@@ -9,7 +9,7 @@ use Rattle.gib_types.specs.Table.{fields_at, con_at, scalar_types, IsTable, is_s
 use Rattle.gib_types.specs.Layout.{is_among}
 use Rattle.gib_syntax.specs.Results as results
 use Rattle.gib_syntax.specs.Results.{Results, AreSeveral}
-use Rattle.gib_syntax.specs.Typing.{operator_type}
+use Rattle.gib_types.specs.Operators.{operator_type}
 use Rattle.gib_types.specs.declared.table.ConId.{ConId}
 use Rattle.gib_core.specs.declared.atom.Variable.{Variable}
 use Rattle.gib_core.specs.declared.atom.Atom.{Atom}

@@ -7,14 +7,15 @@ use Rattle.gib_types.specs.declared.table.ConId.{ConId}
 use Rattle.gib_types.specs.Table.{Table, fields_at, owner_at, at_fields}
 pub use Rattle.gib_types.specs.Table.{first_type, further_types, numbers_from, constructors_of}
 use Rattle.gib_syntax.specs.declared.tree.Ident.{Ident}
-use Rattle.gib_syntax.specs.declared.tree.Operator.{Operator}
+use Rattle.gib_types.specs.declared.operator.Operator.{Operator}
 use Rattle.gib_syntax.specs.Tree.{Expression, Arguments, Arms, Var, Num, Bit, Paren, Op, Call, Make, Let, Par, If, Case, LetSeveral, ParSeveral, NoArgument, Argument, LastArm, NextArm, FunctionTree, ProgramTree}
 use Rattle.gib_core.specs.Tree as core
 use Rattle.gib_syntax.specs.Tree as source
 use Rattle.gib_syntax.specs.Results as results
 use Rattle.gib_syntax.specs.Results.{Results}
 use Rattle.gib_syntax.specs.Declarations.{number_of, constructor_named, function_named, type_of_name}
-use Rattle.gib_syntax.specs.Typing.{Globals, globals_of, parameter_types, types_of, result_types, operator_type}
+use Rattle.gib_syntax.specs.Typing.{Globals, globals_of, parameter_types, types_of, result_types}
+use Rattle.gib_types.specs.Operators.{operator_type}
 use Rattle.gib_syntax.specs.Meaning.{names_of}
 use Rattle.gib_core.specs.declared.atom.Variable.{Variable}
 use Rattle.gib_core.specs.declared.atom.Atom.{Atom}

@@ -6,8 +6,7 @@ use Rattle.gib_types.specs.declared.table.Ty.TheVariants as ty
 use Rattle.gib_types.specs.declared.table.ConId.{ConId}
 use Rattle.gib_types.specs.Table.{fields_at, at_fields}
 use Rattle.gib_types.specs.Layout.{LaidOut, layout_at, head_size, numbers_of, packed_count}
-use Rattle.gib_syntax.specs.declared.tree.Operator.{Operator}
-use Rattle.gib_syntax.specs.declared.tree.Operator.TheVariants as o
+use Rattle.gib_types.specs.declared.operator.Operator.{Operator}
 use Rattle.gib_core.specs.declared.atom.Variable.{Variable}
 use Rattle.gib_core.specs.declared.atom.Atom.{Atom}
 use Rattle.gib_core.specs.declared.atom.Atom.TheVariants as a
@@ -22,8 +21,6 @@ use Rattle.gib_core.specs.Numbering.{binders}
 use Rattle.gib_core.specs.Ending.{Ended, Within, within_par, within_function, within_main, ended, has_ended, last_packed, if_some, is_known}
 use Rattle.gib_code.specs.declared.instruction.Operand.{Operand}
 use Rattle.gib_code.specs.declared.instruction.Operand.TheVariants.{Slot, Number}
-use Rattle.gib_code.specs.declared.instruction.Operation.{Operation}
-use Rattle.gib_code.specs.declared.instruction.Operation.TheVariants.{Add, Sub, Mul, Eq, Lt, Quot, Rem}
 use Rattle.gib_code.specs.declared.instruction.Kind.TheVariants as k
 use Rattle.gib_code.specs.declared.instruction.Kind.{Kind as CodeKind}
 use Rattle.gib_code.specs.declared.instruction.Arm.{Arm}
@@ -63,16 +60,6 @@ slot_of (a.Truth b) = 0
 -- The slots of packed values.
 abbrev pub slots_of : List Atom → List ℕ
 slots_of xs = map slot_of xs
-
--- What the machine does for an operator.
-abbrev pub operation : Operator → Operation
-operation o.Add = Add
-operation o.Subtract = Sub
-operation o.Multiply = Mul
-operation o.Equal = Eq
-operation o.Less = Lt
-operation o.Quotient = Quot
-operation o.Remainder = Rem
 
 -- How a side's value is put.
 abbrev pub kind_of : Kind → CodeKind
@@ -321,7 +308,7 @@ mutual
         → LowSide core code (within_par w) fs (m + 1) r z → IsAt code z Back
         → LowBind core code w fs a (t.Both true l r) (z + 1)
     prim : {w : Within} {fs : List Field} {a : ℕ} {x : Variable} {f : Operator} {y v : Atom}
-        → IsAt code a (Operate x.0 (operation f) (operand y) (operand v)) → LowBind core code w fs a (t.Prim x f y v) (a + 1)
+        → IsAt code a (Operate x.0 f (operand y) (operand v)) → LowBind core code w fs a (t.Prim x f y v) (a + 1)
     reach : {w : Within} {fs : List Field} {a : ℕ} {y : Variable} {access : Rattle.gib_core.specs.declared.atom.Access.Access}
         → IsAt code a (reaching fs y access) → LowBind core code w fs a (t.Reach y access) (a + 1)
 

@@ -5,7 +5,7 @@ use Rattle.gib_types.specs.declared.table.Ty.{Ty}
 use Rattle.gib_types.specs.declared.table.Ty.TheVariants.{Whole, Truth, Tree}
 use Rattle.gib_types.specs.declared.table.ConId.{ConId}
 use Rattle.gib_types.specs.Table.{Table, fields_at, tree_types, first_type, further_types}
-use Rattle.gib_syntax.specs.declared.tree.Operator.{Operator}
+use Rattle.gib_types.specs.declared.operator.Operator.{Operator}
 use Rattle.gib_syntax.specs.Typing.{one_type}
 use Rattle.gib_core.specs.declared.atom.Variable.{Variable}
 use Rattle.gib_core.specs.declared.atom.Atom.{Atom}

@@ -8,7 +8,7 @@ use Rattle.gib_types.specs.Table.{Table, fields_at, con_at, scalar_types, tree_t
 pub use Rattle.gib_types.specs.Table.{same_type, type_made}
 use Rattle.gib_syntax.specs.Results as results
 use Rattle.gib_syntax.specs.Results.{Results}
-use Rattle.gib_syntax.specs.Typing.{operator_type}
+use Rattle.gib_types.specs.Operators.{operator_type}
 use Rattle.gib_core.specs.declared.atom.Variable.{Variable}
 use Rattle.gib_core.specs.declared.atom.Atom.{Atom}
 use Rattle.gib_core.specs.declared.atom.Atom.TheVariants as a

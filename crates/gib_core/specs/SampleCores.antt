@@ -11,7 +11,7 @@ use Rattle.gib_core.specs.declared.atom.Atom.TheVariants as a
 use Rattle.gib_core.specs.declared.atom.Kind.{Kind}
 use Rattle.gib_core.specs.declared.atom.Kind.TheVariants.{Here, Region, Scalar}
 use Rattle.gib_core.specs.declared.atom.Access.TheVariants.{Offset}
-use Rattle.gib_syntax.specs.declared.tree.Operator.TheVariants.{Add}
+use Rattle.gib_types.specs.declared.operator.Operator.TheVariants.{Add}
 use Rattle.gib_syntax.specs.Results as results
 use Rattle.gib_core.specs.Tree.{Term, Then, CallTerm, CaseTerm, Write, Tuple, NoPart, PartThen, Bind, Past, Point, Give, One, Both, Prim, Reach, On, Several, Branches, NoBranch, BranchThen, var, CoreTree}
 

@@ -7,7 +7,7 @@ ghost use Rattle.gib_types.specs.declared.table.Ty.TheVariants as ty;
 ghost use Rattle.gib_types.specs.declared.table.ConId.{ConId as Con};
 ghost use Rattle.gib_types.specs.Row.{Table};
 ghost use Rattle.gib_types.specs.Tree.{Datum, whole, con, Data, none as no_fields, more as field};
-ghost use Rattle.gib_syntax.specs.declared.tree.Operator.TheVariants as o;
+ghost use Rattle.gib_types.specs.declared.operator.Operator.TheVariants as o;
 ghost use Rattle.gib_core.specs.declared.atom.Atom.TheVariants as a;
 ghost use Rattle.gib_core.specs.declared.atom.Access.TheVariants as by;
 ghost use Rattle.gib_core.specs.declared.atom.Kind.{Kind as HowBound};

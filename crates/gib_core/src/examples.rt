@@ -8,7 +8,7 @@ ghost use Rattle.gib_types.specs.declared.table.ConId.{ConId as Con};
 ghost use Rattle.gib_types.specs.Row.{Table};
 ghost use Rattle.gib_syntax.specs.declared.tree.Ident.{Ident};
 ghost use Rattle.gib_syntax.specs.declared.tree.TypeName.TheVariants as written;
-ghost use Rattle.gib_syntax.specs.declared.tree.Operator.TheVariants as o;
+ghost use Rattle.gib_types.specs.declared.operator.Operator.TheVariants as o;
 ghost use Rattle.gib_syntax.specs.Tree.{Num, Op, Paren, ProgramTree, Var};
 ghost use Rattle.gib_core.specs.declared.atom.Atom.TheVariants as a;
 ghost use Rattle.gib_core.specs.declared.atom.Access.TheVariants as by;

@@ -7,8 +7,7 @@ use crate::atom::{Access, Atom, Kind, Variable};
 use crate::part_types::PartTypes;
 use gib_base::{Memory, Name};
 use gib_nodes::{Arena, Layered};
-use gib_syntax::Operator;
-use gib_types::{ConId, Ty};
+use gib_types::{ConId, Operator, Ty};
 use std::alloc::Global;
 use std::marker::Model;
 

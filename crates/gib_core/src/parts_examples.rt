@@ -2,7 +2,7 @@
 
 ghost use Rattle.std.specs.Prelude.{◌≡◌, ◌∷◌, [], ℕ, pos, None};
 ghost use Rattle.gib_types.specs.Tree.{Datum, whole, con, none, more};
-ghost use Rattle.gib_syntax.specs.declared.tree.Operator.TheVariants.{Quotient};
+ghost use Rattle.gib_types.specs.declared.operator.Operator.TheVariants.{Quotient};
 ghost use Rattle.gib_syntax.specs.Meaning.{Gives, Stops, Deep, Trap};
 ghost use Rattle.gib_core.specs.declared.atom.AccessMode.TheVariants.{Offsets};
 ghost use Rattle.gib_core.specs.declared.atom.Atom.TheVariants as a;

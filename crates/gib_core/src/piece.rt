@@ -2,8 +2,7 @@
 
 use crate::atom::{Atom, Variable};
 use gib_base::Name;
-use gib_syntax::Operator;
-use gib_types::{ConId, Ty};
+use gib_types::{ConId, Operator, Ty};
 
 /// The word that a line of the core's text begins with.
 #[derive(Clone, Copy, PartialEq, Eq)]

@@ -9,8 +9,7 @@ use crate::atom::{Atom, Variable};
 use crate::piece::{Keyword, Piece};
 use gib_base::{Memory, Name, Texts, push_decimal, push_signed};
 use gib_code::names::{push_behind_space, push_name, push_name_behind_space};
-use gib_syntax::Operator;
-use gib_types::{Ty, TyId, TypeTable};
+use gib_types::{Operator, Ty, TyId, TypeTable};
 use std::alloc::Global;
 
 /// How a word is written.

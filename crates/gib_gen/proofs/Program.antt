@@ -10,7 +10,7 @@ use Rattle.gib_base.specs.Spelling.{tokens_text}
 use Rattle.gib_base.specs.Printing.{IsNameOf, IsWritable, names_used, renumbered}
 use Rattle.gib_syntax.specs.declared.tree.Ident.{Ident}
 use Rattle.gib_syntax.specs.declared.tree.TypeName.TheVariants as ty
-use Rattle.gib_syntax.specs.declared.tree.Operator.TheVariants as o
+use Rattle.gib_types.specs.declared.operator.Operator.TheVariants as o
 use Rattle.gib_syntax.specs.Tree.{Expression, Var, Num, Op, Call, Make, Par, Case, NoArgument, Argument, LastArm, NextArm, DataTree, FunctionTree, MainTree, ProgramTree}
 use Rattle.gib_syntax.specs.Plain.{generic_of}
 use Rattle.gib_syntax.specs.Results.{One}

@@ -11,8 +11,8 @@ use Rattle.gib_types.specs.declared.table.ConId.{ConId}
 use Rattle.gib_types.specs.Table.{Row, Table, IsTable, IsTyBelow, name_at, name_of, owner_at, fields_at, first_at, count_at}
 use Rattle.gib_types.proofs.Owners.{together, tag_there, tag_back}
 use Rattle.gib_syntax.specs.declared.tree.Ident.{Ident}
-use Rattle.gib_syntax.specs.declared.tree.Operator.{Operator}
-use Rattle.gib_syntax.specs.declared.tree.Operator.TheVariants as o
+use Rattle.gib_types.specs.declared.operator.Operator.{Operator}
+use Rattle.gib_types.specs.declared.operator.Operator.TheVariants as o
 use Rattle.gib_syntax.specs.declared.tree.Parameter.{Parameter}
 use Rattle.gib_syntax.specs.declared.tree.TypeName.{TypeName}
 use Rattle.gib_syntax.specs.Results as results
@@ -21,7 +21,8 @@ use Rattle.gib_syntax.specs.Tree as source
 use Rattle.gib_syntax.specs.Tree.{Expression, Arguments, Arms, Var, Num, Bit, Paren, Op, Call, Make, Let, Par, If, Case, LetSeveral, ParSeveral, NoArgument, Argument, LastArm, NextArm, FunctionTree, ProgramTree}
 use Rattle.gib_syntax.specs.Declarations.{number_of, place_of, next_place, constructor_names, constructor_named, function_named, table_of_program, type_of_name}
 use Rattle.gib_syntax.specs.Typing as typing
-use Rattle.gib_syntax.specs.Typing.{Globals, globals_of, Has, HaveAll, HaveArms, Covers, arm_names, BindsAll, AreVariables, operator_type, parameter_types, types_of, result_types, one_type, IsTypedHere, IsTypedProgram}
+use Rattle.gib_syntax.specs.Typing.{Globals, globals_of, Has, HaveAll, HaveArms, Covers, arm_names, BindsAll, AreVariables, parameter_types, types_of, result_types, one_type, IsTypedHere, IsTypedProgram}
+use Rattle.gib_types.specs.Operators.{operator_type}
 use Rattle.gib_syntax.specs.Meaning.{names_of}
 use Rattle.gib_core.specs.declared.atom.Variable.{Variable}
 use Rattle.gib_core.specs.declared.atom.Atom.{Atom}

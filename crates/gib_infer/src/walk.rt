@@ -29,8 +29,8 @@ use gib_check::Typed;
 use gib_core::{
     Atom, Binding, BoundParts, BoundSide, BoundTerm, Branch, Node as TermNode, TermId, Variable,
 };
-use gib_syntax::{Arm, Bound, ExprId, Ident, Node, Operator, TypeName};
-use gib_types::{ConId, Ty, items_at};
+use gib_syntax::{Arm, Bound, ExprId, Ident, Node, TypeName};
+use gib_types::{ConId, Operator, Ty, items_at};
 
 /// The expression of a number.
 fn node_at(typed: &Typed, id: ExprId) -> &Node

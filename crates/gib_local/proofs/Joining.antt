@@ -4,7 +4,7 @@ use Rattle.gib_types.specs.Table.{Table}
 use Rattle.gib_types.specs.declared.table.ConId.{ConId}
 use Rattle.gib_types.specs.declared.table.Ty.{Ty}
 use Rattle.gib_syntax.specs.declared.tree.Ident.{Ident}
-use Rattle.gib_syntax.specs.declared.tree.Operator.{Operator}
+use Rattle.gib_types.specs.declared.operator.Operator.{Operator}
 use Rattle.gib_syntax.specs.declared.tree.TypeName.{TypeName}
 use Rattle.gib_syntax.specs.Declarations.{number_of}
 use Rattle.gib_core.specs.declared.atom.Access.{Access}

@@ -1,9 +1,9 @@
 -- What the count of terms leaves, as the code goes over them.
 use Rattle.std.specs.Prelude.{◌≡◌, ℕ, ◌+◌, if◌then◌else◌, List, Option, Some, None}
-use Rattle.gib_syntax.specs.declared.tree.Operator.{Operator}
+use Rattle.gib_types.specs.declared.operator.Operator.{Operator}
 use Rattle.gib_syntax.specs.declared.tree.TypeName.{TypeName}
 use Rattle.gib_syntax.specs.Declarations.{type_of_name}
-use Rattle.gib_syntax.specs.Typing.{operator_type}
+use Rattle.gib_types.specs.Operators.{operator_type}
 use Rattle.gib_core.specs.Rules.{same_type}
 use Rattle.gib_local.specs.declared.counting.Tally.{Tally}
 use Rattle.gib_local.specs.Building.{Program, program}

@@ -18,7 +18,8 @@ use gib_core::law::built_is_unbroken;
 use gib_core::{Checked, Core};
 use gib_local_parse::{BindingNode, FunctionLines, LineArm, LineId, LineNode, Location, Side};
 use gib_loccheck::{LocFault, loccheck};
-use gib_syntax::{Ident, Operator, TypeName};
+use gib_syntax::{Ident, TypeName};
+use gib_types::Operator;
 use std::alloc::{AllocError, Global};
 
 /// How many terms were made, and the first operation among them whose written type is not its own.

@@ -16,8 +16,8 @@ use crate::source::Source;
 use gib_base::Memory;
 use gib_core::{Atom, Binding, Kind, Node, TermId, Variable};
 use gib_local_parse::{Location, Mark, Operand, Way};
-use gib_syntax::{Ident, Operator, TypeName};
-use gib_types::{ConId, items_at};
+use gib_syntax::{Ident, TypeName};
+use gib_types::{ConId, Operator, items_at};
 
 /// The bindings of a step, before a term.
 ///

@@ -4,8 +4,8 @@ use Rattle.gib_base.specs.declared.token.Sign.TheVariants as s
 use Rattle.gib_syntax.specs.declared.tree.Ident.{Ident}
 use Rattle.gib_syntax.specs.declared.tree.TypeName.{TypeName}
 use Rattle.gib_syntax.specs.declared.tree.TypeName.TheVariants as ty
-use Rattle.gib_syntax.specs.declared.tree.Operator.{Operator}
-use Rattle.gib_syntax.specs.declared.tree.Operator.TheVariants as o
+use Rattle.gib_types.specs.declared.operator.Operator.{Operator}
+use Rattle.gib_types.specs.declared.operator.Operator.TheVariants as o
 use Rattle.gib_local_parse.specs.Tree.{Mark, Operand, Named, Number, Bit, Location, Start, Plus, After, Way, ByOffset, BySkip, ByEnd, Line, In, Given, Pointed, Called, Made, Cased, Chosen, NewRegion, NewPlace, LetIn, ParIn, PrimIn, ReachIn, Be, Arms, LastArm, NextArm}
 use Rattle.gib_base.specs.declared.token.Token.{Token}
 use Rattle.gib_base.specs.declared.token.Token.TheVariants as t

@@ -9,8 +9,8 @@ use Rattle.gib_base.specs.declared.token.Token.TheVariants as t
 use Rattle.gib_syntax.specs.declared.tree.Ident.{Ident}
 use Rattle.gib_syntax.specs.declared.tree.TypeName.{TypeName}
 use Rattle.gib_syntax.specs.declared.tree.TypeName.TheVariants as ty
-use Rattle.gib_syntax.specs.declared.tree.Operator.{Operator}
-use Rattle.gib_syntax.specs.declared.tree.Operator.TheVariants as o
+use Rattle.gib_types.specs.declared.operator.Operator.{Operator}
+use Rattle.gib_types.specs.declared.operator.Operator.TheVariants as o
 use Rattle.gib_syntax.specs.Spelling.{Places}
 use Rattle.gib_reads.specs.Readers.{At, Nested, Read, Reader, then_at, want, before, named, var_at, con_at, next_is, many, is_variable, is_sign, operator_of}
 use Rattle.gib_local_parse.specs.Tree.{Mark, Operand, Named, Number, Bit, Location, Start, Plus, After, Way, ByOffset, BySkip, ByEnd, Line, In, Given, Pointed, Called, Made, Cased, Chosen, Binding, NewRegion, NewPlace, LetIn, ParIn, PrimIn, ReachIn, Bound, Be, Arms, LastArm, NextArm}

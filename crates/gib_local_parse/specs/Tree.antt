@@ -4,7 +4,7 @@ use Rattle.gib_base.specs.declared.Span.{Span}
 use Rattle.gib_syntax.specs.declared.tree.Ident.{Ident}
 use Rattle.gib_syntax.specs.declared.tree.TypeName.{TypeName}
 use Rattle.gib_syntax.specs.declared.tree.Parameter.{Parameter}
-use Rattle.gib_syntax.specs.declared.tree.Operator.{Operator}
+use Rattle.gib_types.specs.declared.operator.Operator.{Operator}
 use Rattle.gib_syntax.specs.Tree.{DataTree}
 pub use Rattle.gib_local_parse.specs.declared.tree.Mark.{Mark}
 pub use Rattle.gib_local_parse.specs.declared.tree.Operand.{Operand}

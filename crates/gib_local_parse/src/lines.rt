@@ -5,7 +5,8 @@ ghost use Rattle.std.specs.Prelude.{◌≡◌};
 use crate::tree::{Location, Mark, Operand, Way};
 use gib_base::{Memory, Span};
 use gib_nodes::{Arena, Layered};
-use gib_syntax::{Ident, Operator, TypeName};
+use gib_syntax::{Ident, TypeName};
+use gib_types::Operator;
 use std::alloc::Global;
 use std::marker::Model;
 

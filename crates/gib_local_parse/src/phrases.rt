@@ -11,7 +11,8 @@ use gib_base::Span;
 use gib_base::token::{Sign, Token, is_literal};
 use gib_reads::phrases::{constructor, named, span_at, variable, want};
 use gib_reads::stop::Stop;
-use gib_syntax::{Ident, Operator, TypeName};
+use gib_syntax::{Ident, TypeName};
+use gib_types::Operator;
 use std::alloc::Global;
 
 /// A type; of a declared one the name.

@@ -6,7 +6,7 @@ use Rattle.gib_base.specs.declared.name.Name.{Name}
 use Rattle.gib_types.specs.declared.table.Ty.{Ty}
 use Rattle.gib_types.specs.declared.table.Ty.TheVariants.{Whole, Truth, Tree}
 use Rattle.gib_types.specs.Table.{fields_at, scalar_types, is_scalar}
-use Rattle.gib_syntax.specs.Typing.{operator_type}
+use Rattle.gib_types.specs.Operators.{operator_type}
 use Rattle.gib_syntax.specs.Results as results
 use Rattle.gib_core.specs.declared.atom.Variable.{Variable}
 use Rattle.gib_core.specs.declared.atom.Atom.{Atom}

@@ -18,7 +18,7 @@ use Rattle.gib_core.specs.declared.atom.Kind.TheVariants.{Here, Region, Scalar}
 use Rattle.gib_core.specs.Tree.{Term, Then, Write, Point, CallTerm, Give, CaseTerm, IfTerm, Tuple, Bind, Past, One, Both, Prim, Reach, Side, On, Several, Branches, NoBranch, BranchThen, FunctionTerm, CoreTree}
 use Rattle.gib_core.specs.Met.{Destination, Nowhere, Empty, Open, InParts, Body, bodies, result_place}
 use Rattle.gib_core.specs.Walk.{Each, EachInBind, EachInSide, EachInBranches, body_of}
-use Rattle.gib_syntax.specs.Typing.{operator_type}
+use Rattle.gib_types.specs.Operators.{operator_type}
 use Rattle.gib_local.specs.Building.{is_flat}
 use Rattle.gib_local_parse.specs.Tree.{Line, In, NewPlace, NewRegion, LetIn, ParIn, Bound}
 use Rattle.gib_local_parse.specs.declared.tree.Mark.{Mark}

@@ -9,7 +9,7 @@ use Rattle.gib_syntax.specs.declared.tree.Ident.{Ident}
 use Rattle.gib_syntax.specs.declared.tree.TypeName.{TypeName}
 use Rattle.gib_syntax.specs.declared.tree.TypeName.TheVariants as ty
 use Rattle.gib_syntax.specs.declared.tree.Parameter.{Parameter}
-use Rattle.gib_syntax.specs.Typing.{operator_type}
+use Rattle.gib_types.specs.Operators.{operator_type}
 use Rattle.gib_syntax.specs.Tree.{DataTree}
 use Rattle.gib_syntax.specs.Results as results
 use Rattle.gib_syntax.specs.Results.{Results}

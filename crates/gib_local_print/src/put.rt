@@ -18,8 +18,7 @@ use gib_base::token::{Sign, Token};
 use gib_base::{Memory, Name};
 use gib_core::{Access, Atom, CoreResult, Kind, Variable};
 use gib_local::Destination;
-use gib_syntax::Operator;
-use gib_types::{ConId, Ty, TyId, TypeTable};
+use gib_types::{ConId, Operator, Ty, TyId, TypeTable};
 use std::alloc::Global;
 
 /// An `@` with the name of the location of a number.

@@ -2,7 +2,7 @@
 
 ghost use Rattle.std.specs.Prelude.{◌≡◌, None, Some, OnOk};
 ghost use Rattle.gib_local_parse.specs.Tree.{PrimIn, ReachIn};
-ghost use Rattle.gib_syntax.specs.Typing.{operator_type};
+ghost use Rattle.gib_types.specs.Operators.{operator_type};
 ghost use Rattle.gib_local.specs.Building.{is_flat};
 ghost use Rattle.gib_local_print.specs.Printing.{ident, named, operand, type_text, con_text, way, arms_or};
 ghost use Rattle.gib_local_parse.specs.Grammar.{spell_arms, spell_between};
@@ -15,8 +15,7 @@ use gib_base::token::{Sign, Token};
 use gib_base::{Memory, Name};
 use gib_core::{Access, Atom, Variable};
 use gib_local::is_flat;
-use gib_syntax::Operator;
-use gib_types::{ConId, TypeTable};
+use gib_types::{ConId, Operator, TypeTable};
 
 /// The end of a case that no branch is left of.
 pub fn put_no_branch(out: &mut Spelled) -> Result<(), Memory>

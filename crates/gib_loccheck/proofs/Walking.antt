@@ -4,7 +4,7 @@ use Rattle.std.proofs.Math.Seq.{take-length}
 use Rattle.std.proofs.lemmas.List.{reverse-append}
 use Rattle.std.specs.Prelude.{Result}
 use Rattle.gib_types.specs.declared.table.ConId.{ConId}
-use Rattle.gib_syntax.specs.declared.tree.Operator.{Operator}
+use Rattle.gib_types.specs.declared.operator.Operator.{Operator}
 use Rattle.gib_core.specs.declared.atom.Variable.{Variable}
 use Rattle.gib_core.specs.declared.atom.Atom.{Atom}
 use Rattle.gib_core.specs.declared.node.Branch.{Branch}

@@ -23,7 +23,7 @@ use Rattle.gib_core.specs.Ending.{ended as ended_of}
 use Rattle.gib_core.specs.declared.atom.Kind.TheVariants.{Here, Region, Scalar}
 use Rattle.gib_core.specs.Tree.{Term, Then, Write, Point, CallTerm, Give, CaseTerm, IfTerm, Tuple, PartTerms, NoPart, PartThen, parts_count, Bind, Past, One, Both, Prim, Reach, Side, On, Several, Branches, NoBranch, BranchThen, FunctionTerm, CoreTree}
 use Rattle.gib_core.specs.Low as low
-use Rattle.gib_core.specs.Low.{laid_of, operand, operands, slot_of, slots_of, operation, function_number, Field, with_fields, scalar_reads, first_reach, arm_opening, Over, over_all, End, Returns, To, ToParts, ending, call_ending, giving, moves, giving_parts, takes_parts, packed_slots, scalar_slots, begin_all, done_all, side_kind, side_slots, side_type, got_from, gots, arm_end, LeafAt, reaching, IsNoCall, Low, LowParts, LowArms, LowBind, LowSide, LowFunctions, IsLowered}
+use Rattle.gib_core.specs.Low.{laid_of, operand, operands, slot_of, slots_of, function_number, Field, with_fields, scalar_reads, first_reach, arm_opening, Over, over_all, End, Returns, To, ToParts, ending, call_ending, giving, moves, giving_parts, takes_parts, packed_slots, scalar_slots, begin_all, done_all, side_kind, side_slots, side_type, got_from, gots, arm_end, LeafAt, reaching, IsNoCall, Low, LowParts, LowArms, LowBind, LowSide, LowFunctions, IsLowered}
 use Rattle.gib_lower.specs.Lowering.{leaf_end, leaf_of, lowered, lowered_parts, lowered_bind, lowered_side, lowered_branches, lowered_functions, label_in, arm_in, numbered, begun, entry_in, lower_program}
 use Rattle.gib_lower.proofs.Standing.{Stands, at_first, behind, next, counted, label_at, IsNumbered, is_at, are_at}
 
@@ -308,7 +308,7 @@ mutual
       let hr = low_side core code whole num r (within_par w) fs (hl.up_to + 1) (i.Back ∷ rest) (next whole right hl.up_to i.Join hl.after) in
       fork_bind core code whole w fs a l r rest num s hl hr
   low_bind core code whole num (Prim y g v z) w fs a rest s =
-      let x = i.Operate y.0 (operation g) (operand v) (operand z) in
+      let x = i.Operate y.0 g (operand v) (operand z) in
       record { up_to = a + 1; is = low.prim (is_at code whole rest a x num s); after = next whole rest a x s }
   low_bind core code whole num (Reach y by) w fs a rest s =
       let x = reaching fs y by in

@@ -23,7 +23,7 @@ use Rattle.gib_core.specs.declared.atom.Kind.TheVariants.{Here, Region, Scalar}
 use Rattle.gib_core.specs.Tree.{Term, Then, Write, Point, CallTerm, Give, CaseTerm, IfTerm, Tuple, PartTerms, NoPart, PartThen, parts_count, Bind, Past, One, Both, Prim, Reach, Side, On, Several, Branches, NoBranch, BranchThen, FunctionTerm, CoreTree}
 use Rattle.gib_core.specs.Numbering.{binders}
 use Rattle.gib_core.specs.Ending.{has_ended, Within, within_par, within_function, within_main}
-use Rattle.gib_core.specs.Low.{laid_of, operand, operands, slot_of, slots_of, operation, function_number, Field, with_fields, arm_opening, End, Returns, To, ToParts, ending, call_ending, giving, giving_parts, packed_slots, scalar_slots, begin_all, done_all, side_kind, side_slots, side_type, answer_type, gots, arm_end, reaching}
+use Rattle.gib_core.specs.Low.{laid_of, operand, operands, slot_of, slots_of, function_number, Field, with_fields, arm_opening, End, Returns, To, ToParts, ending, call_ending, giving, giving_parts, packed_slots, scalar_slots, begin_all, done_all, side_kind, side_slots, side_type, answer_type, gots, arm_end, reaching}
 
 -- The code of branches, with each constructor's label.
 pub record Switched : Type 0 where
@@ -98,7 +98,7 @@ abbrev mutual
   lowered_bind core w fs (Past h k) rest = i.Past h.0 k.0 ∷ rest
   lowered_bind core w fs (One side) rest = lowered_side core w fs side rest
   lowered_bind core w fs (Both marked l r) rest = both marked r (lowered_side core (within_par w) fs l) (lowered_side core (within_par w) fs r) rest
-  lowered_bind core w fs (Prim x g y z) rest = i.Operate x.0 (operation g) (operand y) (operand z) ∷ rest
+  lowered_bind core w fs (Prim x g y z) rest = i.Operate x.0 g (operand y) (operand z) ∷ rest
   lowered_bind core w fs (Reach y by) rest = reaching fs y by ∷ rest
 
   -- A variable that is bound to a term, and then the rest.

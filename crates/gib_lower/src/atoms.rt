@@ -1,16 +1,15 @@
 //! Atoms as operands, and other things of the core as those of the code.
 
 ghost use Rattle.std.specs.Prelude.{◌≡◌, ℕ, map, IfOk};
-ghost use Rattle.gib_core.specs.Low.{operand as operand_spec, operands as operands_spec, slot_of as slot_spec, slots_of as slots_spec, operation as operation_spec, kind_of as kind_spec, answer_type as answer_spec, side_kind as side_kind_spec, side_slots, side_type as side_type_spec};
+ghost use Rattle.gib_core.specs.Low.{operand as operand_spec, operands as operands_spec, slot_of as slot_spec, slots_of as slots_spec, kind_of as kind_spec, answer_type as answer_spec, side_kind as side_kind_spec, side_slots, side_type as side_type_spec};
 ghost use Rattle.gib_core.specs.Arena.{side_from};
 ghost use Rattle.gib_core.specs.Parts.{results_of};
 ghost use Rattle.gib_core.specs.Tree.{Term};
 ghost use Rattle.gib_code.specs.Instruction.{target_slots};
 
 use gib_base::Memory;
-use gib_code::{AnswerType, Kind as SideKind, Operand, Operation, Targets};
+use gib_code::{AnswerType, Kind as SideKind, Operand, Targets};
 use gib_core::{Atom, BoundSide, CoreResult, Kind};
-use gib_syntax::Operator;
 use std::alloc::Global;
 
 /// An atom as an operand.
@@ -59,21 +58,6 @@ pub(crate) fn slots_of(alloc: Global, atoms: &[Atom]) -> Result<Vec<u32>, Memory
         left = after;
     }
     Ok(made)
-}
-
-/// What is done with two operands.
-pub(crate) fn operation(operator: Operator) -> Operation
-    ensures { result ≡ operation_spec operator }
-{
-    match operator {
-        Operator::Add => Operation::Add,
-        Operator::Subtract => Operation::Sub,
-        Operator::Multiply => Operation::Mul,
-        Operator::Equal => Operation::Eq,
-        Operator::Less => Operation::Lt,
-        Operator::Quotient => Operation::Quot,
-        Operator::Remainder => Operation::Rem,
-    }
 }
 
 /// Where the value of a side is put.

@@ -16,9 +16,7 @@ ghost use Rattle.gib_code.specs.Instruction.{instruction_of};
 ghost use Rattle.gib_lower.specs.Ends.{end_of, within_of};
 ghost use Rattle.gib_lower.specs.Lowering.{lowered, lowered_bind, lowered_side, lowered_parts, lowered_branches, switch, scalar_lowered, branch_lowered};
 
-use crate::atoms::{
-    operand, operands, operation, side_kind, side_targets, side_type, slot_of, slots_of,
-};
+use crate::atoms::{operand, operands, side_kind, side_targets, side_type, slot_of, slots_of};
 use crate::emitted::Emitted;
 use crate::ending::{Around, At, Ending, Overs};
 use crate::fields::Fields;
@@ -309,7 +307,7 @@ fn lower_binding(
             right,
         } => out.code.put(Instr::Operate {
             to: variable.0,
-            operation: operation(operator),
+            operator,
             left: operand(left),
             right: operand(right),
         }),

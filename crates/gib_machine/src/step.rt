@@ -149,13 +149,13 @@ impl Machine {
             Instr::Move { to, from } => self.moves(*to, *from),
             Instr::Operate {
                 to,
-                operation,
+                operator,
                 left,
                 right,
             } => {
                 let first = self.frames.word(*left);
                 let second = self.frames.word(*right);
-                self.operates(*to, *operation, first, second);
+                self.operates(*to, *operator, first, second);
                 Turn::Went
             }
             Instr::Jump(label) => self.jumps(*label),

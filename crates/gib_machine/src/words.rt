@@ -9,32 +9,33 @@ ghost use Rattle.gib_machine.specs.declared.turn.Turn.TheVariants as turns;
 
 use crate::state::Machine;
 use crate::turn::Turn;
-use gib_code::{Operand, Operation, Reason};
+use gib_code::{Operand, Reason};
+use gib_types::Operator;
 
 /// What is done with two words, as numbers in two's complement.
-pub(crate) fn operated(operation: Operation, left: u64, right: u64) -> u64
-    requires { IsTrue (m.traps operation right) → ⊥ }
-    ensures { result ≡ m.operated operation left right }
+pub(crate) fn operated(operator: Operator, left: u64, right: u64) -> u64
+    requires { IsTrue (m.traps operator right) → ⊥ }
+    ensures { result ≡ m.operated operator left right }
 {
     let left = left.cast_signed();
     let right = right.cast_signed();
-    match operation {
-        Operation::Add => left.wrapping_add(right).cast_unsigned(),
-        Operation::Sub => left.wrapping_sub(right).cast_unsigned(),
-        Operation::Mul => left.wrapping_mul(right).cast_unsigned(),
-        Operation::Eq => (left == right) as u64,
-        Operation::Lt => (left < right) as u64,
-        Operation::Quot => left.wrapping_div(right).cast_unsigned(),
-        Operation::Rem => left.wrapping_rem(right).cast_unsigned(),
+    match operator {
+        Operator::Add => left.wrapping_add(right).cast_unsigned(),
+        Operator::Subtract => left.wrapping_sub(right).cast_unsigned(),
+        Operator::Multiply => left.wrapping_mul(right).cast_unsigned(),
+        Operator::Equal => (left == right) as u64,
+        Operator::Less => (left < right) as u64,
+        Operator::Quotient => left.wrapping_div(right).cast_unsigned(),
+        Operator::Remainder => left.wrapping_rem(right).cast_unsigned(),
     }
 }
 
 /// Whether an operation divides, and by this word, which is 0.
-pub(crate) fn traps(operation: Operation, right: u64) -> bool
-    ensures { result ≡ m.traps operation right }
+pub(crate) fn traps(operator: Operator, right: u64) -> bool
+    ensures { result ≡ m.traps operator right }
 {
-    match operation {
-        Operation::Quot | Operation::Rem => right.cast_signed() == 0,
+    match operator {
+        Operator::Quotient | Operator::Remainder => right.cast_signed() == 0,
         _ => false,
     }
 }
@@ -51,14 +52,14 @@ impl Machine {
     }
 
     /// The slot is set; at a division by 0 the task unwinds.
-    pub(crate) fn operates(&mut self, to: u32, operation: Operation, left: u64, right: u64)
+    pub(crate) fn operates(&mut self, to: u32, operator: Operator, left: u64, right: u64)
         requires next { self.old.ip + 1 < 2 ^ 32 }
-        ensures { (ts : List ℕ) → with_tails self.new ts ≡ m.operates (with_tails self.old ts) to operation left right }
+        ensures { (ts : List ℕ) → with_tails self.new ts ≡ m.operates (with_tails self.old ts) to operator left right }
     {
-        if traps(operation, right) {
+        if traps(operator, right) {
             self.unwinds(Reason::Trap);
         } else {
-            let number = operated(operation, left, right);
+            let number = operated(operator, left, right);
             self.sets(to, number);
         }
     }

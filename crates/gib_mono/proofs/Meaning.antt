@@ -10,8 +10,8 @@ use Rattle.gib_types.specs.declared.table.Ty.TheVariants.{Whole, Truth, Tree}
 use Rattle.gib_types.specs.Table.{Table, con_at, fields_at, is_scalar, at_fields}
 use Rattle.gib_types.specs.Tree.{Datum, whole, truth, con, Data, none, more, data_of, list_of, HasType, HaveTypes}
 use Rattle.gib_syntax.specs.declared.tree.Ident.{Ident}
-use Rattle.gib_syntax.specs.declared.tree.Operator.{Operator}
-use Rattle.gib_syntax.specs.declared.tree.Operator.TheVariants as o
+use Rattle.gib_types.specs.declared.operator.Operator.{Operator}
+use Rattle.gib_types.specs.declared.operator.Operator.TheVariants as o
 use Rattle.gib_syntax.specs.Declarations.{number_of, AreDifferent, type_of_name, constructor_names, constructor_named}
 use Rattle.gib_syntax.specs.Meaning.{Outcome, Gives, Stops, Environment, value_in, bind, bind_results, tuple, with_value, with_values, with_fields, number_in, is_true, is_made_by, parts, operate, is_by_zero, outcome_unless, outcome, made, choose, eval, eval_all, eval_arms, HasResults, OutcomeGives, OutcomeHas, names_of}
 use Rattle.gib_syntax.proofs.Soundness.{Agrees, AllHave, CallsHave, place_within, binds_agree, agrees_bound, results_agree, data_list, eval_has, all_have}

@@ -75,14 +75,14 @@ bare_result g bare x ts = step (generic_named g.functions x) refl where
   step None e = (refl, tt {0})
   step (Some h) e = bare.functions x h e ts
 
-bare_operator : (f : Rattle.gib_syntax.specs.declared.tree.Operator.Operator) → IsBare (operator_form f)
-bare_operator Rattle.gib_syntax.specs.declared.tree.Operator.TheVariants.Add = refl
-bare_operator Rattle.gib_syntax.specs.declared.tree.Operator.TheVariants.Subtract = refl
-bare_operator Rattle.gib_syntax.specs.declared.tree.Operator.TheVariants.Multiply = refl
-bare_operator Rattle.gib_syntax.specs.declared.tree.Operator.TheVariants.Equal = refl
-bare_operator Rattle.gib_syntax.specs.declared.tree.Operator.TheVariants.Less = refl
-bare_operator Rattle.gib_syntax.specs.declared.tree.Operator.TheVariants.Quotient = refl
-bare_operator Rattle.gib_syntax.specs.declared.tree.Operator.TheVariants.Remainder = refl
+bare_operator : (f : Rattle.gib_types.specs.declared.operator.Operator.Operator) → IsBare (operator_form f)
+bare_operator Rattle.gib_types.specs.declared.operator.Operator.TheVariants.Add = refl
+bare_operator Rattle.gib_types.specs.declared.operator.Operator.TheVariants.Subtract = refl
+bare_operator Rattle.gib_types.specs.declared.operator.Operator.TheVariants.Multiply = refl
+bare_operator Rattle.gib_types.specs.declared.operator.Operator.TheVariants.Equal = refl
+bare_operator Rattle.gib_types.specs.declared.operator.Operator.TheVariants.Less = refl
+bare_operator Rattle.gib_types.specs.declared.operator.Operator.TheVariants.Quotient = refl
+bare_operator Rattle.gib_types.specs.declared.operator.Operator.TheVariants.Remainder = refl
 
 bare_found : (scope : FormScope) (x : ℕ) → BareScope scope → IsBare (form_or (form_in scope x))
 bare_found scope x h = step (form_in scope x) refl where

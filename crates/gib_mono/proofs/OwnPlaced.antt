@@ -12,12 +12,13 @@ use Rattle.gib_syntax.specs.declared.tree.Ident.{Ident}
 use Rattle.gib_syntax.specs.declared.tree.TypeName.{TypeName}
 use Rattle.gib_syntax.specs.declared.tree.TypeName.TheVariants as ty
 use Rattle.gib_syntax.specs.declared.tree.Parameter.{Parameter}
-use Rattle.gib_syntax.specs.declared.tree.Operator.{Operator}
-use Rattle.gib_syntax.specs.declared.tree.Operator.TheVariants as o
+use Rattle.gib_types.specs.declared.operator.Operator.{Operator}
+use Rattle.gib_types.specs.declared.operator.Operator.TheVariants as o
 use Rattle.gib_syntax.specs.Tree.{Expression, Arguments, Arms, Var, Num, Bit, Paren, Op, Call, Make, Let, Par, If, Case, Tuple, LetSeveral, ParSeveral, NoArgument, Argument, LastArm, NextArm, ConstructorTree, DataTree, FunctionTree, MainTree, ProgramTree}
 use Rattle.gib_syntax.specs.Declarations.{number_of, place_of, type_names, type_of_name, type_or, tree_type, row_in, rows_from, table_of_program, constructor_names, constructor_named, function_named}
 use Rattle.gib_syntax.specs.Results.{Results, One, Several, map_results, as_results, list_results}
-use Rattle.gib_syntax.specs.Typing.{Globals, globals_of, Scope, type_in, bound, BindsAll, names_of, types_of, parameter_types, result_types, operator_type, IsKnown, HasKnownType, HasKnownFields, HasKnownConstructors, AreKnown, Has, HaveAll, HaveArms, IsTypedHere, IsTypedProgram}
+use Rattle.gib_syntax.specs.Typing.{Globals, globals_of, Scope, type_in, bound, BindsAll, names_of, types_of, parameter_types, result_types, IsKnown, HasKnownType, HasKnownFields, HasKnownConstructors, AreKnown, Has, HaveAll, HaveArms, IsTypedHere, IsTypedProgram}
+use Rattle.gib_types.specs.Operators.{operator_type}
 use Rattle.gib_syntax.specs.Forms.{Form, Forms, WholeForm, TruthForm, DataForm, NoForm, Meant, formed, assign}
 use Rattle.gib_syntax.specs.GenericTree.{GenericParameterTree, GenericRow, row_of, rows_of, globals_of_generic, place_named, generic_named}
 use Rattle.gib_syntax.specs.GenericTyping.{FormScope, form_in, form_bound, operator_form}

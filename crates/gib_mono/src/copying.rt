@@ -16,7 +16,8 @@ use crate::copier::{Copied, Copier};
 use crate::source::Source;
 use gib_base::{Memory, Span};
 use gib_check::ResultIds;
-use gib_syntax::{Arm, Bound, ExprId, GenericNode, Ident, Node, Operator, Run};
+use gib_syntax::{Arm, Bound, ExprId, GenericNode, Ident, Node, Run};
+use gib_types::Operator;
 use gib_types::types::{TypeId, TypeNode};
 
 /// A copied arm, with what its expression gives.

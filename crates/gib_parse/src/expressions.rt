@@ -18,7 +18,8 @@ use gib_base::token::{Sign, Token, is_literal};
 use gib_base::{Memory, Name, Span};
 use gib_reads::Stop;
 use gib_reads::phrases::{begins, constructor, named, span_at, variable, variables, want};
-use gib_syntax::{Arm, ExprId, GenericExprs, GenericNode, Ident, Operator, Run};
+use gib_syntax::{Arm, ExprId, GenericExprs, GenericNode, Ident, Run};
+use gib_types::Operator;
 use std::alloc::Global;
 
 /// The kind of expression that may stand at a place: any; as a side of an operation, an application;

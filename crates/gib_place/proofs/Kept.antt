@@ -271,7 +271,7 @@ module _ (core : CoreTree) where
         setting = ap (λ (v : Setting). behind_side v r') (step_behind p c s ks w) ∙ step_behind q (is_apart r (right_of s l) (next_all tb b L) e' rs.1) (behind_side s l) (with_variables (variables_of l) ks) false;
       }
 
-  prim_stays : (x : Variable) (g : Rattle.gib_syntax.specs.declared.tree.Operator.Operator) (v u : Atom) (s : Setting) (b' : Before) (ks : List Known) (d : Destination) (w : Bool) → R b' (met_bind core.table (scoped s ks) (Prim x g v u)) → R b' (met_bind core.table (opened s d ks w) (Prim x g v u))
+  prim_stays : (x : Variable) (g : Rattle.gib_types.specs.declared.operator.Operator.Operator) (v u : Atom) (s : Setting) (b' : Before) (ks : List Known) (d : Destination) (w : Bool) → R b' (met_bind core.table (scoped s ks) (Prim x g v u)) → R b' (met_bind core.table (opened s d ks w) (Prim x g v u))
   prim_stays x g v u s b' ks d w r =
       let so = all_reached (opened s d ks w) in
       let sc = all_reached (scoped s ks) in

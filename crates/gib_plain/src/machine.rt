@@ -27,8 +27,8 @@ use crate::stack::{
 use crate::turns::put_in_place;
 use gib_base::{Memory, Name};
 use gib_check::Typed;
-use gib_syntax::{Arm, ExprId, Ident, Node as Syntax, Operator, Parameter, TypeName};
-use gib_types::{ConId, Ty};
+use gib_syntax::{Arm, ExprId, Ident, Node as Syntax, Parameter, TypeName};
+use gib_types::{ConId, Operator, Ty};
 use gib_value::{Heap, Node, Value};
 use std::alloc::{AllocError, Global};
 use std::marker::Model;

@@ -8,7 +8,7 @@ ghost use Rattle.gib_plain.specs.Running.{doing_for};
 ghost use Rattle.gib_plain.specs.Machines.{doing_of, IsNowWithin};
 
 use crate::machine::Now;
-use gib_syntax::Operator;
+use gib_types::Operator;
 use gib_value::Node;
 
 /// The number that a value is, 0 where it is none.

@@ -5,8 +5,8 @@ use Rattle.gib_base.specs.declared.token.Sign.TheVariants as s
 use Rattle.gib_base.specs.declared.token.Token.{Token}
 use Rattle.gib_base.specs.declared.token.Token.TheVariants as t
 use Rattle.gib_syntax.specs.declared.tree.Ident.{Ident}
-use Rattle.gib_syntax.specs.declared.tree.Operator.{Operator}
-use Rattle.gib_syntax.specs.declared.tree.Operator.TheVariants as o
+use Rattle.gib_types.specs.declared.operator.Operator.{Operator}
+use Rattle.gib_types.specs.declared.operator.Operator.TheVariants as o
 use Rattle.gib_syntax.specs.Results.{Results, One, Several, AreResults}
 use Rattle.gib_syntax.specs.Forms.{WrittenType, WrittenTypes, WholeAt, TruthAt, VariableAt, DataAt, NoType, MoreTypes}
 use Rattle.gib_syntax.specs.GenericTree.{GenericExpression, GenericArguments, GenericArms, GenericVar, GenericNum, GenericBit, GenericParen, GenericOp, GenericCall, GenericMake, GenericLet, GenericPar, GenericIf, GenericCase, GenericTuple, GenericLetSeveral, GenericParSeveral, GenericNoArgument, GenericArgument, GenericLastArm, GenericNextArm, GenericConstructorTree, GenericDataTree, GenericParameterTree, GenericFunctionTree, GenericProgramTree}

@@ -20,13 +20,14 @@ use Rattle.gib_types.specs.Tree.{Datum, whole, truth, con, Data, none, more, dat
 use Rattle.gib_syntax.specs.declared.tree.Ident.{Ident}
 use Rattle.gib_syntax.specs.declared.tree.Parameter.{Parameter}
 use Rattle.gib_syntax.specs.declared.tree.TypeName.{TypeName}
-use Rattle.gib_syntax.specs.declared.tree.Operator.{Operator}
-use Rattle.gib_syntax.specs.declared.tree.Operator.TheVariants as o
+use Rattle.gib_types.specs.declared.operator.Operator.{Operator}
+use Rattle.gib_types.specs.declared.operator.Operator.TheVariants as o
 use Rattle.gib_syntax.specs.Tree.{Expression, Arguments, Arms, Var, Num, Bit, Paren, Op, Call, Make, Let, Par, If, Case, Tuple, LetSeveral, ParSeveral, NoArgument, Argument, LastArm, NextArm, FunctionTree, ProgramTree}
 use Rattle.gib_syntax.specs.Results.{Results, One, Several, map_results, as_results}
 use Rattle.gib_syntax.specs.Fine.{IsFine, AreFine, AreParts, HasFine, IsFineFunction, IsFineProgram}
 use Rattle.gib_syntax.specs.Declarations.{number_of, place_of, next_place, AreDifferent, type_of_name, constructor_names, constructor_named, function_named, table_of_program, input_type, output_type}
-use Rattle.gib_syntax.specs.Typing.{Globals, globals_of, Scope, type_in, bound, BindsAll, names_of, types_of, parameter_types, result_types, operator_type, arm_names, Has, HaveAll, HaveArms, IsTypedFunction, IsTypedHere, IsTypedProgram}
+use Rattle.gib_syntax.specs.Typing.{Globals, globals_of, Scope, type_in, bound, BindsAll, names_of, types_of, parameter_types, result_types, arm_names, Has, HaveAll, HaveArms, IsTypedFunction, IsTypedHere, IsTypedProgram}
+use Rattle.gib_types.specs.Operators.{operator_type}
 use Rattle.gib_syntax.specs.Meaning.{Outcome, Gives, Stops, Environment, value_in, bind, bind_results, tuple, with_value, with_values, with_fields, at_fields, number_in, is_true, is_made_by, parts, operate, is_by_zero, outcome_unless, made, choose, eval, eval_all, eval_arms, calls, run, HasResults, OutcomeGives, OutcomeHas}
 
 -- Places of names

@@ -7,8 +7,8 @@ use Rattle.gib_types.specs.Table.{Table, fields_at}
 pub use Rattle.gib_types.specs.Table.{is_scalar, at_fields}
 use Rattle.gib_types.specs.Tree.{Datum, Data, whole, truth, con, data_of, list_of, HasType, HaveTypes}
 use Rattle.gib_syntax.specs.declared.tree.Ident.{Ident}
-use Rattle.gib_syntax.specs.declared.tree.Operator.{Operator}
-use Rattle.gib_syntax.specs.declared.tree.Operator.TheVariants as o
+use Rattle.gib_types.specs.declared.operator.Operator.{Operator}
+use Rattle.gib_types.specs.declared.operator.Operator.TheVariants as o
 use Rattle.gib_syntax.specs.Tree.{Expression, Arguments, Arms, Var, Num, Bit, Paren, Op, Call, Make, Let, Par, If, Case, Tuple, LetSeveral, ParSeveral, NoArgument, Argument, LastArm, NextArm, FunctionTree, ProgramTree}
 use Rattle.gib_syntax.specs.Results.{Results, One, Several}
 use Rattle.gib_syntax.specs.Declarations.{number_of, constructor_named, function_named, table_of_program, type_of_name}

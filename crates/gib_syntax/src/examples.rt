@@ -9,7 +9,7 @@ ghost use Rattle.gib_syntax.specs.declared.tree.Ident.{Ident};
 ghost use Rattle.gib_syntax.specs.declared.tree.Parameter.{Parameter};
 ghost use Rattle.gib_syntax.specs.declared.tree.TypeName.{TypeName};
 ghost use Rattle.gib_syntax.specs.declared.tree.TypeName.TheVariants as ty;
-ghost use Rattle.gib_syntax.specs.declared.tree.Operator.TheVariants as o;
+ghost use Rattle.gib_types.specs.declared.operator.Operator.TheVariants as o;
 ghost use Rattle.gib_syntax.specs.Tree.{Expression, Var, Num, Op, Call, Make, Par, If, Tuple, LetSeveral, NoArgument, Argument, ProgramTree};
 ghost use Rattle.gib_syntax.specs.Results.{One, Several};
 ghost use Rattle.gib_syntax.specs.Forms.{WholeAt, VariableAt, DataAt, NoType, MoreTypes};

@@ -2,9 +2,10 @@
 
 ghost use Rattle.std.specs.Prelude.{◌≡◌};
 
-use crate::tree::{Ident, Operator, Parameter, TypeName};
+use crate::tree::{Ident, Parameter, TypeName};
 use gib_base::{Memory, Span};
 use gib_nodes::{Arena, Layered};
+use gib_types::Operator;
 use std::alloc::Global;
 use std::marker::Model;
 

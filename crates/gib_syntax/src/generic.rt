@@ -3,10 +3,11 @@
 ghost use Rattle.std.specs.Prelude.{◌≡◌};
 
 use crate::exprs::{Arm, ExprId};
-use crate::tree::{Ident, Operator};
+use crate::tree::Ident;
 use crate::written::{Run, Word};
 use gib_base::{Memory, Span};
 use gib_nodes::{Arena, Layered};
+use gib_types::Operator;
 use std::alloc::{AllocError, Global};
 use std::marker::Model;
 

@@ -20,7 +20,7 @@ pub use program::{
     GenericConstructor, GenericData, GenericFunction, GenericMain, GenericParameter, GenericProgram,
 };
 pub use tree::{
-    ConstructorDecl, DataDecl, FunctionDecl, Ident, MainDecl, Operator, Parameter, Program,
-    ResultTypes, TypeName,
+    ConstructorDecl, DataDecl, FunctionDecl, Ident, MainDecl, Parameter, Program, ResultTypes,
+    TypeName,
 };
 pub use written::{ResultRuns, Run, Word};

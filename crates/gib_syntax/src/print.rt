@@ -20,11 +20,12 @@ use crate::program::{
 };
 use crate::spelled::Spelled;
 use crate::text::text_of;
-use crate::tree::{Ident, Operator};
+use crate::tree::Ident;
 use crate::type_tokens::type_tokens;
 use crate::written::{ResultRuns, Run, Word};
 use gib_base::token::{Sign, Token};
 use gib_base::{Memory, Names};
+use gib_types::Operator;
 use std::alloc::Global;
 
 fn put_operator(operator: Operator, out: &mut Spelled) -> Result<(), Memory>

@@ -4,7 +4,6 @@ ghost use Rattle.std.specs.Prelude.{◌≡◌};
 
 use crate::exprs::{ExprId, Exprs};
 use gib_base::{Name, Span};
-use gib_types::Ty;
 use std::marker::Model;
 
 /// A name where it stands in the text.
@@ -20,39 +19,6 @@ pub enum TypeName {
     Whole(Span),
     Truth(Span),
     Declared(Ident),
-}
-
-/// The operators: `+`, `-`, `*`, `==`, `<`, `quot` and `rem`.
-#[derive(Clone, Copy, PartialEq, Eq)]
-pub enum Operator {
-    Add,
-    Subtract,
-    Multiply,
-    Equal,
-    Less,
-    /// The quotient, cut towards zero.
-    Quotient,
-    /// What is left of that quotient: it has the sign of the left operand.
-    Remainder,
-}
-
-impl Operator {
-    ghost use Rattle.gib_syntax.specs.Typing.{operator_type};
-
-    /// The type of what the operator gives.
-    pub fn result(self) -> Ty
-        ensures { result ≡ operator_type self }
-    {
-        match self {
-            Operator::Add => Ty::Whole,
-            Operator::Subtract => Ty::Whole,
-            Operator::Multiply => Ty::Whole,
-            Operator::Equal => Ty::Truth,
-            Operator::Less => Ty::Truth,
-            Operator::Quotient => Ty::Whole,
-            Operator::Remainder => Ty::Whole,
-        }
-    }
 }
 
 /// A constructor of a data declaration, with the types of its fields.

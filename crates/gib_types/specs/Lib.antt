@@ -9,3 +9,4 @@ pub mod Bytes
 pub mod Form
 pub mod SameForm
 pub mod Types
+pub mod Operators

@@ -5,9 +5,11 @@ mod copy;
 mod fields;
 pub mod law;
 pub mod layouts;
+mod operator;
 pub mod table;
 pub mod types;
 
 pub use fields::{first_type, further_types, items_at};
 pub use layouts::{Layout, Layouts};
+pub use operator::Operator;
 pub use table::{ConId, Constructor, Ty, TyId, TypeTable};

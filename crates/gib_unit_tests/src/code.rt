@@ -3,7 +3,7 @@
 use crate::sample::trees;
 use gib_base::{Memory, Names, Texts};
 use gib_code::*;
-use gib_types::{Layouts, Ty};
+use gib_types::{Layouts, Operator, Ty};
 use std::alloc::Global;
 use std::test::*;
 
@@ -32,10 +32,10 @@ fn is_listed(alloc: Global, code: &Code, want: &[u8]) -> Result<bool, Memory> {
 }
 
 // %to = %from op right
-fn divides(operation: Operation, to: u32, from: u32, right: Operand) -> Instr {
+fn divides(operator: Operator, to: u32, from: u32, right: Operand) -> Instr {
     Instr::Operate {
         to,
-        operation,
+        operator,
         left: Operand::Slot(from),
         right,
     }
@@ -46,8 +46,8 @@ fn division(alloc: Global) -> Result<Code, Memory> {
     let layouts = layouts(alloc)?;
     let functions = entries(alloc, 3)?;
     let instructions = vec![in alloc;
-        divides(Operation::Quot, 1, 0, Operand::Number(3)),
-        divides(Operation::Rem, 2, 1, Operand::Slot(0)),
+        divides(Operator::Quotient, 1, 0, Operand::Number(3)),
+        divides(Operator::Remainder, 2, 1, Operand::Slot(0)),
         Instr::Give(Operand::Slot(2)),
     ]?;
     Ok(Code::new(layouts, instructions, functions))

@@ -6,8 +6,7 @@ use crate::sample::trees;
 use crate::terms::*;
 use gib_base::{Memory, Name};
 use gib_core::*;
-use gib_syntax::Operator;
-use gib_types::{ConId, Ty};
+use gib_types::{ConId, Operator, Ty};
 use std::alloc::Global;
 use std::test::*;
 

@@ -7,8 +7,7 @@ use crate::terms::*;
 use gib_base::{Memory, Name};
 use gib_core::*;
 use gib_loccheck::{LocFault, loccheck};
-use gib_syntax::Operator;
-use gib_types::{ConId, Ty};
+use gib_types::{ConId, Operator, Ty};
 use std::alloc::Global;
 use std::test::*;
 

@@ -10,8 +10,7 @@ use crate::terms::*;
 use gib_access::reach;
 use gib_base::{Memory, Name};
 use gib_core::*;
-use gib_syntax::Operator;
-use gib_types::{ConId, Ty};
+use gib_types::{ConId, Operator, Ty};
 use std::alloc::Global;
 use std::test::*;
 

@@ -6,8 +6,7 @@ ghost use Rattle.gib_core.specs.Arena.{IsBindingBelow, PartsBelow, term_in};
 
 use gib_base::{Memory, Name, Names, Texts};
 use gib_core::*;
-use gib_syntax::Operator;
-use gib_types::{ConId, Ty, TyId, TypeTable};
+use gib_types::{ConId, Operator, Ty, TyId, TypeTable};
 use std::alloc::Global;
 use std::test::Fail;
 

@@ -5,9 +5,9 @@ use Rattle.gib_types.specs.declared.table.Ty.{Ty}
 use Rattle.gib_types.specs.declared.table.Ty.TheVariants.{Whole, Truth, Tree}
 use Rattle.gib_types.specs.Layout.{LaidOut}
 use Rattle.gib_types.specs.Tree.{Datum}
-use Rattle.gib_syntax.specs.declared.tree.Operator.{Operator}
+use Rattle.gib_types.specs.declared.operator.Operator.{Operator}
 use Rattle.gib_syntax.specs.Meaning.{number_in, operate, outcome_unless, is_by_zero, Outcome, Deep, Trap}
-use Rattle.gib_syntax.specs.Typing.{operator_type}
+use Rattle.gib_types.specs.Operators.{operator_type}
 use Rattle.gib_mem.specs.Memory.{Store}
 use Rattle.gib_base.specs.declared.name.Name.{Name}
 use Rattle.gib_core.specs.declared.atom.Variable.{Variable}
@@ -20,7 +20,7 @@ use Rattle.gib_code.specs.Instruction.{Operate, Move, Call, CallScalar}
 use Rattle.gib_code.specs.Instruction as i
 use Rattle.gib_code.specs.declared.answer.Reason.TheVariants as reason
 use Rattle.gib_code.specs.Program.{CodeTree, IsAt, AreAt}
-use Rattle.gib_core.specs.Low.{To, call_ending, giving, operand, operands, operation, function_number, IsNoCall, gots}
+use Rattle.gib_core.specs.Low.{To, call_ending, giving, operand, operands, function_number, IsNoCall, gots}
 use Rattle.gib_machine.specs.State.{Over, doing, Slots, set, word, words, Frame, Open as OpenRegion, State, Silent, sets, cursor, frame, Ready}
 use Rattle.gib_machine.specs.Machine.{unwound, set_answer, answer_of, word_answer, operated, traps, slots_at}
 use Rattle.gib_core.specs.Cost.{Cost, plus, nothing, cost_from}
@@ -102,14 +102,14 @@ Matches-bind {laid} {s} {sl} {c} {cur} x so v w pl new has he h = record {
 }
 
 module _ (core : CoreTree) (code : CodeTree) (owed : Owed) (own : Owned) (sh : Share) where
-  pub does_prim : {s : Store} {m : State} {c : Ctx} {k : Kont} (x : Variable) (f : Operator) (y z : Atom) (u : Term) → IsAt code m.ip (Operate x.0 (operation f) (operand y) (operand z)) → IsCode core code c.line.within c.scope (m.ip + 1) u (end_of c.line.overs k)
+  pub does_prim : {s : Store} {m : State} {c : Ctx} {k : Kont} (x : Variable) (f : Operator) (y z : Atom) (u : Term) → IsAt code m.ip (Operate x.0 f (operand y) (operand z)) → IsCode core code c.line.within c.scope (m.ip + 1) u (end_of c.line.overs k)
       → AtTerm core code owed own sh s m (Then (Prim x f y z) u) c k → Moves core code owed own sh s m
   does_prim {s} {m} {c} {k} x f y z u e lu at =
-      silent (step_is code m (Operate x.0 (operation f) (operand y) (operand z)) at.ready e)
+      silent (step_is code m (Operate x.0 f (operand y) (operand z)) at.ready e)
       (subst (λ (b : Bool). Safe core code owed own sh s (cond b (unwound reason.Trap m m.pars) (sets m x.0 w))) (sym tests) (go (is_by_zero f (number_in (value c.env z))) refl))
     where
       w : ℕ
-      w = operated (operation f) (word m.words (operand y)) (word m.words (operand z))
+      w = operated f (word m.words (operand y)) (word m.words (operand z))
 
       ny : IsScalar Whole (word m.words (operand y)) (value c.env y)
       ny = scalar_word code.laid s m.words c y Whole refl at.line.matches.vars at.fits.1
@@ -117,7 +117,7 @@ module _ (core : CoreTree) (code : CodeTree) (owed : Owed) (own : Owned) (sh : S
       nz : IsScalar Whole (word m.words (operand z)) (value c.env z)
       nz = scalar_word code.laid s m.words c z Whole refl at.line.matches.vars at.fits.2
 
-      tests : traps (operation f) (word m.words (operand z)) ≡ is_by_zero f (number_in (value c.env z))
+      tests : traps f (word m.words (operand z)) ≡ is_by_zero f (number_in (value c.env z))
       tests = traps_are f nz.0 (word m.words (operand z)) nz.2 nz.3 ∙ ap (λ (q : Datum). is_by_zero f (number_in q)) (sym nz.1)
 
       val : Datum

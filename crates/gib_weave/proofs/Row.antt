@@ -8,7 +8,7 @@ use Rattle.gib_mem.specs.Memory.{sole, Store, Memory, Cell, absent, fresh, byte,
 use Rattle.gib_code.specs.declared.instruction.AnswerType.TheVariants as of
 use Rattle.gib_code.specs.declared.instruction.Kind.TheVariants as at
 use Rattle.gib_code.specs.declared.instruction.Operand.TheVariants.{Slot, Number}
-use Rattle.gib_code.specs.declared.instruction.Operation.TheVariants.{Add, Lt, Quot, Rem, Sub}
+use Rattle.gib_types.specs.declared.operator.Operator.TheVariants.{Add, Less, Quotient, Remainder, Subtract}
 use Rattle.gib_code.specs.declared.answer.Answer.TheVariants as answer
 use Rattle.gib_code.specs.Instruction as i
 use Rattle.gib_code.specs.Program.{CodeTree}
@@ -181,7 +181,7 @@ abbrev counts_down : CodeTree
 counts_down = record {
   laid = record { table = table; with_offsets = [] };
   instructions =
-      i.Operate 1 Lt (Slot 0) (Number 1) ∷ i.Unless (Slot 1) 3 ∷ i.Give (Number 0) ∷ i.Operate 2 Sub (Slot 0) (Number 1) ∷ i.CallScalar 3 0 (Slot 2 ∷ []) ∷ i.Give (Slot 3)
+      i.Operate 1 Less (Slot 0) (Number 1) ∷ i.Unless (Slot 1) 3 ∷ i.Give (Number 0) ∷ i.Operate 2 Subtract (Slot 0) (Number 1) ∷ i.CallScalar 3 0 (Slot 2 ∷ []) ∷ i.Give (Slot 3)
       ∷ i.Fork 9 11 at.Scalar (2 ∷ []) (of.One Whole) ∷ i.CallScalar 1 0 (Number 5 ∷ []) ∷ i.Join ∷ i.CallScalar 2 0 (Number 1 ∷ []) ∷ i.Back ∷ i.Operate 3 Add (Slot 1) (Slot 2) ∷ i.Give (Slot 3) ∷ [];
   functions = record { name = Some (record { 0 = 0 }); start = 0; slots = 4; result = of.One Whole } ∷ record { name = None; start = 6; slots = 4; result = of.One Whole } ∷ [];
 }
@@ -225,8 +225,8 @@ abbrev divides : (left right : i.Instruction) → CodeTree
 divides left right = record {
   laid = record { table = table; with_offsets = [] };
   instructions =
-      i.Operate 1 Lt (Slot 0) (Number 1) ∷ i.Unless (Slot 1) 3 ∷ i.Give (Number 0) ∷ i.Operate 2 Sub (Slot 0) (Number 1) ∷ i.CallScalar 3 0 (Slot 2 ∷ []) ∷ i.Give (Slot 3)
-      ∷ i.Operate 1 Quot (Number 1) (Slot 0) ∷ i.Give (Slot 1)
+      i.Operate 1 Less (Slot 0) (Number 1) ∷ i.Unless (Slot 1) 3 ∷ i.Give (Number 0) ∷ i.Operate 2 Subtract (Slot 0) (Number 1) ∷ i.CallScalar 3 0 (Slot 2 ∷ []) ∷ i.Give (Slot 3)
+      ∷ i.Operate 1 Quotient (Number 1) (Slot 0) ∷ i.Give (Slot 1)
       ∷ i.Fork 11 13 at.Scalar (2 ∷ []) (of.One Whole) ∷ left ∷ i.Join ∷ right ∷ i.Back ∷ i.Operate 3 Add (Slot 1) (Slot 2) ∷ i.Give (Slot 3) ∷ [];
   functions = record { name = Some (record { 0 = 0 }); start = 0; slots = 4; result = of.One Whole } ∷ record { name = Some (record { 0 = 1 }); start = 6; slots = 2; result = of.One Whole } ∷ record { name = None; start = 8; slots = 4; result = of.One Whole } ∷ [];
 }
@@ -266,21 +266,21 @@ pub deep_in_place : asks traps_right (steps traps_right 0 14 (weave_start dividi
 deep_in_place = refl
 
 -- The least number by -1: the quotient wraps, and nothing is left.
-pub least_quot : operated Quot (2 ^ 63) (2 ^ 64 - 1) ≡ 2 ^ 63
+pub least_quot : operated Quotient (2 ^ 63) (2 ^ 64 - 1) ≡ 2 ^ 63
 least_quot = refl
 
-pub least_rem : operated Rem (2 ^ 63) (2 ^ 64 - 1) ≡ 0
+pub least_rem : operated Remainder (2 ^ 63) (2 ^ 64 - 1) ≡ 0
 least_rem = refl
 
 -- Of -7 by 2 the quotient is -3 and -1 is left; of 7 by -2 it is -3, and 1 is left.
-pub quot_cuts : operated Quot (2 ^ 64 - 7) 2 ≡ 2 ^ 64 - 3
+pub quot_cuts : operated Quotient (2 ^ 64 - 7) 2 ≡ 2 ^ 64 - 3
 quot_cuts = refl
 
-pub rem_is_negative : operated Rem (2 ^ 64 - 7) 2 ≡ 2 ^ 64 - 1
+pub rem_is_negative : operated Remainder (2 ^ 64 - 7) 2 ≡ 2 ^ 64 - 1
 rem_is_negative = refl
 
-pub quot_by_negative : operated Quot 7 (2 ^ 64 - 2) ≡ 2 ^ 64 - 3
+pub quot_by_negative : operated Quotient 7 (2 ^ 64 - 2) ≡ 2 ^ 64 - 3
 quot_by_negative = refl
 
-pub rem_is_positive : operated Rem 7 (2 ^ 64 - 2) ≡ 1
+pub rem_is_positive : operated Remainder 7 (2 ^ 64 - 2) ≡ 1
 rem_is_positive = refl

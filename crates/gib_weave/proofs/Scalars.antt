@@ -12,10 +12,10 @@ use Rattle.gib_types.specs.declared.table.Ty.TheVariants.{Whole, Truth, Tree}
 use Rattle.gib_types.specs.Table.{scalar_types}
 use Rattle.gib_types.specs.Layout.{LaidOut}
 use Rattle.gib_types.specs.Tree.{Datum, more, data_of}
-use Rattle.gib_syntax.specs.declared.tree.Operator.{Operator}
-use Rattle.gib_syntax.specs.declared.tree.Operator.TheVariants as o
+use Rattle.gib_types.specs.declared.operator.Operator.{Operator}
+use Rattle.gib_types.specs.declared.operator.Operator.TheVariants as o
 use Rattle.gib_syntax.specs.Meaning.{is_scalar, value_in, operate, is_by_zero}
-use Rattle.gib_syntax.specs.Typing.{operator_type}
+use Rattle.gib_types.specs.Operators.{operator_type}
 use Rattle.gib_mem.specs.Memory.{Store}
 use Rattle.gib_packed.specs.Scalars.{bit, scalar, scalars}
 use Rattle.gib_packed.specs.Head.{offset_bytes, addresses}
@@ -25,7 +25,7 @@ use Rattle.gib_core.specs.declared.atom.Atom.{Atom}
 use Rattle.gib_core.specs.declared.atom.Atom.TheVariants as a
 use Rattle.gib_core.specs.Tree.{var}
 use Rattle.gib_core.specs.Meaning.{value, merge}
-use Rattle.gib_core.specs.Low.{operand, operands, slots_of, operation, truth_word}
+use Rattle.gib_core.specs.Low.{operand, operands, slots_of, truth_word}
 use Rattle.gib_machine.specs.State.{Slots, slot, word, words}
 use Rattle.gib_machine.specs.Machine.{word_bytes, scalar_bytes, operated, traps}
 use Rattle.gib_core.specs.Fits.{Sort, AtomFits, AtomsFit, packed_due, ArePlaced, FurtherPlaced}
@@ -67,7 +67,7 @@ signed z w f e = ap (cast_signed w64) e ∙ to_z-of_z w64 z f
 rem_fits : (x y : ℤ) → FitsSigned w64 x → FitsSigned w64 (int_rem x y)
 rem_fits x y f = sfits_le (mag_rem x y) f
 
-pub operated_is : (f : Operator) (x y : ℤ) (a b : ℕ) → FitsSigned w64 x → FitsSigned w64 y → a ≡ cast_unsigned w64 x → b ≡ cast_unsigned w64 y → IsScalar (operator_type f) (operated (operation f) a b) (operate f x y)
+pub operated_is : (f : Operator) (x y : ℤ) (a b : ℕ) → FitsSigned w64 x → FitsSigned w64 y → a ≡ cast_unsigned w64 x → b ≡ cast_unsigned w64 y → IsScalar (operator_type f) (operated f a b) (operate f x y)
 operated_is o.Add x y a b p q e g = (int_wrapping_add w64 x y, refl, subst (λ (z : ℤ). FitsSigned w64 z) (sym (wrapping_add_is w64 x y p q)) (SFits-int_wrap w64 _), ap (λ (z : ℤ). cast_unsigned w64 (int_wrapping_add w64 z (cast_signed w64 b))) (signed x a p e) ∙ ap (λ (z : ℤ). cast_unsigned w64 (int_wrapping_add w64 x z)) (signed y b q g))
 operated_is o.Subtract x y a b p q e g = (int_wrapping_sub w64 x y, refl, subst (λ (z : ℤ). FitsSigned w64 z) (sym (wrapping_sub_is w64 x y p q)) (SFits-int_wrap w64 _), ap (λ (z : ℤ). cast_unsigned w64 (int_wrapping_sub w64 z (cast_signed w64 b))) (signed x a p e) ∙ ap (λ (z : ℤ). cast_unsigned w64 (int_wrapping_sub w64 x z)) (signed y b q g))
 operated_is o.Multiply x y a b p q e g = (int_wrapping_mul w64 x y, refl, subst (λ (z : ℤ). FitsSigned w64 z) (sym (wrapping_mul_is w64 x y p q)) (SFits-int_wrap w64 _), ap (λ (z : ℤ). cast_unsigned w64 (int_wrapping_mul w64 z (cast_signed w64 b))) (signed x a p e) ∙ ap (λ (z : ℤ). cast_unsigned w64 (int_wrapping_mul w64 x z)) (signed y b q g))
@@ -77,7 +77,7 @@ operated_is o.Quotient x y a b p q e g = (int_wrapping_div w64 x y, refl, read_s
 operated_is o.Remainder x y a b p q e g = (int_rem x y, refl, rem_fits x y p, ap (λ (z : ℤ). cast_unsigned w64 (int_rem z (cast_signed w64 b))) (signed x a p e) ∙ ap (λ (z : ℤ). cast_unsigned w64 (int_rem x z)) (signed y b q g))
 
 -- the machine divides by 0 where the meaning does
-pub traps_are : (f : Operator) (y : ℤ) (b : ℕ) → FitsSigned w64 y → b ≡ cast_unsigned w64 y → traps (operation f) b ≡ is_by_zero f y
+pub traps_are : (f : Operator) (y : ℤ) (b : ℕ) → FitsSigned w64 y → b ≡ cast_unsigned w64 y → traps f b ≡ is_by_zero f y
 traps_are o.Add y b q g = refl
 traps_are o.Subtract y b q g = refl
 traps_are o.Multiply y b q g = refl

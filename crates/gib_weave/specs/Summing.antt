@@ -3,7 +3,7 @@
 use Rattle.std.specs.Prelude.{ℕ, true, Some, None, List, [], ◌∷◌}
 use Rattle.gib_base.specs.declared.name.Name.{Name}
 use Rattle.gib_types.specs.declared.table.Ty.TheVariants.{Whole}
-use Rattle.gib_syntax.specs.declared.tree.Operator.TheVariants as o
+use Rattle.gib_types.specs.declared.operator.Operator.TheVariants as o
 use Rattle.gib_mem.specs.Memory.{sole, Memory, absent, after_puts, open_chunk}
 use Rattle.gib_core.specs.declared.atom.Kind.TheVariants as kind
 use Rattle.gib_core.specs.declared.atom.Access.TheVariants as by
@@ -11,7 +11,7 @@ use Rattle.gib_syntax.specs.Results as results
 use Rattle.gib_core.specs.Tree.{Term, Then, Give, CallTerm, CaseTerm, One, Prim, Reach, On, NoBranch, BranchThen, FunctionTerm, CoreTree, var}
 use Rattle.gib_code.specs.declared.instruction.AnswerType.TheVariants as of
 use Rattle.gib_code.specs.declared.instruction.Operand.TheVariants.{Slot}
-use Rattle.gib_code.specs.declared.instruction.Operation.TheVariants.{Add}
+use Rattle.gib_types.specs.declared.operator.Operator.TheVariants.{Add}
 use Rattle.gib_code.specs.Instruction as i
 use Rattle.gib_code.specs.Program.{CodeTree}
 use Rattle.gib_weave.specs.Example.{v, k}

@@ -10,7 +10,7 @@ use Rattle.gib_core.specs.Tree.{CoreTree}
 use Rattle.gib_code.specs.declared.instruction.AnswerType.TheVariants as of
 use Rattle.gib_code.specs.declared.instruction.Kind.TheVariants as at
 use Rattle.gib_code.specs.declared.instruction.Operand.TheVariants.{Slot, Number}
-use Rattle.gib_code.specs.declared.instruction.Operation.TheVariants.{Add}
+use Rattle.gib_types.specs.declared.operator.Operator.TheVariants.{Add}
 use Rattle.gib_code.specs.Instruction as i
 use Rattle.gib_code.specs.Program.{CodeTree}
 use Rattle.gib_weave.specs.Weave.{Weave, Event, Step, Fork, Steal, Take, Finish, Join, weave_start}

@@ -12,8 +12,7 @@ use crate::lines::{bind, enter, judge};
 use crate::state::Walk;
 use crate::target::Target;
 use gib_core::{Atom, Rule, Variable};
-use gib_syntax::Operator;
-use gib_types::Ty;
+use gib_types::{Operator, Ty};
 
 /// The rule that an operation breaks first, or none.
 #[tactic(auto, using(crate::proofs::Scoping::other_same, crate::proofs::Scoping::usable_same))]
