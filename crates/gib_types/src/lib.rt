@@ -1,6 +1,7 @@
 //! The declared types of a program, and the values of these types.
 #![tactic(auto)]
 
+mod access;
 mod copy;
 mod fields;
 pub mod law;
@@ -9,6 +10,7 @@ mod operator;
 pub mod table;
 pub mod types;
 
+pub use access::FieldAccess;
 pub use fields::{first_type, further_types, items_at};
 pub use layouts::{Layout, Layouts};
 pub use operator::Operator;
