@@ -1,5 +1,5 @@
 -- What is spelled so is read, where the levels serve.
-use Rattle.std.proofs.Common.{◌≡◌, ℕ, zero, suc, ◌<◌, ◌^◌, Bool, true, false, List, [], ◌∷◌, ◌++◌, length, Ok, Err, refl, ap, ◌∙◌, subst}
+use Rattle.std.proofs.Common.{◌≡◌, ℕ, zero, suc, ◌<◌, ◌^◌, Bool, true, false, List, [], ◌∷◌, ◌++◌, length, Ok, Err, refl, ap, ◌∙◌, subst, Option, Some}
 use Rattle.std.proofs.lemmas.Bool.{lt-ltb}
 use Rattle.gib_base.specs.declared.Span.{Span}
 use Rattle.gib_base.specs.declared.token.Sign.{Sign}
@@ -8,13 +8,13 @@ use Rattle.gib_base.specs.declared.token.Token.{Token}
 use Rattle.gib_base.specs.declared.token.Token.TheVariants as t
 use Rattle.gib_syntax.specs.declared.tree.Ident.{Ident}
 use Rattle.gib_types.specs.declared.operator.Operator.{Operator}
-use Rattle.gib_types.specs.declared.operator.Operator.TheVariants as o
 use Rattle.gib_syntax.specs.GenericTree.{GenericExpression, GenericArguments, GenericArms, GenericVar, GenericNum, GenericBit, GenericParen, GenericOp, GenericCall, GenericMake, GenericLet, GenericPar, GenericIf, GenericCase, GenericTuple, GenericLetSeveral, GenericParSeveral, GenericNoArgument, GenericArgument, GenericLastArm, GenericNextArm}
 use Rattle.gib_syntax.specs.GenericFine.{is_generic_application, IsGenericFine, AreGenericFine, AreGenericParts, HasGenericFine}
 use Rattle.gib_syntax.specs.Results.{AreSeveral, AreSides}
-use Rattle.gib_syntax.specs.Spelling.{Places, spell, spell_arguments, spell_further_parts, spell_arms, spell_variables, spell_names, spell_operator, spell_bit, spell_written, spell_type_arguments}
-use Rattle.gib_parse.specs.Reading.{Nested, Mode, Any, App, Atom, Read, Reader, Parts, then_at, want, before, next_is, many_step, many, is_sign, is_literal, literal_at, starts_atom, starts, ArmTree, arms_of, arm_at, next_arm_at, arms_at, arguments_of, arguments_at, names_bound_at, let_of, par_of, bind_at, par_at, let_at, if_at, case_at, side_at, close_at, open_at, next_part_at, tuple_at, close_any_at, open_any_at, type_arguments_at, call, called_at, variable_at, make_at, constant_at, atom_at, app_at, any_at, no_level, parse}
+use Rattle.gib_syntax.specs.Spelling.{Places, spell, spell_arguments, spell_further_parts, spell_arms, spell_variables, spell_names, spell_operator, spell_bit, spell_written, spell_type_arguments, sign_of}
+use Rattle.gib_parse.specs.Reading.{Nested, Mode, Any, App, Atom, Read, Reader, Parts, then_at, want, before, next_is, many_step, many, is_sign, is_literal, literal_at, starts_atom, starts, ArmTree, arms_of, arm_at, next_arm_at, arms_at, arguments_of, arguments_at, names_bound_at, let_of, par_of, bind_at, par_at, let_at, if_at, case_at, side_at, close_at, open_at, next_part_at, tuple_at, close_any_at, open_any_at, type_arguments_at, call, called_at, variable_at, make_at, constant_at, atom_at, app_at, any_at, no_level, parse, operator_of, operation_at}
 use Rattle.gib_reads.proofs.Tools.{done, failed}
+use Rattle.gib_reads.proofs.Signs.{operator_back}
 use Rattle.gib_reads.proofs.Many.{Shrinks, many_none, many_is}
 use Rattle.gib_parse.proofs.ExpressionLaws.{IsMode}
 use Rattle.gib_parse.proofs.WholeLaws.{parse_shrinks, next_shrinks, next_part_shrinks}
@@ -153,14 +153,12 @@ paren_comes : (at : Places) (n : ℕ) (p : Span) (e : GenericExpression) (ts res
 unfolding open_at
 paren_comes at n p e ts rest D c = then_last (close_at (parse at n) p) (GenericParen p e) rest c refl
 
+close_sign : (sub : Parts) (p : Span) (e : GenericExpression) (a : Sign) (f : Operator) (ts : List Token) → operator_of a ≡ Some f → close_at sub p e (t.Sign a ∷ ts) ≡ side_at (is_generic_application e) sub p f e ts
+close_sign sub p e s.Close f ts i = absurd cc
+close_sign sub p e a f ts i = ap (λ g. operation_at g sub p e ts) i
+
 close_operator : (sub : Parts) (p : Span) (e : GenericExpression) (f : Operator) (ts : List Token) → close_at sub p e (spell_operator f ts) ≡ side_at (is_generic_application e) sub p f e ts
-close_operator sub p e o.Add ts = refl
-close_operator sub p e o.Subtract ts = refl
-close_operator sub p e o.Multiply ts = refl
-close_operator sub p e o.Equal ts = refl
-close_operator sub p e o.Less ts = refl
-close_operator sub p e o.Quotient ts = refl
-close_operator sub p e o.Remainder ts = refl
+close_operator sub p e f ts = close_sign sub p e (sign_of f) f ts (operator_back f)
 
 op_comes : (at : Places) (n : ℕ) (p : Span) (f : Operator) (a b : GenericExpression) (ts after rest : List Token) (D E : List ℕ) → is_generic_application a ≡ true → Comes D (parse at n Any ts) a (spell_operator f after) → Comes E (parse at n App after) b (t.Sign s.Close ∷ rest) → Comes (D ++ E) (open_at (parse at n) p ts) (GenericOp p f a b) rest
 unfolding open_at
@@ -227,14 +225,12 @@ paren_any_comes : (at : Places) (n : ℕ) (p : Span) (e : GenericExpression) (ts
 unfolding open_any_at
 paren_any_comes at n p e ts rest D c = then_last (close_any_at (parse at n) p) (GenericParen p e) rest c refl
 
+close_any_sign : (sub : Parts) (p : Span) (e : GenericExpression) (a : Sign) (f : Operator) (ts : List Token) → operator_of a ≡ Some f → close_any_at sub p e (t.Sign a ∷ ts) ≡ side_at (is_generic_application e) sub p f e ts
+close_any_sign sub p e s.Comma f ts i = absurd cc
+close_any_sign sub p e a f ts i = close_sign sub p e a f ts i
+
 close_any_operator : (sub : Parts) (p : Span) (e : GenericExpression) (f : Operator) (ts : List Token) → close_any_at sub p e (spell_operator f ts) ≡ side_at (is_generic_application e) sub p f e ts
-close_any_operator sub p e o.Add ts = refl
-close_any_operator sub p e o.Subtract ts = refl
-close_any_operator sub p e o.Multiply ts = refl
-close_any_operator sub p e o.Equal ts = refl
-close_any_operator sub p e o.Less ts = refl
-close_any_operator sub p e o.Quotient ts = refl
-close_any_operator sub p e o.Remainder ts = refl
+close_any_operator sub p e f ts = close_any_sign sub p e (sign_of f) f ts (operator_back f)
 
 op_any_comes : (at : Places) (n : ℕ) (p : Span) (f : Operator) (a b : GenericExpression) (ts after rest : List Token) (D E : List ℕ) → is_generic_application a ≡ true → Comes D (parse at n Any ts) a (spell_operator f after) → Comes E (parse at n App after) b (t.Sign s.Close ∷ rest) → Comes (D ++ E) (open_any_at (parse at n) p ts) (GenericOp p f a b) rest
 unfolding open_any_at

@@ -1,5 +1,5 @@
 -- The laws of the readers of expressions.
-use Rattle.std.proofs.Common.{◌≡◌, ◌≢◌, ℕ, suc, ◌≤◌, ◌^◌, Bool, true, false, List, [], ◌∷◌, length, refl, sym, ap, ◌∙◌, subst, arith}
+use Rattle.std.proofs.Common.{◌≡◌, ◌≢◌, ℕ, suc, ◌≤◌, ◌^◌, Bool, true, false, List, [], ◌∷◌, length, refl, sym, ap, ◌∙◌, subst, arith, Option, Some, None}
 use Rattle.std.proofs.lemmas.Bool.{ltb-true}
 use Rattle.gib_base.specs.declared.Span.{Span}
 use Rattle.gib_base.specs.declared.token.Sign.{Sign}
@@ -8,13 +8,13 @@ use Rattle.gib_base.specs.declared.token.Token.{Token}
 use Rattle.gib_base.specs.declared.token.Token.TheVariants as t
 use Rattle.gib_syntax.specs.declared.tree.Ident.{Ident}
 use Rattle.gib_types.specs.declared.operator.Operator.{Operator}
-use Rattle.gib_types.specs.declared.operator.Operator.TheVariants as o
 use Rattle.gib_syntax.specs.GenericTree.{GenericExpression, GenericArguments, GenericArms, GenericVar, GenericNum, GenericBit, GenericParen, GenericOp, GenericCall, GenericMake, GenericLet, GenericPar, GenericIf, GenericCase, GenericTuple, GenericLetSeveral, GenericParSeveral, GenericNoArgument, GenericArgument}
 use Rattle.gib_syntax.specs.GenericFine.{is_generic_application, is_generic_atom, IsGenericFine, AreGenericFine, AreGenericParts, HasGenericFine}
 use Rattle.gib_syntax.specs.Forms.{WrittenTypes, NoType, MoreTypes}
 use Rattle.gib_syntax.specs.Spelling.{Places, IsAt, AreAt, AreFurtherAt, AreNamesAt, IsPlaced, ArePlaced, ArePartsPlaced, HavePlaces, AreWrittenAt, spell, spell_arguments, spell_further_parts, spell_arms, spell_variables, spell_further_names, spell_names, spell_operator, spell_type_arguments, levels, levels_arguments, levels_arms}
-use Rattle.gib_parse.specs.Reading.{Mode, Any, App, Atom, Parts, before, named, var_at, many, is_variable, is_sign, is_literal, literal_at, starts_atom, ArmTree, arms_of, arm_at, next_arm_at, arms_at, arguments_of, arguments_at, next_name_at, several_names_at, one_name_at, names_bound_at, let_of, par_of, bind_at, par_at, let_at, if_at, case_at, side_at, close_at, open_at, next_part_at, tuple_at, close_any_at, open_any_at, call, called_at, variable_at, make_at, constant_at, atom_at, app_at, any_at}
+use Rattle.gib_parse.specs.Reading.{Mode, Any, App, Atom, Parts, before, named, var_at, many, is_variable, is_sign, is_literal, literal_at, starts_atom, ArmTree, arms_of, arm_at, next_arm_at, arms_at, arguments_of, arguments_at, next_name_at, several_names_at, one_name_at, names_bound_at, let_of, par_of, bind_at, par_at, let_at, if_at, case_at, side_at, close_at, open_at, next_part_at, tuple_at, close_any_at, open_any_at, call, called_at, variable_at, make_at, constant_at, atom_at, app_at, any_at, operator_of, operation_at}
 use Rattle.gib_reads.proofs.Tools.{done}
+use Rattle.gib_reads.proofs.Signs.{sign_is}
 use Rattle.gib_reads.proofs.Laws.{World, Form, Reads, pure_reads, fail_nil, fail_reads, token_reads, choice_nil, choice_reads, weaken, as_reads, then_reads, then_sign, var_reads, con_reads, many_reads, write_all, fine_all, good_all, a_name}
 use Rattle.gib_parse.proofs.TypeLaws.{type_arguments_reads}
 
@@ -498,6 +498,17 @@ module _ {w : World Parts} {n : ℕ} (h : PartsRead w n) where
         ),
       ))))
 
+  sign_reads : (v : Option Operator) (m : Mode) (z : Span) (a : GenericExpression) (g : Sign) (r ws : List Token) → operator_of g ≡ v
+      → ((sub : Parts) (l : List Token) → close_at sub z a (t.Sign g ∷ l) ≡ operation_at (operator_of g) sub z a l)
+      → First z a (t.Sign g ∷ ws) → Reads w 1 (expression w.text.here (suc n) m) r (λ l. t.Sign s.Open ∷ spell a l) (λ at sub. close_at sub z a)
+      (t.Sign g ∷ ws)
+  sign_reads None m z a g r ws e is k =
+      fail_reads (λ at sub. close_at sub z a) (t.Sign g) ws (t.Sign s.Close ∷ r) (λ at sub l. is sub l ∙ ap (λ v. operation_at v sub z a l) e)
+      (GenericParen z a, (k.fine, atom_mode m (GenericParen z a) refl), refl)
+  sign_reads (Some f) m z a g r ws e is k =
+      operation_reads (is_generic_application a) m z f a g r ws refl (λ l. ap (λ (b : Sign). t.Sign b ∷ l) (sym (sign_is g f e)))
+      (λ sub l. is sub l ∙ ap (λ v. operation_at v sub z a l) e) k
+
   close_reads : (m : Mode) (z : Span) (a : GenericExpression) (r ws : List Token) → First z a ws
       → Reads w 1 (expression w.text.here (suc n) m) r (λ l. t.Sign s.Open ∷ spell a l) (λ at sub. close_at sub z a) ws
   close_reads m z a r [] k = fail_nil (λ at sub. close_at sub z a) (t.Sign s.Close ∷ r) (λ at sub. refl)
@@ -505,15 +516,7 @@ module _ {w : World Parts} {n : ℕ} (h : PartsRead w n) where
   close_reads m z a r (t.Sign s.Close ∷ ws) k =
       token_reads (λ at sub. close_at sub z a) (λ y at sub. done (GenericParen z a)) (t.Sign s.Close) ws (λ at sub l. refl)
       (pure_reads (GenericParen z a) ws (λ l. refl) (k.fine, atom_mode m (GenericParen z a) refl) (omega (arith, k.level), (k.mark, k.placed)))
-  close_reads m z a r (t.Sign s.Plus ∷ ws) k = operation_reads (is_generic_application a) m z o.Add a s.Plus r ws refl (λ l. refl) (λ sub l. refl) k
-  close_reads m z a r (t.Sign s.Minus ∷ ws) k = operation_reads (is_generic_application a) m z o.Subtract a s.Minus r ws refl (λ l. refl) (λ sub l. refl) k
-  close_reads m z a r (t.Sign s.Times ∷ ws) k = operation_reads (is_generic_application a) m z o.Multiply a s.Times r ws refl (λ l. refl) (λ sub l. refl) k
-  close_reads m z a r (t.Sign s.Same ∷ ws) k = operation_reads (is_generic_application a) m z o.Equal a s.Same r ws refl (λ l. refl) (λ sub l. refl) k
-  close_reads m z a r (t.Sign s.Less ∷ ws) k = operation_reads (is_generic_application a) m z o.Less a s.Less r ws refl (λ l. refl) (λ sub l. refl) k
-  close_reads m z a r (t.Sign s.Quotient ∷ ws) k = operation_reads (is_generic_application a) m z o.Quotient a s.Quotient r ws refl (λ l. refl)
-      (λ sub l. refl) k
-  close_reads m z a r (t.Sign s.Remainder ∷ ws) k = operation_reads (is_generic_application a) m z o.Remainder a s.Remainder r ws refl (λ l. refl)
-      (λ sub l. refl) k
+  close_reads m z a r (t.Sign g ∷ ws) k = sign_reads (operator_of g) m z a g r ws refl (λ sub l. refl) k
   close_reads m z a r (c ∷ ws) k = fail_reads (λ at sub. close_at sub z a) c ws (t.Sign s.Close ∷ r) (λ at sub l. refl)
       (GenericParen z a, (k.fine, atom_mode m (GenericParen z a) refl), refl)
 

@@ -1,5 +1,5 @@
 -- The variables of a binding are read; what a rest may begin with.
-use Rattle.std.proofs.Common.{◌≡◌, ℕ, suc, ◌<◌, ◌^◌, Bool, true, false, List, [], ◌∷◌, ◌++◌, length, Ok, refl, ap, ◌∙◌}
+use Rattle.std.proofs.Common.{◌≡◌, ℕ, suc, ◌<◌, ◌^◌, Bool, true, false, List, [], ◌∷◌, ◌++◌, length, Ok, refl, ap, ◌∙◌, Option, Some}
 use Rattle.std.proofs.lemmas.Bool.{lt-ltb}
 use Rattle.gib_base.specs.declared.token.Sign.{Sign}
 use Rattle.gib_base.specs.declared.token.Sign.TheVariants as s
@@ -7,12 +7,12 @@ use Rattle.gib_base.specs.declared.token.Token.{Token}
 use Rattle.gib_base.specs.declared.token.Token.TheVariants as t
 use Rattle.gib_syntax.specs.declared.tree.Ident.{Ident}
 use Rattle.gib_types.specs.declared.operator.Operator.{Operator}
-use Rattle.gib_types.specs.declared.operator.Operator.TheVariants as o
 use Rattle.gib_syntax.specs.GenericTree.{GenericExpression, GenericVar, GenericNum, GenericBit, GenericParen, GenericOp, GenericCall, GenericMake, GenericLet, GenericPar, GenericIf, GenericCase, GenericTuple, GenericLetSeveral, GenericParSeveral}
 use Rattle.gib_syntax.specs.GenericFine.{is_generic_application, is_generic_atom, IsGenericFine}
-use Rattle.gib_syntax.specs.Spelling.{Places, spell, spell_variables, spell_further_names, spell_names, spell_operator, spell_bit}
-use Rattle.gib_parse.specs.Reading.{Mode, Any, App, Atom, Read, then_at, want, named, var_at, next_is, many, is_variable, is_sign, starts_atom, starts_expression, starts, next_name_at, several_names_at, one_name_at, names_bound_at}
+use Rattle.gib_syntax.specs.Spelling.{Places, spell, spell_variables, spell_further_names, spell_names, spell_operator, spell_bit, sign_of}
+use Rattle.gib_parse.specs.Reading.{Mode, Any, App, Atom, Read, then_at, want, named, var_at, next_is, many, is_variable, is_sign, starts_atom, starts_expression, starts, next_name_at, several_names_at, one_name_at, names_bound_at, operator_of}
 use Rattle.gib_reads.proofs.Tools.{done}
+use Rattle.gib_reads.proofs.Signs.{operator_back}
 use Rattle.gib_reads.proofs.Many.{many_none, many_is, var_shrinks}
 use Rattle.gib_parse.proofs.ExpressionLaws.{IsMode, atom_is_application}
 use Rattle.gib_parse.proofs.WholeLaws.{next_name_shrinks}
@@ -105,14 +105,15 @@ mode_starts Any e rest f i = expression_starts e rest f
 mode_starts App e rest f i = application_starts e rest f i
 mode_starts Atom e rest f i = atom_starts e rest f i
 
+sign_ends : (a : Sign) (f : Operator) → operator_of a ≡ Some f → goes_on (t.Sign a) ≡ false
+sign_ends s.True f e = absurd cc
+sign_ends s.False f e = absurd cc
+sign_ends s.Open f e = absurd cc
+sign_ends s.OpenBracket f e = absurd cc
+sign_ends a f e = refl
+
 pub operator_ends : (f : Operator) (rest : List Token) → next_is goes_on (spell_operator f rest) ≡ false
-operator_ends o.Add rest = refl
-operator_ends o.Subtract rest = refl
-operator_ends o.Multiply rest = refl
-operator_ends o.Equal rest = refl
-operator_ends o.Less rest = refl
-operator_ends o.Quotient rest = refl
-operator_ends o.Remainder rest = refl
+operator_ends f rest = sign_ends (sign_of f) f (operator_back f)
 
 pub some_stand : (starts : Token → Bool) (ts : List Token) → next_is starts ts ≡ true → (k : ℕ) × (length ts ≡ suc k)
 some_stand starts [] e = absurd cc

@@ -12,7 +12,8 @@ use Rattle.gib_syntax.specs.Forms.{WrittenType, WrittenTypes, WholeAt, TruthAt, 
 use Rattle.gib_syntax.specs.Words.{all_types}
 use Rattle.gib_syntax.specs.Spelling.{Places, spell_type, spell_written, spell_type_arguments}
 use Rattle.gib_parse.specs.Reading.{Read, then_at, same, next_is, many_step, many, is_sign, starts_type, starts_atom, want, Opened, inside, type_at, bracket_at, type_arguments_at}
-use Rattle.gib_reads.proofs.Tools.{done, same_is}
+use Rattle.gib_reads.proofs.Signs.{same_is}
+use Rattle.gib_reads.proofs.Tools.{done}
 use Rattle.gib_reads.proofs.Many.{many_none, many_is}
 use Rattle.gib_parse.proofs.WholeLaws.{type_shrinks}
 use Rattle.gib_parse.proofs.Settle.{settle_name, settle_type, settle_written}

@@ -9,7 +9,7 @@ ghost use Rattle.gib_syntax.specs.Spelling.{places_of};
 ghost use Rattle.gib_syntax.specs.Words.{types_in, IsTypesRun};
 ghost use Rattle.gib_syntax.specs.GenericArena.{PartsBelow, IsRunWithin, layer, tree_of, arguments_from};
 ghost use Rattle.gib_base.specs.declared.token.Sign.TheVariants as s;
-ghost use Rattle.gib_parse.specs.Reading.{Any, Atom, next_is, is_sign, many, starts, starts_atom, is_literal, literal_at, no_level, parse, any_at, let_at, let_of, par_of, bind_at, par_at, if_at, case_at, arms_at, arm_at, next_arm_at, app_at, variable_at, make_at, constant_at, arguments_at, atom_at, open_at, close_at, next_part_at, tuple_at, close_any_at, open_any_at, operation_at, side_at, operator_of, Fault, At, Nested};
+ghost use Rattle.gib_parse.specs.Reading.{Any, Atom, next_is, is_sign, many, starts, starts_atom, is_literal, literal_at, no_level, parse, any_at, let_at, let_of, par_of, bind_at, par_at, if_at, case_at, arms_at, arm_at, next_arm_at, app_at, variable_at, make_at, constant_at, arguments_at, atom_at, open_at, close_at, next_part_at, tuple_at, close_any_at, open_any_at, operation_at, side_at, Fault, At, Nested};
 ghost use Rattle.gib_parse.specs.Parsing.{Fails, Gives, mode_of, Reads, AllStand, IsExpressionIn, ReadsArms, expression_tree, arm_tree, arms_tree, call_tree, may_call};
 
 use crate::phrases::names_bound;
@@ -17,7 +17,9 @@ use crate::types::type_arguments;
 use gib_base::token::{Sign, Token, is_literal};
 use gib_base::{Memory, Name, Span};
 use gib_reads::Stop;
-use gib_reads::phrases::{begins, constructor, named, span_at, variable, variables, want};
+use gib_reads::phrases::{
+    begins, constructor, named, operator_of, span_at, variable, variables, want,
+};
 use gib_syntax::{Arm, ExprId, GenericExprs, GenericNode, Ident, Run};
 use gib_types::Operator;
 use std::alloc::Global;
@@ -570,22 +572,6 @@ fn atom<'a>(
             Sign::Open => parentheses(alloc, spans, exprs, level, span, rest),
             _ => Err(Stop::At(tokens.len())),
         },
-    }
-}
-
-/// The operator of a sign.
-fn operator_of(sign: Sign) -> Option<Operator>
-    ensures { result ≡ operator_of sign }
-{
-    match sign {
-        Sign::Plus => Some(Operator::Add),
-        Sign::Minus => Some(Operator::Subtract),
-        Sign::Times => Some(Operator::Multiply),
-        Sign::Same => Some(Operator::Equal),
-        Sign::Less => Some(Operator::Less),
-        Sign::Quotient => Some(Operator::Quotient),
-        Sign::Remainder => Some(Operator::Remainder),
-        _ => None,
     }
 }
 

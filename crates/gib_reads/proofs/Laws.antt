@@ -8,7 +8,8 @@ use Rattle.gib_base.specs.declared.token.Token.TheVariants as t
 use Rattle.gib_syntax.specs.declared.tree.Ident.{Ident}
 use Rattle.gib_syntax.specs.Spelling.{Places, IsAt}
 use Rattle.gib_reads.specs.Readers.{At, Reader, then_at, want, want_if, same, before, named, var_at, con_at, next_is, many_step, many_at, many}
-use Rattle.gib_reads.proofs.Tools.{done, failed, Holds, same_is}
+use Rattle.gib_reads.proofs.Signs.{same_is}
+use Rattle.gib_reads.proofs.Tools.{done, failed, Holds}
 use Rattle.gib_reads.proofs.Local.{fail_ok, at_is, ok_parts, then_done, then_failed, LocalAt, pure_local, local_nil, keeps, takes_marked, then_local, nil_fails, head_fails, many_local}
 use Rattle.gib_reads.proofs.Past.{Past, pure_past, past_by, past_takes, past_refuses, then_past, many_past, many_within}
 

@@ -1,4 +1,5 @@
 -- What was read, as facts; things read one after another, whole and as far as a loop has come.
+pub mod Signs
 pub mod Tools
 pub mod Many
 pub mod SoFar

@@ -1,80 +1,12 @@
 -- What was read, as facts.
-use Rattle.std.proofs.Common.{◌≡◌, ℕ, suc, Bool, true, false, List, [], ◌∷◌, length, get_or, Ok, Err, refl, sym, ap, ◌∙◌, subst}
-use Rattle.std.proofs.lemmas.Bool.{eqb-true}
+use Rattle.std.proofs.Common.{◌≡◌, suc, Bool, true, false, List, ◌∷◌, length, Ok, Err, refl, sym, ap, subst}
 use Rattle.gib_base.specs.declared.token.Sign.{Sign}
-use Rattle.gib_base.specs.declared.token.Sign.TheVariants as s
 use Rattle.gib_base.specs.declared.token.Token.{Token}
 use Rattle.gib_base.specs.declared.token.Token.TheVariants as t
 use Rattle.gib_syntax.specs.declared.tree.Ident.{Ident}
 use Rattle.gib_syntax.specs.Spelling.{Places, IsAt}
-use Rattle.gib_reads.specs.Readers.{Fault, At, Read, Reader, then_at, number_of, same, want_if, want, named, var_at, con_at}
-
-all_signs : List Sign
-all_signs =
-    s.Data ∷ s.Fun ∷ s.Main ∷ s.Let ∷ s.Par ∷ s.And ∷ s.In ∷ s.If ∷ s.Then ∷ s.Else ∷ s.Case ∷ s.Of ∷ s.True ∷ s.False
-    ∷ s.Int ∷ s.Bool ∷ s.Quotient ∷ s.Remainder ∷ s.Equals ∷ s.Bar ∷ s.Semicolon ∷ s.Open ∷ s.Close ∷ s.Colon
-    ∷ s.OpenBrace ∷ s.CloseBrace ∷ s.OpenBracket ∷ s.CloseBracket ∷ s.Arrow ∷ s.Plus ∷ s.Minus ∷ s.Times ∷ s.Same
-    ∷ s.Less ∷ s.Comma ∷ s.At ∷ s.Offsets ∷ s.LetRegion ∷ s.LetLocation ∷ s.Reach ∷ s.By ∷ s.Offset ∷ s.Skip ∷ s.End
-    ∷ s.Give ∷ s.Point ∷ s.Start ∷ s.After ∷ []
-
-sign_of : ℕ → Sign
-sign_of n = get_or all_signs n s.Data
-
-sign_of-number_of : (a : Sign) → sign_of (number_of a) ≡ a
-unfolding sign_of all_signs
-sign_of-number_of a = elim a as (λ k. sign_of (number_of k) ≡ k) [
-  | s.Data ↦ refl
-  | s.Fun ↦ refl
-  | s.Main ↦ refl
-  | s.Let ↦ refl
-  | s.Par ↦ refl
-  | s.And ↦ refl
-  | s.In ↦ refl
-  | s.If ↦ refl
-  | s.Then ↦ refl
-  | s.Else ↦ refl
-  | s.Case ↦ refl
-  | s.Of ↦ refl
-  | s.True ↦ refl
-  | s.False ↦ refl
-  | s.Int ↦ refl
-  | s.Bool ↦ refl
-  | s.Quotient ↦ refl
-  | s.Remainder ↦ refl
-  | s.Equals ↦ refl
-  | s.Bar ↦ refl
-  | s.Semicolon ↦ refl
-  | s.Open ↦ refl
-  | s.Close ↦ refl
-  | s.Colon ↦ refl
-  | s.OpenBrace ↦ refl
-  | s.CloseBrace ↦ refl
-  | s.OpenBracket ↦ refl
-  | s.CloseBracket ↦ refl
-  | s.Arrow ↦ refl
-  | s.Plus ↦ refl
-  | s.Minus ↦ refl
-  | s.Times ↦ refl
-  | s.Same ↦ refl
-  | s.Less ↦ refl
-  | s.At ↦ refl
-  | s.Offsets ↦ refl
-  | s.LetRegion ↦ refl
-  | s.LetLocation ↦ refl
-  | s.Reach ↦ refl
-  | s.By ↦ refl
-  | s.Offset ↦ refl
-  | s.Skip ↦ refl
-  | s.End ↦ refl
-  | s.Give ↦ refl
-  | s.Point ↦ refl
-  | s.Start ↦ refl
-  | s.After ↦ refl
-  | s.Comma ↦ refl
-]
-
-pub same_is : (a b : Sign) → same a b ≡ true → a ≡ b
-same_is a b e = sym (sign_of-number_of a) ∙ ap sign_of (eqb-true (number_of a) (number_of b) e) ∙ sign_of-number_of b
+use Rattle.gib_reads.specs.Readers.{Fault, At, Read, Reader, then_at, same, want_if, want, named, var_at, con_at}
+use Rattle.gib_reads.proofs.Signs.{same_is}
 
 abbrev pub done : {A : Type 0} → A → List Token → Read A
 done a rest = Ok (a, rest)

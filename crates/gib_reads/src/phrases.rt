@@ -2,13 +2,14 @@
 
 ghost use Rattle.std.specs.Prelude.{◌≡◌};
 ghost use Rattle.gib_syntax.specs.Spelling.{places_of};
-ghost use Rattle.gib_reads.specs.Readers.{Fault, At, Nested, same, want, var_at, con_at, next_is, is_sign, is_variable, many};
+ghost use Rattle.gib_reads.specs.Readers.{Fault, At, Nested, same, want, var_at, con_at, next_is, is_sign, is_variable, many, operator_of};
 ghost use Rattle.gib_reads.specs.Answers.{Fails, Gives, with_front};
 
 use crate::stop::Stop;
 use gib_base::token::{Sign, Token};
 use gib_base::{Name, Span};
 use gib_syntax::Ident;
+use gib_types::Operator;
 use std::alloc::Global;
 
 /// The span of the token from which so many tokens are left.
@@ -119,5 +120,21 @@ pub fn begins(sign: Sign, tokens: &[Token]) -> bool
     match tokens {
         [Token::Sign(found), ..] => is_same(sign, *found),
         _ => false,
+    }
+}
+
+/// The operator of a sign, where it is one.
+pub fn operator_of(sign: Sign) -> Option<Operator>
+    ensures { result ≡ operator_of sign }
+{
+    match sign {
+        Sign::Plus => Some(Operator::Add),
+        Sign::Minus => Some(Operator::Subtract),
+        Sign::Times => Some(Operator::Multiply),
+        Sign::Same => Some(Operator::Equal),
+        Sign::Less => Some(Operator::Less),
+        Sign::Quotient => Some(Operator::Quotient),
+        Sign::Remainder => Some(Operator::Remainder),
+        _ => None,
     }
 }

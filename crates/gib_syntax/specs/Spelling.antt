@@ -1,6 +1,7 @@
 -- How a program is spelled as tokens.
 use Rattle.std.specs.Prelude.{◌≡◌, ◌-◌, ℕ, zero, suc, Bool, true, false, max, List, [], ◌∷◌, ◌++◌, length, take, get_or}
 use Rattle.gib_base.specs.declared.Span.{Span}
+use Rattle.gib_base.specs.declared.token.Sign.{Sign}
 use Rattle.gib_base.specs.declared.token.Sign.TheVariants as s
 use Rattle.gib_base.specs.declared.token.Token.{Token}
 use Rattle.gib_base.specs.declared.token.Token.TheVariants as t
@@ -13,14 +14,18 @@ use Rattle.gib_syntax.specs.Results.{Results, One, Several}
 use Rattle.gib_syntax.specs.Forms.{WrittenType, WrittenTypes, WholeAt, TruthAt, VariableAt, DataAt, NoType, MoreTypes}
 
 -- The sign of an operator.
+abbrev pub sign_of : Operator → Sign
+sign_of o.Add = s.Plus
+sign_of o.Subtract = s.Minus
+sign_of o.Multiply = s.Times
+sign_of o.Equal = s.Same
+sign_of o.Less = s.Less
+sign_of o.Quotient = s.Quotient
+sign_of o.Remainder = s.Remainder
+
+-- An operator.
 abbrev pub spell_operator : Operator → List Token → List Token
-spell_operator o.Add rest = t.Sign s.Plus ∷ rest
-spell_operator o.Subtract rest = t.Sign s.Minus ∷ rest
-spell_operator o.Multiply rest = t.Sign s.Times ∷ rest
-spell_operator o.Equal rest = t.Sign s.Same ∷ rest
-spell_operator o.Less rest = t.Sign s.Less ∷ rest
-spell_operator o.Quotient rest = t.Sign s.Quotient ∷ rest
-spell_operator o.Remainder rest = t.Sign s.Remainder ∷ rest
+spell_operator f rest = t.Sign (sign_of f) ∷ rest
 
 -- A truth value.
 abbrev pub spell_bit : Bool → List Token → List Token

@@ -15,10 +15,11 @@ pub mod written;
 
 pub use exprs::{Arm, Bound, ExprId, Exprs, Node};
 pub use generic::{GenericExprs, GenericNode};
-pub use print::print_program;
+pub use print::{print_program, sign_of};
 pub use program::{
     GenericConstructor, GenericData, GenericFunction, GenericMain, GenericParameter, GenericProgram,
 };
+pub use text::sign_text;
 pub use tree::{
     ConstructorDecl, DataDecl, FunctionDecl, Ident, MainDecl, Parameter, Program, ResultTypes,
     TypeName,

@@ -5,7 +5,7 @@
 ghost use Rattle.std.specs.Prelude.{◌≡◌, ◌<◌, ◌≤◌, [], ◌∷◌, ◌++◌, ℕ, length, map, IfOk, OnOk};
 ghost use Rattle.std.specs.List.{AllByRecursion};
 ghost use Rattle.gib_base.specs.Spelling.{tokens_text};
-ghost use Rattle.gib_syntax.specs.Spelling.{spell, spell_operator, spell_bit, spell_variables, spell_further_names, spell_names, spell_arguments, spell_parts, spell_further_parts, spell_type, spell_written, spell_types, spell_type_arguments, spell_type_parameters, spell_constructor, spell_constructors, spell_more, spell_data, spell_datas, spell_parameter, spell_parameters, spell_further_types, spell_results, spell_function, spell_functions, spell_main, spell_program, levels_program};
+ghost use Rattle.gib_syntax.specs.Spelling.{spell, sign_of, spell_operator, spell_bit, spell_variables, spell_further_names, spell_names, spell_arguments, spell_parts, spell_further_parts, spell_type, spell_written, spell_types, spell_type_arguments, spell_type_parameters, spell_constructor, spell_constructors, spell_more, spell_data, spell_datas, spell_parameter, spell_parameters, spell_further_types, spell_results, spell_function, spell_functions, spell_main, spell_program, levels_program};
 ghost use Rattle.gib_syntax.specs.Printing.{spell_arm, spell_further, spell_all_arms, spell_case, BindsOne, BindsSeveral, Chooses};
 ghost use Rattle.gib_syntax.specs.GenericArena.{IsArmBelow, ArmsBelow, Opens, tree_of, arguments_from};
 ghost use Rattle.gib_syntax.specs.Words.{run_words, stack_of, types_in, type_in, words_in, IsTypeRun, IsTypesRun};
@@ -28,17 +28,18 @@ use gib_base::{Memory, Names};
 use gib_types::Operator;
 use std::alloc::Global;
 
-fn put_operator(operator: Operator, out: &mut Spelled) -> Result<(), Memory>
-    ensures { OnOk result (out.new ≡ spell_operator operator out.old) }
+/// The sign of an operator.
+pub fn sign_of(operator: Operator) -> Sign
+    ensures { result ≡ sign_of operator }
 {
     match operator {
-        Operator::Add => out.put_sign(Sign::Plus),
-        Operator::Subtract => out.put_sign(Sign::Minus),
-        Operator::Multiply => out.put_sign(Sign::Times),
-        Operator::Equal => out.put_sign(Sign::Same),
-        Operator::Less => out.put_sign(Sign::Less),
-        Operator::Quotient => out.put_sign(Sign::Quotient),
-        Operator::Remainder => out.put_sign(Sign::Remainder),
+        Operator::Add => Sign::Plus,
+        Operator::Subtract => Sign::Minus,
+        Operator::Multiply => Sign::Times,
+        Operator::Equal => Sign::Same,
+        Operator::Less => Sign::Less,
+        Operator::Quotient => Sign::Quotient,
+        Operator::Remainder => Sign::Remainder,
     }
 }
 
@@ -240,7 +241,7 @@ fn put_operation(
 {
     out.put_sign(Sign::Close)?;
     put_expression(exprs, right, out)?;
-    put_operator(operator, out)?;
+    out.put_sign(sign_of(operator))?;
     put_behind(exprs, Sign::Open, left, out)
 }
 

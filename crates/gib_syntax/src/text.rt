@@ -8,7 +8,7 @@ use gib_base::{Memory, Names, push_decimal};
 use std::alloc::Global;
 
 /// How a word or sign is written.
-fn sign_text(sign: Sign) -> &'static [u8]
+pub fn sign_text(sign: Sign) -> &'static [u8]
     ensures { result.now ≡ sign_text sign }
 {
     match sign {
