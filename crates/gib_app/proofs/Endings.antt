@@ -1,8 +1,8 @@
 -- From the status that is due to the one that is answered.
 use Rattle.std.proofs.Common.{◌≡◌, ◌∙◌, refl, ℕ, List, Option, Some, None, MatchOption, ◌⊎◌, inl, inr, subst, Bool}
 use Rattle.gib_syntax.specs.Meaning.{run}
-use Rattle.gib_code.specs.declared.answer.Reason.{Reason as Why}
-use Rattle.gib_code.specs.declared.answer.Reason.TheVariants as why
+use Rattle.gib_types.specs.declared.reason.Reason.{Reason as Why}
+use Rattle.gib_types.specs.declared.reason.Reason.TheVariants as why
 use Rattle.gib_app.specs.declared.status.Status.{Status}
 use Rattle.gib_app.specs.declared.status.Status.TheVariants as status
 use Rattle.gib_app.specs.declared.made.Reason.TheVariants.{Meant, Full}

@@ -1,8 +1,8 @@
 -- Want of chunks is due.
 use Rattle.std.proofs.Common.{◌≡◌, ◌∙◌, refl, ℕ, List, Option, Some, inl, inr, subst, sym, Bool}
 use Rattle.gib_edge.specs.Views.{ShelfView}
-use Rattle.gib_code.specs.declared.answer.Reason.{Reason as Why}
-use Rattle.gib_code.specs.declared.answer.Reason.TheVariants as why
+use Rattle.gib_types.specs.declared.reason.Reason.{Reason as Why}
+use Rattle.gib_types.specs.declared.reason.Reason.TheVariants as why
 use Rattle.gib_app.specs.declared.status.Status.{Status}
 use Rattle.gib_app.specs.declared.status.Status.TheVariants as status
 use Rattle.gib_app.specs.declared.made.Reason.TheVariants.{Meant, Full, Long}

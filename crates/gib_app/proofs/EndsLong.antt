@@ -2,8 +2,8 @@
 use Rattle.gib_base.specs.Texts.{TextsView}
 use Rattle.std.proofs.Common.{◌≡◌, ◌∙◌, refl, ap, ℕ, List, Option, Some, inl, inr, subst, Bool, true}
 use Rattle.gib_edge.specs.Views.{ShelfView}
-use Rattle.gib_code.specs.declared.answer.Reason.{Reason as Why}
-use Rattle.gib_code.specs.declared.answer.Reason.TheVariants as why
+use Rattle.gib_types.specs.declared.reason.Reason.{Reason as Why}
+use Rattle.gib_types.specs.declared.reason.Reason.TheVariants as why
 use Rattle.gib_weave.specs.Sound.{means_why}
 use Rattle.gib_app.specs.declared.status.Status.{Status}
 use Rattle.gib_app.specs.declared.status.Status.TheVariants as status

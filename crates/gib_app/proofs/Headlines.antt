@@ -6,8 +6,8 @@ use Rattle.std.proofs.Common.{◌≡◌, ◌∙◌, refl, ℕ, List, [], ◌∷�
 use Rattle.gib_syntax.specs.Tree.{ProgramTree}
 use Rattle.gib_syntax.specs.Meaning.{Deep, Trap, run}
 use Rattle.gib_app.proofs.Copied.{OnTree}
-use Rattle.gib_code.specs.declared.answer.Reason.{Reason as Why}
-use Rattle.gib_code.specs.declared.answer.Reason.TheVariants as why
+use Rattle.gib_types.specs.declared.reason.Reason.{Reason as Why}
+use Rattle.gib_types.specs.declared.reason.Reason.TheVariants as why
 use Rattle.gib_weave.specs.Sound.{means_why}
 use Rattle.gib_edge.specs.Causes.{Rose, told}
 use Rattle.gib_edge.specs.Views.{Has, ShelfView, SinkView}

@@ -16,7 +16,7 @@ use Rattle.gib_load.specs.Placement.{Placement}
 use Rattle.gib_weave.specs.Running.{word_of}
 use Rattle.gib_weave.specs.Weave.{weave_start}
 use Rattle.gib_code.specs.declared.answer.Answer.{Answer}
-use Rattle.gib_code.specs.declared.answer.Reason.{Reason as Why}
+use Rattle.gib_types.specs.declared.reason.Reason.{Reason as Why}
 use Rattle.gib_weave.specs.declared.task.WeaveFault.TheVariants as event
 use Rattle.gib_locked.specs.Replays.{StopsAt}
 use Rattle.gib_locked.specs.declared.journal.Line.{Line}

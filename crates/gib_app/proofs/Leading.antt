@@ -19,7 +19,7 @@ use Rattle.gib_core.specs.Parts.{core_of}
 use Rattle.gib_core.specs.Tight.{Tight}
 use Rattle.gib_core.specs.Tree.{CoreTree}
 use Rattle.gib_code.specs.declared.answer.Answer.{Answer}
-use Rattle.gib_code.specs.declared.answer.Reason.{Reason as Why}
+use Rattle.gib_types.specs.declared.reason.Reason.{Reason as Why}
 use Rattle.gib_code.specs.Program.{CodeTree}
 use Rattle.gib_lower.specs.Lowering.{lower_program}
 use Rattle.gib_load.specs.Placement.{Placement}

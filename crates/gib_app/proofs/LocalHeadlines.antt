@@ -7,8 +7,8 @@ use Rattle.gib_types.specs.Tree.{Datum}
 use Rattle.gib_core.specs.Marking.{mark_core}
 use Rattle.gib_syntax.specs.Declarations.{table_of_program, input_type}
 use Rattle.gib_syntax.specs.Meaning.{Reason, Deep, Trap, Gives, run}
-use Rattle.gib_code.specs.declared.answer.Reason.{Reason as Why}
-use Rattle.gib_code.specs.declared.answer.Reason.TheVariants as why
+use Rattle.gib_types.specs.declared.reason.Reason.{Reason as Why}
+use Rattle.gib_types.specs.declared.reason.Reason.TheVariants as why
 use Rattle.gib_weave.specs.Sound.{means_why}
 use Rattle.gib_edge.specs.Views.{ShelfView, SinkView}
 use Rattle.gib_app.specs.declared.made.Reason.TheVariants.{Meant, Full, Long}

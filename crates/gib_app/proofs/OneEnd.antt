@@ -8,7 +8,7 @@ use Rattle.gib_file.specs.Framed.{File2}
 use Rattle.gib_file.proofs.FileLaws.{file2_length}
 use Rattle.gib_syntax.specs.Meaning.{Gives, Stops, run}
 use Rattle.gib_syntax.specs.Meaning.{Reason as Meaning}
-use Rattle.gib_code.specs.declared.answer.Reason.{Reason as Why}
+use Rattle.gib_types.specs.declared.reason.Reason.{Reason as Why}
 use Rattle.gib_weave.specs.Sound.{means_why}
 use Rattle.gib_words.specs.declared.plan.Job.{Job}
 use Rattle.gib_app.specs.declared.inputs.Format.{Format}

@@ -3,7 +3,7 @@ use Rattle.gib_base.specs.Texts.{TextsView}
 use Rattle.std.proofs.Common.{◌≡◌, ◌∙◌, ◌≤◌, refl, sym, ap, subst, false, true≢false, ℕ, List, [], ◌∷◌, length, Option, Some, None}
 use Rattle.gib_types.specs.Tree.{Datum}
 use Rattle.gib_code.specs.declared.answer.Answer.{Answer}
-use Rattle.gib_code.specs.declared.answer.Reason.{Reason}
+use Rattle.gib_types.specs.declared.reason.Reason.{Reason}
 use Rattle.gib_weave.specs.Sound.{means_why}
 use Rattle.gib_syntax.specs.Tree.{ProgramTree}
 use Rattle.gib_syntax.specs.Declarations.{table_of_program, input_type, output_type}

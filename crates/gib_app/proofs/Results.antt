@@ -21,7 +21,7 @@ use Rattle.gib_mono.specs.Naming.{entries}
 use Rattle.gib_mono.specs.Showing.{long_texts}
 use Rattle.gib_app.specs.GenericText.{generic_text}
 use Rattle.gib_app.proofs.Copied.{IsSpelled, OnTree, texts_with, to_copy, of_copy, has, means, text_is, read_once}
-use Rattle.gib_code.specs.declared.answer.Reason.TheVariants as why
+use Rattle.gib_types.specs.declared.reason.Reason.TheVariants as why
 use Rattle.gib_app.specs.declared.status.Status.TheVariants as status
 use Rattle.gib_app.specs.Running.{sourced, IsProgram, IsInput, IsOutput, IsRunImage, IsPackedResult, IsLongResult, MeansNone, FillsUp, text_line}
 use Rattle.gib_app.specs.Headline.{copy_with, copy_in, read_in, meant_in, Given, IsResult, IsResultImage, IsResultFile, HasLongFile, HasNoResult, IsTooDeep, DividesByZero, IsTooBig}

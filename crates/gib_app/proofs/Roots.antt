@@ -34,7 +34,7 @@ use Rattle.gib_core.specs.Tree.{CoreTree}
 use Rattle.gib_code.specs.Program.{CodeTree}
 use Rattle.gib_code.specs.declared.answer.Answer.{Answer}
 use Rattle.gib_code.specs.declared.answer.Answer.TheVariants as answer
-use Rattle.gib_code.specs.declared.answer.Reason.{Reason as Why}
+use Rattle.gib_types.specs.declared.reason.Reason.{Reason as Why}
 use Rattle.gib_weave.specs.declared.root_run.RunFault.{RunFault}
 use Rattle.gib_weave.specs.declared.root_run.RunFault.TheVariants as fault
 use Rattle.gib_weave.specs.Running.{IsStart, RunEnds}

@@ -6,7 +6,7 @@ use Rattle.gib_edge.specs.Causes.{told}
 use Rattle.gib_edge.specs.Views.{Held}
 use Rattle.gib_app.specs.declared.status.Status.{Status}
 use Rattle.gib_app.specs.declared.status.Status.TheVariants as status
-use Rattle.gib_code.specs.declared.answer.Reason.TheVariants as why
+use Rattle.gib_types.specs.declared.reason.Reason.TheVariants as why
 use Rattle.gib_app.specs.declared.made.Reason.{Reason}
 use Rattle.gib_app.specs.declared.made.Reason.TheVariants.{Meant, Full, Long}
 use Rattle.gib_app.specs.declared.stop.Stop.TheVariants.{NoValue as Stopped}

@@ -15,8 +15,8 @@ use Rattle.gib_syntax.specs.Results as results
 use Rattle.gib_syntax.specs.Tree.{ProgramTree}
 use Rattle.gib_code.specs.declared.answer.Answer.{Answer}
 use Rattle.gib_code.specs.declared.answer.Answer.TheVariants as answer
-use Rattle.gib_code.specs.declared.answer.Reason.{Reason}
-use Rattle.gib_code.specs.declared.answer.Reason.TheVariants as reason
+use Rattle.gib_types.specs.declared.reason.Reason.{Reason}
+use Rattle.gib_types.specs.declared.reason.Reason.TheVariants as reason
 use Rattle.gib_code.specs.Program.{CodeTree}
 use Rattle.gib_lower.specs.Lowering.{lower_program}
 use Rattle.gib_load.specs.Placement.{Placement, placed_in}

@@ -1,6 +1,6 @@
 -- What a call answers to a stop: its status, and what its line says.
 use Rattle.std.specs.Prelude.{ℕ, List, ◌++◌, codes}
-use Rattle.gib_code.specs.declared.answer.Reason.TheVariants as why
+use Rattle.gib_types.specs.declared.reason.Reason.TheVariants as why
 use Rattle.gib_app.specs.declared.answer.Answer.{Answer as KeptAnswer}
 use Rattle.gib_app.specs.declared.made.Reason.TheVariants as reason
 use Rattle.gib_app.specs.declared.status.Status.{Status}

@@ -186,8 +186,8 @@ fn without_value(reason: Reason) -> Answer<'static>
     ensures { answer_of result ≡ answer_for (Stop.NoValue reason) }
 {
     match reason {
-        Reason::Meant(gib_code::Reason::Deep) => Answer::new(Status::Depth, only(b"depth")),
-        Reason::Meant(gib_code::Reason::Trap) => {
+        Reason::Meant(gib_types::Reason::Deep) => Answer::new(Status::Depth, only(b"depth")),
+        Reason::Meant(gib_types::Reason::Trap) => {
             Answer::new(Status::Trap, only(b"division by zero"))
         }
         Reason::Full => Answer::new(Status::Full, only(b"chunks")),

@@ -75,7 +75,7 @@ pub enum RunEnd {
 }
 
 /// The root that an answer of the machine is, or why there is none.
-fn root_in(answer: Answer) -> Result<Root, gib_code::Reason>
+fn root_in(answer: Answer) -> Result<Root, gib_types::Reason>
     ensures { result ≡ root_in answer }
 {
     match answer {
@@ -83,8 +83,8 @@ fn root_in(answer: Answer) -> Result<Root, gib_code::Reason>
         Answer::Truth(value) => Ok(Root::Truth(value)),
         Answer::At(address) => Ok(Root::At(address)),
         // main gives one value
-        Answer::Parts(_) | Answer::Deep => Err(gib_code::Reason::Deep),
-        Answer::Trap => Err(gib_code::Reason::Trap),
+        Answer::Parts(_) | Answer::Deep => Err(gib_types::Reason::Deep),
+        Answer::Trap => Err(gib_types::Reason::Trap),
     }
 }
 
@@ -93,7 +93,7 @@ pub fn ran_of<M: Drop>(
     lowered: Lowered,
     memory: M,
     answer: Answer,
-) -> Result<Ran<M>, gib_code::Reason>
+) -> Result<Ran<M>, gib_types::Reason>
     ensures none { IfErr result (λ why. root_in answer ≡ Err why) }
     ensures some { IfOk result (λ ran. (root_in answer ≡ Ok ran.root) × (ran.memory ≡ memory) × (ran.lowered ≡ lowered)) }
 {

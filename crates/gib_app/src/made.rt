@@ -8,7 +8,7 @@ use gib_base::Texts;
 #[derive(Clone, Copy, PartialEq, Eq)]
 pub enum Reason {
     /// The program means none on the input, for this reason.
-    Meant(gib_code::Reason),
+    Meant(gib_types::Reason),
     /// So many chunks of region memory may not be enough for what the run costs; in a replay they are not.
     Full,
     /// The packed file of the value, which is asked for, would be too long.

@@ -1,16 +1,8 @@
 //! What a run answers, and where the right side of a `par` begins.
 
 use crate::instruction::{AnswerType, Kind, Targets};
+use gib_types::Reason;
 use std::alloc::Global;
-
-/// Why a run has no value.
-#[derive(Clone, Copy, PartialEq, Eq)]
-pub enum Reason {
-    /// A call had no depth left.
-    Deep,
-    /// A division by 0.
-    Trap,
-}
 
 /// What a run ends with.
 #[derive(Clone, Copy, PartialEq, Eq)]

@@ -7,7 +7,7 @@ mod instruction;
 pub mod names;
 mod text;
 
-pub use answer::{Answer, Reason, Side};
+pub use answer::{Answer, Side};
 pub use code::Code;
 pub use instruction::{AnswerType, Arm, Entry, Fork, Instr, Kind, Operand, Targets};
 pub use text::listing;

@@ -9,8 +9,8 @@ ghost use Rattle.gib_machine.specs.declared.turn.Turn.TheVariants as turns;
 
 use crate::state::{Doing, End, Machine};
 use crate::turn::Turn;
-use gib_code::{AnswerType, Code, Operand, Reason};
-use gib_types::Ty;
+use gib_code::{AnswerType, Code, Operand};
+use gib_types::{Reason, Ty};
 
 /// Where a function starts; 0 for no function.
 #[tactic(auto, using(crate::proofs::Steps::start_here, crate::proofs::Steps::start_past))]

@@ -14,7 +14,8 @@ ghost use Rattle.gib_machine.specs.Stepping.{with_tails};
 use crate::starting::fork_in;
 use crate::state::{Doing, Machine};
 use gib_base::Memory;
-use gib_code::{Answer, Code, Fork, Kind, Reason, Side, Targets};
+use gib_code::{Answer, Code, Fork, Kind, Side, Targets};
+use gib_types::Reason;
 use std::alloc::Global;
 
 /// The label before the one where a `par` is left.

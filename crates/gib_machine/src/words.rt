@@ -9,8 +9,8 @@ ghost use Rattle.gib_machine.specs.declared.turn.Turn.TheVariants as turns;
 
 use crate::state::Machine;
 use crate::turn::Turn;
-use gib_code::{Operand, Reason};
-use gib_types::Operator;
+use gib_code::Operand;
+use gib_types::{Operator, Reason};
 
 /// What is done with two words, as numbers in two's complement.
 pub(crate) fn operated(operator: Operator, left: u64, right: u64) -> u64

@@ -7,7 +7,7 @@ use Rattle.gib_core.specs.Tree.{CoreTree}
 use Rattle.gib_core.specs.Parts.{core_of}
 use Rattle.gib_core.specs.LoweredParts.{LoweredParts}
 use Rattle.gib_code.specs.declared.answer.Answer.{Answer}
-use Rattle.gib_code.specs.declared.answer.Reason.{Reason}
+use Rattle.gib_types.specs.declared.reason.Reason.{Reason}
 use Rattle.gib_code.specs.Program.{CodeTree}
 use Rattle.gib_machine.specs.State.{State, Par, Doing, Ready, Opening, Over, Unwinding, Joining, Putting, Looking, Following, Reading, Skipping, SkipTurn, Turning, Ask, Silent, Get, Put, Draw, AtJoin, Ended}
 use Rattle.gib_machine.specs.Machine.{next, goes_on, unwound}

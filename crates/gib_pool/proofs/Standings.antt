@@ -4,7 +4,7 @@ use Rattle.std.specs.Prelude.{Option, Some, None, IfSome}
 use Rattle.gib_mem.specs.Memory.{Store}
 use Rattle.gib_core.specs.LoweredParts.{LoweredParts}
 use Rattle.gib_code.specs.declared.answer.Answer.{Answer}
-use Rattle.gib_code.specs.declared.answer.Reason.{Reason}
+use Rattle.gib_types.specs.declared.reason.Reason.{Reason}
 use Rattle.gib_machine.specs.State.{State}
 use Rattle.gib_machine.specs.Sides.{Waiting, unwinding, takes, joins}
 use Rattle.gib_weave.specs.Owing.{Debt}

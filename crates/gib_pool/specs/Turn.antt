@@ -8,7 +8,7 @@ use Rattle.gib_core.specs.Cost.{Cost}
 use Rattle.gib_core.specs.Parts.{core_of}
 use Rattle.gib_core.specs.LoweredParts.{LoweredParts}
 use Rattle.gib_machine.specs.Levels.{lefts}
-use Rattle.gib_code.specs.declared.answer.Reason.{Reason}
+use Rattle.gib_types.specs.declared.reason.Reason.{Reason}
 use Rattle.gib_machine.specs.State.{State, Ask, Silent, Get, Put, Draw, AtFork, AtJoin, Ended}
 use Rattle.gib_machine.specs.Sides.{Waiting, left_starts, right_of, unwinding, takes, joins}
 use Rattle.gib_machine.specs.Starting.{waiting_of}

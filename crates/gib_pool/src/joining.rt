@@ -2,7 +2,7 @@
 
 ghost use Rattle.std.specs.Prelude.{◌≡◌, IsOk, Some};
 ghost use Rattle.crossbeam_deque.specs.Handles.{worker_deque, worker_view};
-ghost use Rattle.gib_code.specs.declared.answer.Reason.{Reason};
+ghost use Rattle.gib_types.specs.declared.reason.Reason.{Reason};
 ghost use Rattle.gib_machine.specs.Sides.{unwinding};
 ghost use Rattle.gib_machine.specs.declared.turn.Turn.TheVariants.{AtJoin};
 ghost use Rattle.gib_weave.specs.Owing.{Debt};

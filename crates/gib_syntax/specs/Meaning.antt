@@ -13,13 +13,8 @@ use Rattle.gib_syntax.specs.Tree.{Expression, Arguments, Arms, Var, Num, Bit, Pa
 use Rattle.gib_syntax.specs.Results.{Results, One, Several}
 use Rattle.gib_syntax.specs.Declarations.{number_of, constructor_named, function_named, table_of_program, type_of_name}
 pub use Rattle.gib_syntax.specs.Typing.{names_of}
-
--- Why an expression has no value.
-pub data Reason : Type 0 where
-  -- a call with no depth left
-  Deep : Reason
-  -- a division by 0
-  Trap : Reason
+pub use Rattle.gib_types.specs.declared.reason.Reason.{Reason}
+pub use Rattle.gib_types.specs.declared.reason.Reason.TheVariants.{Deep, Trap}
 
 -- What an expression means: a value, or a reason why there is none.
 pub data Outcome : Type 0 where

@@ -7,6 +7,7 @@ mod fields;
 pub mod law;
 pub mod layouts;
 mod operator;
+mod reason;
 pub mod table;
 pub mod types;
 
@@ -14,4 +15,5 @@ pub use access::FieldAccess;
 pub use fields::{first_type, further_types, items_at};
 pub use layouts::{Layout, Layouts};
 pub use operator::Operator;
+pub use reason::Reason;
 pub use table::{ConId, Constructor, Ty, TyId, TypeTable};

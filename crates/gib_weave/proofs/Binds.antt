@@ -18,7 +18,7 @@ use Rattle.gib_core.specs.Tree.{Term, Then, On, Prim, CallTerm, Give, CoreTree, 
 use Rattle.gib_core.specs.Meaning.{value, bind, function_at, of_function, core_calls, mean, from_there, having, Went}
 use Rattle.gib_code.specs.Instruction.{Operate, Move, Call, CallScalar}
 use Rattle.gib_code.specs.Instruction as i
-use Rattle.gib_code.specs.declared.answer.Reason.TheVariants as reason
+use Rattle.gib_types.specs.declared.reason.Reason.TheVariants as reason
 use Rattle.gib_code.specs.Program.{CodeTree, IsAt, AreAt}
 use Rattle.gib_core.specs.Low.{To, call_ending, giving, operand, operands, function_number, IsNoCall, gots}
 use Rattle.gib_machine.specs.State.{Over, doing, Slots, set, word, words, Frame, Open as OpenRegion, State, Silent, sets, cursor, frame, Ready}

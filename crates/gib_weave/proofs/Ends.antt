@@ -8,8 +8,8 @@ use Rattle.gib_code.specs.declared.instruction.AnswerType.{AnswerType}
 use Rattle.gib_syntax.specs.Results as results
 use Rattle.gib_syntax.specs.Results.{Results}
 use Rattle.gib_syntax.specs.Typing.{one_type}
-use Rattle.gib_code.specs.declared.answer.Reason.{Reason}
-use Rattle.gib_code.specs.declared.answer.Reason.TheVariants as reason
+use Rattle.gib_types.specs.declared.reason.Reason.{Reason}
+use Rattle.gib_types.specs.declared.reason.Reason.TheVariants as reason
 use Rattle.gib_syntax.specs.Meaning.{Environment, Outcome, Gives, Stops, value_in}
 use Rattle.gib_mem.specs.Memory.{Store}
 use Rattle.gib_packed.specs.Decoding.{Dec}

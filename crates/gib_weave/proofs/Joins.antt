@@ -19,7 +19,7 @@ use Rattle.gib_core.specs.Meaning.{bind_side}
 use Rattle.gib_code.specs.declared.instruction.Kind.{Kind as CodeKind}
 use Rattle.gib_code.specs.declared.instruction.Kind.TheVariants as code_kind
 use Rattle.gib_code.specs.declared.answer.Answer.{Answer}
-use Rattle.gib_code.specs.declared.answer.Reason.TheVariants as reason
+use Rattle.gib_types.specs.declared.reason.Reason.TheVariants as reason
 use Rattle.gib_code.specs.declared.answer.Answer.TheVariants as answer
 use Rattle.gib_code.specs.Program.{CodeTree}
 use Rattle.gib_core.specs.Low.{kind_of, side_kind, side_slots}
@@ -55,7 +55,7 @@ use Rattle.gib_weave.proofs.Groups.{group_more}
 use Rattle.gib_weave.proofs.Filling.{not_one, same_types}
 use Rattle.gib_weave.proofs.SideParts.{owed_binds, owes_none}
 use Rattle.gib_weave.proofs.Comes.{answer_comes as parts_come}
-use Rattle.gib_code.specs.declared.answer.Reason.{Reason}
+use Rattle.gib_types.specs.declared.reason.Reason.{Reason}
 use Rattle.gib_packed.proofs.Grow.{Dec-grows}
 
 packed_scalar : (t : ℕ) (xt : Ty) → is_scalar xt ≡ true → xt ≡ Tree (record { 0 = t }) → ⊥

@@ -10,8 +10,8 @@ use Rattle.gib_syntax.specs.Results.{Results}
 use Rattle.gib_syntax.specs.Meaning.{Environment, Outcome, Gives, Stops, Deep, Trap, tuple, Reason as Why}
 use Rattle.gib_mem.specs.Memory.{Store, absent, open_chunk, Grows, Reads}
 use Rattle.gib_core.specs.Tree.{Term, CoreTree}
-use Rattle.gib_code.specs.declared.answer.Reason.{Reason}
-use Rattle.gib_code.specs.declared.answer.Reason.TheVariants as reason
+use Rattle.gib_types.specs.declared.reason.Reason.{Reason}
+use Rattle.gib_types.specs.declared.reason.Reason.TheVariants as reason
 use Rattle.gib_code.specs.declared.answer.Answer.{Answer}
 use Rattle.gib_code.specs.declared.answer.Answer.TheVariants as answer
 use Rattle.gib_code.specs.declared.instruction.AnswerType.{AnswerType}
@@ -101,8 +101,7 @@ AtTerm core code owed own sh s m u c k = AtRest core code owed own sh s m (Plain
 
 -- What the machine's reason means.
 abbrev pub means_why : Reason → Why
-means_why reason.Deep = Deep
-means_why reason.Trap = Trap
+means_why why = why
 
 -- A left side has no value: its task stands at the join, whose right side is not looked at.
 pub record IsUnwinding (owed : Owed) (m : State) : Type 0 where

@@ -30,7 +30,7 @@ fn evaluate(
     compiled: &Compiled,
     value: Value,
     depth: u32,
-) -> Result<Result<Vec<u8>, gib_code::Reason>, Memory>
+) -> Result<Result<Vec<u8>, gib_types::Reason>, Memory>
     requires ready { IsReady (program_of compiled.now.typed) compiled.now.names }
     requires typed { HasType (table_of_program (program_of compiled.now.typed)) value (input_type (program_of compiled.now.typed)) }
     ensures { IfOk result (λ found. MatchResult found
@@ -42,8 +42,8 @@ fn evaluate(
     results_are_typed();
     let result = match evaluated(alloc, &compiled.typed, value, depth) {
         Ok(Outcome::Gives(result)) => result,
-        Ok(Outcome::Deep) => return Ok(Err(gib_code::Reason::Deep)),
-        Ok(Outcome::Trap) => return Ok(Err(gib_code::Reason::Trap)),
+        Ok(Outcome::Deep) => return Ok(Err(gib_types::Reason::Deep)),
+        Ok(Outcome::Trap) => return Ok(Err(gib_types::Reason::Trap)),
         Err(memory) => return Err(memory),
     };
     match value_line(alloc, compiled, &result) {

@@ -5,7 +5,7 @@ use Rattle.gib_packed.specs.declared.root.Root.{Root}
 use Rattle.gib_core.specs.LoweredParts.{LoweredParts}
 use Rattle.gib_core.specs.Meaning.{core_run}
 use Rattle.gib_core.specs.Parts.{core_of}
-use Rattle.gib_code.specs.declared.answer.Reason.{Reason}
+use Rattle.gib_types.specs.declared.reason.Reason.{Reason}
 use Rattle.gib_syntax.specs.Meaning.{Stops}
 use Rattle.gib_weave.specs.Sound.{means_why}
 use Rattle.gib_app.specs.MachineRun.{IsRootOf}
