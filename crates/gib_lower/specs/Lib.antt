@@ -1,6 +1,10 @@
+-- A table of contents: each group says what it is for; a file's first line says what it is.
+
+-- From a core to its code.
 pub mod Lowering
-pub mod Stored
+-- As the code keeps it.
+pub mod Sources
 pub mod Numbers
 pub mod Counting
+pub mod Stored
 pub mod Ends
-pub mod Sources

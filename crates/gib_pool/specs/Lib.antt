@@ -1,3 +1,6 @@
+-- A table of contents: each group says what it is for; a file's first line says what it is.
+
+-- A worker at a task: what it knows and holds, its forks and frames.
 pub mod Turn
 pub mod Going
 pub mod Lent
@@ -6,7 +9,9 @@ pub mod Mine
 pub mod Backs
 pub mod Frames
 pub mod Active
-pub mod Runs
-pub mod Together
 pub mod Forking
+-- From whom it steals.
 pub mod Victims
+-- All tasks at once, and the end of a run.
+pub mod Together
+pub mod Runs
