@@ -11,7 +11,6 @@ use Rattle.gib_types.specs.Table.{Table, con_at, fields_at, is_scalar, at_fields
 use Rattle.gib_types.specs.Tree.{Datum, whole, truth, con, Data, none, more, data_of, list_of, HasType, HaveTypes}
 use Rattle.gib_syntax.specs.declared.tree.Ident.{Ident}
 use Rattle.gib_types.specs.declared.operator.Operator.{Operator}
-use Rattle.gib_types.specs.declared.operator.Operator.TheVariants as o
 use Rattle.gib_syntax.specs.Declarations.{number_of, AreDifferent, type_of_name, constructor_names, constructor_named}
 use Rattle.gib_syntax.specs.Meaning.{Outcome, Gives, Stops, Environment, value_in, bind, bind_results, tuple, with_value, with_values, with_fields, number_in, is_true, is_made_by, parts, operate, is_by_zero, outcome_unless, outcome, made, choose, eval, eval_all, eval_arms, HasResults, OutcomeGives, OutcomeHas, names_of}
 use Rattle.gib_syntax.proofs.Soundness.{Agrees, AllHave, CallsHave, place_within, binds_agree, agrees_bound, results_agree, data_list, eval_has, all_have}
@@ -20,6 +19,7 @@ use Rattle.gib_syntax.specs.GenericTree.{GenericExpression, GenericArguments, Ge
 use Rattle.gib_syntax.specs.GenericFine.{IsGenericFine, AreGenericParts, AreGenericFine, HasGenericFine}
 use Rattle.gib_syntax.specs.Results.{Results, One, Several, map_results, as_results}
 use Rattle.gib_syntax.specs.GenericTyping.{FormScope, form_in, form_bound, BindsForms, operator_form, field_forms, parameter_forms, result_forms, HasForm, HaveForms, ArmsHaveForm}
+use Rattle.gib_syntax.proofs.Operators.{either_value}
 use Rattle.gib_syntax.specs.GenericMeaning.{kind_of, kinds_at, made_at, meant, meant_all, meant_arms}
 use Rattle.gib_mono.specs.Copying.{copy, copy_all, copy_arms, copy_variables, name_of_form, form_of, forms_of_all, bound_forms, forms_named, bind_forms}
 use Rattle.gib_mono.specs.Copied.{IsItem, IsHere, Setting, plain, IsCopyOf, IsAsked, AreAsked, ArmsAsked, IsCopied, ScopeHere, plain_scope, shown, shown_all, shown_results, shown_outcome, shown_given, shown_environment}
@@ -61,13 +61,7 @@ true_shown base (truth b) = refl
 true_shown base (con k vs) = refl
 
 operate_shown : (base : ℕ → ℕ) (f : Operator) (x y : ℤ) → shown base (operate f x y) ≡ operate f x y
-operate_shown base o.Add x y = refl
-operate_shown base o.Subtract x y = refl
-operate_shown base o.Multiply x y = refl
-operate_shown base o.Equal x y = refl
-operate_shown base o.Less x y = refl
-operate_shown base o.Quotient x y = refl
-operate_shown base o.Remainder x y = refl
+operate_shown base f x y = either_value (λ v. shown base v ≡ v) (λ n. refl) (λ b. refl) f x y
 
 -- an outcome of one thing
 pub one_shown : (base : ℕ → ℕ) (f : Form) (o : Outcome) → shown_given base (One f) o ≡ shown_outcome base o

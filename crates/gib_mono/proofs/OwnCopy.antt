@@ -4,6 +4,7 @@ use Rattle.std.specs.Prelude.{slice_get}
 use Rattle.std.specs.List.{AllByRecursion}
 use Rattle.std.proofs.lemmas.Option.{same_Some}
 use Rattle.gib_syntax.specs.declared.tree.Ident.{Ident}
+use Rattle.gib_types.specs.declared.operator.Operator.{Operator}
 use Rattle.gib_syntax.specs.declared.tree.TypeName.{TypeName}
 use Rattle.gib_syntax.specs.declared.tree.TypeName.TheVariants as ty
 use Rattle.gib_syntax.specs.declared.tree.Parameter.{Parameter}
@@ -12,6 +13,7 @@ use Rattle.gib_syntax.specs.Tree.{Expression, Arguments, Arms, Var, Num, Bit, Pa
 use Rattle.gib_syntax.specs.Forms.{WrittenType, Form, Forms, WholeForm, DataForm, NoForm, Meant, formed, assign}
 use Rattle.gib_syntax.specs.GenericTree.{GenericConstructorTree, GenericParameterTree, GenericFunctionTree, GenericRow, row_of, rows_of, GenericGlobals, globals_of_generic, place_named, generic_named}
 use Rattle.gib_syntax.specs.GenericTyping.{FormScope, form_in, form_bound, operator_form}
+use Rattle.gib_syntax.proofs.Operators.{either_scalar}
 use Rattle.gib_syntax.specs.Results.{Results, One, Several, map_results, list_results}
 use Rattle.gib_syntax.specs.Single.{IsSingle, AreSingle, HasSingle, IsSingleFunction, IsSingleProgram}
 use Rattle.gib_syntax.specs.Typing.{names_of}
@@ -75,14 +77,8 @@ bare_result g bare x ts = step (generic_named g.functions x) refl where
   step None e = (refl, tt {0})
   step (Some h) e = bare.functions x h e ts
 
-bare_operator : (f : Rattle.gib_types.specs.declared.operator.Operator.Operator) → IsBare (operator_form f)
-bare_operator Rattle.gib_types.specs.declared.operator.Operator.TheVariants.Add = refl
-bare_operator Rattle.gib_types.specs.declared.operator.Operator.TheVariants.Subtract = refl
-bare_operator Rattle.gib_types.specs.declared.operator.Operator.TheVariants.Multiply = refl
-bare_operator Rattle.gib_types.specs.declared.operator.Operator.TheVariants.Equal = refl
-bare_operator Rattle.gib_types.specs.declared.operator.Operator.TheVariants.Less = refl
-bare_operator Rattle.gib_types.specs.declared.operator.Operator.TheVariants.Quotient = refl
-bare_operator Rattle.gib_types.specs.declared.operator.Operator.TheVariants.Remainder = refl
+bare_operator : (f : Operator) → IsBare (operator_form f)
+bare_operator f = either_scalar (λ g u. IsBare g) refl refl f
 
 bare_found : (scope : FormScope) (x : ℕ) → BareScope scope → IsBare (form_or (form_in scope x))
 bare_found scope x h = step (form_in scope x) refl where

@@ -13,7 +13,6 @@ use Rattle.gib_syntax.specs.declared.tree.TypeName.{TypeName}
 use Rattle.gib_syntax.specs.declared.tree.TypeName.TheVariants as ty
 use Rattle.gib_syntax.specs.declared.tree.Parameter.{Parameter}
 use Rattle.gib_types.specs.declared.operator.Operator.{Operator}
-use Rattle.gib_types.specs.declared.operator.Operator.TheVariants as o
 use Rattle.gib_syntax.specs.Tree.{Expression, Arguments, Arms, Var, Num, Bit, Paren, Op, Call, Make, Let, Par, If, Case, Tuple, LetSeveral, ParSeveral, NoArgument, Argument, LastArm, NextArm, ConstructorTree, DataTree, FunctionTree, MainTree, ProgramTree}
 use Rattle.gib_syntax.specs.Declarations.{number_of, place_of, type_names, type_of_name, type_or, tree_type, row_in, rows_from, table_of_program, constructor_names, constructor_named, function_named}
 use Rattle.gib_syntax.specs.Results.{Results, One, Several, map_results, as_results, list_results}
@@ -22,6 +21,7 @@ use Rattle.gib_types.specs.Operators.{operator_type}
 use Rattle.gib_syntax.specs.Forms.{Form, Forms, WholeForm, TruthForm, DataForm, NoForm, Meant, formed, assign}
 use Rattle.gib_syntax.specs.GenericTree.{GenericParameterTree, GenericRow, row_of, rows_of, globals_of_generic, place_named, generic_named}
 use Rattle.gib_syntax.specs.GenericTyping.{FormScope, form_in, form_bound, operator_form}
+use Rattle.gib_syntax.proofs.Operators.{either_scalar}
 use Rattle.gib_syntax.specs.Inferred.{one_form, arguments_of, forms_at, forms_named, owner_at_row, owner_named, bind_forms, results_at, results_of, forms_of_all, results_of_arms, form_of, bound_forms}
 use Rattle.gib_syntax.specs.Plain.{written_of, as_generic, all_as_generic, arms_as_generic, generic_constructor, generic_data, generic_parameter, generic_function, generic_main, generic_of}
 use Rattle.gib_syntax.proofs.Soundness.{place_found, place_within}
@@ -202,13 +202,7 @@ named_fits g (f ∷ fs) typed x h e ts = step (number_of f.name == x) e (named_f
   step false e go = go e ts
 
 operator_fits : (types : List ℕ) (f : Operator) → Fits types (operator_form f) (operator_type f)
-operator_fits types o.Add = refl
-operator_fits types o.Subtract = refl
-operator_fits types o.Multiply = refl
-operator_fits types o.Equal = refl
-operator_fits types o.Less = refl
-operator_fits types o.Quotient = refl
-operator_fits types o.Remainder = refl
+operator_fits types f = either_scalar (λ g u. Fits types g u) refl refl f
 
 -- What expressions give
 

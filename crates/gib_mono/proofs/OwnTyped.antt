@@ -12,7 +12,6 @@ use Rattle.gib_syntax.specs.declared.tree.Ident.{Ident}
 use Rattle.gib_syntax.specs.declared.tree.TypeName.{TypeName}
 use Rattle.gib_syntax.specs.declared.tree.Parameter.{Parameter}
 use Rattle.gib_types.specs.declared.operator.Operator.{Operator}
-use Rattle.gib_types.specs.declared.operator.Operator.TheVariants as o
 use Rattle.gib_syntax.specs.Tree.{Expression, Arguments, Arms, Var, Num, Bit, Paren, Op, Call, Make, Let, Par, If, Case, Tuple, LetSeveral, ParSeveral, NoArgument, Argument, LastArm, NextArm, FunctionTree, ProgramTree}
 use Rattle.gib_syntax.specs.Declarations.{number_of, type_names, type_of_name, table_of_program, constructor_named, function_named}
 use Rattle.gib_syntax.specs.Results.{Results, One, Several, map_results, as_results, list_results}
@@ -22,6 +21,7 @@ use Rattle.gib_syntax.specs.Meaning.{Outcome, Gives, Environment, value_in, bind
 use Rattle.gib_syntax.specs.Forms.{Form, Forms, WholeForm, TruthForm, NoForm, Meant, formed, assign}
 use Rattle.gib_syntax.specs.GenericTree.{GenericParameterTree, GenericFunctionTree, GenericRow, rows_of, globals_of_generic, place_named, generic_named}
 use Rattle.gib_syntax.specs.GenericTyping.{FormScope, form_in, form_bound, operator_form}
+use Rattle.gib_syntax.proofs.Operators.{either_scalar}
 use Rattle.gib_syntax.specs.Inferred.{one_form, arguments_of, forms_at, forms_named, bind_forms, results_at, results_of, forms_of_all, results_of_arms, form_of, bound_forms}
 use Rattle.gib_syntax.specs.Single.{IsSingle}
 use Rattle.gib_syntax.specs.GenericMeaning.{kind_of, kinds_at, meant, meant_all, meant_arms, made_at, generic_names, parameter_scope, of_generic, calls_meant, means_generic, run_generic}
@@ -102,13 +102,7 @@ named_same g (f ∷ fs) typed x h e ts = step (number_of f.name == x) e (named_s
   step false e go = go e ts
 
 operator_same : (f : Operator) → is_scalar (kind_of (operator_form f)) ≡ is_scalar (operator_type f)
-operator_same o.Add = refl
-operator_same o.Subtract = refl
-operator_same o.Multiply = refl
-operator_same o.Equal = refl
-operator_same o.Less = refl
-operator_same o.Quotient = refl
-operator_same o.Remainder = refl
+operator_same f = either_scalar (λ g u. is_scalar (kind_of g) ≡ is_scalar u) refl refl f
 
 -- What expressions give
 

@@ -3,12 +3,12 @@ use Rattle.std.proofs.Common.{◌≡◌, ℕ, Bool, true, false, ◌==◌, if◌
 use Rattle.std.proofs.lemmas.Option.{same_Some}
 use Rattle.gib_syntax.specs.declared.tree.Ident.{Ident}
 use Rattle.gib_types.specs.declared.operator.Operator.{Operator}
-use Rattle.gib_types.specs.declared.operator.Operator.TheVariants as o
 use Rattle.gib_syntax.specs.Declarations.{number_of}
 use Rattle.gib_syntax.specs.Results.{Results, One, Several, map_results, as_results}
 use Rattle.gib_syntax.specs.Forms.{WrittenType, WrittenTypes, WholeAt, TruthAt, VariableAt, DataAt, NoType, MoreTypes, Form, Forms, WholeForm, TruthForm, DataForm, NoForm, MoreForms, Meant, formed, formed_all, put, put_all, assign}
 use Rattle.gib_syntax.specs.GenericTree.{GenericExpression, GenericArguments, GenericArms, GenericVar, GenericNum, GenericBit, GenericParen, GenericOp, GenericCall, GenericMake, GenericLet, GenericPar, GenericIf, GenericCase, GenericTuple, GenericLetSeveral, GenericParSeveral, GenericNoArgument, GenericArgument, GenericLastArm, GenericNextArm, GenericParameterTree, GenericGlobals}
 use Rattle.gib_syntax.specs.GenericTyping.{FormScope, form_in, form_bound, BindsForms, operator_form, field_forms, parameter_forms, result_forms, HasForm, HaveForms, ArmsHaveForm}
+use Rattle.gib_syntax.proofs.Operators.{either_scalar}
 
 -- types put into what an assignment gives
 pub put_assign : (r : Meant) (vs : List Ident) (fs : Forms) (x : ℕ) → put r (assign vs fs x) ≡ assign vs (put_all r fs) x
@@ -67,13 +67,7 @@ binds_put r (x ∷ xs) [] scope inner h = absurd h
 binds_put r (x ∷ xs) (f ∷ fs) scope inner h = (new_put r scope (number_of x) h.0, binds_put r xs fs (form_bound x f scope) inner h.1)
 
 operator_put : (r : Meant) (f : Operator) → put r (operator_form f) ≡ operator_form f
-operator_put r o.Add = refl
-operator_put r o.Subtract = refl
-operator_put r o.Multiply = refl
-operator_put r o.Equal = refl
-operator_put r o.Less = refl
-operator_put r o.Quotient = refl
-operator_put r o.Remainder = refl
+operator_put r f = either_scalar (λ g u. put r g ≡ g) refl refl f
 
 -- types put into what is given
 put_as : (r : Meant) (ts : List Form) → map_results (put r) (as_results ts) ≡ as_results (map (put r) ts)

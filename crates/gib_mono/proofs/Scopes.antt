@@ -8,7 +8,6 @@ use Rattle.gib_base.specs.declared.Span.{Span}
 use Rattle.gib_syntax.specs.declared.tree.Ident.{Ident}
 use Rattle.gib_types.specs.declared.operator.Operator.{Operator}
 use Rattle.gib_syntax.specs.declared.tree.Parameter.{Parameter}
-use Rattle.gib_types.specs.declared.operator.Operator.TheVariants as o
 use Rattle.gib_syntax.specs.Declarations.{number_of, type_of_name}
 use Rattle.gib_syntax.specs.Typing.{type_in, BindsAll, parameter_types, result_types}
 use Rattle.gib_types.specs.Operators.{operator_type}
@@ -16,6 +15,7 @@ use Rattle.gib_syntax.specs.Forms.{WrittenType, Form, Forms, WholeForm, TruthFor
 use Rattle.gib_syntax.specs.Results.{Results, One, Several, map_results, as_results, list_results}
 use Rattle.gib_syntax.specs.GenericTree.{GenericExpression, GenericArguments, GenericNoArgument, GenericArgument, GenericArms, GenericVar, GenericNum, GenericBit, GenericParen, GenericOp, GenericCall, GenericMake, GenericLet, GenericPar, GenericIf, GenericCase, GenericTuple, GenericLetSeveral, GenericParSeveral, GenericLastArm, GenericNextArm, GenericParameterTree, GenericFunctionTree, GenericRow, GenericGlobals, place_named}
 use Rattle.gib_syntax.specs.GenericTyping.{FormScope, form_in, form_bound, BindsForms, operator_form, field_forms, parameter_forms, result_forms, HasForm, HaveForms, ArmsHaveForm}
+use Rattle.gib_syntax.proofs.Operators.{either_scalar}
 use Rattle.gib_mono.specs.Copying.{Naming, name_of_form, copy_written, plain_type, arguments_of, forms_named, owner_named, bind_forms, one_form, results_at, results_of, results_of_arms, forms_of_all, form_of, bound_forms, copy_parameter, copy_function}
 use Rattle.gib_types.specs.Form.{form_or}
 use Rattle.gib_mono.specs.Copied.{Item, IsItem, IsHere, Setting, plain, IsAsked, AreAsked, ArmsAsked, IsCopied, ScopeHere, plain_scope}
@@ -28,13 +28,7 @@ named_plain nm types p (VariableForm x) = refl
 named_plain nm types p (DataForm t ts) = refl
 
 pub operator_plain : (s : Setting) (f : Operator) → plain s (operator_form f) ≡ operator_type f
-operator_plain s o.Add = refl
-operator_plain s o.Subtract = refl
-operator_plain s o.Multiply = refl
-operator_plain s o.Equal = refl
-operator_plain s o.Less = refl
-operator_plain s o.Quotient = refl
-operator_plain s o.Remainder = refl
+operator_plain s f = either_scalar (λ g u. plain s g ≡ u) refl refl f
 
 in_step : (s : Setting) (b : Bool) (f g : Form) (rest : Option Form) (other : Option Ty) → (rest ≡ Some g → other ≡ Some (plain s g)) → (if b then Some f else rest) ≡ Some g → (if b then Some (plain s f) else other) ≡ Some (plain s g)
 in_step s true f g rest other k e = ap (λ (u : Form). Some (plain s u)) (same_Some f g e)
@@ -146,13 +140,7 @@ pub bound_is : (g : GenericGlobals) (vars : List ℕ) (m : Meant) (e : GenericEx
 bound_is g vars m e ts scope h = list_is (results_of g m scope e) ts (results_are g vars m e (as_results ts) scope h)
 
 operator_here : (s : Setting) (f : Operator) → IsHere s.types (operator_form f)
-operator_here s o.Add = tt {0}
-operator_here s o.Subtract = tt {0}
-operator_here s o.Multiply = tt {0}
-operator_here s o.Equal = tt {0}
-operator_here s o.Less = tt {0}
-operator_here s o.Quotient = tt {0}
-operator_here s o.Remainder = tt {0}
+operator_here s f = either_scalar (λ g u. IsHere s.types g) (tt {0}) (tt {0}) f
 
 -- the types of what is given are here
 abbrev pub AreHereAll : List Item → Results Form → Type 0

@@ -17,8 +17,8 @@ use crate::source::Source;
 use gib_base::{Memory, Span};
 use gib_check::ResultIds;
 use gib_syntax::{Arm, Bound, ExprId, GenericNode, Ident, Node, Run};
-use gib_types::Operator;
 use gib_types::types::{TypeId, TypeNode};
+use gib_types::{Operator, Ty};
 
 /// A copied arm, with what its expression gives.
 #[derive(Drop)]
@@ -182,14 +182,9 @@ fn operator_node(operator: Operator) -> TypeNode
     ensures form { (fs : List Form) → form_from fs result ≡ operator_form operator }
     ensures below { (n : ℕ) → ArgumentsBelow n result }
 {
-    match operator {
-        Operator::Add => TypeNode::Whole,
-        Operator::Subtract => TypeNode::Whole,
-        Operator::Multiply => TypeNode::Whole,
-        Operator::Equal => TypeNode::Truth,
-        Operator::Less => TypeNode::Truth,
-        Operator::Quotient => TypeNode::Whole,
-        Operator::Remainder => TypeNode::Whole,
+    match operator.result() {
+        Ty::Truth => TypeNode::Truth,
+        Ty::Whole | Ty::Tree(_) => TypeNode::Whole,
     }
 }
 
