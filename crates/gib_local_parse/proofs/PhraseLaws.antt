@@ -12,11 +12,12 @@ use Rattle.gib_syntax.specs.declared.tree.TypeName.TheVariants as ty
 use Rattle.gib_types.specs.declared.operator.Operator.{Operator}
 use Rattle.gib_types.specs.declared.operator.Operator.TheVariants as o
 use Rattle.gib_syntax.specs.Spelling.{Places}
-use Rattle.gib_reads.specs.Readers.{before, named, then_at, var_at, is_variable}
+use Rattle.gib_reads.specs.Readers.{before, named, then_at, var_at, is_variable, operator_of}
 use Rattle.gib_local_parse.specs.Tree.{Mark, Operand, Named, Number, Bit, Location, Start, Plus, After, Way, ByOffset, BySkip, ByEnd}
-use Rattle.gib_local_parse.specs.Grammar.{sign, lower, operand_word, type_word, operator_word, spell_mark, spell_option, spell_operands, spell_names, spell_location, spell_way, spell_between, type_at, literal_at, operand_at, starts_operand, operands_at, names_at, mark_from, mark_at, option_at, head_at, location_at, way_at, operator_at, place_between_at, between_at}
+use Rattle.gib_local_parse.specs.Grammar.{sign, lower, operand_word, type_word, operator_word, spell_mark, spell_option, spell_operands, spell_names, spell_location, spell_way, spell_between, type_at, literal_at, operand_at, starts_operand, operands_at, names_at, mark_from, mark_at, option_at, head_at, location_at, way_at, operator_at, place_between_at, between_at, operator_found}
 use Rattle.gib_local_parse.specs.Placed.{IsAt, MarkAt, OptionAt, OperandAt, OperandsAt, NamesAt, TypeAt, LocationAt, WayAt, BetweenAt}
 use Rattle.gib_reads.proofs.Tools.{done}
+use Rattle.gib_reads.proofs.Signs.{sign_is}
 use Rattle.gib_reads.proofs.Laws.{World, Form, Reads, pure_reads, fail_nil, fail_reads, token_reads, choice_nil, choice_reads, weaken, as_reads, then_behind, then_reads, then_sign, var_reads, con_reads, many_reads, write_all, good_all, a_name}
 use Rattle.gib_local_parse.proofs.Asked.{IsSmall, AreSmall}
 
@@ -184,19 +185,17 @@ module _ {P : Type 0} {w : World P} where
       (then_reads (var_reads q ws) (λ x o. (ByEnd x, tt, refl)) (λ x r1 e1 o1 p1. pure_reads (ByEnd x) r1 (λ l. refl) tt p1))
   way_reads q (c ∷ ws) = fail_reads (λ at sub. way_at at) c ws (t.Sign s.Offset ∷ q) (λ at sub l. refl) (ByOffset, tt, refl)
 
-  found : (a : Sign) (f : Operator) (q ws : List Token) → ((l : List Token) → operator_at (t.Sign a ∷ l) ≡ done f l)
-      → ((l : List Token) → t.Sign a ∷ l ≡ operator_word f ∷ l) → Reads w 1 operator q (λ l. l) (λ at sub. operator_at) (t.Sign a ∷ ws)
-  found a f q ws e is = token_reads (λ at sub. operator_at) (λ z at sub. done f) (t.Sign a) ws (λ at sub l. e l) (pure_reads f ws is tt tt)
+  found : (v : Option Operator) (a : Sign) (q ws : List Token) → operator_of a ≡ v
+      → Reads w 1 operator q (λ l. l) (λ at sub. operator_at) (t.Sign a ∷ ws)
+  found None a q ws e =
+      fail_reads (λ at sub. operator_at) (t.Sign a) ws (sign s.Plus ∷ q) (λ at sub l. ap (λ v. operator_found v l) e) (o.Add, tt, refl)
+  found (Some f) a q ws e =
+      token_reads (λ at sub. operator_at) (λ z at sub. done f) (t.Sign a) ws (λ at sub l. ap (λ v. operator_found v l) e)
+      (pure_reads f ws (λ l. ap (λ (b : Sign). t.Sign b ∷ l) (sign_is a f e)) tt tt)
 
   pub operator_reads : (q ws : List Token) → Reads w 1 operator q (λ l. l) (λ at sub. operator_at) ws
   operator_reads q [] = fail_nil (λ at sub. operator_at) (sign s.Plus ∷ q) (λ at sub. refl) (o.Add, tt, refl)
-  operator_reads q (t.Sign s.Plus ∷ ws) = found s.Plus o.Add q ws (λ l. refl) (λ l. refl)
-  operator_reads q (t.Sign s.Minus ∷ ws) = found s.Minus o.Subtract q ws (λ l. refl) (λ l. refl)
-  operator_reads q (t.Sign s.Times ∷ ws) = found s.Times o.Multiply q ws (λ l. refl) (λ l. refl)
-  operator_reads q (t.Sign s.Same ∷ ws) = found s.Same o.Equal q ws (λ l. refl) (λ l. refl)
-  operator_reads q (t.Sign s.Less ∷ ws) = found s.Less o.Less q ws (λ l. refl) (λ l. refl)
-  operator_reads q (t.Sign s.Quotient ∷ ws) = found s.Quotient o.Quotient q ws (λ l. refl) (λ l. refl)
-  operator_reads q (t.Sign s.Remainder ∷ ws) = found s.Remainder o.Remainder q ws (λ l. refl) (λ l. refl)
+  operator_reads q (t.Sign a ∷ ws) = found (operator_of a) a q ws refl
   operator_reads q (c ∷ ws) = fail_reads (λ at sub. operator_at) c ws (sign s.Plus ∷ q) (λ at sub l. refl) (o.Add, tt, refl)
 
   place_between_reads : (q ws : List Token) → Reads w 1 (two_names w.text.here) q (λ l. l) (λ at sub. place_between_at at) ws

@@ -7,15 +7,15 @@ use Rattle.gib_syntax.specs.declared.tree.Ident.{Ident}
 use Rattle.gib_syntax.specs.declared.tree.TypeName.{TypeName}
 use Rattle.gib_syntax.specs.declared.tree.TypeName.TheVariants as ty
 use Rattle.gib_types.specs.declared.operator.Operator.{Operator}
-use Rattle.gib_types.specs.declared.operator.Operator.TheVariants as o
 use Rattle.gib_local_parse.specs.Tree.{Mark, Operand, Named, Number, Bit, Location, Start, Plus, After, Way, ByOffset, BySkip, ByEnd, Line, In, Given, Pointed, Called, Made, Cased, Chosen, Binding, NewRegion, NewPlace, LetIn, ParIn, PrimIn, ReachIn, Bound, Be, Arms, LastArm, NextArm}
 use Rattle.gib_base.specs.declared.token.Token.{Token}
 use Rattle.gib_base.specs.declared.token.Token.TheVariants as t
 use Rattle.gib_reads.specs.Readers.{Read, Reader, before, then_at, named, want, next_is, many, many_at, many_step, is_variable, is_sign, var_at}
 use Rattle.gib_syntax.specs.Spelling.{Places}
 use Rattle.gib_reads.proofs.Tools.{done}
+use Rattle.gib_reads.proofs.Signs.{operator_back}
 use Rattle.gib_reads.proofs.Local.{ok_parts}
-use Rattle.gib_local_parse.specs.Grammar.{ArmText, starts_operand, arms_of, arm_at, next_arm_at, sign, lower, upper, operand_word, operator_word, type_word, spell_mark, spell_option, spell_operands, spell_names, spell_location, spell_way, spell_between, spell_line, spell_binding, spell_bound, spell_arms, type_at, literal_at, operand_at, operands_at, names_at, mark_at, option_at, location_at, way_at, operator_at, between_at, bound_from, bound_at, let_from, let_at, in_at, arms_at, call_at, parse}
+use Rattle.gib_local_parse.specs.Grammar.{ArmText, starts_operand, arms_of, arm_at, next_arm_at, sign, lower, upper, operand_word, operator_word, type_word, spell_mark, spell_option, spell_operands, spell_names, spell_location, spell_way, spell_between, spell_line, spell_binding, spell_bound, spell_arms, type_at, literal_at, operand_at, operands_at, names_at, mark_at, option_at, location_at, way_at, operator_at, between_at, bound_from, bound_at, let_from, let_at, in_at, arms_at, call_at, parse, operator_found}
 use Rattle.gib_local_parse.specs.Placed.{IsAt, MarkAt, OptionAt, OperandAt, OperandsAt, NamesAt, TypeAt, LocationAt, WayAt, BetweenAt, ArgumentsAt, Follows, LineAt, BindingAt, BoundAt, ArmsAt}
 
 pub name_back : (at : Places) (x : Ident) (ws : List Token) → IsAt at x ws → named at x.name ws ≡ x
@@ -97,14 +97,8 @@ way_back at ByOffset ws e = refl
 way_back at (BySkip z) ws e = λ i. done (BySkip (name_back at z ws e i)) ws
 way_back at (ByEnd z) ws e = λ i. done (ByEnd (name_back at z ws e i)) ws
 
-operator_back : (f : Operator) (ws : List Token) → operator_at (operator_word f ∷ ws) ≡ done f ws
-operator_back o.Add ws = refl
-operator_back o.Subtract ws = refl
-operator_back o.Multiply ws = refl
-operator_back o.Equal ws = refl
-operator_back o.Less ws = refl
-operator_back o.Quotient ws = refl
-operator_back o.Remainder ws = refl
+operator_word_back : (f : Operator) (ws : List Token) → operator_at (operator_word f ∷ ws) ≡ done f ws
+operator_word_back f ws = ap (λ (v : Option Operator). operator_found v ws) (operator_back f)
 
 -- ---- lengths
 
@@ -234,7 +228,7 @@ prim_back at sub x w y f z n rest e =
     let i : Ident = named at x.name (sign s.Colon ∷ type_word w ∷ w2) in
     ap (λ (q : Read TypeName). then_at q (λ w ws. let_from at sub i w ws)) (type_back at w w2 e.1)
     ∙ (ap (λ (q : Read Operand). then_at q (λ y ws. then_at (operator_at ws) (λ f ws. then_at (operand_at at ws) (λ z ws. then_at (want s.Close ws) (λ _ ws. Ok (PrimIn i w y f z, ws)))))) (operand_back at y w3 e.2)
-    ∙ (ap (λ (q : Read Operator). then_at q (λ f ws. then_at (operand_at at ws) (λ z ws. then_at (want s.Close ws) (λ _ ws. Ok (PrimIn i w y f z, ws))))) (operator_back f (operand_word z ∷ sign s.Close ∷ rest))
+    ∙ (ap (λ (q : Read Operator). then_at q (λ f ws. then_at (operand_at at ws) (λ z ws. then_at (want s.Close ws) (λ _ ws. Ok (PrimIn i w y f z, ws))))) (operator_word_back f (operand_word z ∷ sign s.Close ∷ rest))
     ∙ (ap (λ (q : Read Operand). then_at q (λ z ws. then_at (want s.Close ws) (λ _ ws. Ok (PrimIn i w y f z, ws)))) (operand_back at z (sign s.Close ∷ rest) e.3)
     ∙ (λ j. done (PrimIn (name_back at x (sign s.Colon ∷ type_word w ∷ w2) e.0 j) w y f z) rest))))
 

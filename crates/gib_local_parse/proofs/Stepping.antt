@@ -1,17 +1,18 @@
 -- What is spelled goes on, a word that may not stand there is refused by what stands before it, and all that stands can be ended.
 use Rattle.std.proofs.Common.{◌≡◌, ℕ, suc, ◌==◌, true, false, List, [], ◌∷◌, ◌++◌, length, Option, Some, None, refl, sym, ap, ◌∙◌}
+use Rattle.std.specs.Prelude.{is_some}
 use Rattle.gib_base.specs.declared.token.Sign.TheVariants as s
 use Rattle.gib_syntax.specs.declared.tree.Ident.{Ident}
 use Rattle.gib_syntax.specs.declared.tree.TypeName.{TypeName}
 use Rattle.gib_syntax.specs.declared.tree.TypeName.TheVariants as ty
 use Rattle.gib_types.specs.declared.operator.Operator.{Operator}
-use Rattle.gib_types.specs.declared.operator.Operator.TheVariants as o
 use Rattle.gib_local_parse.specs.Tree.{Mark, Operand, Named, Number, Bit, Location, Start, Plus, After, Way, ByOffset, BySkip, ByEnd, Line, In, Given, Pointed, Called, Made, Cased, Chosen, NewRegion, NewPlace, LetIn, ParIn, PrimIn, ReachIn, Be, Arms, LastArm, NextArm}
 use Rattle.gib_base.specs.declared.token.Token.{Token}
 use Rattle.gib_base.specs.declared.token.Token.TheVariants as t
 use Rattle.gib_reads.specs.Readers.{number_of}
+use Rattle.gib_reads.proofs.Signs.{operator_back}
 use Rattle.gib_local_parse.specs.Grammar.{sign, lower, operand_word, operator_word, type_word, spell_mark, spell_option, spell_operands, spell_names, spell_location, spell_way, spell_between, spell_line, spell_bound, spell_arms}
-use Rattle.gib_local_parse.specs.Stepping.{One, TypeS, OperandS, OperatorS, OperandsS, NamesS, OptionS, LocationS, WayS, BetweenS, LetS, LetRestS, LetEqualsS, MoreArmsS, TermS, Stack, number, is_operand, a_name, a_con, bound_symbols, advance, or_skip, Goes, Stands, Fails, goes_on, run, HasOperands, ArmsHave}
+use Rattle.gib_local_parse.specs.Stepping.{One, TypeS, OperandS, OperatorS, OperandsS, NamesS, OptionS, LocationS, WayS, BetweenS, LetS, LetRestS, LetEqualsS, MoreArmsS, TermS, Stack, number, is_operand, a_name, a_con, bound_symbols, advance, or_skip, Goes, Stands, Fails, goes_on, run, HasOperands, ArmsHave, when}
 
 -- ---- a refused word is refused whatever follows
 
@@ -80,13 +81,7 @@ type_goes (ty.Truth p) ws k = refl
 type_goes (ty.Declared x) ws k = refl
 
 operator_goes : (f : Operator) (ws : List Token) (k : Stack) → run (operator_word f ∷ ws) (OperatorS ∷ k) ≡ run ws k
-operator_goes o.Add ws k = refl
-operator_goes o.Subtract ws k = refl
-operator_goes o.Multiply ws k = refl
-operator_goes o.Equal ws k = refl
-operator_goes o.Less ws k = refl
-operator_goes o.Quotient ws k = refl
-operator_goes o.Remainder ws k = refl
+operator_goes f ws k = ap (λ (v : Option Operator). goes_on (run ws) (suc (length ws)) (when (is_some v) k)) (operator_back f)
 
 location_goes : (q : Location) (ws : List Token) (k : Stack) → run (spell_location q ws) (LocationS ∷ k) ≡ run ws k
 location_goes (Start r) ws k = refl

@@ -10,8 +10,7 @@ use Rattle.gib_syntax.specs.declared.tree.Ident.{Ident}
 use Rattle.gib_syntax.specs.declared.tree.TypeName.{TypeName}
 use Rattle.gib_syntax.specs.declared.tree.TypeName.TheVariants as ty
 use Rattle.gib_types.specs.declared.operator.Operator.{Operator}
-use Rattle.gib_types.specs.declared.operator.Operator.TheVariants as o
-use Rattle.gib_syntax.specs.Spelling.{Places}
+use Rattle.gib_syntax.specs.Spelling.{Places, sign_of}
 use Rattle.gib_reads.specs.Readers.{At, Nested, Read, Reader, then_at, want, before, named, var_at, con_at, next_is, many, is_variable, is_sign, operator_of}
 use Rattle.gib_local_parse.specs.Tree.{Mark, Operand, Named, Number, Bit, Location, Start, Plus, After, Way, ByOffset, BySkip, ByEnd, Line, In, Given, Pointed, Called, Made, Cased, Chosen, Binding, NewRegion, NewPlace, LetIn, ParIn, PrimIn, ReachIn, Bound, Be, Arms, LastArm, NextArm}
 
@@ -67,13 +66,7 @@ type_word (ty.Declared x) = upper x
 
 -- The sign of an operator.
 abbrev pub operator_word : Operator → Token
-operator_word o.Add = sign s.Plus
-operator_word o.Subtract = sign s.Minus
-operator_word o.Multiply = sign s.Times
-operator_word o.Equal = sign s.Same
-operator_word o.Less = sign s.Less
-operator_word o.Quotient = sign s.Quotient
-operator_word o.Remainder = sign s.Remainder
+operator_word f = sign (sign_of f)
 
 -- The start of a region, behind the head of a constructor, or behind a variable.
 abbrev pub spell_location : Location → List Token → List Token

@@ -1,10 +1,10 @@
 -- A term's words, one at a time: what may follow is a stack of symbols. Where a word may not stand depends on the words before it
 -- alone.
-use Rattle.std.specs.Prelude.{ℕ, suc, ◌==◌, Bool, true, false, List, [], ◌∷◌, length, Option, Some, None}
+use Rattle.std.specs.Prelude.{ℕ, suc, ◌==◌, Bool, true, false, List, [], ◌∷◌, length, Option, Some, None, is_some}
 use Rattle.gib_base.specs.declared.token.Sign.{Sign}
 use Rattle.gib_base.specs.declared.token.Sign.TheVariants as s
 use Rattle.gib_base.specs.declared.token.Token.TheVariants as t
-use Rattle.gib_reads.specs.Readers.{number_of}
+use Rattle.gib_reads.specs.Readers.{number_of, operator_of}
 use Rattle.gib_local_parse.specs.Tree.{Line, In, Given, Pointed, Called, Made, Cased, Chosen, Binding, NewRegion, NewPlace, LetIn, ParIn, PrimIn, ReachIn, Bound, Be, Arms, LastArm, NextArm}
 use Rattle.gib_base.specs.declared.token.Token.{Token}
 
@@ -66,13 +66,7 @@ is_operand n = false
 
 -- A token that is an operator.
 abbrev pub is_operator : Token → Bool
-is_operator (t.Sign s.Plus) = true
-is_operator (t.Sign s.Minus) = true
-is_operator (t.Sign s.Times) = true
-is_operator (t.Sign s.Same) = true
-is_operator (t.Sign s.Less) = true
-is_operator (t.Sign s.Quotient) = true
-is_operator (t.Sign s.Remainder) = true
+is_operator (t.Sign a) = is_some (operator_of a)
 is_operator n = false
 
 -- The side of a `let`: a variable, a colon, a type, a place, `=`, a term.

@@ -2,14 +2,14 @@
 
 ghost use Rattle.std.specs.Prelude.{◌≡◌, ◌^◌, suc, nat_lt, length};
 ghost use Rattle.gib_syntax.specs.Spelling.{places_of};
-ghost use Rattle.gib_reads.specs.Readers.{Fault, At, Nested, next_is, then_at, operator_of};
+ghost use Rattle.gib_reads.specs.Readers.{Fault, At, Nested, next_is, then_at};
 ghost use Rattle.gib_reads.specs.Answers.{Fails, Gives, with_front};
 ghost use Rattle.gib_local_parse.specs.Grammar.{head_at, place_between_at, operator_found, type_at, operand_at, literal_at, starts_operand, operands_at, mark_from, mark_at, option_at, location_at, way_at, operator_at, between_at};
 
 use crate::tree::{Location, Mark, Operand, Way};
 use gib_base::Span;
 use gib_base::token::{Sign, Token, is_literal};
-use gib_reads::phrases::{constructor, named, span_at, variable, want};
+use gib_reads::phrases::{constructor, named, operator_of, span_at, variable, want};
 use gib_reads::stop::Stop;
 use gib_syntax::{Ident, TypeName};
 use gib_types::Operator;
@@ -202,22 +202,6 @@ pub fn way<'a>(spans: &[Span], tokens: &'a [Token]) -> Result<(Way, &'a [Token])
             _ => Err(Stop::At(tokens.len())),
         },
         _ => Err(Stop::At(tokens.len())),
-    }
-}
-
-/// The operator of a sign, where it is one.
-fn operator_of(sign: Sign) -> Option<Operator>
-    ensures { result ≡ operator_of sign }
-{
-    match sign {
-        Sign::Plus => Some(Operator::Add),
-        Sign::Minus => Some(Operator::Subtract),
-        Sign::Times => Some(Operator::Multiply),
-        Sign::Same => Some(Operator::Equal),
-        Sign::Less => Some(Operator::Less),
-        Sign::Quotient => Some(Operator::Quotient),
-        Sign::Remainder => Some(Operator::Remainder),
-        _ => None,
     }
 }
 

@@ -12,6 +12,7 @@ use crate::spelled::FIRST_GIVEN;
 use gib_base::letters::is_name_byte;
 use gib_base::token::{Sign, Token};
 use gib_base::{Memory, Name, Texts, push_decimal};
+use gib_syntax::sign_text;
 use std::alloc::Global;
 
 /// The words of the language.
@@ -47,62 +48,6 @@ const WORDS: [Sign; 30] = [
     Sign::Start,
     Sign::After,
 ];
-
-/// How a word or sign is written.
-fn sign_text(sign: Sign) -> &'static [u8]
-    ensures { result.now ≡ sign_text sign }
-{
-    match sign {
-        Sign::Data => b"data",
-        Sign::Fun => b"fun",
-        Sign::Main => b"main",
-        Sign::Let => b"let",
-        Sign::Par => b"par",
-        Sign::And => b"and",
-        Sign::In => b"in",
-        Sign::If => b"if",
-        Sign::Then => b"then",
-        Sign::Else => b"else",
-        Sign::Case => b"case",
-        Sign::Of => b"of",
-        Sign::True => b"True",
-        Sign::False => b"False",
-        Sign::Int => b"Int",
-        Sign::Bool => b"Bool",
-        Sign::Quotient => b"quot",
-        Sign::Remainder => b"rem",
-        Sign::Equals => b"=",
-        Sign::Bar => b"|",
-        Sign::Semicolon => b";",
-        Sign::Open => b"(",
-        Sign::Close => b")",
-        Sign::Colon => b":",
-        Sign::OpenBrace => b"{",
-        Sign::CloseBrace => b"}",
-        Sign::OpenBracket => b"[",
-        Sign::CloseBracket => b"]",
-        Sign::Arrow => b"->",
-        Sign::Plus => b"+",
-        Sign::Minus => b"-",
-        Sign::Times => b"*",
-        Sign::Same => b"==",
-        Sign::Less => b"<",
-        Sign::At => b"@",
-        Sign::Offsets => b"offsets",
-        Sign::LetRegion => b"letregion",
-        Sign::LetLocation => b"letloc",
-        Sign::Reach => b"reach",
-        Sign::By => b"by",
-        Sign::Offset => b"offset",
-        Sign::Skip => b"skip",
-        Sign::End => b"end",
-        Sign::Give => b"give",
-        Sign::Point => b"point",
-        Sign::Start => b"start",
-        Sign::After => b"after",
-        Sign::Comma => b",",
-    }
-}
 
 /// Whether a text is a word of the language.
 fn is_word(text: &[u8]) -> bool

@@ -18,6 +18,7 @@ use gib_base::token::{Sign, Token};
 use gib_base::{Memory, Name};
 use gib_core::{Access, Atom, CoreResult, Kind, Variable};
 use gib_local::Destination;
+use gib_syntax::sign_of;
 use gib_types::{ConId, Operator, Ty, TyId, TypeTable};
 use std::alloc::Global;
 
@@ -146,15 +147,7 @@ pub(crate) fn put_constructor(
 pub(crate) fn put_operator(operator: Operator, out: &mut Spelled) -> Result<(), Memory>
     ensures { OnOk result (out.new ≡ operator_word operator ∷ out.old) }
 {
-    match operator {
-        Operator::Add => out.put_sign(Sign::Plus),
-        Operator::Subtract => out.put_sign(Sign::Minus),
-        Operator::Multiply => out.put_sign(Sign::Times),
-        Operator::Equal => out.put_sign(Sign::Same),
-        Operator::Less => out.put_sign(Sign::Less),
-        Operator::Quotient => out.put_sign(Sign::Quotient),
-        Operator::Remainder => out.put_sign(Sign::Remainder),
-    }
+    out.put_sign(sign_of(operator))
 }
 
 /// How a field is reached.
