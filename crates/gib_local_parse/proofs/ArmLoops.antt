@@ -9,8 +9,8 @@ use Rattle.gib_reads.specs.declared.stop.Stop.TheVariants as stop
 use Rattle.gib_reads.specs.Readers.{Read, Reader, then_at, next_is, is_sign, many}
 use Rattle.gib_reads.specs.Answers.{Fails}
 use Rattle.gib_reads.proofs.Tools.{done}
-use Rattle.gib_reads.proofs.Many.{Shrinks}
-use Rattle.gib_reads.proofs.SoFar.{SoFar, one_more, one_and_more, first_one, first_fails, all_read, one_fails, shorter}
+use Rattle.gib_reads.proofs.PartsSoFar.{PartsSoFar, parts_more, seen}
+use Rattle.gib_reads.proofs.SoFar.{one_and_more, first_one, first_fails, all_read, one_fails, shorter}
 use Rattle.gib_local_parse.specs.declared.lines.LineArm.{LineArm}
 use Rattle.gib_local_parse.specs.declared.lines.LineNode.{LineNode}
 use Rattle.gib_local_parse.specs.declared.lines.LineId.{LineId}
@@ -34,43 +34,6 @@ pub reads_after : {X : Type 0} (a b c : List LineNode) (r : Result (LineId × X)
 reads_after a b c (Ok x) g h = record { grows = grows_more a b c g h.grows; inside = h.inside }
 reads_after a b c (Err e) g h = tt
 
--- Things that stand in an arena, and what each is there: it stays as the arena grows.
-module _ {A B : Type 0} (Inside : List LineNode → B → Type 0) (make : List LineNode → B → A) (stays : (old new : List LineNode) (b : B) → Grows old new → Inside old b → Inside new b × (make new b ≡ make old b)) where
-  abbrev pub seen : List LineNode → List B → List A
-  seen a bs = map (make a) bs
-
-  pub within_more : (old new : List LineNode) (bs : List B) → Grows old new → AllByRecursion (Inside old) bs → AllByRecursion (Inside new) bs
-  within_more old new [] g h = tt
-  within_more old new (b ∷ bs) g h = ((stays old new b g h.0).0, within_more old new bs g h.1)
-
-  within_push : (a : List LineNode) (bs : List B) (b : B) → AllByRecursion (Inside a) bs → Inside a b → AllByRecursion (Inside a) (bs ++ b ∷ [])
-  within_push a [] b h i = (i, tt)
-  within_push a (x ∷ bs) b h i = (h.0, within_push a bs b h.1 i)
-
-  pub seen_same : (old new : List LineNode) (bs : List B) → Grows old new → AllByRecursion (Inside old) bs → seen new bs ≡ seen old bs
-  seen_same old new [] g h = refl
-  seen_same old new (b ∷ bs) g h = (λ k. (stays old new b g h.0).1 k ∷ seen_same old new bs g h.1 k)
-
-  seen_push : (a : List LineNode) (bs : List B) (b : B) → seen a (bs ++ b ∷ []) ≡ seen a bs ++ make a b ∷ []
-  seen_push a [] b = refl
-  seen_push a (x ∷ bs) b = ap (λ l. make a x ∷ l) (seen_push a bs b)
-
-  -- These were read; what was there stays.
-  pub record PartsSoFar (old new : List LineNode) (all : Read (List A)) (starts : Token → Bool) (p : Reader A) (rest : List Token) (bs : List B) : Type 0 where
-    pub grows : Grows old new
-    pub inside : AllByRecursion (Inside new) bs
-    pub read : SoFar all starts p rest (seen new bs)
-
-  pub parts_more : (old new newer : List LineNode) (all : Read (List A)) (starts : Token → Bool) (p : Reader A) → Shrinks p → (rest after : List Token) (bs : List B) (b : B) → PartsSoFar old new all starts p rest bs → next_is starts rest ≡ true → Grows new newer → Inside newer b → p rest ≡ done (make newer b) after → PartsSoFar old newer all starts p after (bs ++ b ∷ [])
-  parts_more old new newer all starts p sh rest after bs b so e g i r =
-      let a = make newer b in
-      let same : seen new bs ++ a ∷ [] ≡ seen newer (bs ++ b ∷ []) = ap (λ l. l ++ a ∷ []) (sym (seen_same new newer bs g so.inside)) ∙ sym (seen_push newer bs b) in
-      record {
-        grows = grows_more old new newer so.grows g;
-        inside = within_push newer bs b (within_more new newer bs g so.inside) i;
-        read = subst (λ (l : List A). SoFar all starts p after l) same (one_more all starts p sh rest after (seen new bs) a so.read e r);
-      }
-
 -- ---- arms
 
 abbrev pub IsArmIn : List LineNode → LineArm → Type 0
@@ -88,7 +51,7 @@ all_arms at level tokens = one_and_more (arm_at at (parse at level)) (is_sign s.
 
 pub record ArmsSoFar (old new : List LineNode) (at : Places) (level : ℕ) (tokens rest : List Token) (arms : List LineArm) : Type 0 where
   pub some : 0 < length arms
-  pub parts : PartsSoFar IsArmIn arm_in arm_stays old new (all_arms at level tokens) (is_sign s.Semicolon) (next_arm_at at (parse at level)) rest arms
+  pub parts : PartsSoFar grows_more IsArmIn arm_in arm_stays old new (all_arms at level tokens) (is_sign s.Semicolon) (next_arm_at at (parse at level)) rest arms
 
 pub arms_start : (old new : List LineNode) (at : Places) (level : ℕ) (tokens rest : List Token) (arm : LineArm) → Grows old new → IsArmIn new arm → arm_at at (parse at level) tokens ≡ done (arm_text (tree_of new) arm) rest → ArmsSoFar old new at level tokens rest (arm ∷ [])
 arms_start old new at level tokens rest arm g lt e = record {
@@ -103,11 +66,11 @@ arms_start old new at level tokens rest arm g lt e = record {
 pub arms_more : (old new newer : List LineNode) (at : Places) (level : ℕ) (tokens rest after : List Token) (arms : List LineArm) (arm : LineArm) → ArmsSoFar old new at level tokens rest arms → next_is (is_sign s.Semicolon) rest ≡ true → Grows new newer → IsArmIn newer arm → next_arm_at at (parse at level) rest ≡ done (arm_text (tree_of newer) arm) after → ArmsSoFar old newer at level tokens after (arms ++ arm ∷ [])
 arms_more old new newer at level tokens rest after arms arm so e g lt r = record {
   some = (let l = length-append arms (arm ∷ []) in omega arith);
-  parts = parts_more IsArmIn arm_in arm_stays old new newer (all_arms at level tokens) (is_sign s.Semicolon) (next_arm_at at (parse at level)) (next_shrinks at level) rest after arms arm so.parts e g lt r;
+  parts = parts_more grows_more IsArmIn arm_in arm_stays old new newer (all_arms at level tokens) (is_sign s.Semicolon) (next_arm_at at (parse at level)) (next_shrinks at level) rest after arms arm so.parts e g lt r;
 }
 
 abbrev arms_there : List LineNode → List LineArm → List ArmText
-arms_there a arms = seen IsArmIn arm_in arm_stays a arms
+arms_there a arms = seen grows_more IsArmIn arm_in arm_stays a arms
 
 arms_seen : (a : List LineNode) (arm : LineArm) (arms : List LineArm) → arms_of (arm_in a arm) (arms_there a arms) ≡ arms_from (tree_of a) arm arms
 arms_seen a arm [] = refl

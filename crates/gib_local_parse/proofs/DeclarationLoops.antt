@@ -25,7 +25,8 @@ use Rattle.gib_local_parse.specs.Texts.{starts_type, is_constructor, constructor
 use Rattle.gib_local_parse.specs.LineArena.{Grows, tree_of}
 use Rattle.gib_local_parse.specs.TextParts.{IsFunctionIn, ReadsFunctions, function_text}
 use Rattle.gib_local_parse.proofs.WholeLaws.{type_shrinks, con_shrinks, alternative_shrinks, data_shrinks, parameter_shrinks, function_shrinks}
-use Rattle.gib_local_parse.proofs.ArmLoops.{grows_none, PartsSoFar, parts_more, seen, seen_same, within_more}
+use Rattle.gib_reads.proofs.PartsSoFar.{PartsSoFar, parts_more, seen, seen_same, within_more}
+use Rattle.gib_local_parse.proofs.ArmLoops.{grows_none, grows_more}
 
 -- ---- types
 
@@ -176,7 +177,7 @@ abbrev pub all_functions : Places → List Token → Read (List FunctionText)
 all_functions at tokens = many (is_sign s.Fun) (function_at at) tokens
 
 abbrev pub FunctionsSoFar : List LineNode → List LineNode → Places → List Token → List Token → List FunctionLines → Type 0
-FunctionsSoFar old new at tokens rest xs = PartsSoFar IsFunctionAt function_here function_stays old new (all_functions at tokens) (is_sign s.Fun) (function_at at) rest xs
+FunctionsSoFar old new at tokens rest xs = PartsSoFar grows_more IsFunctionAt function_here function_stays old new (all_functions at tokens) (is_sign s.Fun) (function_at at) rest xs
 
 pub functions_start : (a : List LineNode) (at : Places) (tokens : List Token) → FunctionsSoFar a a at tokens tokens []
 functions_start a at tokens = record { grows = grows_none a; inside = tt; read = none_yet (is_sign s.Fun) (function_at at) tokens }
@@ -184,13 +185,13 @@ functions_start a at tokens = record { grows = grows_none a; inside = tt; read =
 pub functions_more : (old new newer : List LineNode) (at : Places) (tokens rest after : List Token) (xs : List FunctionLines) (x : FunctionLines) → FunctionsSoFar old new at tokens rest xs → next_is (is_sign s.Fun) rest ≡ true → Grows new newer → IsFunctionAt newer x → function_at at rest ≡ done (function_here newer x) after
     → FunctionsSoFar old newer at tokens after (xs ++ x ∷ [])
 functions_more old new newer at tokens rest after xs x so e g i r =
-    parts_more IsFunctionAt function_here function_stays old new newer (all_functions at tokens) (is_sign s.Fun) (function_at at) (function_shrinks at) rest after xs x so e g i r
+    parts_more grows_more IsFunctionAt function_here function_stays old new newer (all_functions at tokens) (is_sign s.Fun) (function_at at) (function_shrinks at) rest after xs x so e g i r
 
 pub functions_done : (old new : List LineNode) (at : Places) (tokens rest : List Token) (xs : List FunctionLines) → FunctionsSoFar old new at tokens rest xs → next_is (is_sign s.Fun) rest ≡ false → all_functions at tokens ≡ done (map (function_here new) xs) rest
-functions_done old new at tokens rest xs so e = all_read (all_functions at tokens) (is_sign s.Fun) (function_at at) rest (seen IsFunctionAt function_here function_stays new xs) so.read e
+functions_done old new at tokens rest xs so e = all_read (all_functions at tokens) (is_sign s.Fun) (function_at at) rest (seen grows_more IsFunctionAt function_here function_stays new xs) so.read e
 
 pub functions_fail : (old new : List LineNode) (at : Places) (tokens rest : List Token) (xs : List FunctionLines) (e : Stop) → FunctionsSoFar old new at tokens rest xs → next_is (is_sign s.Fun) rest ≡ true → Fails e (function_at at rest) → Fails e (all_functions at tokens)
-functions_fail old new at tokens rest xs e so b f = one_fails (all_functions at tokens) (is_sign s.Fun) (function_at at) (function_shrinks at) rest (seen IsFunctionAt function_here function_stays new xs) e so.read b f
+functions_fail old new at tokens rest xs e so b f = one_fails (all_functions at tokens) (is_sign s.Fun) (function_at at) (function_shrinks at) rest (seen grows_more IsFunctionAt function_here function_stays new xs) e so.read b f
 
 pub functions_shorter : (at : Places) (rest after : List Token) (x : FunctionText) → function_at at rest ≡ done x after → length after < length rest
 functions_shorter at rest after x e = shorter (function_at at) (function_shrinks at) rest after x e
@@ -201,10 +202,10 @@ functions_stand old new at tokens rest xs so = record { grows = so.grows; inside
 -- ---- whole texts
 
 pub functions_stay : (old new : List LineNode) (fs : List FunctionLines) → AllByRecursion (IsFunctionIn (length old)) fs → Grows old new → map (function_text (tree_of new)) fs ≡ map (function_text (tree_of old)) fs
-functions_stay old new fs h g = seen_same IsFunctionAt function_here function_stays old new fs g h
+functions_stay old new fs h g = seen_same grows_more IsFunctionAt function_here function_stays old new fs g h
 
 pub functions_stay_inside : (old new : List LineNode) (fs : List FunctionLines) → AllByRecursion (IsFunctionIn (length old)) fs → Grows old new → AllByRecursion (IsFunctionIn (length new)) fs
-functions_stay_inside old new fs h g = within_more IsFunctionAt function_here function_stays old new fs g h
+functions_stay_inside old new fs h g = within_more grows_more IsFunctionAt function_here function_stays old new fs g h
 
 pub text_done : (at : Places) (t0 t1 t2 t3 t4 : List Token) (ds : List DataTree) (ks : List Ident) (fs : List FunctionText) (m : MainText) → many (is_sign s.Data) (data_at at) t0 ≡ done ds t1 → offsets_at at t1 ≡ done ks t2 → many (is_sign s.Fun) (function_at at) t2 ≡ done fs t3 → main_at at t3 ≡ done m t4
     → text_at at t0 ≡ done (record { datas = ds; offsets = ks; functions = fs; main = m }) t4

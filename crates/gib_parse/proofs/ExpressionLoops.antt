@@ -22,7 +22,8 @@ use Rattle.gib_parse.proofs.Complete.{argument_and_more, as_arguments}
 use Rattle.gib_reads.proofs.Tools.{done, failed}
 use Rattle.gib_parse.proofs.WholeLaws.{parse_shrinks, next_shrinks, next_part_shrinks}
 use Rattle.gib_reads.proofs.SoFar.{one_and_more, none_yet, first_one, first_fails, all_read, one_fails, shorter}
-use Rattle.gib_parse.proofs.PartsSoFar.{grows_none, grows_more, PartsSoFar, parts_more, parts_stand, seen}
+use Rattle.gib_reads.proofs.PartsSoFar.{PartsSoFar, parts_more, seen}
+use Rattle.gib_parse.proofs.PartsSoFar.{grows_none, grows_more, parts_stand}
 
 -- ---- arguments
 
@@ -34,17 +35,17 @@ id_stays old new id g h = (let l = g.longer in omega arith, g.same id.0 h)
 
 abbrev pub ArgumentsSoFar : Arena → Arena → Places → ℕ → List Token → List Token → List ExprId → Type 0
 ArgumentsSoFar old new at level tokens rest ids =
-    PartsSoFar IsExpressionIn id_tree id_stays old new (many starts_atom (parse at level Atom) tokens) starts_atom (parse at level Atom) rest ids
+    PartsSoFar grows_more IsExpressionIn id_tree id_stays old new (many starts_atom (parse at level Atom) tokens) starts_atom (parse at level Atom) rest ids
 
 pub arguments_start : (a : Arena) (at : Places) (level : ℕ) (tokens : List Token) → ArgumentsSoFar a a at level tokens tokens []
 arguments_start a at level tokens = record { grows = grows_none a; inside = tt; read = none_yet starts_atom (parse at level Atom) tokens }
 
 pub arguments_more : (old new newer : Arena) (at : Places) (level : ℕ) (tokens rest after : List Token) (ids : List ExprId) (id : ExprId) → ArgumentsSoFar old new at level tokens rest ids → next_is starts_atom rest ≡ true → Grows new newer → IsExpressionIn newer id → parse at level Atom rest ≡ done (tree_of newer id.0) after → ArgumentsSoFar old newer at level tokens after (ids ++ id ∷ [])
 arguments_more old new newer at level tokens rest after ids id so e g lt r =
-    parts_more IsExpressionIn id_tree id_stays old new newer (many starts_atom (parse at level Atom) tokens) starts_atom (parse at level Atom) (parse_shrinks at level Atom) rest after ids id so e g lt r
+    parts_more grows_more IsExpressionIn id_tree id_stays old new newer (many starts_atom (parse at level Atom) tokens) starts_atom (parse at level Atom) (parse_shrinks at level Atom) rest after ids id so e g lt r
 
 abbrev trees : Arena → List ExprId → List GenericExpression
-trees a ids = seen IsExpressionIn id_tree id_stays a ids
+trees a ids = seen grows_more IsExpressionIn id_tree id_stays a ids
 
 arguments_seen : (a : Arena) (ids : List ExprId) → arguments_of (trees a ids) ≡ arguments_from (tree_of a) ids
 arguments_seen a [] = refl
@@ -76,14 +77,14 @@ abbrev pub all_further : Places → ℕ → List Token → Read (List GenericExp
 all_further at level tokens = many (is_sign s.Comma) (next_part_at (parse at level Any)) tokens
 
 abbrev pub FurtherSoFar : Arena → Arena → Places → ℕ → List Token → List Token → List ExprId → Type 0
-FurtherSoFar old new at level tokens rest ids = PartsSoFar IsExpressionIn id_tree id_stays old new (all_further at level tokens) (is_sign s.Comma) (next_part_at (parse at level Any)) rest ids
+FurtherSoFar old new at level tokens rest ids = PartsSoFar grows_more IsExpressionIn id_tree id_stays old new (all_further at level tokens) (is_sign s.Comma) (next_part_at (parse at level Any)) rest ids
 
 pub further_start : (a : Arena) (at : Places) (level : ℕ) (tokens : List Token) → FurtherSoFar a a at level tokens tokens []
 further_start a at level tokens = record { grows = grows_none a; inside = tt; read = none_yet (is_sign s.Comma) (next_part_at (parse at level Any)) tokens }
 
 pub further_more : (old new newer : Arena) (at : Places) (level : ℕ) (tokens rest after : List Token) (ids : List ExprId) (id : ExprId) → FurtherSoFar old new at level tokens rest ids → next_is (is_sign s.Comma) rest ≡ true → Grows new newer → IsExpressionIn newer id → next_part_at (parse at level Any) rest ≡ done (tree_of newer id.0) after → FurtherSoFar old newer at level tokens after (ids ++ id ∷ [])
 further_more old new newer at level tokens rest after ids id so e g lt r =
-    parts_more IsExpressionIn id_tree id_stays old new newer (all_further at level tokens) (is_sign s.Comma) (next_part_at (parse at level Any)) (next_part_shrinks at level) rest after ids id so e g lt r
+    parts_more grows_more IsExpressionIn id_tree id_stays old new newer (all_further at level tokens) (is_sign s.Comma) (next_part_at (parse at level Any)) (next_part_shrinks at level) rest after ids id so e g lt r
 
 pub further_done : (old new : Arena) (at : Places) (level : ℕ) (tokens rest : List Token) (ids : List ExprId) → FurtherSoFar old new at level tokens rest ids → next_is (is_sign s.Comma) rest ≡ false → all_further at level tokens ≡ done (map (id_tree new) ids) rest
 further_done old new at level tokens rest ids so e = all_read (all_further at level tokens) (is_sign s.Comma) (next_part_at (parse at level Any)) rest (trees new ids) so.read e
@@ -131,7 +132,7 @@ all_arms at level tokens = one_and_more (arm_at at (parse at level Any)) (is_sig
 
 pub record ArmsSoFar (old new : Arena) (at : Places) (level : ℕ) (tokens rest : List Token) (arms : List code.Arm) : Type 0 where
   pub some : 0 < length arms
-  pub parts : PartsSoFar IsArmIn arm_in arm_stays old new (all_arms at level tokens) (is_sign s.Semicolon) (next_arm_at at (parse at level Any)) rest arms
+  pub parts : PartsSoFar grows_more IsArmIn arm_in arm_stays old new (all_arms at level tokens) (is_sign s.Semicolon) (next_arm_at at (parse at level Any)) rest arms
 
 pub arms_start : (old new : Arena) (at : Places) (level : ℕ) (tokens rest : List Token) (arm : code.Arm) → Grows old new → IsArmIn new arm → arm_at at (parse at level Any) tokens ≡ done (arm_tree (tree_of new) arm) rest → ArmsSoFar old new at level tokens rest (arm ∷ [])
 arms_start old new at level tokens rest arm g lt e = record {
@@ -146,11 +147,11 @@ arms_start old new at level tokens rest arm g lt e = record {
 pub arms_more : (old new newer : Arena) (at : Places) (level : ℕ) (tokens rest after : List Token) (arms : List code.Arm) (arm : code.Arm) → ArmsSoFar old new at level tokens rest arms → next_is (is_sign s.Semicolon) rest ≡ true → Grows new newer → IsArmIn newer arm → next_arm_at at (parse at level Any) rest ≡ done (arm_tree (tree_of newer) arm) after → ArmsSoFar old newer at level tokens after (arms ++ arm ∷ [])
 arms_more old new newer at level tokens rest after arms arm so e g lt r = record {
   some = (let l = length-append arms (arm ∷ []) in omega arith);
-  parts = parts_more IsArmIn arm_in arm_stays old new newer (all_arms at level tokens) (is_sign s.Semicolon) (next_arm_at at (parse at level Any)) (next_shrinks at level) rest after arms arm so.parts e g lt r;
+  parts = parts_more grows_more IsArmIn arm_in arm_stays old new newer (all_arms at level tokens) (is_sign s.Semicolon) (next_arm_at at (parse at level Any)) (next_shrinks at level) rest after arms arm so.parts e g lt r;
 }
 
 abbrev arm_trees : Arena → List code.Arm → List ArmTree
-arm_trees a arms = seen IsArmIn arm_in arm_stays a arms
+arm_trees a arms = seen grows_more IsArmIn arm_in arm_stays a arms
 
 arms_seen : (a : Arena) (arm : code.Arm) (arms : List code.Arm) → arms_of (arm_in a arm) (arm_trees a arms) ≡ arms_from (tree_of a) arm arms
 arms_seen a arm [] = refl

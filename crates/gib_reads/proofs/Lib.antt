@@ -3,6 +3,7 @@ pub mod Signs
 pub mod Tools
 pub mod Many
 pub mod SoFar
+pub mod PartsSoFar
 -- One level more; other tokens behind; and all laws of a reader, in one record.
 pub mod Past
 pub mod Local
