@@ -20,7 +20,7 @@ use Rattle.gib_core.specs.Tree as t
 use Rattle.gib_core.specs.Tree.{Term, Bind, Side, Branches, PartTerms, FunctionTerm, CoreTree, var}
 use Rattle.gib_core.specs.Meaning.{function_at}
 use Rattle.gib_core.specs.Met.{CaseLine}
-use Rattle.gib_core.specs.Walk.{Entry, AtLine, some, walk_bind, walk_side, walk_parts, walk_branches}
+use Rattle.gib_core.specs.Walk.{Entry, AtLine, some, walk_side, walk_parts, walk_branches}
 use Rattle.gib_core.specs.Reaching.{side_uses}
 use Rattle.gib_core.specs.Numbering.{binders}
 use Rattle.gib_core.specs.Ending.{Within, within_par, within_function, within_main, ended, has_ended, call_ends, last_packed}
@@ -135,10 +135,6 @@ entry_cased q l = false
 -- A term has a case on the variable, itself or in a term that is nested in it; so has a binding, a side, so have parts, branches.
 abbrev pub cased : Term → ℕ → Bool
 cased t q = some (entry_cased q) t
-
--- A binding has a case on it.
-abbrev pub bind_cased : Bind → ℕ → Bool
-bind_cased b q = walk_bind (◌||◌) false (entry_cased q) b
 
 -- A side has a case on it.
 abbrev pub side_cased : Side → ℕ → Bool

@@ -106,6 +106,19 @@ fn push_variable(alloc: Global, out: &mut Vec<u8>, variable: Variable) -> Result
     push_decimal(alloc, out, u64::from(variable.0))
 }
 
+/// Writes a variable behind what stands before it.
+fn push_variable_behind(
+    alloc: Global,
+    out: &mut Vec<u8>,
+    before: &[u8],
+    variable: Variable,
+) -> Result<(), Memory>
+    ensures { OnOk result (out.new.items ≡ out.old.items ++ (before.now ++ variable_text variable)) }
+{
+    out.extend_from_slice(before)?;
+    push_variable(alloc, out, variable)
+}
+
 /// Writes an atom.
 fn push_atom(alloc: Global, out: &mut Vec<u8>, atom: Atom) -> Result<(), Memory>
     ensures { OnOk result (out.new.items ≡ out.old.items ++ atom_text atom) }
@@ -162,10 +175,7 @@ fn push_piece(
         }
         Piece::Function(name) => push_name_behind_space(out, names, name),
         Piece::Constructor(con) => push_name_behind_space(out, names, types.name_of(con)),
-        Piece::Variable(variable) => {
-            out.push(b' ')?;
-            push_variable(alloc, out, variable)
-        }
+        Piece::Variable(variable) => push_variable_behind(alloc, out, b" ", variable),
         Piece::Atom(atom) => {
             out.push(b' ')?;
             push_atom(alloc, out, atom)
@@ -185,14 +195,8 @@ fn push_piece(
         Piece::Equals => push_behind_space(out, b"="),
         Piece::Fork => push_behind_space(out, b"fork"),
         Piece::ByOffset => push_behind_space(out, b"by offset"),
-        Piece::BySkip(variable) => {
-            out.extend_from_slice(b" by skip ")?;
-            push_variable(alloc, out, variable)
-        }
-        Piece::ByEnd(variable) => {
-            out.extend_from_slice(b" by end ")?;
-            push_variable(alloc, out, variable)
-        }
+        Piece::BySkip(variable) => push_variable_behind(alloc, out, b" by skip ", variable),
+        Piece::ByEnd(variable) => push_variable_behind(alloc, out, b" by end ", variable),
         Piece::Ends => push_behind_space(out, b"ends"),
         Piece::End => {
             out.push(b'\n')?;
