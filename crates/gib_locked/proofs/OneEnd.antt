@@ -9,7 +9,8 @@ use Rattle.gib_core.specs.Meaning.{core_run}
 use Rattle.gib_core.specs.Parts.{core_of}
 use Rattle.gib_core.specs.Tight.{Tight}
 use Rattle.gib_code.specs.declared.answer.Answer.{Answer}
-use Rattle.gib_code.specs.declared.answer.Answer.TheVariants.{Deep}
+use Rattle.gib_code.specs.declared.answer.Answer.TheVariants.{NoValue}
+use Rattle.gib_code.specs.declared.answer.Reason.TheVariants.{Deep}
 use Rattle.gib_code.specs.Program.{CodeTree}
 use Rattle.gib_weave.specs.declared.task.WeaveFault.{WeaveFault}
 use Rattle.gib_weave.specs.declared.task.WeaveFault.TheVariants as fault
@@ -200,9 +201,9 @@ module _ (code : CodeTree) (start : Weave) (lines : List Line) (al : start.memor
       h.goes_on (subst (λ (w : Weave). IsFinished (task w.tasks 0).stage) (sym is) (subst IsFinished (sym k.root) tt))
 
   abbrev answer_of : Stage → Answer
-  answer_of ev.Running = Deep
+  answer_of ev.Running = NoValue Deep
   answer_of (Finished a) = a
-  answer_of ev.Joined = Deep
+  answer_of ev.Joined = NoValue Deep
 
   -- two answers are one, over one memory
   pub one_answer : (m n : Memory) (a b : Answer) → IsAnswered code start lines m a → IsAnswered code start lines n b → (m ≡ n) × (a ≡ b)

@@ -41,16 +41,6 @@ pub(crate) fn slots_of(code: &Code, function: u32) -> u32
 }
 
 impl Machine {
-    /// The task has no value, and ends.
-    fn stops(&mut self, why: Reason)
-        ensures { self.new ≡ doing self.old (Over (m.stopped why)) }
-    {
-        match why {
-            Reason::Deep => self.doing = Doing::Over(End::Deep),
-            Reason::Trap => self.doing = Doing::Over(End::Trap),
-        }
-    }
-
     /// The task ends with a word, by the type of its answer. No code ends so where several parts are due.
     pub(crate) fn answers(&mut self, word: u64)
         ensures { self.new ≡ doing self.old (Over (word_answer self.old.result word)) }
@@ -59,7 +49,7 @@ impl Machine {
             AnswerType::One(Ty::Whole) => self.doing = Doing::Over(End::Whole(word.cast_signed())),
             AnswerType::One(Ty::Truth) => self.doing = Doing::Over(End::Truth(word != 0)),
             AnswerType::One(Ty::Tree(_)) => self.doing = Doing::Over(End::At(word)),
-            AnswerType::Parts => self.doing = Doing::Over(End::Deep),
+            AnswerType::Parts => self.doing = Doing::Over(End::NoValue(Reason::Deep)),
         }
     }
 
@@ -69,7 +59,7 @@ impl Machine {
         ensures { (ts : List ℕ) → with_tails self.new ts ≡ unwound why (with_tails self.old ts) self.old.pars }
     {
         match self.openings.unwind() {
-            None => self.stops(why),
+            None => self.doing = Doing::Over(End::NoValue(why)),
             Some(join) => {
                 self.ip = join;
                 self.doing = Doing::Unwinding(why);

@@ -10,7 +10,7 @@ ghost use Rattle.gib_machine.specs.Stepping.{Makes};
 use crate::regions::Forked;
 use crate::state::{Doing, End, Machine};
 use crate::turn::Turn;
-use gib_code::{AnswerType, Fork};
+use gib_code::{AnswerType, Fork, Reason};
 
 /// The label before one.
 pub(crate) fn before(label: u32) -> u32
@@ -26,7 +26,7 @@ impl Machine {
         ensures { self.new ≡ enters self.old left level fork.now.right fork.now.joint fork.now.kind (target_slots fork.now.targets) self.old.room }
     {
         if self.openings.is_full() {
-            self.doing = Doing::Over(End::Deep);
+            self.doing = Doing::Over(End::NoValue(Reason::Deep));
         } else {
             self.openings.push_par(Forked {
                 left,

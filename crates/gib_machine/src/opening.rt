@@ -8,6 +8,7 @@ ghost use Rattle.gib_machine.specs.declared.turn.Turn.TheVariants as turns;
 
 use crate::state::{Doing, End, Machine};
 use crate::turn::Turn;
+use gib_code::Reason;
 use gib_mem::Mem;
 use gib_region::{Tails, begin};
 
@@ -19,7 +20,7 @@ impl Machine {
         ensures { Made (opens (with_tails self.old tails.old) self.old.room (λ t a. sets t to a)) (with_tails self.old tails.old) (with_tails self.new tails.new) (M.view mem.old) (M.view mem.new) result }
     {
         if self.openings.is_full() {
-            self.doing = Doing::Over(End::Deep);
+            self.doing = Doing::Over(End::NoValue(Reason::Deep));
             return Turn::Went;
         }
         match begin(mem, tails) {
@@ -39,7 +40,7 @@ impl Machine {
         ensures { Made (opens (with_tails self.old tails.old) self.old.room (λ t a. t)) (with_tails self.old tails.old) (with_tails self.new tails.new) (M.view mem.old) (M.view mem.new) result }
     {
         if self.openings.is_full() {
-            self.doing = Doing::Over(End::Deep);
+            self.doing = Doing::Over(End::NoValue(Reason::Deep));
             return Turn::Went;
         }
         match begin(mem, tails) {

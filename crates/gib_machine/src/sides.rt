@@ -165,8 +165,7 @@ impl Machine {
             Answer::Truth(value) => self.sets(first, value as u64),
             Answer::At(target) => self.stands_at(kind, first, target),
             Answer::Parts(words) => self.sets_all(targets, &words),
-            Answer::Deep => self.unwinds(Reason::Deep),
-            Answer::Trap => self.unwinds(Reason::Trap),
+            Answer::NoValue(why) => self.unwinds(why),
         }
     }
 

@@ -2,6 +2,7 @@
 
 ghost use Rattle.std.specs.Prelude.{◌≡◌, ℕ, List, Some, slice_get, IfSome, IfNone};
 ghost use Rattle.gib_code.specs.declared.answer.Answer.TheVariants as answers;
+ghost use Rattle.gib_code.specs.declared.answer.Reason.TheVariants as reasons;
 ghost use Rattle.gib_code.specs.Instruction.{instruction_of};
 ghost use Rattle.gib_code.specs.Program.{CodeTree};
 ghost use Rattle.gib_machine.specs.State.{Ended, Over, Ready};
@@ -9,7 +10,7 @@ ghost use Rattle.gib_machine.specs.Machine.{begin, next};
 ghost use Rattle.gib_machine.specs.Stepping.{stand_of, with_tails};
 
 use crate::state::{Doing, End, Machine};
-use gib_code::{Answer, Code, Instr};
+use gib_code::{Answer, Code, Instr, Reason};
 
 /// Where a machine stands.
 #[derive(Clone, Copy, PartialEq, Eq)]
@@ -66,15 +67,15 @@ impl Machine {
     /// What a machine that has ended did so with; behind the code, that depth ran out.
     fn end(&self) -> Answer
         ensures over { (a : Answer) → self.now.doing ≡ Over a → result ≡ a }
-        ensures rests { self.now.doing ≡ Ready → result ≡ answers.Deep }
+        ensures rests { self.now.doing ≡ Ready → result ≡ answers.NoValue reasons.Deep }
     {
         match self.doing {
             Doing::Over(End::Whole(value)) => Answer::Whole(value),
             Doing::Over(End::Truth(value)) => Answer::Truth(value),
             Doing::Over(End::At(place)) => Answer::At(place),
             Doing::Over(End::Parts) => Answer::Parts(self.parts),
-            Doing::Over(End::Trap) => Answer::Trap,
-            _ => Answer::Deep,
+            Doing::Over(End::NoValue(why)) => Answer::NoValue(why),
+            _ => Answer::NoValue(Reason::Deep),
         }
     }
 

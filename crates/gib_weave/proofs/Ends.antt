@@ -9,8 +9,7 @@ use Rattle.gib_syntax.specs.Results as results
 use Rattle.gib_syntax.specs.Results.{Results}
 use Rattle.gib_syntax.specs.Typing.{one_type}
 use Rattle.gib_types.specs.declared.reason.Reason.{Reason}
-use Rattle.gib_types.specs.declared.reason.Reason.TheVariants as reason
-use Rattle.gib_syntax.specs.Meaning.{Environment, Outcome, Gives, Stops, value_in}
+use Rattle.gib_syntax.specs.Meaning.{Environment, Gives, Stops, value_in}
 use Rattle.gib_mem.specs.Memory.{Store}
 use Rattle.gib_packed.specs.Decoding.{Dec}
 use Rattle.gib_core.specs.Tree.{CoreTree}
@@ -18,7 +17,7 @@ use Rattle.gib_code.specs.Instruction.{Instruction, Got, OverEnd, Return}
 use Rattle.gib_code.specs.Program.{CodeTree, IsAt, AreAt, none, one_more}
 use Rattle.gib_core.specs.Low.{call_ending, ending, Over, over_all, got_from, gots, operands}
 use Rattle.gib_machine.specs.State.{times, nesting, Slots, slot, Frame, Open as OpenRegion, State, Ready, Silent, cursor, Unwinding, Par, told, words, end_at, sink}
-use Rattle.gib_machine.specs.Machine.{next, begin, goes_on, unwound, stopped, backs_at, ends_side, ends_with, answer_of}
+use Rattle.gib_machine.specs.Machine.{next, begin, goes_on, unwound, backs_at, ends_side, ends_with, answer_of}
 use Rattle.gib_weave.specs.EndWords.{WithEnd, both, IsTold, EndWord}
 use Rattle.std.specs.Prelude.{◌==◌}
 use Rattle.std.proofs.lemmas.Bool.{true≢false}
@@ -109,15 +108,10 @@ held_end {laid} {s} {t} {a} {v} sl x h =
     let q = ap (λ (b : WithEnd). b.last) h in
     record { near = λ e. subst (λ (z : ℕ). Turns s a z) (sym p) there; ends = λ e. absurd (omega (arith, e, q)) }
 
--- the answer of a task that has no value
-stop_answer : (why : Reason) (laid : LaidOut) (s : Store) (ty : Results Ty) (o : Outcome) → o ≡ Stops (means_why why) → IsAnswer laid s ty o (stopped why)
-stop_answer reason.Deep laid s ty o e = e
-stop_answer reason.Trap laid s ty o e = e
-
 module _ (core : CoreTree) (code : CodeTree) (owed : Owed) (own : Owned) (sh : Share) where
   -- a task that has no value unwinds, or ends
   pub unwound_safe : (why : Reason) (s : Store) (m : State) (ps : List Par) → owed.all ≡ Stops (means_why why) → lefts ps ≡ length owed.sides → Safe core code owed own sh s (unwound why m ps)
-  unwound_safe why s m [] e l = rests (over refl (nil_from_length owed.sides (sym l)) (stop_answer why code.laid s owed.ty owed.all e))
+  unwound_safe why s m [] e l = rests (over refl (nil_from_length owed.sides (sym l)) e)
   unwound_safe why s m (p ∷ ps) e l = go p.left refl l (λ h. unwound_safe why s m ps e h)
     where
       go : (b : Bool) → p.left ≡ b → cond b (suc (lefts ps)) (lefts ps) ≡ length owed.sides → (lefts ps ≡ length owed.sides → Safe core code owed own sh s (unwound why m ps))

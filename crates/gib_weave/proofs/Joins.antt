@@ -19,7 +19,6 @@ use Rattle.gib_core.specs.Meaning.{bind_side}
 use Rattle.gib_code.specs.declared.instruction.Kind.{Kind as CodeKind}
 use Rattle.gib_code.specs.declared.instruction.Kind.TheVariants as code_kind
 use Rattle.gib_code.specs.declared.answer.Answer.{Answer}
-use Rattle.gib_types.specs.declared.reason.Reason.TheVariants as reason
 use Rattle.gib_code.specs.declared.answer.Answer.TheVariants as answer
 use Rattle.gib_code.specs.Program.{CodeTree}
 use Rattle.gib_core.specs.Low.{kind_of, side_kind, side_slots}
@@ -139,8 +138,7 @@ module _ (core : CoreTree) (code : CodeTree) (owed : Owed) (own : Owned) (sh : S
   -- by the answer
   parts_comes : {sh' : Share} (a : Answer) → Counted m.regions (right_costs core m.depth m.level p.level (Several xs tys t) u c.env k nothing) sh' → IsAnswer code.laid s (results.Several tys) (side_owes core m.depth (Several xs tys t) c.env) a
       → Safe core code (left_owed core owed m p k) own sh' s (answered (after_join m p k at.low.until) code_kind.Several (map (λ (x : Variable). x.0) xs) a)
-  parts_comes answer.Deep count h = unwinds_at core code owed own sh s m p c k at at.low.until reason.Deep (owes_none xs (side_gives core m.depth (Several xs tys t) c.env) (means_why reason.Deep) h)
-  parts_comes answer.Trap count h = unwinds_at core code owed own sh s m p c k at at.low.until reason.Trap (owes_none xs (side_gives core m.depth (Several xs tys t) c.env) (means_why reason.Trap) h)
+  parts_comes (answer.NoValue why) count h = unwinds_at core code owed own sh s m p c k at at.low.until why (owes_none xs (side_gives core m.depth (Several xs tys t) c.env) (means_why why) h)
   parts_comes (answer.Whole z) count h = absurd (not_one _ _ tys h.0 refl)
   parts_comes (answer.Truth b) count h = absurd (not_one _ _ tys h.0 refl)
   parts_comes (answer.At a) count h = absurd (not_one _ _ tys h.2 refl)
@@ -180,8 +178,7 @@ module _ (core : CoreTree) (code : CodeTree) (owed : Owed) (own : Owned) (sh : S
   -- by the answer
   answer_comes : {sh' : Share} (m : State) (p : Par) (kd : Kind) {y : Variable} {xt : Ty} {t u : Term} (c : Ctx) (k : Kont) (a : Answer) → (at : AtRest core code owed own sh s m (Meet p (On kd y xt t) u) c k)
       → Counted m.regions (right_costs core m.depth m.level p.level (On kd y xt t) u c.env k (kind_link kd)) sh' → IsAnswer code.laid s (results.One xt) (means core m.depth t c.env) a → Safe core code (left_owed core owed m p k) own sh' s (answered (after_join m p k at.low.until) (kind_of kd) (y.0 ∷ []) a)
-  answer_comes m p kd c k answer.Deep at count h = unwinds_at core code owed own sh s m p c k at at.low.until reason.Deep h
-  answer_comes m p kd c k answer.Trap at count h = unwinds_at core code owed own sh s m p c k at at.low.until reason.Trap h
+  answer_comes m p kd c k (answer.NoValue why) at count h = unwinds_at core code owed own sh s m p c k at at.low.until why h
   answer_comes m p kind.Here {xt = xt} c k (answer.Whole z) at count h = absurd (scalar_packed at.fits.0 xt Whole at.fits.1 (ap one_type h.0) refl)
   answer_comes m p kind.Region {xt = xt} c k (answer.Whole z) at count h = absurd (scalar_packed at.fits.0 xt Whole at.fits.1 (ap one_type h.0) refl)
   answer_comes m p kind.Scalar {xt = xt} c k (answer.Whole z) at count h =

@@ -10,6 +10,7 @@ use Rattle.gib_code.specs.declared.instruction.Kind.TheVariants as at
 use Rattle.gib_code.specs.declared.instruction.Operand.TheVariants.{Slot, Number}
 use Rattle.gib_types.specs.declared.operator.Operator.TheVariants.{Add, Less, Quotient, Remainder, Subtract}
 use Rattle.gib_code.specs.declared.answer.Answer.TheVariants as answer
+use Rattle.gib_code.specs.declared.answer.Reason.TheVariants as reason
 use Rattle.gib_code.specs.Instruction as i
 use Rattle.gib_code.specs.Program.{CodeTree}
 use Rattle.gib_machine.specs.State.{Ask, Silent, Get, Put, Draw, AtFork, AtJoin, Ended}
@@ -172,7 +173,7 @@ w8 = steps code 0 2 (fork code (steps code 0 7 (weave_start core code loaded 0 1
 pub unwinds : asks code w8 0 ≡ AtJoin
 unwinds = refl
 
-pub dropped : asks code (take w8) 0 ≡ Ended answer.Deep
+pub dropped : asks code (take w8) 0 ≡ Ended (answer.NoValue reason.Deep)
 dropped = refl
 
 -- Both sides of main's fork count down, the left one from 5 and the right one, which is stolen, from 1.
@@ -206,7 +207,7 @@ left_unwinds = refl
 abbrev joined : Weave → Weave
 joined w = with_sides w 0 (joins (task w.tasks 0).state (answer.Whole (pos 0))) []
 
-pub root_unwinds : asks counts_down (joined (apart 3 13)) 0 ≡ Ended answer.Deep
+pub root_unwinds : asks counts_down (joined (apart 3 13)) 0 ≡ Ended (answer.NoValue reason.Deep)
 root_unwinds = refl
 
 -- With six it ends with a value.
@@ -240,29 +241,29 @@ traps_right = divides (i.CallScalar 1 0 (Number 5 ∷ [])) (i.CallScalar 2 1 (Sl
 abbrev apart_left : Weave
 apart_left = steps traps_left 0 2 (steps traps_left 1 13 (stolen traps_left (weave_start dividing traps_left nothing_drawn 0 3 4 [])))
 
-pub right_deep : asks traps_left apart_left 1 ≡ Ended answer.Deep
+pub right_deep : asks traps_left apart_left 1 ≡ Ended (answer.NoValue reason.Deep)
 right_deep = refl
 
 pub left_traps : asks traps_left apart_left 0 ≡ AtJoin
 left_traps = refl
 
-pub root_traps : asks traps_left (with_sides apart_left 0 (joins (task apart_left.tasks 0).state answer.Deep) []) 0 ≡ Ended answer.Trap
+pub root_traps : asks traps_left (with_sides apart_left 0 (joins (task apart_left.tasks 0).state (answer.NoValue reason.Deep)) []) 0 ≡ Ended (answer.NoValue reason.Trap)
 root_traps = refl
 
 abbrev apart_right : Weave
 apart_right = steps traps_right 0 13 (steps traps_right 1 2 (stolen traps_right (weave_start dividing traps_right nothing_drawn 0 3 4 [])))
 
-pub right_traps : asks traps_right apart_right 1 ≡ Ended answer.Trap
+pub right_traps : asks traps_right apart_right 1 ≡ Ended (answer.NoValue reason.Trap)
 right_traps = refl
 
-pub root_deep : asks traps_right (with_sides apart_right 0 (joins (task apart_right.tasks 0).state answer.Trap) []) 0 ≡ Ended answer.Deep
+pub root_deep : asks traps_right (with_sides apart_right 0 (joins (task apart_right.tasks 0).state (answer.NoValue reason.Trap)) []) 0 ≡ Ended (answer.NoValue reason.Deep)
 root_deep = refl
 
 -- So it is in place, with no level left, where the right side never begins.
-pub traps_in_place : asks traps_left (steps traps_left 0 3 (weave_start dividing traps_left nothing_drawn 0 3 0 [])) 0 ≡ Ended answer.Trap
+pub traps_in_place : asks traps_left (steps traps_left 0 3 (weave_start dividing traps_left nothing_drawn 0 3 0 [])) 0 ≡ Ended (answer.NoValue reason.Trap)
 traps_in_place = refl
 
-pub deep_in_place : asks traps_right (steps traps_right 0 14 (weave_start dividing traps_right nothing_drawn 0 3 0 [])) 0 ≡ Ended answer.Deep
+pub deep_in_place : asks traps_right (steps traps_right 0 14 (weave_start dividing traps_right nothing_drawn 0 3 0 [])) 0 ≡ Ended (answer.NoValue reason.Deep)
 deep_in_place = refl
 
 -- The least number by -1: the quotient wraps, and nothing is left.

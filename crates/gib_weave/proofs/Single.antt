@@ -2,7 +2,8 @@
 use Rattle.std.proofs.Common.{◌≡◌, ℕ, suc, List, [], ◌∷◌, ◌++◌, slice_set, true, refl, sym, ap, subst, ◌∙◌}
 use Rattle.gib_mem.specs.Memory.{Reads, after_draw, after_puts}
 use Rattle.gib_code.specs.declared.answer.Answer.{Answer}
-use Rattle.gib_code.specs.declared.answer.Answer.TheVariants.{Deep}
+use Rattle.gib_code.specs.declared.answer.Answer.TheVariants.{NoValue}
+use Rattle.gib_code.specs.declared.answer.Reason.TheVariants.{Deep}
 use Rattle.gib_code.specs.Program.{CodeTree}
 use Rattle.gib_machine.specs.State.{State, Ask, Silent, Get, Put, Draw, AtFork, AtJoin, Ended}
 use Rattle.gib_machine.specs.Sides.{Waiting, joins, side_start, takes}
@@ -59,18 +60,18 @@ then_in AtJoin n = no_task.state
 then_in (Ended a) n = no_task.state
 
 abbrev answer_in : Ask → Answer
-answer_in (Silent m) = Deep
-answer_in (Get a more k) = Deep
-answer_in (Put a b bs m) = Deep
-answer_in (Draw k) = Deep
-answer_in AtFork = Deep
-answer_in AtJoin = Deep
+answer_in (Silent m) = NoValue Deep
+answer_in (Get a more k) = NoValue Deep
+answer_in (Put a b bs m) = NoValue Deep
+answer_in (Draw k) = NoValue Deep
+answer_in AtFork = NoValue Deep
+answer_in AtJoin = NoValue Deep
 answer_in (Ended a) = a
 
 abbrev answer_of : Stage → Answer
-answer_of Running = Deep
+answer_of Running = NoValue Deep
 answer_of (Finished a) = a
-answer_of Joined = Deep
+answer_of Joined = NoValue Deep
 
 abbrev rest_of : List Status → List Status
 rest_of [] = []

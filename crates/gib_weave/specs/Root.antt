@@ -36,8 +36,7 @@ answer_root (answer.Whole z) = Some (root.Whole z)
 answer_root (answer.Truth b) = Some (root.Truth b)
 answer_root (answer.At a) = Some (root.At a)
 answer_root (answer.Parts ws) = None
-answer_root answer.Deep = None
-answer_root answer.Trap = None
+answer_root (answer.NoValue why) = None
 
 -- The answer is a root, for which the value stands.
 pub record AnswerStands (laid : LaidOut) (s : mem.Store) (ty : Ty) (v : Datum) (a : Answer) : Type 0 where

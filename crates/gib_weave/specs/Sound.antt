@@ -128,8 +128,7 @@ IsAnswer laid s ty owed (answer.At a) = (t : ℕ) × (v : Datum) × (ty ≡ resu
 IsAnswer laid s ty owed (answer.Whole z) = (ty ≡ results.One Whole) × FitsSigned w64 z × (owed ≡ Gives (whole z))
 IsAnswer laid s ty owed (answer.Truth b) = (ty ≡ results.One Truth) × (owed ≡ Gives (truth b))
 IsAnswer laid s ty owed (answer.Parts ws) = (tys : List Ty) × (vs : List Datum) × (ty ≡ results.Several tys) × (owed ≡ Gives (tuple vs)) × PartsAnswer laid s tys ws vs
-IsAnswer laid s ty owed answer.Deep = owed ≡ Stops Deep
-IsAnswer laid s ty owed answer.Trap = owed ≡ Stops Trap
+IsAnswer laid s ty owed (answer.NoValue why) = owed ≡ Stops (means_why why)
 
 -- A task between two instructions: at what is next in a line, unwinding, or over.
 pub data Rests (core : CoreTree) (code : CodeTree) (owed : Owed) (own : Owned) (sh : Share) (s : Store) (m : State) : Type 0 where
