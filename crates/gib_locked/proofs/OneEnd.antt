@@ -10,7 +10,7 @@ use Rattle.gib_core.specs.Parts.{core_of}
 use Rattle.gib_core.specs.Tight.{Tight}
 use Rattle.gib_code.specs.declared.answer.Answer.{Answer}
 use Rattle.gib_code.specs.declared.answer.Answer.TheVariants.{NoValue}
-use Rattle.gib_code.specs.declared.answer.Reason.TheVariants.{Deep}
+use Rattle.gib_types.specs.declared.reason.Reason.TheVariants.{Deep}
 use Rattle.gib_code.specs.Program.{CodeTree}
 use Rattle.gib_weave.specs.declared.task.WeaveFault.{WeaveFault}
 use Rattle.gib_weave.specs.declared.task.WeaveFault.TheVariants as fault

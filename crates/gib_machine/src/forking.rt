@@ -10,7 +10,8 @@ ghost use Rattle.gib_machine.specs.Stepping.{Makes};
 use crate::regions::Forked;
 use crate::state::{Doing, End, Machine};
 use crate::turn::Turn;
-use gib_code::{AnswerType, Fork, Reason};
+use gib_code::{AnswerType, Fork};
+use gib_types::Reason;
 
 /// The label before one.
 pub(crate) fn before(label: u32) -> u32

@@ -8,9 +8,9 @@ ghost use Rattle.gib_machine.specs.declared.turn.Turn.TheVariants as turns;
 
 use crate::state::{Doing, End, Machine};
 use crate::turn::Turn;
-use gib_code::Reason;
 use gib_mem::Mem;
 use gib_region::{Tails, begin};
+use gib_types::Reason;
 
 impl Machine {
     /// Opens a region, and sets the slot to its start.

@@ -42,7 +42,7 @@ use Rattle.gib_weave.proofs.Groups.{group_more}
 use Rattle.gib_weave.proofs.Filling.{holds_more, sink_length, Stack-filled}
 use Rattle.gib_weave.proofs.Reordered.{sink_counted, sink_covers, sink_room}
 use Rattle.gib_machine.specs.Levels.{lefts}
-use Rattle.gib_weave.specs.Sound.{counts, AtRest, means_why, unwinds, IsAnswer, at_term, over, Safe, rests, moves, silent, Moves, InMemory, IsTied, Ties, ties_of}
+use Rattle.gib_weave.specs.Sound.{counts, AtRest, unwinds, IsAnswer, at_term, over, Safe, rests, moves, silent, Moves, InMemory, IsTied, Ties, ties_of}
 use Rattle.gib_weave.proofs.Move.{with_var, with_dest, HasAll-set, HasAll-dest, keeps_dest, IsDest-bind, IsDest-more, covers_more, HasAll-moved, Stack-moved, tree_settled, settled_there, other, with_line, HasAll-line, Matches-line, IsDest-line}
 use Rattle.gib_weave.proofs.Sorts.{all_under_bind, rest_code_put, goes-refl, given_bind, is_field}
 use Rattle.gib_weave.proofs.Basics.{by_test, put-other}
@@ -110,7 +110,7 @@ held_end {laid} {s} {t} {a} {v} sl x h =
 
 module _ (core : CoreTree) (code : CodeTree) (owed : Owed) (own : Owned) (sh : Share) where
   -- a task that has no value unwinds, or ends
-  pub unwound_safe : (why : Reason) (s : Store) (m : State) (ps : List Par) → owed.all ≡ Stops (means_why why) → lefts ps ≡ length owed.sides → Safe core code owed own sh s (unwound why m ps)
+  pub unwound_safe : (why : Reason) (s : Store) (m : State) (ps : List Par) → owed.all ≡ Stops why → lefts ps ≡ length owed.sides → Safe core code owed own sh s (unwound why m ps)
   unwound_safe why s m [] e l = rests (over refl (nil_from_length owed.sides (sym l)) e)
   unwound_safe why s m (p ∷ ps) e l = go p.left refl l (λ h. unwound_safe why s m ps e h)
     where

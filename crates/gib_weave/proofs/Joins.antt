@@ -44,7 +44,7 @@ use Rattle.gib_weave.specs.Paying.{Share, Counted, with_side, with_count, cost_a
 use Rattle.gib_weave.specs.Places.{Owned, heads}
 use Rattle.gib_weave.specs.Stacks.{Waits, no_tree}
 use Rattle.gib_machine.specs.Levels.{lefts}
-use Rattle.gib_weave.specs.Sound.{AtRest, IsUnwinding, Meets, IsAnswer, PartsAnswer, at_term, Safe, rests, moves, IsTied, means_why, ties_of}
+use Rattle.gib_weave.specs.Sound.{AtRest, IsUnwinding, Meets, IsAnswer, PartsAnswer, at_term, Safe, rests, moves, IsTied, ties_of}
 use Rattle.gib_weave.proofs.Basics.{both-same}
 use Rattle.gib_weave.proofs.Turns.{some_region, Stack-turn, due-packed}
 use Rattle.gib_weave.proofs.Readings.{dec_small}
@@ -90,8 +90,8 @@ module _ (core : CoreTree) (code : CodeTree) (owed : Owed) (own : Owned) (sh : S
   side_came {sh'} v mn count = subst (λ (o : Outcome). Counted m.regions (plus (link r) (cost_after o (λ v. left_costs core m.depth p.level (Plain u) (bind_side r v c.env) k))) sh') mn count
 
   -- without a value the task unwinds
-  unwinds_at : {sh' : Share} (z : ℕ) (why : Reason) → side_gives core m.depth r c.env ≡ Stops (means_why why) → Safe core code (left_owed core owed m p k) own sh' s (unwound why (after_join m p k z) (pars_of k))
-  unwinds_at {sh'} z why h = unwound_safe core code (left_owed core owed m p k) own sh' why s (after_join m p k z) (pars_of k) (sym (comes_to (Stops (means_why why)) h) ∙ resume-stop core m.depth k (means_why why)) (lefts_sides core m.depth p.level k)
+  unwinds_at : {sh' : Share} (z : ℕ) (why : Reason) → side_gives core m.depth r c.env ≡ Stops why → Safe core code (left_owed core owed m p k) own sh' s (unwound why (after_join m p k z) (pars_of k))
+  unwinds_at {sh'} z why h = unwound_safe core code (left_owed core owed m p k) own sh' why s (after_join m p k z) (pars_of k) (sym (comes_to (Stops why) h) ∙ resume-stop core m.depth k why) (lefts_sides core m.depth p.level k)
 
 -- A side of one variable.
 module _ (core : CoreTree) (code : CodeTree) (owed : Owed) (own : Owned) (sh : Share) (s : Store) (m : State) (p : Par) {kd : Kind} {y : Variable} {xt : Ty} {t u : Term} (c : Ctx) (k : Kont) (at : AtRest core code owed own sh s m (Meet p (On kd y xt t) u) c k) where
@@ -138,7 +138,7 @@ module _ (core : CoreTree) (code : CodeTree) (owed : Owed) (own : Owned) (sh : S
   -- by the answer
   parts_comes : {sh' : Share} (a : Answer) → Counted m.regions (right_costs core m.depth m.level p.level (Several xs tys t) u c.env k nothing) sh' → IsAnswer code.laid s (results.Several tys) (side_owes core m.depth (Several xs tys t) c.env) a
       → Safe core code (left_owed core owed m p k) own sh' s (answered (after_join m p k at.low.until) code_kind.Several (map (λ (x : Variable). x.0) xs) a)
-  parts_comes (answer.NoValue why) count h = unwinds_at core code owed own sh s m p c k at at.low.until why (owes_none xs (side_gives core m.depth (Several xs tys t) c.env) (means_why why) h)
+  parts_comes (answer.NoValue why) count h = unwinds_at core code owed own sh s m p c k at at.low.until why (owes_none xs (side_gives core m.depth (Several xs tys t) c.env) why h)
   parts_comes (answer.Whole z) count h = absurd (not_one _ _ tys h.0 refl)
   parts_comes (answer.Truth b) count h = absurd (not_one _ _ tys h.0 refl)
   parts_comes (answer.At a) count h = absurd (not_one _ _ tys h.2 refl)

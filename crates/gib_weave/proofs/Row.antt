@@ -10,7 +10,7 @@ use Rattle.gib_code.specs.declared.instruction.Kind.TheVariants as at
 use Rattle.gib_code.specs.declared.instruction.Operand.TheVariants.{Slot, Number}
 use Rattle.gib_types.specs.declared.operator.Operator.TheVariants.{Add, Less, Quotient, Remainder, Subtract}
 use Rattle.gib_code.specs.declared.answer.Answer.TheVariants as answer
-use Rattle.gib_code.specs.declared.answer.Reason.TheVariants as reason
+use Rattle.gib_types.specs.declared.reason.Reason.TheVariants as reason
 use Rattle.gib_code.specs.Instruction as i
 use Rattle.gib_code.specs.Program.{CodeTree}
 use Rattle.gib_machine.specs.State.{Ask, Silent, Get, Put, Draw, AtFork, AtJoin, Ended}

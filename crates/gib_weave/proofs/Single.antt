@@ -3,7 +3,7 @@ use Rattle.std.proofs.Common.{◌≡◌, ℕ, suc, List, [], ◌∷◌, ◌++◌
 use Rattle.gib_mem.specs.Memory.{Reads, after_draw, after_puts}
 use Rattle.gib_code.specs.declared.answer.Answer.{Answer}
 use Rattle.gib_code.specs.declared.answer.Answer.TheVariants.{NoValue}
-use Rattle.gib_code.specs.declared.answer.Reason.TheVariants.{Deep}
+use Rattle.gib_types.specs.declared.reason.Reason.TheVariants.{Deep}
 use Rattle.gib_code.specs.Program.{CodeTree}
 use Rattle.gib_machine.specs.State.{State, Ask, Silent, Get, Put, Draw, AtFork, AtJoin, Ended}
 use Rattle.gib_machine.specs.Sides.{Waiting, joins, side_start, takes}

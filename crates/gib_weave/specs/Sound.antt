@@ -7,7 +7,7 @@ use Rattle.gib_types.specs.Layout.{LaidOut}
 use Rattle.gib_types.specs.Tree.{Datum, whole, truth}
 use Rattle.gib_syntax.specs.Results as results
 use Rattle.gib_syntax.specs.Results.{Results}
-use Rattle.gib_syntax.specs.Meaning.{Environment, Outcome, Gives, Stops, Deep, Trap, tuple, Reason as Why}
+use Rattle.gib_syntax.specs.Meaning.{Environment, Outcome, Gives, Stops, tuple}
 use Rattle.gib_mem.specs.Memory.{Store, absent, open_chunk, Grows, Reads}
 use Rattle.gib_core.specs.Tree.{Term, CoreTree}
 use Rattle.gib_types.specs.declared.reason.Reason.{Reason}
@@ -99,10 +99,6 @@ pub record AtRest (core : CoreTree) (code : CodeTree) (owed : Owed) (own : Owned
 abbrev pub AtTerm : CoreTree → CodeTree → Owed → Owned → Share → Store → State → Term → Ctx → Kont → Type 0
 AtTerm core code owed own sh s m u c k = AtRest core code owed own sh s m (Plain u) c k
 
--- What the machine's reason means.
-abbrev pub means_why : Reason → Why
-means_why why = why
-
 -- A left side has no value: its task stands at the join, whose right side is not looked at.
 pub record IsUnwinding (owed : Owed) (m : State) : Type 0 where
   pub why : Reason
@@ -112,7 +108,7 @@ pub record IsUnwinding (owed : Owed) (m : State) : Type 0 where
   pub pars : m.pars ≡ par ∷ outer
   pub left : par.left ≡ true
   pub count : suc (lefts outer) ≡ length owed.sides
-  pub owes : owed.all ≡ Stops (means_why why)
+  pub owes : owed.all ≡ Stops why
 
 -- The words are those of values of these types; further ones may follow.
 abbrev pub PartsAnswer : LaidOut → Store → List Ty → List ℕ → List Datum → Type 0
@@ -128,7 +124,7 @@ IsAnswer laid s ty owed (answer.At a) = (t : ℕ) × (v : Datum) × (ty ≡ resu
 IsAnswer laid s ty owed (answer.Whole z) = (ty ≡ results.One Whole) × FitsSigned w64 z × (owed ≡ Gives (whole z))
 IsAnswer laid s ty owed (answer.Truth b) = (ty ≡ results.One Truth) × (owed ≡ Gives (truth b))
 IsAnswer laid s ty owed (answer.Parts ws) = (tys : List Ty) × (vs : List Datum) × (ty ≡ results.Several tys) × (owed ≡ Gives (tuple vs)) × PartsAnswer laid s tys ws vs
-IsAnswer laid s ty owed (answer.NoValue why) = owed ≡ Stops (means_why why)
+IsAnswer laid s ty owed (answer.NoValue why) = owed ≡ Stops why
 
 -- A task between two instructions: at what is next in a line, unwinding, or over.
 pub data Rests (core : CoreTree) (code : CodeTree) (owed : Owed) (own : Owned) (sh : Share) (s : Store) (m : State) : Type 0 where
