@@ -18,7 +18,6 @@ use Rattle.gib_core.specs.Tree.{Term, Then, On, Prim, CallTerm, Give, CoreTree, 
 use Rattle.gib_core.specs.Meaning.{value, bind, function_at, of_function, core_calls, mean, from_there, having, Went}
 use Rattle.gib_code.specs.Instruction.{Operate, Move, Call, CallScalar}
 use Rattle.gib_code.specs.Instruction as i
-use Rattle.gib_types.specs.declared.reason.Reason.TheVariants as reason
 use Rattle.gib_code.specs.Program.{CodeTree, IsAt, AreAt}
 use Rattle.gib_core.specs.Low.{To, call_ending, giving, operand, operands, function_number, IsNoCall, gots}
 use Rattle.gib_machine.specs.State.{Over, doing, Slots, set, word, words, Frame, Open as OpenRegion, State, Silent, sets, cursor, frame, Ready}
@@ -106,7 +105,7 @@ module _ (core : CoreTree) (code : CodeTree) (owed : Owed) (own : Owned) (sh : S
       → AtTerm core code owed own sh s m (Then (Prim x f y z) u) c k → Moves core code owed own sh s m
   does_prim {s} {m} {c} {k} x f y z u e lu at =
       silent (step_is code m (Operate x.0 f (operand y) (operand z)) at.ready e)
-      (subst (λ (b : Bool). Safe core code owed own sh s (cond b (unwound reason.Trap m m.pars) (sets m x.0 w))) (sym tests) (go (is_by_zero f (number_in (value c.env z))) refl))
+      (subst (λ (b : Bool). Safe core code owed own sh s (cond b (unwound Trap m m.pars) (sets m x.0 w))) (sym tests) (go (is_by_zero f (number_in (value c.env z))) refl))
     where
       w : ℕ
       w = operated f (word m.words (operand y)) (word m.words (operand z))
@@ -145,8 +144,8 @@ module _ (core : CoreTree) (code : CodeTree) (owed : Owed) (own : Owned) (sh : S
       set_line : OnLine core code s (set m.words x.0 w) m.frames m.regions c k (cased (Then (Prim x f y z) u))
       set_line = line_set x.0 w at.fits.0 at.line
 
-      go : (d : Bool) → is_by_zero f (number_in (value c.env z)) ≡ d → Safe core code owed own sh s (cond d (unwound reason.Trap m m.pars) (sets m x.0 w))
-      go true d = unwound_safe core code owed own sh reason.Trap s m m.pars
+      go : (d : Bool) → is_by_zero f (number_in (value c.env z)) ≡ d → Safe core code owed own sh s (cond d (unwound Trap m m.pars) (sets m x.0 w))
+      go true d = unwound_safe core code owed own sh Trap s m m.pars
           (sym at.owes ∙ ap (λ (b : Bool). resume core m.depth k (meant b)) d ∙ resume-stop core m.depth k Trap)
           (ap lefts at.ties.pars ∙ lefts_sides core m.depth m.level k ∙ ap (λ (q : List Debt). length q) at.ties.sides)
       go false d = rests (at_term {u = Plain u} {c = with_var c x.0 so v 0} {k = k} record {
@@ -298,7 +297,7 @@ module _ (core : CoreTree) (code : CodeTree) (ok : AreBodies core code) (owed : 
       → AtTerm core code owed own sh s (record m { depth = n }) (CallTerm f xs) c k → Moves core code owed own sh s (record m { depth = n })
   does_call zero m {s} {c} {k} f xs l z e eg en at =
       let here = record m { depth = 0 } in
-      silent (step_is code here (Call (function_number core.functions f.0) (operands xs)) at.ready e) (unwound_safe core code owed own sh reason.Deep s here m.pars (sym at.owes ∙ resume-stop core zero k Deep) (ap lefts at.ties.pars ∙ lefts_sides core zero m.level k ∙ ap (λ (q : List Debt). length q) at.ties.sides))
+      silent (step_is code here (Call (function_number core.functions f.0) (operands xs)) at.ready e) (unwound_safe core code owed own sh Deep s here m.pars (sym at.owes ∙ resume-stop core zero k Deep) (ap lefts at.ties.pars ∙ lefts_sides core zero m.level k ∙ ap (λ (q : List Debt). length q) at.ties.sides))
   does_call (suc n) m {s} {c} {k} f xs l z e eg en at =
       let fit = at.fits.1 in
       let g = fit.function in
@@ -345,7 +344,7 @@ module _ (core : CoreTree) (code : CodeTree) (ok : AreBodies core code) (owed : 
       → AtRest core code owed own sh s (record m { depth = n }) (Part wi (On kind.Scalar x xt (CallTerm f xs)) u) c k → Moves core code owed own sh s (record m { depth = n })
   does_scalar_call zero m {s} {u} {c} {k} x xt wi f xs z e gts lu at =
       let here = record m { depth = 0 } in
-      silent (step_is code here (CallScalar x.0 (function_number core.functions f.0) (operands xs)) at.ready e) (unwound_safe core code owed own sh reason.Deep s here m.pars (sym at.owes ∙ resume-stop core zero k Deep) (ap lefts at.ties.pars ∙ lefts_rest core zero m.level u c.env (pars_of k) (sides_of core zero (level_after m.level u) k) (lefts_sides core zero (level_after m.level u) k) ∙ ap (λ (q : List Debt). length q) at.ties.sides))
+      silent (step_is code here (CallScalar x.0 (function_number core.functions f.0) (operands xs)) at.ready e) (unwound_safe core code owed own sh Deep s here m.pars (sym at.owes ∙ resume-stop core zero k Deep) (ap lefts at.ties.pars ∙ lefts_rest core zero m.level u c.env (pars_of k) (sides_of core zero (level_after m.level u) k) (lefts_sides core zero (level_after m.level u) k) ∙ ap (λ (q : List Debt). length q) at.ties.sides))
   does_scalar_call (suc n) m {s} {u} {c} {k} x xt wi f xs z e gts lu at =
       let fit = at.fits.2 in
       let g = fit.function in

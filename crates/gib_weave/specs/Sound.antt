@@ -11,7 +11,6 @@ use Rattle.gib_syntax.specs.Meaning.{Environment, Outcome, Gives, Stops, tuple}
 use Rattle.gib_mem.specs.Memory.{Store, absent, open_chunk, Grows, Reads}
 use Rattle.gib_core.specs.Tree.{Term, CoreTree}
 use Rattle.gib_types.specs.declared.reason.Reason.{Reason}
-use Rattle.gib_types.specs.declared.reason.Reason.TheVariants as reason
 use Rattle.gib_code.specs.declared.answer.Answer.{Answer}
 use Rattle.gib_code.specs.declared.answer.Answer.TheVariants as answer
 use Rattle.gib_code.specs.declared.instruction.AnswerType.{AnswerType}
