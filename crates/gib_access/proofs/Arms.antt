@@ -26,9 +26,9 @@ any-same : (t : Term) (xs : List Variable) → list_any (uses t) xs ≡ uses_any
 any-same t [] = refl
 any-same t (x ∷ xs) = ap (λ k. uses t x || k) (any-same t xs)
 
-skips-same : (t : Term) (z : Variable) (ys : List Variable) → skips_by (uses t) z ys ≡ skips_from t z ys
-skips-same t z [] = refl
-skips-same t z (y ∷ ys) = (λ i. cond (any-same t (y ∷ ys) i) (Reach y (Skip z) ∷ skips-same t y ys i) [])
+skip-same : (t : Term) (z : Variable) (ys : List Variable) → skips_by (uses t) z ys ≡ skips_from t z ys
+skip-same t z [] = refl
+skip-same t z (y ∷ ys) = (λ i. cond (any-same t (y ∷ ys) i) (Reach y (Skip z) ∷ skip-same t y ys i) [])
 
 offsets-same : (t : Term) (ys : List Variable) → offsets_by_use (uses t) ys ≡ offsets_from t ys
 offsets-same t [] = refl
@@ -36,7 +36,7 @@ offsets-same t (y ∷ ys) = (λ i. cond (uses t y) (Reach y Offset ∷ offsets-s
 
 reaches-same : (mode : AccessMode) (es : List Ended) (t : Term) (xs : List Variable) → reaches_by mode (uses t) xs (untold mode es t xs) ≡ reaches mode es t xs
 reaches-same mode es t [] = refl
-reaches-same Skips es t (z ∷ ys) = skips-same t z ys
+reaches-same Skips es t (z ∷ ys) = skip-same t z ys
 reaches-same Offsets es t (z ∷ ys) = offsets-same t ys
 reaches-same Ends es t (z ∷ ys) = offsets-same t (untold_from es t z ys)
 

@@ -33,9 +33,9 @@ fronts_more old mid new t u body y by bs h p = record {
   is = p.term ∙ ap (Then (Reach y by)) h.is;
 }
 
-skips-none : (used : Variable → Bool) (z : Variable) (ys : List Variable) → list_any used ys ≡ false → skips_by used z ys ≡ []
-skips-none used z [] e = refl
-skips-none used z (y ∷ ys) e = ap (λ b. cond b (Reach y (Skip z) ∷ skips_by used y ys) []) e
+skip-none : (used : Variable → Bool) (z : Variable) (ys : List Variable) → list_any used ys ≡ false → skips_by used z ys ≡ []
+skip-none used z [] e = refl
+skip-none used z (y ∷ ys) e = ap (λ b. cond b (Reach y (Skip z) ∷ skips_by used y ys) []) e
 
 any-more : (used : Variable → Bool) (ys : List Variable) (i : ℕ) (d : Variable) → i < length ys → used (get_or ys i d) ≡ false → list_any used (drop (i + 1) ys) ≡ false → list_any used (drop i ys) ≡ false
 any-more used ys i d lt e h = ap (list_any used) (drop_more ys i d lt) ∙ ap (λ b. b || list_any used (drop (i + 1) ys)) e ∙ h
@@ -45,4 +45,4 @@ pub skips_stay : (used : Variable → Bool) (old now : List Node) (t body : Term
 skips_stay used old now t body z ys j i d was wanted ej le e ew h en f =
     let behind : list_any used (drop j ys) ≡ false = sym h ∙ ew in
     let none : list_any used (drop i ys) ≡ false = any-more used ys i d (omega (arith, ej, le)) e (subst (λ k. list_any used (drop k ys) ≡ false) ej behind) in
-    (en ∙ sym none, subst (λ bs. Fronts old now t body bs) (skips-none used (before_at z ys j) (drop j ys) behind ∙ sym (skips-none used (before_at z ys i) (drop i ys) none)) f)
+    (en ∙ sym none, subst (λ bs. Fronts old now t body bs) (skip-none used (before_at z ys j) (drop j ys) behind ∙ sym (skip-none used (before_at z ys i) (drop i ys) none)) f)

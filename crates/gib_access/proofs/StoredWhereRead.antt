@@ -20,7 +20,7 @@ use Rattle.gib_core.proofs.Along.{reachable_split}
 use Rattle.gib_core.proofs.Cased.{reaches_none}
 use Rattle.gib_access.specs.Stored.{is_by_offset, line_reads, read_in, bind_read, side_read, parts_read, branch_read, read_core}
 
--- With skips no offset is stored.
+-- With walks in its place no offset is stored.
 abbrev by_mode : AccessMode → List ConId → List ConId
 by_mode Skips ks = []
 by_mode Offsets ks = ks
@@ -41,7 +41,7 @@ same_in_par Skips xs = refl
 same_in_par Offsets xs = refl
 same_in_par Ends xs = refl
 
--- Reaching by ends and skips reads none.
+-- Reaching by ends and walks reads none.
 reads_ends : (used : Variable → Bool) (fs : List Later) (t : Term) → line_reads (prepend (ends_now used fs) t) ≡ line_reads t
 reads_ends used [] t = refl
 reads_ends used (f ∷ fs) t = go (used f.field) (reads_ends used fs t)

@@ -42,7 +42,7 @@ pub record ReachesMain (w : Way) (old new : Work) (made : CoreMain) (m : MainTer
   pub inside : made.body.0 < length new.terms
   pub is : main_term (term_of new.terms) made ≡ reach_main w m
 
--- Constructors with offsets: with skips there are none.
+-- Constructors with offsets: with walks in their place there are none.
 abbrev pub offsets_kept : AccessMode → List ConId → List ConId
 offsets_kept Skips ks = []
 offsets_kept Offsets ks = ks

@@ -43,7 +43,7 @@ abbrev pub offsets_by_use : (Variable → Bool) → List Variable → List Bind
 offsets_by_use used [] = []
 offsets_by_use used (y ∷ ys) = if used y then Reach y Offset ∷ offsets_by_use used ys else offsets_by_use used ys
 
--- The fields behind the first one are reached at the start: by skips all of them, else these others by their offsets.
+-- The fields behind the first one are reached at the start: by walks all of them, else these others by their offsets.
 abbrev pub reaches_by : AccessMode → (Variable → Bool) → List Variable → List Variable → List Bind
 reaches_by mode used [] others = []
 reaches_by Skips used (z ∷ ys) others = skips_by used z ys

@@ -104,7 +104,7 @@ fn put_offsets(
     Ok(term)
 }
 
-/// In front of an arm's term its packed fields behind the first one are reached: by skips all of them, else these others by
+/// In front of an arm's term its packed fields behind the first one are reached: by walks all of them, else these others by
 /// their offsets.
 pub fn put_reaches(
     mode: AccessMode,

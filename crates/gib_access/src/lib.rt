@@ -32,7 +32,7 @@ use source::Source;
 use std::alloc::Global;
 use work::Work;
 
-/// The constructors whose heads store offsets: with skips none does.
+/// The constructors whose heads store offsets: with walks in their place none does.
 fn offsets_kept(alloc: Global, mode: AccessMode, offsets: Reversed<ConId>) -> Vec<ConId>
     ensures { result.items ≡ kept mode offsets }
 {
