@@ -152,7 +152,7 @@ infer_each_arm g vars st ts f scope n (arm ∷ arms) =
     (λ x. and_then (infer_each_arm g vars st ts f scope x.1 arms)
     (λ r. Ok (record { ty = x.0; place = place (f arm.body.0) } ∷ r.0, r.1)))
 
--- A word begins the expression of the node, which is one thing and binds no parts.
+-- A word begins the expression of the node, which is one thing, has no arms and binds no parts.
 abbrev pub IsWordedNode : GenericNode → Type 0
 IsWordedNode (n.Variable x) = ⊥
 IsWordedNode (n.Whole p v) = ⊥
@@ -164,7 +164,7 @@ IsWordedNode (n.Make k ws xs) = ⊥
 IsWordedNode (n.Let p x a b) = Unit {0}
 IsWordedNode (n.LetPar p x a y b c) = Unit {0}
 IsWordedNode (n.If p a b c) = Unit {0}
-IsWordedNode (n.Case p x arms) = Unit {0}
+IsWordedNode (n.Case p x arms) = ⊥
 IsWordedNode (n.Tuple p xs) = ⊥
 IsWordedNode (n.LetSeveral p xs a b) = ⊥
 IsWordedNode (n.ParSeveral p xs a ys b c) = ⊥

@@ -9,7 +9,7 @@ ghost use Rattle.gib_check.specs.Judging.{in_scope};
 ghost use Rattle.gib_check.specs.NameViews.{generic_globals, generic_tree};
 
 use crate::fault::TypeFault;
-use crate::named::Named;
+use crate::named::{Around, Named};
 use crate::parts::part;
 use crate::reading::Meaning;
 use crate::rules::wanted;
@@ -42,24 +42,23 @@ fn push_parameters(
 /// A body, in the scope of its parameters.
 pub fn check_body(
     alloc: Global,
-    named: &Named,
-    variables: &[Ident],
+    around: &Around,
     parameters: &[GenericParameter],
     gives: &ResultRuns,
     body: ExprId,
 ) -> Result<(), TypeFault>
-    requires { body.0 < length named.now.exprs.nodes }
-    ensures { Gives (λ _. tt {0}) result (rule.check_body (generic_globals named.now) variables.now (map (parameter_in named.now.exprs.words) parameters.now) (results_in named.now.exprs.words gives.now) (generic_tree named.now body.0)) }
+    requires { body.0 < length around.now.named.now.exprs.nodes }
+    ensures { Gives (λ _. tt {0}) result (rule.check_body (generic_globals around.now.named.now) around.now.variables.now (map (parameter_in around.now.named.now.exprs.words) parameters.now) (results_in around.now.named.now.exprs.words gives.now) (generic_tree around.now.named.now body.0)) }
 {
     let Ok(count) = u32::try_from(parameters.len()) else {
         return Err(TypeFault::Memory);
     };
     let mut state = State::new(alloc, count);
     state.meet_plain()?;
-    push_parameters(named, &mut state, parameters)?;
-    let given = infer(named, variables, &mut state, standing_of(gives), body)?;
-    let due = result_types(named, &mut state, &Meaning::Opaque, gives)?;
-    wanted(&state, due, part(named, body, given))
+    push_parameters(around.named, &mut state, parameters)?;
+    let given = infer(around, &mut state, standing_of(gives), body)?;
+    let due = result_types(around.named, &mut state, &Meaning::Opaque, gives)?;
+    wanted(&state, due, part(around.named, body, given))
 }
 
 /// The bodies of functions, in the order of the text.
@@ -73,10 +72,13 @@ pub fn check_bodies(
 {
     let mut rest = functions;
     'functions: while let [function, after @ ..] = rest {
+        let around = Around {
+            named,
+            variables: &function.variables,
+        };
         check_body(
             alloc,
-            named,
-            &function.variables,
+            &around,
             &function.parameters,
             &function.result,
             function.body,

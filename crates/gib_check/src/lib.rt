@@ -50,7 +50,7 @@ pub use functions::FunctionId;
 pub use generic::Generic;
 use gib_syntax::{GenericProgram, ResultRuns};
 use heads::{check_head, check_heads};
-use named::Named;
+use named::{Around, Named};
 pub use names::NameList;
 pub use origin::TypeOrigin;
 pub use rules::ResultIds;
@@ -84,7 +84,11 @@ fn check_rules(alloc: Global, named: &Named) -> Result<(), TypeFault>
     check_bodies(alloc, named, program.functions())?;
     let main = program.main();
     let gives = ResultRuns::One(main.result);
-    check_body(alloc, named, &[], &[main.parameter], &gives, main.body)
+    let around = Around {
+        named,
+        variables: &[],
+    };
+    check_body(alloc, &around, &[main.parameter], &gives, main.body)
 }
 
 /// Checks a program: which rule it breaks first, or none.

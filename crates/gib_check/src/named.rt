@@ -52,6 +52,13 @@ impl Model for Named {
     ghost invariant = { λ n. IsNamed n.program n.types n.constructors n.functions n.rows.items };
 }
 
+/// What stands around the expressions of a body: the program, and the type variables of the body's function.
+#[derive(Drop)]
+pub struct Around<'a> {
+    pub named: &'a Named,
+    pub variables: &'a [Ident],
+}
+
 /// The names of the declared types.
 fn list_types(alloc: Global, program: &GenericProgram) -> Result<NameList, Memory>
     ensures { IfOk result (λ names. names ≡ map data_number (generic_program_of program.now).datas) }

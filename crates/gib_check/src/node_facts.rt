@@ -65,6 +65,19 @@ fn outside_parts(declared: &Declared, names: &[Parameter], body: TypeOrigin) -> 
     origin
 }
 
+/// Where a type comes from, seen from outside of a binding of the parts of two sides.
+fn outside_sides(
+    declared: &Declared,
+    left: &[Parameter],
+    right: &[Parameter],
+    body: TypeOrigin,
+) -> TypeOrigin
+    ensures { result ≡ outside_arm (names_of left.now) (types_of (table_in declared.now).types left.now) (outside_arm (names_of right.now) (types_of (table_in declared.now).types right.now) body) }
+{
+    let inner = outside_parts(declared, right, body);
+    outside_parts(declared, left, inner)
+}
+
 /// Where the type of a node comes from, where it is known of its parts.
 fn node_origin(declared: &Declared, facts: &[NodeFacts], node: &Node) -> TypeOrigin
     requires below { PartsBelow node.now (length facts.now) }
@@ -73,7 +86,7 @@ fn node_origin(declared: &Declared, facts: &[NodeFacts], node: &Node) -> TypeOri
 {
     match node {
         Node::Variable(x) => TypeOrigin::Variable(x.name),
-        Node::Whole(_, _) => TypeOrigin::Fixed(Ty::Whole),
+        Node::Whole(_, _) | Node::Tuple { .. } => TypeOrigin::Fixed(Ty::Whole),
         Node::Truth(_, _) => TypeOrigin::Fixed(Ty::Truth),
         Node::Paren(_, inner) => origin_at(facts, *inner),
         Node::Operation { operator, .. } => TypeOrigin::Fixed(operator.result()),
@@ -93,16 +106,12 @@ fn node_origin(declared: &Declared, facts: &[NodeFacts], node: &Node) -> TypeOri
             body,
             ..
         } => {
-            let body = outside(
-                *right_name,
-                origin_at(facts, *right),
-                origin_at(facts, *body),
-            );
+            let right = origin_at(facts, *right);
+            let body = outside(*right_name, right, origin_at(facts, *body));
             outside(*left_name, origin_at(facts, *left), body)
         }
         Node::If { then_part, .. } => origin_at(facts, *then_part),
         Node::Case { arms, .. } => case_origin(declared, facts, arms),
-        Node::Tuple { .. } => TypeOrigin::Fixed(Ty::Whole),
         Node::LetSeveral { names, body, .. } => {
             outside_parts(declared, names, origin_at(facts, *body))
         }
@@ -111,10 +120,7 @@ fn node_origin(declared: &Declared, facts: &[NodeFacts], node: &Node) -> TypeOri
             right_names,
             body,
             ..
-        } => {
-            let body = outside_parts(declared, right_names, origin_at(facts, *body));
-            outside_parts(declared, left_names, body)
-        }
+        } => outside_sides(declared, left_names, right_names, origin_at(facts, *body)),
     }
 }
 

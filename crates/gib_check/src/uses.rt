@@ -15,7 +15,7 @@ ghost use Rattle.gib_check.specs.NameViews.{generic_globals, row_in};
 
 use crate::fault::TypeFault;
 use crate::known::all_known;
-use crate::named::{Named, RowDecl};
+use crate::named::{Around, Named, RowDecl};
 use crate::reading::Meaning;
 use crate::rules::{ResultIds, as_many};
 use crate::state::State;
@@ -23,25 +23,39 @@ use gib_base::{Memory, Name};
 use gib_syntax::{GenericParameter, Ident, ResultRuns, Run};
 use gib_types::types::TypeId;
 
+/// A called function or a constructor, with its type arguments.
+#[derive(Clone, Copy)]
+pub struct Use {
+    pub name: Ident,
+    pub types: Run,
+}
+
+impl Use {
+    /// A name with its type arguments.
+    pub fn new(name: Ident, types: Run) -> Use
+        ensures { result ≡ record { name = name; types = types } }
+    {
+        Use { name, types }
+    }
+}
+
 /// The type arguments at a use, of which there have to be as many as type variables: their number, their names.
 pub fn type_arguments(
-    named: &Named,
-    variables: &[Ident],
+    around: &Around,
     state: &mut State,
     due: usize,
-    at: Ident,
-    run: Run,
+    used: Use,
 ) -> Result<Vec<TypeId>, TypeFault>
-    requires { IsTypesRun named.now.exprs.words run }
+    requires { IsTypesRun around.now.named.now.exprs.words used.types }
     ensures read { Gives (λ _. tt {0}) result
-        (rule.and_then (rule.as_many (count_written (types_in named.now.exprs.words run)) due at) (λ _. rule.all_known (generic_globals named.now).datas (variable_numbers variables.now) (types_in named.now.exprs.words run))) }
-    ensures types { IfOk result (λ ids. forms_at (forms state.new) ids.items ≡ formed_all opaque (types_in named.now.exprs.words run)) }
+        (rule.and_then (rule.as_many (count_written (types_in around.now.named.now.exprs.words used.types)) due used.name) (λ _. rule.all_known (generic_globals around.now.named.now).datas (variable_numbers around.now.variables.now) (types_in around.now.named.now.exprs.words used.types))) }
+    ensures types { IfOk result (λ ids. forms_at (forms state.new) ids.items ≡ formed_all opaque (types_in around.now.named.now.exprs.words used.types)) }
     ensures below { IfOk result (λ ids. AreBelow (length state.new.types) ids.items) }
     ensures keeps { Keeps state.old state.new }
 {
-    let ids = state.read(&Meaning::Opaque, named.words(run))?;
-    as_many(ids.len(), due, at)?;
-    all_known(named, variables, run)?;
+    let ids = state.read(&Meaning::Opaque, around.named.words(used.types))?;
+    as_many(ids.len(), due, used.name)?;
+    all_known(around.named, around.variables, used.types)?;
     Ok(ids)
 }
 

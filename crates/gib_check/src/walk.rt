@@ -15,7 +15,7 @@ ghost use Rattle.gib_check.specs.NameViews.{generic_globals, generic_tree};
 
 use crate::arms::{all_counted, all_declared, covered};
 use crate::fault::TypeFault;
-use crate::named::Named;
+use crate::named::Around;
 use crate::parts::{part, single};
 use crate::rules::{
     Part, ResultIds, all_of, all_single, all_wanted, as_many, declared_type, types_bound, wanted,
@@ -23,9 +23,11 @@ use crate::rules::{
 };
 use crate::standing::{Standing, may_stand, standing_for};
 use crate::state::State;
-use crate::uses::{fields_named, given, parameter_types, result_types, row_fields, type_arguments};
+use crate::uses::{
+    Use, fields_named, given, parameter_types, result_types, row_fields, type_arguments,
+};
 use gib_base::Span;
-use gib_syntax::{Arm, Bound, ExprId, GenericNode, Ident, Run};
+use gib_syntax::{Arm, Bound, ExprId, GenericNode, Ident};
 use gib_types::Operator;
 use gib_types::types::{TypeId, TypeNode};
 
@@ -37,11 +39,13 @@ struct At {
     standing: Standing,
 }
 
-/// A called function or a constructor, with its type arguments.
-#[derive(Clone, Copy)]
-struct Use {
-    name: Ident,
-    types: Run,
+impl At {
+    // The expression of a number.
+    fn new(id: ExprId, span: Span, standing: Standing) -> At
+        ensures { result ≡ record { id = id; span = span; standing = standing } }
+    {
+        At { id, span, standing }
+    }
 }
 
 /// Two parts.
@@ -49,6 +53,15 @@ struct Use {
 struct Sides {
     left: ExprId,
     right: ExprId,
+}
+
+impl Sides {
+    // A part on the left, and one on the right.
+    fn new(left: ExprId, right: ExprId) -> Sides
+        ensures { result ≡ record { left = left; right = right } }
+    {
+        Sides { left, right }
+    }
 }
 
 /// Two parts that are bound.
@@ -114,77 +127,69 @@ fn literal(state: &mut State, at: Span, node: TypeNode) -> Result<ResultIds, Typ
 /// What an expression gives.
 #[cycle(infer)]
 pub fn infer(
-    named: &Named,
-    variables: &[Ident],
+    around: &Around,
     state: &mut State,
     standing: Standing,
     id: ExprId,
 ) -> Result<ResultIds, TypeFault>
-    requires { id.0 < length named.now.exprs.nodes }
-    ensures read { Gives (λ r. (forms_given state.new r, state.new.counts)) result (rule.infer (generic_globals named.now) (variable_numbers variables.now) opaque standing (in_scope state.old) state.old.counts (generic_tree named.now id.0)) }
+    requires { id.0 < length around.now.named.now.exprs.nodes }
+    ensures read { Gives (λ r. (forms_given state.new r, state.new.counts)) result (rule.infer (generic_globals around.now.named.now) (variable_numbers around.now.variables.now) opaque standing (in_scope state.old) state.old.counts (generic_tree around.now.named.now id.0)) }
     ensures kept { IfOk result (λ _. (in_scope state.new) ≡ (in_scope state.old)) }
     ensures met { IfOk result (λ r. Met state.old state.new r) }
 {
-    let node = named.node(id);
+    let node = around.named.node(id);
     match node {
         GenericNode::Variable(x) => variable(state, *x),
         GenericNode::Whole(span, _) => literal(state, *span, TypeNode::Whole),
         GenericNode::Truth(span, _) => literal(state, *span, TypeNode::Truth),
-        GenericNode::Paren(_, inner) => infer(named, variables, state, standing, *inner),
+        GenericNode::Paren(_, inner) => infer(around, state, standing, *inner),
         GenericNode::Operation {
             span,
             operator,
             left,
             right,
         } => {
-            let at = At {
-                id,
-                span: *span,
-                standing,
-            };
-            let sides = Sides {
-                left: *left,
-                right: *right,
-            };
-            operation(named, variables, state, at, *operator, sides)
+            let at = At::new(id, *span, standing);
+            let sides = Sides::new(*left, *right);
+            operation(around, state, at, *operator, sides)
         }
         GenericNode::Call(f, types, ids) => {
-            let called = Use {
-                name: *f,
-                types: *types,
-            };
-            call(named, variables, state, id, called, ids)
+            let called = Use::new(*f, *types);
+            call(around, state, id, called, ids)
         }
         GenericNode::Make(k, types, ids) => {
-            let made = Use {
-                name: *k,
-                types: *types,
-            };
-            make(named, variables, state, id, made, ids)
+            let made = Use::new(*k, *types);
+            make(around, state, id, made, ids)
         }
-        GenericNode::Let { .. }
-        | GenericNode::LetPar { .. }
-        | GenericNode::If { .. }
-        | GenericNode::Case { .. } => infer_worded(named, variables, state, standing, id, node),
+        GenericNode::Case {
+            span,
+            variable,
+            arms,
+        } => {
+            let at = At::new(id, *span, standing);
+            case(around, state, at, *variable, arms)
+        }
+        GenericNode::Let { .. } | GenericNode::LetPar { .. } | GenericNode::If { .. } => {
+            infer_worded(around, state, standing, id, node)
+        }
         GenericNode::Tuple(..) | GenericNode::LetSeveral { .. } | GenericNode::ParSeveral { .. } =>
-            { infer_several(named, variables, state, standing, id, node) }
+            { infer_several(around, state, standing, id, node) }
     }
 }
 
 /// What an expression gives that a word begins.
 #[cycle(infer)]
 fn infer_worded(
-    named: &Named,
-    variables: &[Ident],
+    around: &Around,
     state: &mut State,
     standing: Standing,
     id: ExprId,
     node: &GenericNode,
 ) -> Result<ResultIds, TypeFault>
-    requires inside { id.0 < length named.now.exprs.nodes }
-    requires opens { Opens named.now.exprs id.0 node.now }
+    requires inside { id.0 < length around.now.named.now.exprs.nodes }
+    requires opens { Opens around.now.named.now.exprs id.0 node.now }
     requires worded { IsWordedNode node.now }
-    ensures read { Gives (λ r. (forms_given state.new r, state.new.counts)) result (rule.infer (generic_globals named.now) (variable_numbers variables.now) opaque standing (in_scope state.old) state.old.counts (generic_tree named.now id.0)) }
+    ensures read { Gives (λ r. (forms_given state.new r, state.new.counts)) result (rule.infer (generic_globals around.now.named.now) (variable_numbers around.now.variables.now) opaque standing (in_scope state.old) state.old.counts (generic_tree around.now.named.now id.0)) }
     ensures kept { IfOk result (λ _. (in_scope state.new) ≡ (in_scope state.old)) }
     ensures met { IfOk result (λ r. Met state.old state.new r) }
 {
@@ -195,13 +200,9 @@ fn infer_worded(
             bound,
             body,
         } => {
-            let at = At {
-                id,
-                span: *span,
-                standing,
-            };
+            let at = At::new(id, *span, standing);
             let bound = Bound::new(*name, *bound);
-            let_in(named, variables, state, at, bound, *body)
+            let_in(around, state, at, bound, *body)
         }
         GenericNode::LetPar {
             span,
@@ -211,16 +212,12 @@ fn infer_worded(
             right,
             body,
         } => {
-            let at = At {
-                id,
-                span: *span,
-                standing,
-            };
+            let at = At::new(id, *span, standing);
             let sides = BoundSides {
                 left: Bound::new(*left_name, *left),
                 right: Bound::new(*right_name, *right),
             };
-            let_par(named, variables, state, at, sides, *body)
+            let_par(around, state, at, sides, *body)
         }
         GenericNode::If {
             span,
@@ -228,28 +225,9 @@ fn infer_worded(
             then_part,
             else_part,
         } => {
-            let at = At {
-                id,
-                span: *span,
-                standing,
-            };
-            let branches = Sides {
-                left: *then_part,
-                right: *else_part,
-            };
-            if_else(named, variables, state, at, *condition, branches)
-        }
-        GenericNode::Case {
-            span,
-            variable,
-            arms,
-        } => {
-            let at = At {
-                id,
-                span: *span,
-                standing,
-            };
-            case(named, variables, state, at, *variable, arms)
+            let at = At::new(id, *span, standing);
+            let branches = Sides::new(*then_part, *else_part);
+            if_else(around, state, at, *condition, branches)
         }
         _ => unreachable!(),
     }
@@ -258,28 +236,23 @@ fn infer_worded(
 /// What an expression gives that has several parts, or binds them.
 #[cycle(infer)]
 fn infer_several(
-    named: &Named,
-    variables: &[Ident],
+    around: &Around,
     state: &mut State,
     standing: Standing,
     id: ExprId,
     node: &GenericNode,
 ) -> Result<ResultIds, TypeFault>
-    requires inside { id.0 < length named.now.exprs.nodes }
-    requires opens { Opens named.now.exprs id.0 node.now }
+    requires inside { id.0 < length around.now.named.now.exprs.nodes }
+    requires opens { Opens around.now.named.now.exprs id.0 node.now }
     requires several { IsSeveralNode node.now }
-    ensures read { Gives (λ r. (forms_given state.new r, state.new.counts)) result (rule.infer (generic_globals named.now) (variable_numbers variables.now) opaque standing (in_scope state.old) state.old.counts (generic_tree named.now id.0)) }
+    ensures read { Gives (λ r. (forms_given state.new r, state.new.counts)) result (rule.infer (generic_globals around.now.named.now) (variable_numbers around.now.variables.now) opaque standing (in_scope state.old) state.old.counts (generic_tree around.now.named.now id.0)) }
     ensures kept { IfOk result (λ _. (in_scope state.new) ≡ (in_scope state.old)) }
     ensures met { IfOk result (λ r. Met state.old state.new r) }
 {
     match node {
         GenericNode::Tuple(span, parts) => {
-            let at = At {
-                id,
-                span: *span,
-                standing,
-            };
-            tuple(named, variables, state, at, parts)
+            let at = At::new(id, *span, standing);
+            tuple(around, state, at, parts)
         }
         GenericNode::LetSeveral {
             span,
@@ -287,16 +260,9 @@ fn infer_several(
             bound,
             body,
         } => {
-            let at = At {
-                id,
-                span: *span,
-                standing,
-            };
-            let sides = Sides {
-                left: *bound,
-                right: *body,
-            };
-            let_several(named, variables, state, at, names, sides)
+            let at = At::new(id, *span, standing);
+            let sides = Sides::new(*bound, *body);
+            let_several(around, state, at, names, sides)
         }
         GenericNode::ParSeveral {
             span,
@@ -306,11 +272,7 @@ fn infer_several(
             right,
             body,
         } => {
-            let at = At {
-                id,
-                span: *span,
-                standing,
-            };
+            let at = At::new(id, *span, standing);
             let names = SideNames {
                 left: left_names,
                 right: right_names,
@@ -320,7 +282,7 @@ fn infer_several(
                 right: *right,
                 body: *body,
             };
-            par_several(named, variables, state, at, &names, parts)
+            par_several(around, state, at, &names, parts)
         }
         _ => unreachable!(),
     }
@@ -329,25 +291,24 @@ fn infer_several(
 /// The type of an operation.
 #[cycle(infer)]
 fn operation(
-    named: &Named,
-    variables: &[Ident],
+    around: &Around,
     state: &mut State,
     at: At,
     operator: Operator,
     sides: Sides,
 ) -> Result<ResultIds, TypeFault>
-    requires inside { at.id.0 < length named.now.exprs.nodes }
+    requires inside { at.id.0 < length around.now.named.now.exprs.nodes }
     requires left { sides.left.0 < at.id.0 }
     requires right { sides.right.0 < at.id.0 }
-    ensures read { Gives (λ r. (forms_given state.new r, state.new.counts)) result (rule.infer (generic_globals named.now) (variable_numbers variables.now) opaque at.standing (in_scope state.old) state.old.counts (tree.GenericOp at.span operator (generic_tree named.now sides.left.0) (generic_tree named.now sides.right.0))) }
+    ensures read { Gives (λ r. (forms_given state.new r, state.new.counts)) result (rule.infer (generic_globals around.now.named.now) (variable_numbers around.now.variables.now) opaque at.standing (in_scope state.old) state.old.counts (tree.GenericOp at.span operator (generic_tree around.now.named.now sides.left.0) (generic_tree around.now.named.now sides.right.0))) }
     ensures kept { IfOk result (λ _. (in_scope state.new) ≡ (in_scope state.old)) }
     ensures met { IfOk result (λ r. Met state.old state.new r) }
 {
     state.one_more(at.span)?;
-    let left_ty = infer(named, variables, state, Standing::NoTuple, sides.left)?;
-    let right_ty = infer(named, variables, state, Standing::NoTuple, sides.right)?;
-    wanted_whole(state, part(named, sides.left, left_ty))?;
-    wanted_whole(state, part(named, sides.right, right_ty))?;
+    let left_ty = infer(around, state, Standing::NoTuple, sides.left)?;
+    let right_ty = infer(around, state, Standing::NoTuple, sides.right)?;
+    wanted_whole(state, part(around.named, sides.left, left_ty))?;
+    wanted_whole(state, part(around.named, sides.right, right_ty))?;
     let id = state.put(result_node(operator))?;
     Ok(ResultIds::One(id))
 }
@@ -355,23 +316,22 @@ fn operation(
 /// The types of arguments, from left to right.
 #[cycle(infer)]
 fn arguments(
-    named: &Named,
-    variables: &[Ident],
+    around: &Around,
     state: &mut State,
     id: ExprId,
     ids: &[ExprId],
 ) -> Result<Vec<Part>, TypeFault>
-    requires inside { id.0 < length named.now.exprs.nodes }
+    requires inside { id.0 < length around.now.named.now.exprs.nodes }
     requires below { AllByRecursion (λ a. a.0 < id.0) ids.now }
-    ensures read { Gives (λ parts. (parts_in state.new parts.items, state.new.counts)) result (rule.infer_all (generic_globals named.now) (variable_numbers variables.now) opaque (in_scope state.old) state.old.counts (arguments_from (generic_tree named.now) ids.now)) }
+    ensures read { Gives (λ parts. (parts_in state.new parts.items, state.new.counts)) result (rule.infer_all (generic_globals around.now.named.now) (variable_numbers around.now.variables.now) opaque (in_scope state.old) state.old.counts (arguments_from (generic_tree around.now.named.now) ids.now)) }
     ensures kept { IfOk result (λ _. (in_scope state.new) ≡ (in_scope state.old)) }
     ensures met { IfOk result (λ parts. AllMet state.old state.new parts.items) }
 {
     let mut parts = Vec::new(state.alloc());
     let mut rest = ids;
     'arguments: while let [first, after @ ..] = rest {
-        let ty = infer(named, variables, state, Standing::NoTuple, *first)?;
-        parts.push(part(named, *first, ty))?;
+        let ty = infer(around, state, Standing::NoTuple, *first)?;
+        parts.push(part(around.named, *first, ty))?;
         rest = after;
     }
     Ok(parts)
@@ -380,57 +340,55 @@ fn arguments(
 /// The type of a call.
 #[cycle(infer)]
 fn call(
-    named: &Named,
-    variables: &[Ident],
+    around: &Around,
     state: &mut State,
     id: ExprId,
     called: Use,
     ids: &[ExprId],
 ) -> Result<ResultIds, TypeFault>
-    requires inside { id.0 < length named.now.exprs.nodes }
+    requires inside { id.0 < length around.now.named.now.exprs.nodes }
     requires below { AllByRecursion (λ a. a.0 < id.0) ids.now }
-    requires types { IsTypesRun named.now.exprs.words called.types }
-    ensures read { Gives (λ r. (forms_given state.new r, state.new.counts)) result (rule.infer_call (generic_globals named.now) (variable_numbers variables.now) opaque state.old.counts called.name (types_in named.now.exprs.words called.types) (length ids.now) (λ n. rule.infer_all (generic_globals named.now) (variable_numbers variables.now) opaque (in_scope state.old) n (arguments_from (generic_tree named.now) ids.now))) }
+    requires types { IsTypesRun around.now.named.now.exprs.words called.types }
+    ensures read { Gives (λ r. (forms_given state.new r, state.new.counts)) result (rule.infer_call (generic_globals around.now.named.now) (variable_numbers around.now.variables.now) opaque state.old.counts called.name (types_in around.now.named.now.exprs.words called.types) (length ids.now) (λ n. rule.infer_all (generic_globals around.now.named.now) (variable_numbers around.now.variables.now) opaque (in_scope state.old) n (arguments_from (generic_tree around.now.named.now) ids.now))) }
     ensures kept { IfOk result (λ _. (in_scope state.new) ≡ (in_scope state.old)) }
     ensures met { IfOk result (λ r. Met state.old state.new r) }
 {
     state.one_more(called.name.span)?;
-    let function = named.function(called.name)?;
+    let function = around.named.function(called.name)?;
     let due = function.variables.len();
-    let types = type_arguments(named, variables, state, due, called.name, called.types)?;
+    let types = type_arguments(around, state, due, called)?;
     as_many(ids.len(), function.parameters.len(), called.name)?;
-    let parts = arguments(named, variables, state, id, ids)?;
+    let parts = arguments(around, state, id, ids)?;
     let meaning = given(state, &function.variables, &types)?;
-    let wanted_types = parameter_types(named, state, &meaning, &function.parameters)?;
+    let wanted_types = parameter_types(around.named, state, &meaning, &function.parameters)?;
     all_wanted(state, &parts, &wanted_types)?;
-    let given = result_types(named, state, &meaning, &function.result)?;
+    let given = result_types(around.named, state, &meaning, &function.result)?;
     Ok(given)
 }
 
 /// The type of a constructor with its arguments.
 #[cycle(infer)]
 fn make(
-    named: &Named,
-    variables: &[Ident],
+    around: &Around,
     state: &mut State,
     id: ExprId,
     made: Use,
     ids: &[ExprId],
 ) -> Result<ResultIds, TypeFault>
-    requires inside { id.0 < length named.now.exprs.nodes }
+    requires inside { id.0 < length around.now.named.now.exprs.nodes }
     requires below { AllByRecursion (λ a. a.0 < id.0) ids.now }
-    requires types { IsTypesRun named.now.exprs.words made.types }
-    ensures read { Gives (λ r. (forms_given state.new r, state.new.counts)) result (rule.infer_make (generic_globals named.now) (variable_numbers variables.now) opaque state.old.counts made.name (types_in named.now.exprs.words made.types) (length ids.now) (λ n. rule.infer_all (generic_globals named.now) (variable_numbers variables.now) opaque (in_scope state.old) n (arguments_from (generic_tree named.now) ids.now))) }
+    requires types { IsTypesRun around.now.named.now.exprs.words made.types }
+    ensures read { Gives (λ r. (forms_given state.new r, state.new.counts)) result (rule.infer_make (generic_globals around.now.named.now) (variable_numbers around.now.variables.now) opaque state.old.counts made.name (types_in around.now.named.now.exprs.words made.types) (length ids.now) (λ n. rule.infer_all (generic_globals around.now.named.now) (variable_numbers around.now.variables.now) opaque (in_scope state.old) n (arguments_from (generic_tree around.now.named.now) ids.now))) }
     ensures kept { IfOk result (λ _. (in_scope state.new) ≡ (in_scope state.old)) }
     ensures met { IfOk result (λ r. Met state.old state.new r) }
 {
     state.one_more(made.name.span)?;
-    let row = named.constructor(made.name)?;
-    let due = named.variables(row.declaration).len();
-    let types = type_arguments(named, variables, state, due, made.name, made.types)?;
+    let row = around.named.constructor(made.name)?;
+    let due = around.named.variables(row.declaration).len();
+    let types = type_arguments(around, state, due, made)?;
     as_many(ids.len(), row.count, made.name)?;
-    let parts = arguments(named, variables, state, id, ids)?;
-    let fields = row_fields(named, state, row, &types)?;
+    let parts = arguments(around, state, id, ids)?;
+    let fields = row_fields(around.named, state, row, &types)?;
     all_wanted(state, &parts, &fields)?;
     let ty = state.put(TypeNode::Data(row.owner.0, types))?;
     Ok(ResultIds::One(ty))
@@ -439,26 +397,25 @@ fn make(
 /// The type of a `let`.
 #[cycle(infer)]
 fn let_in(
-    named: &Named,
-    variables: &[Ident],
+    around: &Around,
     state: &mut State,
     at: At,
     bound: Bound,
     body: ExprId,
 ) -> Result<ResultIds, TypeFault>
-    requires inside { at.id.0 < length named.now.exprs.nodes }
+    requires inside { at.id.0 < length around.now.named.now.exprs.nodes }
     requires value { bound.value.0 < at.id.0 }
     requires body { body.0 < at.id.0 }
-    ensures read { Gives (λ r. (forms_given state.new r, state.new.counts)) result (rule.infer (generic_globals named.now) (variable_numbers variables.now) opaque at.standing (in_scope state.old) state.old.counts (tree.GenericLet at.span bound.name (generic_tree named.now bound.value.0) (generic_tree named.now body.0))) }
+    ensures read { Gives (λ r. (forms_given state.new r, state.new.counts)) result (rule.infer (generic_globals around.now.named.now) (variable_numbers around.now.variables.now) opaque at.standing (in_scope state.old) state.old.counts (tree.GenericLet at.span bound.name (generic_tree around.now.named.now bound.value.0) (generic_tree around.now.named.now body.0))) }
     ensures kept { IfOk result (λ _. (in_scope state.new) ≡ (in_scope state.old)) }
     ensures met { IfOk result (λ r. Met state.old state.new r) }
 {
     state.one_more(at.span)?;
-    let value = infer(named, variables, state, Standing::NoTuple, bound.value)?;
-    let ty = single(named, bound.value, value)?;
+    let value = infer(around, state, Standing::NoTuple, bound.value)?;
+    let ty = single(around.named, bound.value, value)?;
     let len = state.len();
     state.bind(bound.name, ty)?;
-    let given = infer(named, variables, state, at.standing, body)?;
+    let given = infer(around, state, at.standing, body)?;
     state.truncate(len)?;
     Ok(given)
 }
@@ -466,58 +423,45 @@ fn let_in(
 /// The type of a `let par`.
 #[cycle(infer)]
 fn let_par(
-    named: &Named,
-    variables: &[Ident],
+    around: &Around,
     state: &mut State,
     at: At,
     sides: BoundSides,
     body: ExprId,
 ) -> Result<ResultIds, TypeFault>
-    requires inside { at.id.0 < length named.now.exprs.nodes }
+    requires inside { at.id.0 < length around.now.named.now.exprs.nodes }
     requires left { sides.left.value.0 < at.id.0 }
     requires right { sides.right.value.0 < at.id.0 }
     requires body { body.0 < at.id.0 }
-    ensures read { Gives (λ r. (forms_given state.new r, state.new.counts)) result (rule.infer (generic_globals named.now) (variable_numbers variables.now) opaque at.standing (in_scope state.old) state.old.counts (tree.GenericPar at.span sides.left.name (generic_tree named.now sides.left.value.0) sides.right.name (generic_tree named.now sides.right.value.0) (generic_tree named.now body.0))) }
+    ensures read { Gives (λ r. (forms_given state.new r, state.new.counts)) result (rule.infer (generic_globals around.now.named.now) (variable_numbers around.now.variables.now) opaque at.standing (in_scope state.old) state.old.counts (tree.GenericPar at.span sides.left.name (generic_tree around.now.named.now sides.left.value.0) sides.right.name (generic_tree around.now.named.now sides.right.value.0) (generic_tree around.now.named.now body.0))) }
     ensures kept { IfOk result (λ _. (in_scope state.new) ≡ (in_scope state.old)) }
     ensures met { IfOk result (λ r. Met state.old state.new r) }
 {
     state.one_more(at.span)?;
-    let left = infer(named, variables, state, Standing::NoTuple, sides.left.value)?;
-    let right = infer(
-        named,
-        variables,
-        state,
-        Standing::NoTuple,
-        sides.right.value,
-    )?;
-    let left_ty = single(named, sides.left.value, left)?;
-    let right_ty = single(named, sides.right.value, right)?;
+    let left = infer(around, state, Standing::NoTuple, sides.left.value)?;
+    let right = infer(around, state, Standing::NoTuple, sides.right.value)?;
+    let left_ty = single(around.named, sides.left.value, left)?;
+    let right_ty = single(around.named, sides.right.value, right)?;
     let len = state.len();
     state.bind(sides.left.name, left_ty)?;
     state.bind(sides.right.name, right_ty)?;
-    let given = infer(named, variables, state, at.standing, body)?;
+    let given = infer(around, state, at.standing, body)?;
     state.truncate(len)?;
     Ok(given)
 }
 
 /// The types of the parts of a tuple.
 #[cycle(infer)]
-fn tuple(
-    named: &Named,
-    variables: &[Ident],
-    state: &mut State,
-    at: At,
-    ids: &[ExprId],
-) -> Result<ResultIds, TypeFault>
-    requires inside { at.id.0 < length named.now.exprs.nodes }
+fn tuple(around: &Around, state: &mut State, at: At, ids: &[ExprId]) -> Result<ResultIds, TypeFault>
+    requires inside { at.id.0 < length around.now.named.now.exprs.nodes }
     requires below { AllByRecursion (λ a. a.0 < at.id.0) ids.now }
-    ensures read { Gives (λ r. (forms_given state.new r, state.new.counts)) result (rule.infer_tuple at.standing state.old.counts at.span (length ids.now) (λ n. rule.infer_all (generic_globals named.now) (variable_numbers variables.now) opaque (in_scope state.old) n (arguments_from (generic_tree named.now) ids.now))) }
+    ensures read { Gives (λ r. (forms_given state.new r, state.new.counts)) result (rule.infer_tuple at.standing state.old.counts at.span (length ids.now) (λ n. rule.infer_all (generic_globals around.now.named.now) (variable_numbers around.now.variables.now) opaque (in_scope state.old) n (arguments_from (generic_tree around.now.named.now) ids.now))) }
     ensures kept { IfOk result (λ _. (in_scope state.new) ≡ (in_scope state.old)) }
     ensures met { IfOk result (λ r. Met state.old state.new r) }
 {
     state.one_more(at.span)?;
     may_stand(at.standing, ids.len(), at.span)?;
-    let parts = arguments(named, variables, state, at.id, ids)?;
+    let parts = arguments(around, state, at.id, ids)?;
     let types = all_single(state, &parts)?;
     let given = state.put_parts(&types)?;
     Ok(given)
@@ -526,26 +470,25 @@ fn tuple(
 /// What a `let` of several variables gives: its value is on the left, its body on the right.
 #[cycle(infer)]
 fn let_several(
-    named: &Named,
-    variables: &[Ident],
+    around: &Around,
     state: &mut State,
     at: At,
     names: &[Ident],
     sides: Sides,
 ) -> Result<ResultIds, TypeFault>
-    requires inside { at.id.0 < length named.now.exprs.nodes }
+    requires inside { at.id.0 < length around.now.named.now.exprs.nodes }
     requires value { sides.left.0 < at.id.0 }
     requires body { sides.right.0 < at.id.0 }
-    ensures read { Gives (λ r. (forms_given state.new r, state.new.counts)) result (rule.infer (generic_globals named.now) (variable_numbers variables.now) opaque at.standing (in_scope state.old) state.old.counts (tree.GenericLetSeveral at.span names.now (generic_tree named.now sides.left.0) (generic_tree named.now sides.right.0))) }
+    ensures read { Gives (λ r. (forms_given state.new r, state.new.counts)) result (rule.infer (generic_globals around.now.named.now) (variable_numbers around.now.variables.now) opaque at.standing (in_scope state.old) state.old.counts (tree.GenericLetSeveral at.span names.now (generic_tree around.now.named.now sides.left.0) (generic_tree around.now.named.now sides.right.0))) }
     ensures kept { IfOk result (λ _. (in_scope state.new) ≡ (in_scope state.old)) }
     ensures met { IfOk result (λ r. Met state.old state.new r) }
 {
     state.one_more(at.span)?;
-    let value = infer(named, variables, state, standing_for(names), sides.left)?;
-    let types = types_bound(state, names, part(named, sides.left, value))?;
+    let value = infer(around, state, standing_for(names), sides.left)?;
+    let types = types_bound(state, names, part(around.named, sides.left, value))?;
     let len = state.len();
     state.bind_parts(names, &types)?;
-    let given = infer(named, variables, state, at.standing, sides.right)?;
+    let given = infer(around, state, at.standing, sides.right)?;
     state.truncate(len)?;
     Ok(given)
 }
@@ -553,42 +496,29 @@ fn let_several(
 /// What a `let par` of several variables gives.
 #[cycle(infer)]
 fn par_several(
-    named: &Named,
-    variables: &[Ident],
+    around: &Around,
     state: &mut State,
     at: At,
     names: &SideNames,
     parts: BoundParts,
 ) -> Result<ResultIds, TypeFault>
-    requires inside { at.id.0 < length named.now.exprs.nodes }
+    requires inside { at.id.0 < length around.now.named.now.exprs.nodes }
     requires left { parts.left.0 < at.id.0 }
     requires right { parts.right.0 < at.id.0 }
     requires body { parts.body.0 < at.id.0 }
-    ensures read { Gives (λ r. (forms_given state.new r, state.new.counts)) result (rule.infer (generic_globals named.now) (variable_numbers variables.now) opaque at.standing (in_scope state.old) state.old.counts (tree.GenericParSeveral at.span names.now.left.now (generic_tree named.now parts.left.0) names.now.right.now (generic_tree named.now parts.right.0) (generic_tree named.now parts.body.0))) }
+    ensures read { Gives (λ r. (forms_given state.new r, state.new.counts)) result (rule.infer (generic_globals around.now.named.now) (variable_numbers around.now.variables.now) opaque at.standing (in_scope state.old) state.old.counts (tree.GenericParSeveral at.span names.now.left.now (generic_tree around.now.named.now parts.left.0) names.now.right.now (generic_tree around.now.named.now parts.right.0) (generic_tree around.now.named.now parts.body.0))) }
     ensures kept { IfOk result (λ _. (in_scope state.new) ≡ (in_scope state.old)) }
     ensures met { IfOk result (λ r. Met state.old state.new r) }
 {
     state.one_more(at.span)?;
-    let left = infer(
-        named,
-        variables,
-        state,
-        standing_for(names.left),
-        parts.left,
-    )?;
-    let right = infer(
-        named,
-        variables,
-        state,
-        standing_for(names.right),
-        parts.right,
-    )?;
-    let left_types = types_bound(state, names.left, part(named, parts.left, left))?;
-    let right_types = types_bound(state, names.right, part(named, parts.right, right))?;
+    let left = infer(around, state, standing_for(names.left), parts.left)?;
+    let right = infer(around, state, standing_for(names.right), parts.right)?;
+    let left_types = types_bound(state, names.left, part(around.named, parts.left, left))?;
+    let right_types = types_bound(state, names.right, part(around.named, parts.right, right))?;
     let len = state.len();
     state.bind_parts(names.left, &left_types)?;
     state.bind_parts(names.right, &right_types)?;
-    let given = infer(named, variables, state, at.standing, parts.body)?;
+    let given = infer(around, state, at.standing, parts.body)?;
     state.truncate(len)?;
     Ok(given)
 }
@@ -596,51 +526,49 @@ fn par_several(
 /// The type of an `if`.
 #[cycle(infer)]
 fn if_else(
-    named: &Named,
-    variables: &[Ident],
+    around: &Around,
     state: &mut State,
     at: At,
     condition: ExprId,
     branches: Sides,
 ) -> Result<ResultIds, TypeFault>
-    requires inside { at.id.0 < length named.now.exprs.nodes }
+    requires inside { at.id.0 < length around.now.named.now.exprs.nodes }
     requires condition { condition.0 < at.id.0 }
     requires then_part { branches.left.0 < at.id.0 }
     requires else_part { branches.right.0 < at.id.0 }
-    ensures read { Gives (λ r. (forms_given state.new r, state.new.counts)) result (rule.infer (generic_globals named.now) (variable_numbers variables.now) opaque at.standing (in_scope state.old) state.old.counts (tree.GenericIf at.span (generic_tree named.now condition.0) (generic_tree named.now branches.left.0) (generic_tree named.now branches.right.0))) }
+    ensures read { Gives (λ r. (forms_given state.new r, state.new.counts)) result (rule.infer (generic_globals around.now.named.now) (variable_numbers around.now.variables.now) opaque at.standing (in_scope state.old) state.old.counts (tree.GenericIf at.span (generic_tree around.now.named.now condition.0) (generic_tree around.now.named.now branches.left.0) (generic_tree around.now.named.now branches.right.0))) }
     ensures kept { IfOk result (λ _. (in_scope state.new) ≡ (in_scope state.old)) }
     ensures met { IfOk result (λ r. Met state.old state.new r) }
 {
     state.one_more(at.span)?;
-    let condition_ty = infer(named, variables, state, Standing::NoTuple, condition)?;
-    let then_ty = infer(named, variables, state, at.standing, branches.left)?;
-    let else_ty = infer(named, variables, state, at.standing, branches.right)?;
-    wanted_truth(state, part(named, condition, condition_ty))?;
-    wanted(state, then_ty, part(named, branches.right, else_ty))?;
+    let condition_ty = infer(around, state, Standing::NoTuple, condition)?;
+    let then_ty = infer(around, state, at.standing, branches.left)?;
+    let else_ty = infer(around, state, at.standing, branches.right)?;
+    wanted_truth(state, part(around.named, condition, condition_ty))?;
+    wanted(state, then_ty, part(around.named, branches.right, else_ty))?;
     Ok(then_ty)
 }
 
 /// The type of an arm, where the type's variables stand for these types.
 #[cycle(infer)]
 fn arm_result(
-    named: &Named,
-    variables: &[Ident],
+    around: &Around,
     state: &mut State,
     at: At,
     types: &[TypeId],
     arm: &Arm,
 ) -> Result<ResultIds, TypeFault>
-    requires inside { at.id.0 < length named.now.exprs.nodes }
+    requires inside { at.id.0 < length around.now.named.now.exprs.nodes }
     requires below { arm.now.body.0 < at.id.0 }
     requires types { AreBelow (length state.old.types) types.now }
-    ensures read { Gives (λ r. (forms_given state.new r, state.new.counts)) result (rule.infer_arm (generic_globals named.now).rows (forms_at (forms state.old) types.now) (in_scope state.old) state.old.counts arm.now.constructor arm.now.variables.items (λ inner n. rule.infer (generic_globals named.now) (variable_numbers variables.now) opaque at.standing inner n (generic_tree named.now arm.now.body.0))) }
+    ensures read { Gives (λ r. (forms_given state.new r, state.new.counts)) result (rule.infer_arm (generic_globals around.now.named.now).rows (forms_at (forms state.old) types.now) (in_scope state.old) state.old.counts arm.now.constructor arm.now.variables.items (λ inner n. rule.infer (generic_globals around.now.named.now) (variable_numbers around.now.variables.now) opaque at.standing inner n (generic_tree around.now.named.now arm.now.body.0))) }
     ensures kept { IfOk result (λ _. (in_scope state.new) ≡ (in_scope state.old)) }
     ensures met { IfOk result (λ r. Met state.old state.new r) }
 {
-    let fields = fields_named(named, state, arm.constructor.name, types)?;
+    let fields = fields_named(around.named, state, arm.constructor.name, types)?;
     let len = state.len();
     state.bind_all(&arm.variables, &fields)?;
-    let given = infer(named, variables, state, at.standing, arm.body)?;
+    let given = infer(around, state, at.standing, arm.body)?;
     state.truncate(len)?;
     Ok(given)
 }
@@ -648,25 +576,24 @@ fn arm_result(
 /// The types of arms, in the order of the text.
 #[cycle(infer)]
 fn arm_results(
-    named: &Named,
-    variables: &[Ident],
+    around: &Around,
     state: &mut State,
     at: At,
     types: &[TypeId],
     arms: &[Arm],
 ) -> Result<Vec<Part>, TypeFault>
-    requires inside { at.id.0 < length named.now.exprs.nodes }
+    requires inside { at.id.0 < length around.now.named.now.exprs.nodes }
     requires below { AllByRecursion (IsArmBelow at.id.0) arms.now }
     requires types { AreBelow (length state.old.types) types.now }
-    ensures read { Gives (λ parts. (parts_in state.new parts.items, state.new.counts)) result (infer_each_arm (generic_globals named.now) (variable_numbers variables.now) at.standing (forms_at (forms state.old) types.now) (generic_tree named.now) (in_scope state.old) state.old.counts arms.now) }
+    ensures read { Gives (λ parts. (parts_in state.new parts.items, state.new.counts)) result (infer_each_arm (generic_globals around.now.named.now) (variable_numbers around.now.variables.now) at.standing (forms_at (forms state.old) types.now) (generic_tree around.now.named.now) (in_scope state.old) state.old.counts arms.now) }
     ensures kept { IfOk result (λ _. (in_scope state.new) ≡ (in_scope state.old)) }
     ensures met { IfOk result (λ parts. AllMet state.old state.new parts.items) }
 {
     let mut parts = Vec::new(state.alloc());
     let mut rest = arms;
     'arms: while let [first, after @ ..] = rest {
-        let ty = arm_result(named, variables, state, at, types, first)?;
-        parts.push(part(named, first.body, ty))?;
+        let ty = arm_result(around, state, at, types, first)?;
+        parts.push(part(around.named, first.body, ty))?;
         rest = after;
     }
     Ok(parts)
@@ -695,26 +622,25 @@ fn common_type(state: &mut State, parts: &[Part]) -> Result<ResultIds, TypeFault
 /// The type of a `case`.
 #[cycle(infer)]
 fn case(
-    named: &Named,
-    variables: &[Ident],
+    around: &Around,
     state: &mut State,
     at: At,
     variable: Ident,
     arms: &[Arm],
 ) -> Result<ResultIds, TypeFault>
-    requires inside { at.id.0 < length named.now.exprs.nodes }
+    requires inside { at.id.0 < length around.now.named.now.exprs.nodes }
     requires below { AllByRecursion (IsArmBelow at.id.0) arms.now }
-    ensures read { Gives (λ r. (forms_given state.new r, state.new.counts)) result (rule.infer_case (generic_globals named.now).rows (in_scope state.old) state.old.counts at.span variable (map arm_head arms.now) (λ ts n. infer_each_arm (generic_globals named.now) (variable_numbers variables.now) at.standing ts (generic_tree named.now) (in_scope state.old) n arms.now)) }
+    ensures read { Gives (λ r. (forms_given state.new r, state.new.counts)) result (rule.infer_case (generic_globals around.now.named.now).rows (in_scope state.old) state.old.counts at.span variable (map arm_head arms.now) (λ ts n. infer_each_arm (generic_globals around.now.named.now) (variable_numbers around.now.variables.now) at.standing ts (generic_tree around.now.named.now) (in_scope state.old) n arms.now)) }
     ensures kept { IfOk result (λ _. (in_scope state.new) ≡ (in_scope state.old)) }
     ensures met { IfOk result (λ r. Met state.old state.new r) }
 {
     state.one_more(at.span)?;
     let ty = state.type_of(variable)?;
     let ty = declared_type(state.alloc(), state.types(), ty, variable)?;
-    all_declared(named, arms)?;
-    covered(named, ty.name, arms, at.span)?;
-    all_counted(named, arms)?;
-    let parts = arm_results(named, variables, state, at, &ty.arguments, arms)?;
+    all_declared(around.named, arms)?;
+    covered(around.named, ty.name, arms, at.span)?;
+    all_counted(around.named, arms)?;
+    let parts = arm_results(around, state, at, &ty.arguments, arms)?;
     let common = common_type(state, &parts)?;
     Ok(common)
 }

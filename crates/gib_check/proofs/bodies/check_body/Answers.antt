@@ -16,20 +16,20 @@ use Rattle.gib_check.proofs.bodies.check_body.Goals as goal
 pub returns-in_err-given : goal.returns-in_err-given
 returns-in_err-given c =
     let p = err_from_is_err_and c.from_residual-in_err-given.result c.from_residual-in_err-given.ensures.1 in
-    let words = c.args.named.now.exprs.words in
+    let words = c.args.around.now.named.now.exprs.words in
     rw (p.1, p.2)
-    (body_fails c.args.named.now c.args.variables.now c.args.parameters.now (results_in words c.args.gives.now) (generic_tree c.args.named.now c.args.body.0) c.in_err-given.field-0.0 c.meet_plain.new.self c.push_parameters.new.state c.in-Ok.count
+    (body_fails c.args.around.now.named.now c.args.around.now.variables.now c.args.parameters.now (results_in words c.args.gives.now) (generic_tree c.args.around.now.named.now c.args.body.0) c.in_err-given.field-0.0 c.meet_plain.new.self c.push_parameters.new.state c.in-Ok.count
     (omega (arith, c.in-Ok.ensures)) (c.meet_plain.ensures.scope ∙ ap in_scope c.new-state.ensures) (c.meet_plain.ensures.counts ∙ ap (λ (s : Judging). s.counts) c.new-state.ensures) c.in_ok-push_parameters.ensures.scope c.in_ok-push_parameters.ensures.counts
-    (subst (λ st. IsFaultOf c.in_err-given.field-0.0 (infer (generic_globals c.args.named.now) (variable_numbers c.args.variables.now) opaque st (in_scope c.push_parameters.new.state) c.push_parameters.new.state.counts (generic_tree c.args.named.now c.args.body.0))) (c.standing_of.ensures words opaque) c.in_err-given.ensures.read))
+    (subst (λ st. IsFaultOf c.in_err-given.field-0.0 (infer (generic_globals c.args.around.now.named.now) (variable_numbers c.args.around.now.variables.now) opaque st (in_scope c.push_parameters.new.state) c.push_parameters.new.state.counts (generic_tree c.args.around.now.named.now c.args.body.0))) (c.standing_of.ensures words opaque) c.in_err-given.ensures.read))
 
 pub returns : goal.returns
 returns c =
-    let body = generic_tree c.args.named.now c.args.body.0 in
-    let words = c.args.named.now.exprs.words in
-    gives_same (λ _. tt {0}) c.wanted.result (check_body (generic_globals c.args.named.now) c.args.variables.now (map (parameter_in words) c.args.parameters.now) (results_in words c.args.gives.now) body) (wanted (forms_given c.result_types.new.state c.in_ok-due.due) (part_in c.result_types.new.state c.part.result))
-    (body_is c.args.named.now c.args.variables.now c.args.parameters.now (results_in words c.args.gives.now) body c.meet_plain.new.self c.push_parameters.new.state c.infer.new.state c.result_types.new.state c.in-Ok.count c.in_ok-given.given c.in_ok-due.due
+    let body = generic_tree c.args.around.now.named.now c.args.body.0 in
+    let words = c.args.around.now.named.now.exprs.words in
+    gives_same (λ _. tt {0}) c.wanted.result (check_body (generic_globals c.args.around.now.named.now) c.args.around.now.variables.now (map (parameter_in words) c.args.parameters.now) (results_in words c.args.gives.now) body) (wanted (forms_given c.result_types.new.state c.in_ok-due.due) (part_in c.result_types.new.state c.part.result))
+    (body_is c.args.around.now.named.now c.args.around.now.variables.now c.args.parameters.now (results_in words c.args.gives.now) body c.meet_plain.new.self c.push_parameters.new.state c.infer.new.state c.result_types.new.state c.in-Ok.count c.in_ok-given.given c.in_ok-due.due
     (omega (arith, c.in-Ok.ensures)) (c.meet_plain.ensures.scope ∙ ap in_scope c.new-state.ensures) (c.meet_plain.ensures.counts ∙ ap (λ (s : Judging). s.counts) c.new-state.ensures) c.in_ok-push_parameters.ensures.scope c.in_ok-push_parameters.ensures.counts
-    (subst (λ st. infer (generic_globals c.args.named.now) (variable_numbers c.args.variables.now) opaque st (in_scope c.push_parameters.new.state) c.push_parameters.new.state.counts body ≡ Ok (forms_given c.infer.new.state c.in_ok-given.given, c.infer.new.state.counts)) (c.standing_of.ensures words opaque) c.in_ok-given.ensures.read)
+    (subst (λ st. infer (generic_globals c.args.around.now.named.now) (variable_numbers c.args.around.now.variables.now) opaque st (in_scope c.push_parameters.new.state) c.push_parameters.new.state.counts body ≡ Ok (forms_given c.infer.new.state c.in_ok-given.given, c.infer.new.state.counts)) (c.standing_of.ensures words opaque) c.in_ok-given.ensures.read)
     c.in_ok-given.ensures.met c.in_ok-due.ensures.met.advances c.in_ok-due.ensures.forms
     ∙ sym (ap (λ (p : Part). wanted (forms_given c.result_types.new.state c.in_ok-due.due) (part_in c.result_types.new.state p)) c.part.ensures))
     c.wanted.ensures

@@ -4,10 +4,13 @@ use Rattle.gib_types.specs.Form.{Form, WholeForm, TruthForm}
 use Rattle.gib_types.specs.Types.{form_at, forms_of, AreBelow}
 use Rattle.gib_check.specs.declared.counts.Counts.{Counts}
 use Rattle.gib_check.specs.declared.rules.Part.{Part}
+use Rattle.gib_check.specs.declared.uses.Use.{Use}
+use Rattle.gib_check.specs.declared.walk.At.{At}
+use Rattle.gib_check.specs.declared.walk.Sides.{Sides}
 use Rattle.gib_check.specs.Faults.{infer}
 use Rattle.gib_syntax.specs.Results.{Results, One, Several}
-use Rattle.gib_syntax.specs.GenericTree.{GenericLetSeveral, GenericParSeveral}
-use Rattle.gib_syntax.specs.GenericArena.{tree_of, layer, PartsBelow}
+use Rattle.gib_syntax.specs.GenericTree.{GenericCall, GenericMake, GenericCase, GenericTuple, GenericLetSeveral, GenericParSeveral}
+use Rattle.gib_syntax.specs.GenericArena.{tree_of, layer, PartsBelow, arguments_from, case_from}
 use Rattle.gib_syntax.specs.GenericTyping.{variable_numbers, opaque}
 use Rattle.gib_syntax.specs.Words.{types_in}
 use Rattle.gib_check.specs.NameViews.{generic_globals, generic_tree}
@@ -22,96 +25,104 @@ use Rattle.gib_check.proofs.walk.+infer.Goals as goal
 pub infer-returns-in-Whole-clause-read : goal.infer-returns-in-Whole-clause-read
 infer-returns-in-Whole-clause-read t c =
     gives_same (λ ty. (forms_given c.literal.new.state ty, c.literal.new.state.counts)) c.literal.result _ _
-    (ap (infer (generic_globals c.args.named.now) (variable_numbers c.args.variables.now) opaque c.args.standing (in_scope c.args.state.now) c.args.state.now.counts)
-    (c.node-node.ensures.opens.0 ∙ ap (λ z. layer c.args.named.now.exprs.words (tree_of c.args.named.now.exprs) (Some z)) c.in-Whole.is))
+    (ap (infer (generic_globals c.args.around.now.named.now) (variable_numbers c.args.around.now.variables.now) opaque c.args.standing (in_scope c.args.state.now) c.args.state.now.counts)
+    (c.node-node.ensures.opens.0 ∙ ap (λ z. layer c.args.around.now.named.now.exprs.words (tree_of c.args.around.now.named.now.exprs) (Some z)) c.in-Whole.is))
     (c.literal.ensures.read [])
 
 pub infer-returns-in-Truth-clause-read : goal.infer-returns-in-Truth-clause-read
 infer-returns-in-Truth-clause-read t c =
     gives_same (λ ty. (forms_given c.literal-in-Truth.new.state ty, c.literal-in-Truth.new.state.counts)) c.literal-in-Truth.result _ _
-    (ap (infer (generic_globals c.args.named.now) (variable_numbers c.args.variables.now) opaque c.args.standing (in_scope c.args.state.now) c.args.state.now.counts)
-    (c.node-node.ensures.opens.0 ∙ ap (λ z. layer c.args.named.now.exprs.words (tree_of c.args.named.now.exprs) (Some z)) c.in-Truth.is))
+    (ap (infer (generic_globals c.args.around.now.named.now) (variable_numbers c.args.around.now.variables.now) opaque c.args.standing (in_scope c.args.state.now) c.args.state.now.counts)
+    (c.node-node.ensures.opens.0 ∙ ap (λ z. layer c.args.around.now.named.now.exprs.words (tree_of c.args.around.now.named.now.exprs) (Some z)) c.in-Truth.is))
     (c.literal-in-Truth.ensures.read [])
 
 pub infer-returns-in-Call-clause-read : goal.infer-returns-in-Call-clause-read
 infer-returns-in-Call-clause-read t c =
     gives_same (λ ty. (forms_given c.call.new.state ty, c.call.new.state.counts)) c.call.result _ _
-    (call_opened (generic_globals c.args.named.now) (variable_numbers c.args.variables.now) (generic_tree c.args.named.now) c.args.standing (in_scope c.args.state.now) c.args.state.now.counts (generic_tree c.args.named.now c.args.id.0) c.in-Call.f (types_in c.args.named.now.exprs.words c.in-Call.types) c.deref.result.now c.in-Call.ids.items
-    (c.node-node.ensures.opens.0 ∙ ap (λ z. layer c.args.named.now.exprs.words (tree_of c.args.named.now.exprs) (Some z)) c.in-Call.is) c.deref.ensures.value)
+    (call_opened (generic_globals c.args.around.now.named.now) (variable_numbers c.args.around.now.variables.now) (generic_tree c.args.around.now.named.now) c.args.standing (in_scope c.args.state.now) c.args.state.now.counts (generic_tree c.args.around.now.named.now c.args.id.0) c.new-called.result.name (types_in c.args.around.now.named.now.exprs.words c.new-called.result.types) c.deref.result.now c.in-Call.ids.items
+    (c.node-node.ensures.opens.0 ∙ ap (λ z. layer c.args.around.now.named.now.exprs.words (tree_of c.args.around.now.named.now.exprs) (Some z)) c.in-Call.is
+    ∙ ap (λ (u : Use). GenericCall u.name (types_in c.args.around.now.named.now.exprs.words u.types) (arguments_from (generic_tree c.args.around.now.named.now) c.in-Call.ids.items)) (sym c.new-called.ensures)) c.deref.ensures.value)
     c.call.ensures.read
 
 pub infer-returns-in-Make-clause-read : goal.infer-returns-in-Make-clause-read
 infer-returns-in-Make-clause-read t c =
     gives_same (λ ty. (forms_given c.make.new.state ty, c.make.new.state.counts)) c.make.result _ _
-    (make_opened (generic_globals c.args.named.now) (variable_numbers c.args.variables.now) (generic_tree c.args.named.now) c.args.standing (in_scope c.args.state.now) c.args.state.now.counts (generic_tree c.args.named.now c.args.id.0) c.in-Make.k (types_in c.args.named.now.exprs.words c.in-Make.types) c.deref-in-Make.result.now c.in-Make.ids.items
-    (c.node-node.ensures.opens.0 ∙ ap (λ z. layer c.args.named.now.exprs.words (tree_of c.args.named.now.exprs) (Some z)) c.in-Make.is) c.deref-in-Make.ensures.value)
+    (make_opened (generic_globals c.args.around.now.named.now) (variable_numbers c.args.around.now.variables.now) (generic_tree c.args.around.now.named.now) c.args.standing (in_scope c.args.state.now) c.args.state.now.counts (generic_tree c.args.around.now.named.now c.args.id.0) c.new-made.result.name (types_in c.args.around.now.named.now.exprs.words c.new-made.result.types) c.deref-in-Make.result.now c.in-Make.ids.items
+    (c.node-node.ensures.opens.0 ∙ ap (λ z. layer c.args.around.now.named.now.exprs.words (tree_of c.args.around.now.named.now.exprs) (Some z)) c.in-Make.is
+    ∙ ap (λ (u : Use). GenericMake u.name (types_in c.args.around.now.named.now.exprs.words u.types) (arguments_from (generic_tree c.args.around.now.named.now) c.in-Make.ids.items)) (sym c.new-made.ensures)) c.deref-in-Make.ensures.value)
     c.make.ensures.read
 
-pub infer_worded-returns-in-Case-clause-read : goal.infer_worded-returns-in-Case-clause-read
-infer_worded-returns-in-Case-clause-read t c =
+pub infer-returns-in-Case-clause-read : goal.infer-returns-in-Case-clause-read
+infer-returns-in-Case-clause-read t c =
     gives_same (λ ty. (forms_given c.case.new.state ty, c.case.new.state.counts)) c.case.result _ _
-    (case_opened (generic_globals c.args.named.now) (variable_numbers c.args.variables.now) (generic_tree c.args.named.now) c.args.standing (in_scope c.args.state.now) c.args.state.now.counts (generic_tree c.args.named.now c.args.id.0) c.in-Case.span c.in-Case.variable c.args.id.0 c.deref.result.now c.in-Case.arms.items
-    (c.requires.opens.0 ∙ ap (λ z. layer c.args.named.now.exprs.words (tree_of c.args.named.now.exprs) (Some z)) c.in-Case.is) (subst (λ z. PartsBelow z c.args.id.0) c.in-Case.is c.requires.opens.1) c.deref.ensures.value)
+    (ap (λ (a : At). infer (generic_globals c.args.around.now.named.now) (variable_numbers c.args.around.now.variables.now) opaque a.standing (in_scope c.args.state.now) c.args.state.now.counts (generic_tree c.args.around.now.named.now c.args.id.0)) (sym c.new-at-in-Case.ensures)
+    ∙ case_opened (generic_globals c.args.around.now.named.now) (variable_numbers c.args.around.now.variables.now) (generic_tree c.args.around.now.named.now) c.new-at-in-Case.result.standing (in_scope c.args.state.now) c.args.state.now.counts (generic_tree c.args.around.now.named.now c.args.id.0) c.new-at-in-Case.result.span c.in-Case.variable c.args.id.0 c.deref-in-Case.result.now c.in-Case.arms.items
+    (c.node-node.ensures.opens.0 ∙ ap (λ z. layer c.args.around.now.named.now.exprs.words (tree_of c.args.around.now.named.now.exprs) (Some z)) c.in-Case.is
+    ∙ ap (λ (a : At). case_from (generic_tree c.args.around.now.named.now) c.in-Case.arms.items (GenericCase a.span c.in-Case.variable)) (sym c.new-at-in-Case.ensures)) (subst (λ z. PartsBelow z c.args.id.0) c.in-Case.is c.node-node.ensures.opens.1) c.deref-in-Case.ensures.value)
     c.case.ensures.read
 
 pub infer_several-returns-in-Tuple-clause-read : goal.infer_several-returns-in-Tuple-clause-read
 infer_several-returns-in-Tuple-clause-read t c =
     gives_same (λ ty. (forms_given c.tuple.new.state ty, c.tuple.new.state.counts)) c.tuple.result _ _
-    (tuple_opened (generic_globals c.args.named.now) (variable_numbers c.args.variables.now) (generic_tree c.args.named.now) c.args.standing (in_scope c.args.state.now) c.args.state.now.counts (generic_tree c.args.named.now c.args.id.0) c.in-Tuple.span c.deref.result.now c.in-Tuple.parts.items
-    (c.requires.opens.0 ∙ ap (λ z. layer c.args.named.now.exprs.words (tree_of c.args.named.now.exprs) (Some z)) c.in-Tuple.is) c.deref.ensures.value)
+    (ap (λ (a : At). infer (generic_globals c.args.around.now.named.now) (variable_numbers c.args.around.now.variables.now) opaque a.standing (in_scope c.args.state.now) c.args.state.now.counts (generic_tree c.args.around.now.named.now c.args.id.0)) (sym c.new-at.ensures)
+    ∙ tuple_opened (generic_globals c.args.around.now.named.now) (variable_numbers c.args.around.now.variables.now) (generic_tree c.args.around.now.named.now) c.new-at.result.standing (in_scope c.args.state.now) c.args.state.now.counts (generic_tree c.args.around.now.named.now c.args.id.0) c.new-at.result.span c.deref.result.now c.in-Tuple.parts.items
+    (c.requires.opens.0 ∙ ap (λ z. layer c.args.around.now.named.now.exprs.words (tree_of c.args.around.now.named.now.exprs) (Some z)) c.in-Tuple.is
+    ∙ ap (λ (a : At). GenericTuple a.span (arguments_from (generic_tree c.args.around.now.named.now) c.in-Tuple.parts.items)) (sym c.new-at.ensures)) c.deref.ensures.value)
     c.tuple.ensures.read
 
 pub infer_several-returns-in-LetSeveral-clause-read : goal.infer_several-returns-in-LetSeveral-clause-read
 infer_several-returns-in-LetSeveral-clause-read t c =
     gives_same (λ ty. (forms_given c.let_several.new.state ty, c.let_several.new.state.counts)) c.let_several.result _ _
-    (ap (infer (generic_globals c.args.named.now) (variable_numbers c.args.variables.now) opaque c.args.standing (in_scope c.args.state.now) c.args.state.now.counts)
-    (c.requires.opens.0 ∙ ap (λ z. layer c.args.named.now.exprs.words (tree_of c.args.named.now.exprs) (Some z)) c.in-LetSeveral.is
-    ∙ ap (λ xs. GenericLetSeveral c.in-LetSeveral.span xs (generic_tree c.args.named.now c.in-LetSeveral.bound.0) (generic_tree c.args.named.now c.in-LetSeveral.body.0)) (sym c.deref-in-LetSeveral.ensures.value)))
+    (ap (infer (generic_globals c.args.around.now.named.now) (variable_numbers c.args.around.now.variables.now) opaque c.args.standing (in_scope c.args.state.now) c.args.state.now.counts)
+    (c.requires.opens.0 ∙ ap (λ z. layer c.args.around.now.named.now.exprs.words (tree_of c.args.around.now.named.now.exprs) (Some z)) c.in-LetSeveral.is
+    ∙ ap (λ xs. GenericLetSeveral c.in-LetSeveral.span xs (generic_tree c.args.around.now.named.now c.in-LetSeveral.bound.0) (generic_tree c.args.around.now.named.now c.in-LetSeveral.body.0)) (sym c.deref-in-LetSeveral.ensures.value))
+    ∙ ap₂ (λ (a : At) (u : Sides). infer (generic_globals c.args.around.now.named.now) (variable_numbers c.args.around.now.variables.now) opaque a.standing (in_scope c.args.state.now) c.args.state.now.counts (GenericLetSeveral a.span c.deref-in-LetSeveral.result.now (generic_tree c.args.around.now.named.now u.left.0) (generic_tree c.args.around.now.named.now u.right.0))) (sym c.new-at-in-LetSeveral.ensures) (sym c.new-sides.ensures))
     c.let_several.ensures.read
 
 pub infer_several-returns-in-ParSeveral-clause-read : goal.infer_several-returns-in-ParSeveral-clause-read
 infer_several-returns-in-ParSeveral-clause-read t c =
     gives_same (λ ty. (forms_given c.par_several.new.state ty, c.par_several.new.state.counts)) c.par_several.result _ _
-    (ap (infer (generic_globals c.args.named.now) (variable_numbers c.args.variables.now) opaque c.args.standing (in_scope c.args.state.now) c.args.state.now.counts)
-    (c.requires.opens.0 ∙ ap (λ z. layer c.args.named.now.exprs.words (tree_of c.args.named.now.exprs) (Some z)) c.in-ParSeveral.is
-    ∙ ap₂ (λ xs ys. GenericParSeveral c.in-ParSeveral.span xs (generic_tree c.args.named.now c.in-ParSeveral.left.0) ys (generic_tree c.args.named.now c.in-ParSeveral.right.0) (generic_tree c.args.named.now c.in-ParSeveral.body.0)) (sym c.deref-in-ParSeveral.ensures.value) (sym c.deref-in-ParSeveral-2.ensures.value)))
+    (ap (infer (generic_globals c.args.around.now.named.now) (variable_numbers c.args.around.now.variables.now) opaque c.args.standing (in_scope c.args.state.now) c.args.state.now.counts)
+    (c.requires.opens.0 ∙ ap (λ z. layer c.args.around.now.named.now.exprs.words (tree_of c.args.around.now.named.now.exprs) (Some z)) c.in-ParSeveral.is
+    ∙ ap₂ (λ xs ys. GenericParSeveral c.in-ParSeveral.span xs (generic_tree c.args.around.now.named.now c.in-ParSeveral.left.0) ys (generic_tree c.args.around.now.named.now c.in-ParSeveral.right.0) (generic_tree c.args.around.now.named.now c.in-ParSeveral.body.0)) (sym c.deref-in-ParSeveral.ensures.value) (sym c.deref-in-ParSeveral-2.ensures.value))
+    ∙ ap (λ (a : At). infer (generic_globals c.args.around.now.named.now) (variable_numbers c.args.around.now.variables.now) opaque a.standing (in_scope c.args.state.now) c.args.state.now.counts (GenericParSeveral a.span c.deref-in-ParSeveral.result.now (generic_tree c.args.around.now.named.now c.in-ParSeveral.left.0) c.deref-in-ParSeveral-2.result.now (generic_tree c.args.around.now.named.now c.in-ParSeveral.right.0) (generic_tree c.args.around.now.named.now c.in-ParSeveral.body.0))) (sym c.new-at-in-ParSeveral.ensures))
     c.par_several.ensures.read
 
 pub arguments-arguments-init : goal.arguments-arguments-init
 arguments-arguments-init t c =
     let e : c.new-parts.result.items ≡ [] = search rules in
-    subst (λ (ps : List Part). ArgumentsSoFar c.args.named.now c.args.variables.now c.args.id.0 c.args.state.now c.args.state.now c.args.ids.now c.args.ids.now ps) (sym e) (arguments_start c.args.named.now c.args.variables.now c.args.id.0 c.args.state.now c.args.ids.now c.requires.below)
+    subst (λ (ps : List Part). ArgumentsSoFar c.args.around.now.named.now c.args.around.now.variables.now c.args.id.0 c.args.state.now c.args.state.now c.args.ids.now c.args.ids.now ps) (sym e) (arguments_start c.args.around.now.named.now c.args.around.now.variables.now c.args.id.0 c.args.state.now c.args.ids.now c.requires.below)
 
 pub arguments-returns-in_err-ty-clause-read : goal.arguments-returns-in_err-ty-clause-read
 arguments-returns-in_err-ty-clause-read t c =
     let p = err_from_is_err_and c.from_residual.result c.from_residual.ensures.1 in
-    rw (p.1, p.2) (arguments_fails c.args.named.now c.args.variables.now c.args.id.0 c.args.state.now c.arguments.state c.args.ids.now c.arguments.rest.now _ c.arguments.parts.items c.in_err-ty.field-0.0 c.in-len1-up.len_at_least c.arguments.invariant c.in_err-ty.ensures.read)
+    rw (p.1, p.2) (arguments_fails c.args.around.now.named.now c.args.around.now.variables.now c.args.id.0 c.args.state.now c.arguments.state c.args.ids.now c.arguments.rest.now _ c.arguments.parts.items c.in_err-ty.field-0.0 c.in-len1-up.len_at_least c.arguments.invariant c.in_err-ty.ensures.read)
 
 pub arguments-arguments-preserved : goal.arguments-arguments-preserved
 arguments-arguments-preserved t c =
-    arguments_next c.args.named.now c.args.variables.now c.args.id.0 c.args.state.now c.arguments.state c.infer.new.state c.args.ids.now c.arguments.rest.now _ c.arguments.parts.items c.push.new.self.items c.in_ok-ty.ty c.part.result c.in-len1-up.len_at_least c.arguments.invariant c.in_ok-ty.ensures.read c.in_ok-ty.ensures.kept c.in_ok-ty.ensures.met c.part.ensures c.in_ok-push.ensures.items
+    arguments_next c.args.around.now.named.now c.args.around.now.variables.now c.args.id.0 c.args.state.now c.arguments.state c.infer.new.state c.args.ids.now c.arguments.rest.now _ c.arguments.parts.items c.push.new.self.items c.in_ok-ty.ty c.part.result c.in-len1-up.len_at_least c.arguments.invariant c.in_ok-ty.ensures.read c.in_ok-ty.ensures.kept c.in_ok-ty.ensures.met c.part.ensures c.in_ok-push.ensures.items
 
 pub arguments-returns-clause-read : goal.arguments-returns-clause-read
 arguments-returns-clause-read t c =
-    arguments_stops c.args.named.now c.args.variables.now c.args.id.0 c.args.state.now c.arguments.state c.args.ids.now c.arguments.rest.now c.arguments.parts.items c.in_default.len_below c.arguments.invariant
+    arguments_stops c.args.around.now.named.now c.args.around.now.variables.now c.args.id.0 c.args.state.now c.arguments.state c.args.ids.now c.arguments.rest.now c.arguments.parts.items c.in_default.len_below c.arguments.invariant
 
 pub arm_results-arms-init : goal.arm_results-arms-init
 arm_results-arms-init t c =
     let e : c.new-parts.result.items ≡ [] = search rules in
-    subst (λ (ps : List Part). ArmsSoFar c.args.named.now c.args.variables.now c.args.at.standing c.args.at.id.0 c.args.state.now c.args.state.now c.args.types.now c.args.arms.now c.args.arms.now ps) (sym e) (arms_start c.args.named.now c.args.variables.now c.args.at.standing c.args.at.id.0 c.args.state.now c.args.types.now c.args.arms.now c.requires.below c.requires.types)
+    subst (λ (ps : List Part). ArmsSoFar c.args.around.now.named.now c.args.around.now.variables.now c.args.at.standing c.args.at.id.0 c.args.state.now c.args.state.now c.args.types.now c.args.arms.now c.args.arms.now ps) (sym e) (arms_start c.args.around.now.named.now c.args.around.now.variables.now c.args.at.standing c.args.at.id.0 c.args.state.now c.args.types.now c.args.arms.now c.requires.below c.requires.types)
 
 pub arm_results-returns-in_err-ty-clause-read : goal.arm_results-returns-in_err-ty-clause-read
 arm_results-returns-in_err-ty-clause-read t c =
     let p = err_from_is_err_and c.from_residual.result c.from_residual.ensures.1 in
-    rw (p.1, p.2) (arms_fails c.args.named.now c.args.variables.now c.args.at.standing c.args.at.id.0 c.args.state.now c.arms.state c.args.types.now c.args.arms.now c.arms.rest.now c.first-item.result c.arms.parts.items c.in_err-ty.field-0.0 c.in-len1-up.len_at_least c.first-item.is c.arms.invariant c.in_err-ty.ensures.read)
+    rw (p.1, p.2) (arms_fails c.args.around.now.named.now c.args.around.now.variables.now c.args.at.standing c.args.at.id.0 c.args.state.now c.arms.state c.args.types.now c.args.arms.now c.arms.rest.now c.first-item.result c.arms.parts.items c.in_err-ty.field-0.0 c.in-len1-up.len_at_least c.first-item.is c.arms.invariant c.in_err-ty.ensures.read)
 
 pub arm_results-arms-preserved : goal.arm_results-arms-preserved
 arm_results-arms-preserved t c =
-    arms_next c.args.named.now c.args.variables.now c.args.at.standing c.args.at.id.0 c.args.state.now c.arms.state c.arm_result.new.state c.args.types.now c.args.arms.now c.arms.rest.now c.first-item.result c.arms.parts.items c.push.new.self.items c.in_ok-ty.ty c.part.result c.in-len1-up.len_at_least c.first-item.is c.arms.invariant c.in_ok-ty.ensures.read c.in_ok-ty.ensures.kept c.in_ok-ty.ensures.met c.part.ensures c.in_ok-push.ensures.items
+    arms_next c.args.around.now.named.now c.args.around.now.variables.now c.args.at.standing c.args.at.id.0 c.args.state.now c.arms.state c.arm_result.new.state c.args.types.now c.args.arms.now c.arms.rest.now c.first-item.result c.arms.parts.items c.push.new.self.items c.in_ok-ty.ty c.part.result c.in-len1-up.len_at_least c.first-item.is c.arms.invariant c.in_ok-ty.ensures.read c.in_ok-ty.ensures.kept c.in_ok-ty.ensures.met c.part.ensures c.in_ok-push.ensures.items
 
 pub arm_results-returns-clause-read : goal.arm_results-returns-clause-read
 arm_results-returns-clause-read t c =
-    arms_stops c.args.named.now c.args.variables.now c.args.at.standing c.args.at.id.0 c.args.state.now c.arms.state c.args.types.now c.args.arms.now c.arms.rest.now c.arms.parts.items c.in_default.len_below c.arms.invariant
+    arms_stops c.args.around.now.named.now c.args.around.now.variables.now c.args.at.standing c.args.at.id.0 c.args.state.now c.arms.state c.args.types.now c.args.arms.now c.arms.rest.now c.arms.parts.items c.in_default.len_below c.arms.invariant
 
 pub operation-put-requires : goal.operation-put-requires
 operation-put-requires t c = answering.closed_below (length c.infer-2.new.state.types) c.result_node.result c.result_node.ensures.closed
@@ -119,67 +130,67 @@ operation-put-requires t c = answering.closed_below (length c.infer-2.new.state.
 pub operation-returns-in_err-wanted_whole-clause-read : goal.operation-returns-in_err-wanted_whole-clause-read
 operation-returns-in_err-wanted_whole-clause-read t c =
     let p = err_from_is_err_and c.from_residual-in_err-wanted_whole.result c.from_residual-in_err-wanted_whole.ensures.1 in
-    rw (p.1, p.2) (walking.op_left c.args.named.now c.args.variables.now c.args.at.standing c.in_err-wanted_whole.field-0.0 c.args.state.now c.one_more.new.self c.infer.new.state c.infer-2.new.state c.args.at.span c.args.operator (generic_tree c.args.named.now c.args.sides.left.0) (generic_tree c.args.named.now c.args.sides.right.0) c.in_ok-left_ty.left_ty c.in_ok-right_ty.right_ty (record { read = c.in_ok-one_more.ensures.counts; kept = c.one_more.ensures.scope; types = c.one_more.ensures.types }) (record { read = c.in_ok-left_ty.ensures.read; kept = c.in_ok-left_ty.ensures.kept; met = c.in_ok-left_ty.ensures.met }) (record { read = c.in_ok-right_ty.ensures.read; kept = c.in_ok-right_ty.ensures.kept; met = c.in_ok-right_ty.ensures.met })
-    (walking.seen (λ z. Rattle.gib_check.specs.Answers.IsFaultOf c.in_err-wanted_whole.field-0.0 (Rattle.gib_check.specs.Faults.wanted (One WholeForm) z)) c.infer-2.new.state c.part.result (record { ty = c.in_ok-left_ty.left_ty; place = Rattle.gib_check.specs.Faults.place (generic_tree c.args.named.now c.args.sides.left.0) }) c.part.ensures c.in_err-wanted_whole.ensures))
+    rw (p.1, p.2) (walking.op_left c.args.around.now.named.now c.args.around.now.variables.now c.args.at.standing c.in_err-wanted_whole.field-0.0 c.args.state.now c.one_more.new.self c.infer.new.state c.infer-2.new.state c.args.at.span c.args.operator (generic_tree c.args.around.now.named.now c.args.sides.left.0) (generic_tree c.args.around.now.named.now c.args.sides.right.0) c.in_ok-left_ty.left_ty c.in_ok-right_ty.right_ty (record { read = c.in_ok-one_more.ensures.counts; kept = c.one_more.ensures.scope; types = c.one_more.ensures.types }) (record { read = c.in_ok-left_ty.ensures.read; kept = c.in_ok-left_ty.ensures.kept; met = c.in_ok-left_ty.ensures.met }) (record { read = c.in_ok-right_ty.ensures.read; kept = c.in_ok-right_ty.ensures.kept; met = c.in_ok-right_ty.ensures.met })
+    (walking.seen (λ z. Rattle.gib_check.specs.Answers.IsFaultOf c.in_err-wanted_whole.field-0.0 (Rattle.gib_check.specs.Faults.wanted (One WholeForm) z)) c.infer-2.new.state c.part.result (record { ty = c.in_ok-left_ty.left_ty; place = Rattle.gib_check.specs.Faults.place (generic_tree c.args.around.now.named.now c.args.sides.left.0) }) c.part.ensures c.in_err-wanted_whole.ensures))
 
 pub operation-returns-in_err-wanted_whole-2-clause-read : goal.operation-returns-in_err-wanted_whole-2-clause-read
 operation-returns-in_err-wanted_whole-2-clause-read t c =
     let p = err_from_is_err_and c.from_residual-in_err-wanted_whole-2.result c.from_residual-in_err-wanted_whole-2.ensures.1 in
-    rw (p.1, p.2) (walking.op_right c.args.named.now c.args.variables.now c.args.at.standing c.in_err-wanted_whole-2.field-0.0 c.args.state.now c.one_more.new.self c.infer.new.state c.infer-2.new.state c.args.at.span c.args.operator (generic_tree c.args.named.now c.args.sides.left.0) (generic_tree c.args.named.now c.args.sides.right.0) c.in_ok-left_ty.left_ty c.in_ok-right_ty.right_ty (record { read = c.in_ok-one_more.ensures.counts; kept = c.one_more.ensures.scope; types = c.one_more.ensures.types }) (record { read = c.in_ok-left_ty.ensures.read; kept = c.in_ok-left_ty.ensures.kept; met = c.in_ok-left_ty.ensures.met }) (record { read = c.in_ok-right_ty.ensures.read; kept = c.in_ok-right_ty.ensures.kept; met = c.in_ok-right_ty.ensures.met })
-    (walking.seen (λ z. Rattle.gib_check.specs.Faults.wanted (One WholeForm) z ≡ Rattle.std.proofs.Common.Ok (tt {0})) c.infer-2.new.state c.part.result (record { ty = c.in_ok-left_ty.left_ty; place = Rattle.gib_check.specs.Faults.place (generic_tree c.args.named.now c.args.sides.left.0) }) c.part.ensures c.in_ok-wanted_whole.ensures)
-    (walking.seen (λ z. Rattle.gib_check.specs.Answers.IsFaultOf c.in_err-wanted_whole-2.field-0.0 (Rattle.gib_check.specs.Faults.wanted (One WholeForm) z)) c.infer-2.new.state c.part-2.result (record { ty = c.in_ok-right_ty.right_ty; place = Rattle.gib_check.specs.Faults.place (generic_tree c.args.named.now c.args.sides.right.0) }) c.part-2.ensures c.in_err-wanted_whole-2.ensures))
+    rw (p.1, p.2) (walking.op_right c.args.around.now.named.now c.args.around.now.variables.now c.args.at.standing c.in_err-wanted_whole-2.field-0.0 c.args.state.now c.one_more.new.self c.infer.new.state c.infer-2.new.state c.args.at.span c.args.operator (generic_tree c.args.around.now.named.now c.args.sides.left.0) (generic_tree c.args.around.now.named.now c.args.sides.right.0) c.in_ok-left_ty.left_ty c.in_ok-right_ty.right_ty (record { read = c.in_ok-one_more.ensures.counts; kept = c.one_more.ensures.scope; types = c.one_more.ensures.types }) (record { read = c.in_ok-left_ty.ensures.read; kept = c.in_ok-left_ty.ensures.kept; met = c.in_ok-left_ty.ensures.met }) (record { read = c.in_ok-right_ty.ensures.read; kept = c.in_ok-right_ty.ensures.kept; met = c.in_ok-right_ty.ensures.met })
+    (walking.seen (λ z. Rattle.gib_check.specs.Faults.wanted (One WholeForm) z ≡ Rattle.std.proofs.Common.Ok (tt {0})) c.infer-2.new.state c.part.result (record { ty = c.in_ok-left_ty.left_ty; place = Rattle.gib_check.specs.Faults.place (generic_tree c.args.around.now.named.now c.args.sides.left.0) }) c.part.ensures c.in_ok-wanted_whole.ensures)
+    (walking.seen (λ z. Rattle.gib_check.specs.Answers.IsFaultOf c.in_err-wanted_whole-2.field-0.0 (Rattle.gib_check.specs.Faults.wanted (One WholeForm) z)) c.infer-2.new.state c.part-2.result (record { ty = c.in_ok-right_ty.right_ty; place = Rattle.gib_check.specs.Faults.place (generic_tree c.args.around.now.named.now c.args.sides.right.0) }) c.part-2.ensures c.in_err-wanted_whole-2.ensures))
 
 pub operation-returns-clause-read : goal.operation-returns-clause-read
 operation-returns-clause-read t c =
-    walking.op_ok c.args.named.now c.args.variables.now c.args.at.standing c.args.state.now c.one_more.new.self c.infer.new.state c.infer-2.new.state c.args.at.span c.args.operator (generic_tree c.args.named.now c.args.sides.left.0) (generic_tree c.args.named.now c.args.sides.right.0) c.in_ok-left_ty.left_ty c.in_ok-right_ty.right_ty (record { read = c.in_ok-one_more.ensures.counts; kept = c.one_more.ensures.scope; types = c.one_more.ensures.types }) (record { read = c.in_ok-left_ty.ensures.read; kept = c.in_ok-left_ty.ensures.kept; met = c.in_ok-left_ty.ensures.met }) (record { read = c.in_ok-right_ty.ensures.read; kept = c.in_ok-right_ty.ensures.kept; met = c.in_ok-right_ty.ensures.met })
-    (walking.seen (λ z. Rattle.gib_check.specs.Faults.wanted (One WholeForm) z ≡ Rattle.std.proofs.Common.Ok (tt {0})) c.infer-2.new.state c.part.result (record { ty = c.in_ok-left_ty.left_ty; place = Rattle.gib_check.specs.Faults.place (generic_tree c.args.named.now c.args.sides.left.0) }) c.part.ensures c.in_ok-wanted_whole.ensures)
-    (walking.seen (λ z. Rattle.gib_check.specs.Faults.wanted (One WholeForm) z ≡ Rattle.std.proofs.Common.Ok (tt {0})) c.infer-2.new.state c.part-2.result (record { ty = c.in_ok-right_ty.right_ty; place = Rattle.gib_check.specs.Faults.place (generic_tree c.args.named.now c.args.sides.right.0) }) c.part-2.ensures c.in_ok-wanted_whole-2.ensures)
+    walking.op_ok c.args.around.now.named.now c.args.around.now.variables.now c.args.at.standing c.args.state.now c.one_more.new.self c.infer.new.state c.infer-2.new.state c.args.at.span c.args.operator (generic_tree c.args.around.now.named.now c.args.sides.left.0) (generic_tree c.args.around.now.named.now c.args.sides.right.0) c.in_ok-left_ty.left_ty c.in_ok-right_ty.right_ty (record { read = c.in_ok-one_more.ensures.counts; kept = c.one_more.ensures.scope; types = c.one_more.ensures.types }) (record { read = c.in_ok-left_ty.ensures.read; kept = c.in_ok-left_ty.ensures.kept; met = c.in_ok-left_ty.ensures.met }) (record { read = c.in_ok-right_ty.ensures.read; kept = c.in_ok-right_ty.ensures.kept; met = c.in_ok-right_ty.ensures.met })
+    (walking.seen (λ z. Rattle.gib_check.specs.Faults.wanted (One WholeForm) z ≡ Rattle.std.proofs.Common.Ok (tt {0})) c.infer-2.new.state c.part.result (record { ty = c.in_ok-left_ty.left_ty; place = Rattle.gib_check.specs.Faults.place (generic_tree c.args.around.now.named.now c.args.sides.left.0) }) c.part.ensures c.in_ok-wanted_whole.ensures)
+    (walking.seen (λ z. Rattle.gib_check.specs.Faults.wanted (One WholeForm) z ≡ Rattle.std.proofs.Common.Ok (tt {0})) c.infer-2.new.state c.part-2.result (record { ty = c.in_ok-right_ty.right_ty; place = Rattle.gib_check.specs.Faults.place (generic_tree c.args.around.now.named.now c.args.sides.right.0) }) c.part-2.ensures c.in_ok-wanted_whole-2.ensures)
     ∙ ap (λ (f : Form). Rattle.std.proofs.Common.Ok (One f, c.infer-2.new.state.counts)) (sym (c.in_ok-id.ensures.met.form ∙ c.result_node.ensures.form (forms c.infer-2.new.state)))
     ∙ ap (λ (n : Rattle.gib_check.specs.declared.counts.Counts.Counts). Rattle.std.proofs.Common.Ok (One (form_at (forms c.put.new.self) c.in_ok-id.id.0), n)) (sym c.put.ensures.keeps.counts)
 
 pub if_else-returns-in_err-wanted_truth-clause-read : goal.if_else-returns-in_err-wanted_truth-clause-read
 if_else-returns-in_err-wanted_truth-clause-read t c =
     let p = err_from_is_err_and c.from_residual-in_err-wanted_truth.result c.from_residual-in_err-wanted_truth.ensures.1 in
-    rw (p.1, p.2) (walking.if_condition c.args.named.now c.args.variables.now c.args.at.standing c.in_err-wanted_truth.field-0.0 c.args.state.now c.one_more.new.self c.infer.new.state c.infer-2.new.state c.infer-3.new.state c.args.at.span (generic_tree c.args.named.now c.args.condition.0) (generic_tree c.args.named.now c.args.branches.left.0) (generic_tree c.args.named.now c.args.branches.right.0) c.in_ok-condition_ty.condition_ty c.in_ok-then_ty.then_ty c.in_ok-else_ty.else_ty (record { read = c.in_ok-one_more.ensures.counts; kept = c.one_more.ensures.scope; types = c.one_more.ensures.types }) (record { read = c.in_ok-condition_ty.ensures.read; kept = c.in_ok-condition_ty.ensures.kept; met = c.in_ok-condition_ty.ensures.met }) (record { read = c.in_ok-then_ty.ensures.read; kept = c.in_ok-then_ty.ensures.kept; met = c.in_ok-then_ty.ensures.met }) (record { read = c.in_ok-else_ty.ensures.read; kept = c.in_ok-else_ty.ensures.kept; met = c.in_ok-else_ty.ensures.met })
-    (walking.seen (λ z. Rattle.gib_check.specs.Answers.IsFaultOf c.in_err-wanted_truth.field-0.0 (Rattle.gib_check.specs.Faults.wanted (One TruthForm) z)) c.infer-3.new.state c.part.result (record { ty = c.in_ok-condition_ty.condition_ty; place = Rattle.gib_check.specs.Faults.place (generic_tree c.args.named.now c.args.condition.0) }) c.part.ensures c.in_err-wanted_truth.ensures))
+    rw (p.1, p.2) (walking.if_condition c.args.around.now.named.now c.args.around.now.variables.now c.args.at.standing c.in_err-wanted_truth.field-0.0 c.args.state.now c.one_more.new.self c.infer.new.state c.infer-2.new.state c.infer-3.new.state c.args.at.span (generic_tree c.args.around.now.named.now c.args.condition.0) (generic_tree c.args.around.now.named.now c.args.branches.left.0) (generic_tree c.args.around.now.named.now c.args.branches.right.0) c.in_ok-condition_ty.condition_ty c.in_ok-then_ty.then_ty c.in_ok-else_ty.else_ty (record { read = c.in_ok-one_more.ensures.counts; kept = c.one_more.ensures.scope; types = c.one_more.ensures.types }) (record { read = c.in_ok-condition_ty.ensures.read; kept = c.in_ok-condition_ty.ensures.kept; met = c.in_ok-condition_ty.ensures.met }) (record { read = c.in_ok-then_ty.ensures.read; kept = c.in_ok-then_ty.ensures.kept; met = c.in_ok-then_ty.ensures.met }) (record { read = c.in_ok-else_ty.ensures.read; kept = c.in_ok-else_ty.ensures.kept; met = c.in_ok-else_ty.ensures.met })
+    (walking.seen (λ z. Rattle.gib_check.specs.Answers.IsFaultOf c.in_err-wanted_truth.field-0.0 (Rattle.gib_check.specs.Faults.wanted (One TruthForm) z)) c.infer-3.new.state c.part.result (record { ty = c.in_ok-condition_ty.condition_ty; place = Rattle.gib_check.specs.Faults.place (generic_tree c.args.around.now.named.now c.args.condition.0) }) c.part.ensures c.in_err-wanted_truth.ensures))
 
 pub if_else-returns-in_err-wanted-clause-read : goal.if_else-returns-in_err-wanted-clause-read
 if_else-returns-in_err-wanted-clause-read t c =
     let p = err_from_is_err_and c.from_residual-in_err-wanted.result c.from_residual-in_err-wanted.ensures.1 in
-    rw (p.1, p.2) (walking.if_branches c.args.named.now c.args.variables.now c.args.at.standing c.in_err-wanted.field-0.0 c.args.state.now c.one_more.new.self c.infer.new.state c.infer-2.new.state c.infer-3.new.state c.args.at.span (generic_tree c.args.named.now c.args.condition.0) (generic_tree c.args.named.now c.args.branches.left.0) (generic_tree c.args.named.now c.args.branches.right.0) c.in_ok-condition_ty.condition_ty c.in_ok-then_ty.then_ty c.in_ok-else_ty.else_ty (record { read = c.in_ok-one_more.ensures.counts; kept = c.one_more.ensures.scope; types = c.one_more.ensures.types }) (record { read = c.in_ok-condition_ty.ensures.read; kept = c.in_ok-condition_ty.ensures.kept; met = c.in_ok-condition_ty.ensures.met }) (record { read = c.in_ok-then_ty.ensures.read; kept = c.in_ok-then_ty.ensures.kept; met = c.in_ok-then_ty.ensures.met }) (record { read = c.in_ok-else_ty.ensures.read; kept = c.in_ok-else_ty.ensures.kept; met = c.in_ok-else_ty.ensures.met })
-    (walking.seen (λ z. Rattle.gib_check.specs.Faults.wanted (One TruthForm) z ≡ Rattle.std.proofs.Common.Ok (tt {0})) c.infer-3.new.state c.part.result (record { ty = c.in_ok-condition_ty.condition_ty; place = Rattle.gib_check.specs.Faults.place (generic_tree c.args.named.now c.args.condition.0) }) c.part.ensures c.in_ok-wanted_truth.ensures)
+    rw (p.1, p.2) (walking.if_branches c.args.around.now.named.now c.args.around.now.variables.now c.args.at.standing c.in_err-wanted.field-0.0 c.args.state.now c.one_more.new.self c.infer.new.state c.infer-2.new.state c.infer-3.new.state c.args.at.span (generic_tree c.args.around.now.named.now c.args.condition.0) (generic_tree c.args.around.now.named.now c.args.branches.left.0) (generic_tree c.args.around.now.named.now c.args.branches.right.0) c.in_ok-condition_ty.condition_ty c.in_ok-then_ty.then_ty c.in_ok-else_ty.else_ty (record { read = c.in_ok-one_more.ensures.counts; kept = c.one_more.ensures.scope; types = c.one_more.ensures.types }) (record { read = c.in_ok-condition_ty.ensures.read; kept = c.in_ok-condition_ty.ensures.kept; met = c.in_ok-condition_ty.ensures.met }) (record { read = c.in_ok-then_ty.ensures.read; kept = c.in_ok-then_ty.ensures.kept; met = c.in_ok-then_ty.ensures.met }) (record { read = c.in_ok-else_ty.ensures.read; kept = c.in_ok-else_ty.ensures.kept; met = c.in_ok-else_ty.ensures.met })
+    (walking.seen (λ z. Rattle.gib_check.specs.Faults.wanted (One TruthForm) z ≡ Rattle.std.proofs.Common.Ok (tt {0})) c.infer-3.new.state c.part.result (record { ty = c.in_ok-condition_ty.condition_ty; place = Rattle.gib_check.specs.Faults.place (generic_tree c.args.around.now.named.now c.args.condition.0) }) c.part.ensures c.in_ok-wanted_truth.ensures)
     (subst (λ z. Rattle.gib_check.specs.Answers.IsFaultOf c.in_err-wanted.field-0.0 (Rattle.gib_check.specs.Faults.wanted (forms_given c.infer-3.new.state c.in_ok-then_ty.then_ty) (part_in c.infer-3.new.state z))) c.part-2.ensures c.in_err-wanted.ensures))
 
 pub if_else-returns-clause-read : goal.if_else-returns-clause-read
 if_else-returns-clause-read t c =
-    walking.if_ok c.args.named.now c.args.variables.now c.args.at.standing c.args.state.now c.one_more.new.self c.infer.new.state c.infer-2.new.state c.infer-3.new.state c.args.at.span (generic_tree c.args.named.now c.args.condition.0) (generic_tree c.args.named.now c.args.branches.left.0) (generic_tree c.args.named.now c.args.branches.right.0) c.in_ok-condition_ty.condition_ty c.in_ok-then_ty.then_ty c.in_ok-else_ty.else_ty (record { read = c.in_ok-one_more.ensures.counts; kept = c.one_more.ensures.scope; types = c.one_more.ensures.types }) (record { read = c.in_ok-condition_ty.ensures.read; kept = c.in_ok-condition_ty.ensures.kept; met = c.in_ok-condition_ty.ensures.met }) (record { read = c.in_ok-then_ty.ensures.read; kept = c.in_ok-then_ty.ensures.kept; met = c.in_ok-then_ty.ensures.met }) (record { read = c.in_ok-else_ty.ensures.read; kept = c.in_ok-else_ty.ensures.kept; met = c.in_ok-else_ty.ensures.met })
-    (walking.seen (λ z. Rattle.gib_check.specs.Faults.wanted (One TruthForm) z ≡ Rattle.std.proofs.Common.Ok (tt {0})) c.infer-3.new.state c.part.result (record { ty = c.in_ok-condition_ty.condition_ty; place = Rattle.gib_check.specs.Faults.place (generic_tree c.args.named.now c.args.condition.0) }) c.part.ensures c.in_ok-wanted_truth.ensures)
+    walking.if_ok c.args.around.now.named.now c.args.around.now.variables.now c.args.at.standing c.args.state.now c.one_more.new.self c.infer.new.state c.infer-2.new.state c.infer-3.new.state c.args.at.span (generic_tree c.args.around.now.named.now c.args.condition.0) (generic_tree c.args.around.now.named.now c.args.branches.left.0) (generic_tree c.args.around.now.named.now c.args.branches.right.0) c.in_ok-condition_ty.condition_ty c.in_ok-then_ty.then_ty c.in_ok-else_ty.else_ty (record { read = c.in_ok-one_more.ensures.counts; kept = c.one_more.ensures.scope; types = c.one_more.ensures.types }) (record { read = c.in_ok-condition_ty.ensures.read; kept = c.in_ok-condition_ty.ensures.kept; met = c.in_ok-condition_ty.ensures.met }) (record { read = c.in_ok-then_ty.ensures.read; kept = c.in_ok-then_ty.ensures.kept; met = c.in_ok-then_ty.ensures.met }) (record { read = c.in_ok-else_ty.ensures.read; kept = c.in_ok-else_ty.ensures.kept; met = c.in_ok-else_ty.ensures.met })
+    (walking.seen (λ z. Rattle.gib_check.specs.Faults.wanted (One TruthForm) z ≡ Rattle.std.proofs.Common.Ok (tt {0})) c.infer-3.new.state c.part.result (record { ty = c.in_ok-condition_ty.condition_ty; place = Rattle.gib_check.specs.Faults.place (generic_tree c.args.around.now.named.now c.args.condition.0) }) c.part.ensures c.in_ok-wanted_truth.ensures)
     (subst (λ z. Rattle.gib_check.specs.Faults.wanted (forms_given c.infer-3.new.state c.in_ok-then_ty.then_ty) (part_in c.infer-3.new.state z) ≡ Rattle.std.proofs.Common.Ok (tt {0})) c.part-2.ensures c.in_ok-wanted.ensures)
 
 pub let_in-returns-in_err-ty-clause-read : goal.let_in-returns-in_err-ty-clause-read
 let_in-returns-in_err-ty-clause-read t c =
     let p = err_from_is_err_and c.from_residual-in_err-ty.result c.from_residual-in_err-ty.ensures.1 in
-    rw (p.1, p.2) (walking.let_single c.args.named.now c.args.variables.now c.args.at.standing c.in_err-ty.field-0.0 c.args.state.now c.one_more.new.self c.infer.new.state c.args.at.span c.args.bound.name (generic_tree c.args.named.now c.args.bound.value.0) (generic_tree c.args.named.now c.args.body.0) c.in_ok-value.value (record { read = c.in_ok-one_more.ensures.counts; kept = c.one_more.ensures.scope; types = c.one_more.ensures.types }) (record { read = c.in_ok-value.ensures.read; kept = c.in_ok-value.ensures.kept; met = c.in_ok-value.ensures.met }) (c.in_err-ty.ensures.form c.infer.new.state))
+    rw (p.1, p.2) (walking.let_single c.args.around.now.named.now c.args.around.now.variables.now c.args.at.standing c.in_err-ty.field-0.0 c.args.state.now c.one_more.new.self c.infer.new.state c.args.at.span c.args.bound.name (generic_tree c.args.around.now.named.now c.args.bound.value.0) (generic_tree c.args.around.now.named.now c.args.body.0) c.in_ok-value.value (record { read = c.in_ok-one_more.ensures.counts; kept = c.one_more.ensures.scope; types = c.one_more.ensures.types }) (record { read = c.in_ok-value.ensures.read; kept = c.in_ok-value.ensures.kept; met = c.in_ok-value.ensures.met }) (c.in_err-ty.ensures.form c.infer.new.state))
 
 pub let_in-returns-in_err-bind-clause-read : goal.let_in-returns-in_err-bind-clause-read
 let_in-returns-in_err-bind-clause-read t c =
     let p = err_from_is_err_and c.from_residual-in_err-bind.result c.from_residual-in_err-bind.ensures.1 in
-    rw (p.1, p.2) (walking.let_bind c.args.named.now c.args.variables.now c.args.at.standing c.in_err-bind.field-0.0 c.args.state.now c.one_more.new.self c.infer.new.state c.args.at.span c.args.bound.name (generic_tree c.args.named.now c.args.bound.value.0) (generic_tree c.args.named.now c.args.body.0) c.in_ok-value.value c.in_ok-ty.ty (record { read = c.in_ok-one_more.ensures.counts; kept = c.one_more.ensures.scope; types = c.one_more.ensures.types }) (record { read = c.in_ok-value.ensures.read; kept = c.in_ok-value.ensures.kept; met = c.in_ok-value.ensures.met }) (c.in_ok-ty.ensures.form c.infer.new.state) c.in_err-bind.ensures.counts)
+    rw (p.1, p.2) (walking.let_bind c.args.around.now.named.now c.args.around.now.variables.now c.args.at.standing c.in_err-bind.field-0.0 c.args.state.now c.one_more.new.self c.infer.new.state c.args.at.span c.args.bound.name (generic_tree c.args.around.now.named.now c.args.bound.value.0) (generic_tree c.args.around.now.named.now c.args.body.0) c.in_ok-value.value c.in_ok-ty.ty (record { read = c.in_ok-one_more.ensures.counts; kept = c.one_more.ensures.scope; types = c.one_more.ensures.types }) (record { read = c.in_ok-value.ensures.read; kept = c.in_ok-value.ensures.kept; met = c.in_ok-value.ensures.met }) (c.in_ok-ty.ensures.form c.infer.new.state) c.in_err-bind.ensures.counts)
 
 pub let_in-returns-in_err-given-clause-read : goal.let_in-returns-in_err-given-clause-read
 let_in-returns-in_err-given-clause-read t c =
     let p = err_from_is_err_and c.from_residual-in_err-given.result c.from_residual-in_err-given.ensures.1 in
-    rw (p.1, p.2) (walking.let_body c.args.named.now c.args.variables.now c.args.at.standing c.in_err-given.field-0.0 c.args.state.now c.one_more.new.self c.infer.new.state c.bind.new.self c.args.at.span c.args.bound.name (generic_tree c.args.named.now c.args.bound.value.0) (generic_tree c.args.named.now c.args.body.0) c.in_ok-value.value c.in_ok-ty.ty (record { read = c.in_ok-one_more.ensures.counts; kept = c.one_more.ensures.scope; types = c.one_more.ensures.types }) (record { read = c.in_ok-value.ensures.read; kept = c.in_ok-value.ensures.kept; met = c.in_ok-value.ensures.met }) (c.in_ok-ty.ensures.form c.infer.new.state) (record { read = c.in_ok-bind.ensures.counts; scope = c.in_ok-bind.ensures.scope; types = c.bind.ensures.types }) c.in_err-given.ensures.read)
+    rw (p.1, p.2) (walking.let_body c.args.around.now.named.now c.args.around.now.variables.now c.args.at.standing c.in_err-given.field-0.0 c.args.state.now c.one_more.new.self c.infer.new.state c.bind.new.self c.args.at.span c.args.bound.name (generic_tree c.args.around.now.named.now c.args.bound.value.0) (generic_tree c.args.around.now.named.now c.args.body.0) c.in_ok-value.value c.in_ok-ty.ty (record { read = c.in_ok-one_more.ensures.counts; kept = c.one_more.ensures.scope; types = c.one_more.ensures.types }) (record { read = c.in_ok-value.ensures.read; kept = c.in_ok-value.ensures.kept; met = c.in_ok-value.ensures.met }) (c.in_ok-ty.ensures.form c.infer.new.state) (record { read = c.in_ok-bind.ensures.counts; scope = c.in_ok-bind.ensures.scope; types = c.bind.ensures.types }) c.in_err-given.ensures.read)
 
 pub let_in-returns-clause-read : goal.let_in-returns-clause-read
 let_in-returns-clause-read t c =
-    walking.let_is c.args.named.now c.args.variables.now c.args.at.standing c.args.state.now c.one_more.new.self c.infer.new.state c.bind.new.self c.args.at.span c.args.bound.name (generic_tree c.args.named.now c.args.bound.value.0) (generic_tree c.args.named.now c.args.body.0) c.in_ok-value.value c.in_ok-ty.ty (record { read = c.in_ok-one_more.ensures.counts; kept = c.one_more.ensures.scope; types = c.one_more.ensures.types }) (record { read = c.in_ok-value.ensures.read; kept = c.in_ok-value.ensures.kept; met = c.in_ok-value.ensures.met }) (c.in_ok-ty.ensures.form c.infer.new.state) (record { read = c.in_ok-bind.ensures.counts; scope = c.in_ok-bind.ensures.scope; types = c.bind.ensures.types })
+    walking.let_is c.args.around.now.named.now c.args.around.now.variables.now c.args.at.standing c.args.state.now c.one_more.new.self c.infer.new.state c.bind.new.self c.args.at.span c.args.bound.name (generic_tree c.args.around.now.named.now c.args.bound.value.0) (generic_tree c.args.around.now.named.now c.args.body.0) c.in_ok-value.value c.in_ok-ty.ty (record { read = c.in_ok-one_more.ensures.counts; kept = c.one_more.ensures.scope; types = c.one_more.ensures.types }) (record { read = c.in_ok-value.ensures.read; kept = c.in_ok-value.ensures.kept; met = c.in_ok-value.ensures.met }) (c.in_ok-ty.ensures.form c.infer.new.state) (record { read = c.in_ok-bind.ensures.counts; scope = c.in_ok-bind.ensures.scope; types = c.bind.ensures.types })
     ∙ c.in_ok-given.ensures.read
     ∙ answering.same_answer c.infer-2.new.state c.truncate.new.self c.in_ok-given.given (same_advance c.infer-2.new.state c.truncate.new.self c.truncate.ensures.types c.truncate.ensures.parts) c.in_ok-given.ensures.met.here c.truncate.ensures.counts
 
 pub let_in-returns-clause-kept : goal.let_in-returns-clause-kept
 let_in-returns-clause-kept t c =
-    walking.one_dropped c.args.named.now c.args.variables.now (in_scope c.infer.new.state) (in_scope c.infer-2.new.state) (in_scope c.truncate.new.self) _ c.len-len.result (c.in_ok-given.ensures.kept ∙ c.in_ok-bind.ensures.scope) c.len-len.ensures c.in_ok-truncate.ensures.scope
+    walking.one_dropped c.args.around.now.named.now c.args.around.now.variables.now (in_scope c.infer.new.state) (in_scope c.infer-2.new.state) (in_scope c.truncate.new.self) _ c.len-len.result (c.in_ok-given.ensures.kept ∙ c.in_ok-bind.ensures.scope) c.len-len.ensures c.in_ok-truncate.ensures.scope
     ∙ c.in_ok-value.ensures.kept ∙ c.one_more.ensures.scope
 
 pub operation-wanted_whole-requires : goal.operation-wanted_whole-requires
@@ -206,37 +217,37 @@ let_in-returns-clause-met t c =
 pub let_par-returns-in_err-left_ty-clause-read : goal.let_par-returns-in_err-left_ty-clause-read
 let_par-returns-in_err-left_ty-clause-read t c =
     let p = err_from_is_err_and c.from_residual-in_err-left_ty.result c.from_residual-in_err-left_ty.ensures.1 in
-    rw (p.1, p.2) (walking.par_left_single c.args.named.now c.args.variables.now c.args.at.standing c.args.at.span c.args.sides.left.name (generic_tree c.args.named.now c.args.sides.left.value.0) c.args.sides.right.name (generic_tree c.args.named.now c.args.sides.right.value.0) (generic_tree c.args.named.now c.args.body.0) c.in_err-left_ty.field-0.0 c.args.state.now c.one_more.new.self c.infer.new.state c.infer-2.new.state c.in_ok-left.left c.in_ok-right.right (record { read = c.in_ok-one_more.ensures.counts; kept = c.one_more.ensures.scope; types = c.one_more.ensures.types }) (record { read = c.in_ok-left.ensures.read; kept = c.in_ok-left.ensures.kept; met = c.in_ok-left.ensures.met }) (record { read = c.in_ok-right.ensures.read; kept = c.in_ok-right.ensures.kept; met = c.in_ok-right.ensures.met }) (c.in_err-left_ty.ensures.form c.infer-2.new.state))
+    rw (p.1, p.2) (walking.par_left_single c.args.around.now.named.now c.args.around.now.variables.now c.args.at.standing c.args.at.span c.args.sides.left.name (generic_tree c.args.around.now.named.now c.args.sides.left.value.0) c.args.sides.right.name (generic_tree c.args.around.now.named.now c.args.sides.right.value.0) (generic_tree c.args.around.now.named.now c.args.body.0) c.in_err-left_ty.field-0.0 c.args.state.now c.one_more.new.self c.infer.new.state c.infer-2.new.state c.in_ok-left.left c.in_ok-right.right (record { read = c.in_ok-one_more.ensures.counts; kept = c.one_more.ensures.scope; types = c.one_more.ensures.types }) (record { read = c.in_ok-left.ensures.read; kept = c.in_ok-left.ensures.kept; met = c.in_ok-left.ensures.met }) (record { read = c.in_ok-right.ensures.read; kept = c.in_ok-right.ensures.kept; met = c.in_ok-right.ensures.met }) (c.in_err-left_ty.ensures.form c.infer-2.new.state))
 
 pub let_par-returns-in_err-right_ty-clause-read : goal.let_par-returns-in_err-right_ty-clause-read
 let_par-returns-in_err-right_ty-clause-read t c =
     let p = err_from_is_err_and c.from_residual-in_err-right_ty.result c.from_residual-in_err-right_ty.ensures.1 in
-    rw (p.1, p.2) (walking.par_right_single c.args.named.now c.args.variables.now c.args.at.standing c.args.at.span c.args.sides.left.name (generic_tree c.args.named.now c.args.sides.left.value.0) c.args.sides.right.name (generic_tree c.args.named.now c.args.sides.right.value.0) (generic_tree c.args.named.now c.args.body.0) c.in_err-right_ty.field-0.0 c.args.state.now c.one_more.new.self c.infer.new.state c.infer-2.new.state c.in_ok-left.left c.in_ok-right.right c.in_ok-left_ty.left_ty (record { read = c.in_ok-one_more.ensures.counts; kept = c.one_more.ensures.scope; types = c.one_more.ensures.types }) (record { read = c.in_ok-left.ensures.read; kept = c.in_ok-left.ensures.kept; met = c.in_ok-left.ensures.met }) (record { read = c.in_ok-right.ensures.read; kept = c.in_ok-right.ensures.kept; met = c.in_ok-right.ensures.met }) (c.in_ok-left_ty.ensures.form c.infer-2.new.state) (c.in_err-right_ty.ensures.form c.infer-2.new.state))
+    rw (p.1, p.2) (walking.par_right_single c.args.around.now.named.now c.args.around.now.variables.now c.args.at.standing c.args.at.span c.args.sides.left.name (generic_tree c.args.around.now.named.now c.args.sides.left.value.0) c.args.sides.right.name (generic_tree c.args.around.now.named.now c.args.sides.right.value.0) (generic_tree c.args.around.now.named.now c.args.body.0) c.in_err-right_ty.field-0.0 c.args.state.now c.one_more.new.self c.infer.new.state c.infer-2.new.state c.in_ok-left.left c.in_ok-right.right c.in_ok-left_ty.left_ty (record { read = c.in_ok-one_more.ensures.counts; kept = c.one_more.ensures.scope; types = c.one_more.ensures.types }) (record { read = c.in_ok-left.ensures.read; kept = c.in_ok-left.ensures.kept; met = c.in_ok-left.ensures.met }) (record { read = c.in_ok-right.ensures.read; kept = c.in_ok-right.ensures.kept; met = c.in_ok-right.ensures.met }) (c.in_ok-left_ty.ensures.form c.infer-2.new.state) (c.in_err-right_ty.ensures.form c.infer-2.new.state))
 
 pub let_par-returns-in_err-bind-clause-read : goal.let_par-returns-in_err-bind-clause-read
 let_par-returns-in_err-bind-clause-read t c =
     let p = err_from_is_err_and c.from_residual-in_err-bind.result c.from_residual-in_err-bind.ensures.1 in
-    rw (p.1, p.2) (walking.par_left c.args.named.now c.args.variables.now c.args.at.standing c.args.at.span c.args.sides.left.name (generic_tree c.args.named.now c.args.sides.left.value.0) c.args.sides.right.name (generic_tree c.args.named.now c.args.sides.right.value.0) (generic_tree c.args.named.now c.args.body.0) c.in_err-bind.field-0.0 c.args.state.now c.one_more.new.self c.infer.new.state c.infer-2.new.state c.in_ok-left.left c.in_ok-right.right c.in_ok-left_ty.left_ty c.in_ok-right_ty.right_ty (record { read = c.in_ok-one_more.ensures.counts; kept = c.one_more.ensures.scope; types = c.one_more.ensures.types }) (record { read = c.in_ok-left.ensures.read; kept = c.in_ok-left.ensures.kept; met = c.in_ok-left.ensures.met }) (record { read = c.in_ok-right.ensures.read; kept = c.in_ok-right.ensures.kept; met = c.in_ok-right.ensures.met }) (record { left = (c.in_ok-left_ty.ensures.form c.infer-2.new.state); right = (c.in_ok-right_ty.ensures.form c.infer-2.new.state) }) c.in_err-bind.ensures.counts)
+    rw (p.1, p.2) (walking.par_left c.args.around.now.named.now c.args.around.now.variables.now c.args.at.standing c.args.at.span c.args.sides.left.name (generic_tree c.args.around.now.named.now c.args.sides.left.value.0) c.args.sides.right.name (generic_tree c.args.around.now.named.now c.args.sides.right.value.0) (generic_tree c.args.around.now.named.now c.args.body.0) c.in_err-bind.field-0.0 c.args.state.now c.one_more.new.self c.infer.new.state c.infer-2.new.state c.in_ok-left.left c.in_ok-right.right c.in_ok-left_ty.left_ty c.in_ok-right_ty.right_ty (record { read = c.in_ok-one_more.ensures.counts; kept = c.one_more.ensures.scope; types = c.one_more.ensures.types }) (record { read = c.in_ok-left.ensures.read; kept = c.in_ok-left.ensures.kept; met = c.in_ok-left.ensures.met }) (record { read = c.in_ok-right.ensures.read; kept = c.in_ok-right.ensures.kept; met = c.in_ok-right.ensures.met }) (record { left = (c.in_ok-left_ty.ensures.form c.infer-2.new.state); right = (c.in_ok-right_ty.ensures.form c.infer-2.new.state) }) c.in_err-bind.ensures.counts)
 
 pub let_par-returns-in_err-bind-2-clause-read : goal.let_par-returns-in_err-bind-2-clause-read
 let_par-returns-in_err-bind-2-clause-read t c =
     let p = err_from_is_err_and c.from_residual-in_err-bind-2.result c.from_residual-in_err-bind-2.ensures.1 in
-    rw (p.1, p.2) (walking.par_right c.args.named.now c.args.variables.now c.args.at.standing c.args.at.span c.args.sides.left.name (generic_tree c.args.named.now c.args.sides.left.value.0) c.args.sides.right.name (generic_tree c.args.named.now c.args.sides.right.value.0) (generic_tree c.args.named.now c.args.body.0) c.in_err-bind-2.field-0.0 c.args.state.now c.one_more.new.self c.infer.new.state c.infer-2.new.state c.bind.new.self c.in_ok-left.left c.in_ok-right.right c.in_ok-left_ty.left_ty c.in_ok-right_ty.right_ty (record { read = c.in_ok-one_more.ensures.counts; kept = c.one_more.ensures.scope; types = c.one_more.ensures.types }) (record { read = c.in_ok-left.ensures.read; kept = c.in_ok-left.ensures.kept; met = c.in_ok-left.ensures.met }) (record { read = c.in_ok-right.ensures.read; kept = c.in_ok-right.ensures.kept; met = c.in_ok-right.ensures.met }) (record { left = (c.in_ok-left_ty.ensures.form c.infer-2.new.state); right = (c.in_ok-right_ty.ensures.form c.infer-2.new.state) }) (record { read = c.in_ok-bind.ensures.counts; scope = c.in_ok-bind.ensures.scope; types = c.bind.ensures.types }) c.in_err-bind-2.ensures.counts)
+    rw (p.1, p.2) (walking.par_right c.args.around.now.named.now c.args.around.now.variables.now c.args.at.standing c.args.at.span c.args.sides.left.name (generic_tree c.args.around.now.named.now c.args.sides.left.value.0) c.args.sides.right.name (generic_tree c.args.around.now.named.now c.args.sides.right.value.0) (generic_tree c.args.around.now.named.now c.args.body.0) c.in_err-bind-2.field-0.0 c.args.state.now c.one_more.new.self c.infer.new.state c.infer-2.new.state c.bind.new.self c.in_ok-left.left c.in_ok-right.right c.in_ok-left_ty.left_ty c.in_ok-right_ty.right_ty (record { read = c.in_ok-one_more.ensures.counts; kept = c.one_more.ensures.scope; types = c.one_more.ensures.types }) (record { read = c.in_ok-left.ensures.read; kept = c.in_ok-left.ensures.kept; met = c.in_ok-left.ensures.met }) (record { read = c.in_ok-right.ensures.read; kept = c.in_ok-right.ensures.kept; met = c.in_ok-right.ensures.met }) (record { left = (c.in_ok-left_ty.ensures.form c.infer-2.new.state); right = (c.in_ok-right_ty.ensures.form c.infer-2.new.state) }) (record { read = c.in_ok-bind.ensures.counts; scope = c.in_ok-bind.ensures.scope; types = c.bind.ensures.types }) c.in_err-bind-2.ensures.counts)
 
 pub let_par-returns-in_err-given-clause-read : goal.let_par-returns-in_err-given-clause-read
 let_par-returns-in_err-given-clause-read t c =
     let p = err_from_is_err_and c.from_residual-in_err-given.result c.from_residual-in_err-given.ensures.1 in
-    rw (p.1, p.2) (along c.in_err-given.field-0.0 _ _ (walking.par_is c.args.named.now c.args.variables.now c.args.at.standing c.args.at.span c.args.sides.left.name (generic_tree c.args.named.now c.args.sides.left.value.0) c.args.sides.right.name (generic_tree c.args.named.now c.args.sides.right.value.0) (generic_tree c.args.named.now c.args.body.0) c.args.state.now c.one_more.new.self c.infer.new.state c.infer-2.new.state c.bind.new.self c.bind-2.new.self c.in_ok-left.left c.in_ok-right.right c.in_ok-left_ty.left_ty c.in_ok-right_ty.right_ty (record { read = c.in_ok-one_more.ensures.counts; kept = c.one_more.ensures.scope; types = c.one_more.ensures.types }) (record { read = c.in_ok-left.ensures.read; kept = c.in_ok-left.ensures.kept; met = c.in_ok-left.ensures.met }) (record { read = c.in_ok-right.ensures.read; kept = c.in_ok-right.ensures.kept; met = c.in_ok-right.ensures.met }) (record { left = (c.in_ok-left_ty.ensures.form c.infer-2.new.state); right = (c.in_ok-right_ty.ensures.form c.infer-2.new.state) }) (record { read = c.in_ok-bind.ensures.counts; scope = c.in_ok-bind.ensures.scope; types = c.bind.ensures.types }) (record { read = c.in_ok-bind-2.ensures.counts; scope = c.in_ok-bind-2.ensures.scope; types = c.bind-2.ensures.types })) c.in_err-given.ensures.read)
+    rw (p.1, p.2) (along c.in_err-given.field-0.0 _ _ (walking.par_is c.args.around.now.named.now c.args.around.now.variables.now c.args.at.standing c.args.at.span c.args.sides.left.name (generic_tree c.args.around.now.named.now c.args.sides.left.value.0) c.args.sides.right.name (generic_tree c.args.around.now.named.now c.args.sides.right.value.0) (generic_tree c.args.around.now.named.now c.args.body.0) c.args.state.now c.one_more.new.self c.infer.new.state c.infer-2.new.state c.bind.new.self c.bind-2.new.self c.in_ok-left.left c.in_ok-right.right c.in_ok-left_ty.left_ty c.in_ok-right_ty.right_ty (record { read = c.in_ok-one_more.ensures.counts; kept = c.one_more.ensures.scope; types = c.one_more.ensures.types }) (record { read = c.in_ok-left.ensures.read; kept = c.in_ok-left.ensures.kept; met = c.in_ok-left.ensures.met }) (record { read = c.in_ok-right.ensures.read; kept = c.in_ok-right.ensures.kept; met = c.in_ok-right.ensures.met }) (record { left = (c.in_ok-left_ty.ensures.form c.infer-2.new.state); right = (c.in_ok-right_ty.ensures.form c.infer-2.new.state) }) (record { read = c.in_ok-bind.ensures.counts; scope = c.in_ok-bind.ensures.scope; types = c.bind.ensures.types }) (record { read = c.in_ok-bind-2.ensures.counts; scope = c.in_ok-bind-2.ensures.scope; types = c.bind-2.ensures.types })) c.in_err-given.ensures.read)
 
 pub let_par-returns-clause-read : goal.let_par-returns-clause-read
 let_par-returns-clause-read t c =
-    walking.par_is c.args.named.now c.args.variables.now c.args.at.standing c.args.at.span c.args.sides.left.name (generic_tree c.args.named.now c.args.sides.left.value.0) c.args.sides.right.name (generic_tree c.args.named.now c.args.sides.right.value.0) (generic_tree c.args.named.now c.args.body.0) c.args.state.now c.one_more.new.self c.infer.new.state c.infer-2.new.state c.bind.new.self c.bind-2.new.self c.in_ok-left.left c.in_ok-right.right c.in_ok-left_ty.left_ty c.in_ok-right_ty.right_ty (record { read = c.in_ok-one_more.ensures.counts; kept = c.one_more.ensures.scope; types = c.one_more.ensures.types }) (record { read = c.in_ok-left.ensures.read; kept = c.in_ok-left.ensures.kept; met = c.in_ok-left.ensures.met }) (record { read = c.in_ok-right.ensures.read; kept = c.in_ok-right.ensures.kept; met = c.in_ok-right.ensures.met }) (record { left = (c.in_ok-left_ty.ensures.form c.infer-2.new.state); right = (c.in_ok-right_ty.ensures.form c.infer-2.new.state) }) (record { read = c.in_ok-bind.ensures.counts; scope = c.in_ok-bind.ensures.scope; types = c.bind.ensures.types }) (record { read = c.in_ok-bind-2.ensures.counts; scope = c.in_ok-bind-2.ensures.scope; types = c.bind-2.ensures.types })
+    walking.par_is c.args.around.now.named.now c.args.around.now.variables.now c.args.at.standing c.args.at.span c.args.sides.left.name (generic_tree c.args.around.now.named.now c.args.sides.left.value.0) c.args.sides.right.name (generic_tree c.args.around.now.named.now c.args.sides.right.value.0) (generic_tree c.args.around.now.named.now c.args.body.0) c.args.state.now c.one_more.new.self c.infer.new.state c.infer-2.new.state c.bind.new.self c.bind-2.new.self c.in_ok-left.left c.in_ok-right.right c.in_ok-left_ty.left_ty c.in_ok-right_ty.right_ty (record { read = c.in_ok-one_more.ensures.counts; kept = c.one_more.ensures.scope; types = c.one_more.ensures.types }) (record { read = c.in_ok-left.ensures.read; kept = c.in_ok-left.ensures.kept; met = c.in_ok-left.ensures.met }) (record { read = c.in_ok-right.ensures.read; kept = c.in_ok-right.ensures.kept; met = c.in_ok-right.ensures.met }) (record { left = (c.in_ok-left_ty.ensures.form c.infer-2.new.state); right = (c.in_ok-right_ty.ensures.form c.infer-2.new.state) }) (record { read = c.in_ok-bind.ensures.counts; scope = c.in_ok-bind.ensures.scope; types = c.bind.ensures.types }) (record { read = c.in_ok-bind-2.ensures.counts; scope = c.in_ok-bind-2.ensures.scope; types = c.bind-2.ensures.types })
     ∙ c.in_ok-given.ensures.read
     ∙ answering.same_answer c.infer-3.new.state c.truncate.new.self c.in_ok-given.given (same_advance c.infer-3.new.state c.truncate.new.self c.truncate.ensures.types c.truncate.ensures.parts) c.in_ok-given.ensures.met.here c.truncate.ensures.counts
 
 pub let_par-returns-clause-kept : goal.let_par-returns-clause-kept
 let_par-returns-clause-kept t c =
-    walking.two_dropped c.args.named.now c.args.variables.now (in_scope c.infer-2.new.state) (in_scope c.infer-3.new.state) (in_scope c.truncate.new.self) _ _ c.len-len.result
+    walking.two_dropped c.args.around.now.named.now c.args.around.now.variables.now (in_scope c.infer-2.new.state) (in_scope c.infer-3.new.state) (in_scope c.truncate.new.self) _ _ c.len-len.result
     (c.in_ok-given.ensures.kept ∙ c.in_ok-bind-2.ensures.scope ∙ ap (Rattle.gib_syntax.specs.GenericTyping.form_bound c.args.sides.right.name _) c.in_ok-bind.ensures.scope) c.len-len.ensures c.in_ok-truncate.ensures.scope
     ∙ c.in_ok-right.ensures.kept ∙ c.in_ok-left.ensures.kept ∙ c.one_more.ensures.scope
 
@@ -255,26 +266,26 @@ let_par-bind-requires-2 t c =
 pub let_several-returns-in_err-value-clause-read : goal.let_several-returns-in_err-value-clause-read
 let_several-returns-in_err-value-clause-read t c =
     let p = err_from_is_err_and c.from_residual-in_err-value.result c.from_residual-in_err-value.ensures.1 in
-    rw (p.1, p.2) (walking.several_fails c.args.named.now c.args.variables.now c.args.at.standing c.args.at.span c.args.names.now (generic_tree c.args.named.now c.args.sides.left.0) (generic_tree c.args.named.now c.args.sides.right.0) c.in_err-value.field-0.0 c.args.state.now c.one_more.new.self (record { read = c.in_ok-one_more.ensures.counts; kept = c.one_more.ensures.scope; types = c.one_more.ensures.types }) (subst (λ st. Rattle.gib_check.specs.Answers.IsFaultOf c.in_err-value.field-0.0 (infer (generic_globals c.args.named.now) (variable_numbers c.args.variables.now) opaque st (in_scope c.one_more.new.self) c.one_more.new.self.counts (generic_tree c.args.named.now c.args.sides.left.0))) c.standing_for.ensures c.in_err-value.ensures.read))
+    rw (p.1, p.2) (walking.several_fails c.args.around.now.named.now c.args.around.now.variables.now c.args.at.standing c.args.at.span c.args.names.now (generic_tree c.args.around.now.named.now c.args.sides.left.0) (generic_tree c.args.around.now.named.now c.args.sides.right.0) c.in_err-value.field-0.0 c.args.state.now c.one_more.new.self (record { read = c.in_ok-one_more.ensures.counts; kept = c.one_more.ensures.scope; types = c.one_more.ensures.types }) (subst (λ st. Rattle.gib_check.specs.Answers.IsFaultOf c.in_err-value.field-0.0 (infer (generic_globals c.args.around.now.named.now) (variable_numbers c.args.around.now.variables.now) opaque st (in_scope c.one_more.new.self) c.one_more.new.self.counts (generic_tree c.args.around.now.named.now c.args.sides.left.0))) c.standing_for.ensures c.in_err-value.ensures.read))
 
 pub let_several-returns-in_err-types-clause-read : goal.let_several-returns-in_err-types-clause-read
 let_several-returns-in_err-types-clause-read t c =
     let p = err_from_is_err_and c.from_residual-in_err-types.result c.from_residual-in_err-types.ensures.1 in
-    rw (p.1, p.2) (walking.several_types c.args.named.now c.args.variables.now c.args.at.standing c.args.at.span c.args.names.now (generic_tree c.args.named.now c.args.sides.left.0) (generic_tree c.args.named.now c.args.sides.right.0) c.in_err-types.field-0.0 c.args.state.now c.one_more.new.self c.infer.new.state c.in_ok-value.value (record { read = c.in_ok-one_more.ensures.counts; kept = c.one_more.ensures.scope; types = c.one_more.ensures.types }) (record { read = (subst (λ st. infer (generic_globals c.args.named.now) (variable_numbers c.args.variables.now) opaque st (in_scope c.one_more.new.self) c.one_more.new.self.counts (generic_tree c.args.named.now c.args.sides.left.0) ≡ Rattle.std.proofs.Common.Ok (forms_given c.infer.new.state c.in_ok-value.value, c.infer.new.state.counts)) c.standing_for.ensures c.in_ok-value.ensures.read); kept = c.in_ok-value.ensures.kept; met = c.in_ok-value.ensures.met }) (walking.seen (λ z. Rattle.gib_check.specs.Answers.IsFaultOf c.in_err-types.field-0.0 (Rattle.gib_check.specs.Faults.types_bound c.args.names.now z)) c.infer.new.state c.part.result (record { ty = c.in_ok-value.value; place = Rattle.gib_check.specs.Faults.place (generic_tree c.args.named.now c.args.sides.left.0) }) c.part.ensures c.in_err-types.ensures.types))
+    rw (p.1, p.2) (walking.several_types c.args.around.now.named.now c.args.around.now.variables.now c.args.at.standing c.args.at.span c.args.names.now (generic_tree c.args.around.now.named.now c.args.sides.left.0) (generic_tree c.args.around.now.named.now c.args.sides.right.0) c.in_err-types.field-0.0 c.args.state.now c.one_more.new.self c.infer.new.state c.in_ok-value.value (record { read = c.in_ok-one_more.ensures.counts; kept = c.one_more.ensures.scope; types = c.one_more.ensures.types }) (record { read = (subst (λ st. infer (generic_globals c.args.around.now.named.now) (variable_numbers c.args.around.now.variables.now) opaque st (in_scope c.one_more.new.self) c.one_more.new.self.counts (generic_tree c.args.around.now.named.now c.args.sides.left.0) ≡ Rattle.std.proofs.Common.Ok (forms_given c.infer.new.state c.in_ok-value.value, c.infer.new.state.counts)) c.standing_for.ensures c.in_ok-value.ensures.read); kept = c.in_ok-value.ensures.kept; met = c.in_ok-value.ensures.met }) (walking.seen (λ z. Rattle.gib_check.specs.Answers.IsFaultOf c.in_err-types.field-0.0 (Rattle.gib_check.specs.Faults.types_bound c.args.names.now z)) c.infer.new.state c.part.result (record { ty = c.in_ok-value.value; place = Rattle.gib_check.specs.Faults.place (generic_tree c.args.around.now.named.now c.args.sides.left.0) }) c.part.ensures c.in_err-types.ensures.types))
 
 pub let_several-returns-in_err-bind_parts-clause-read : goal.let_several-returns-in_err-bind_parts-clause-read
 let_several-returns-in_err-bind_parts-clause-read t c =
     let p = err_from_is_err_and c.from_residual-in_err-bind_parts.result c.from_residual-in_err-bind_parts.ensures.1 in
-    rw (p.1, p.2) (walking.several_bind c.args.named.now c.args.variables.now c.args.at.standing c.args.at.span c.args.names.now (generic_tree c.args.named.now c.args.sides.left.0) (generic_tree c.args.named.now c.args.sides.right.0) c.in_err-bind_parts.field-0.0 c.args.state.now c.one_more.new.self c.infer.new.state c.in_ok-value.value c.in_ok-types.types.items (record { read = c.in_ok-one_more.ensures.counts; kept = c.one_more.ensures.scope; types = c.one_more.ensures.types }) (record { read = (subst (λ st. infer (generic_globals c.args.named.now) (variable_numbers c.args.variables.now) opaque st (in_scope c.one_more.new.self) c.one_more.new.self.counts (generic_tree c.args.named.now c.args.sides.left.0) ≡ Rattle.std.proofs.Common.Ok (forms_given c.infer.new.state c.in_ok-value.value, c.infer.new.state.counts)) c.standing_for.ensures c.in_ok-value.ensures.read); kept = c.in_ok-value.ensures.kept; met = c.in_ok-value.ensures.met }) (walking.seen (λ z. Rattle.gib_check.specs.Faults.types_bound c.args.names.now z ≡ Rattle.std.proofs.Common.Ok (listed (forms c.infer.new.state) c.in_ok-types.types.items)) c.infer.new.state c.part.result (record { ty = c.in_ok-value.value; place = Rattle.gib_check.specs.Faults.place (generic_tree c.args.named.now c.args.sides.left.0) }) c.part.ensures c.in_ok-types.ensures.types) (subst (λ is. Rattle.gib_check.specs.Answers.IsFaultOf c.in_err-bind_parts.field-0.0 (Rattle.gib_check.specs.Faults.bind_parts 0 (in_scope c.infer.new.state) c.infer.new.state.counts c.args.names.now (listed (forms c.infer.new.state) is))) c.deref.ensures.value c.in_err-bind_parts.ensures.read))
+    rw (p.1, p.2) (walking.several_bind c.args.around.now.named.now c.args.around.now.variables.now c.args.at.standing c.args.at.span c.args.names.now (generic_tree c.args.around.now.named.now c.args.sides.left.0) (generic_tree c.args.around.now.named.now c.args.sides.right.0) c.in_err-bind_parts.field-0.0 c.args.state.now c.one_more.new.self c.infer.new.state c.in_ok-value.value c.in_ok-types.types.items (record { read = c.in_ok-one_more.ensures.counts; kept = c.one_more.ensures.scope; types = c.one_more.ensures.types }) (record { read = (subst (λ st. infer (generic_globals c.args.around.now.named.now) (variable_numbers c.args.around.now.variables.now) opaque st (in_scope c.one_more.new.self) c.one_more.new.self.counts (generic_tree c.args.around.now.named.now c.args.sides.left.0) ≡ Rattle.std.proofs.Common.Ok (forms_given c.infer.new.state c.in_ok-value.value, c.infer.new.state.counts)) c.standing_for.ensures c.in_ok-value.ensures.read); kept = c.in_ok-value.ensures.kept; met = c.in_ok-value.ensures.met }) (walking.seen (λ z. Rattle.gib_check.specs.Faults.types_bound c.args.names.now z ≡ Rattle.std.proofs.Common.Ok (listed (forms c.infer.new.state) c.in_ok-types.types.items)) c.infer.new.state c.part.result (record { ty = c.in_ok-value.value; place = Rattle.gib_check.specs.Faults.place (generic_tree c.args.around.now.named.now c.args.sides.left.0) }) c.part.ensures c.in_ok-types.ensures.types) (subst (λ is. Rattle.gib_check.specs.Answers.IsFaultOf c.in_err-bind_parts.field-0.0 (Rattle.gib_check.specs.Faults.bind_parts 0 (in_scope c.infer.new.state) c.infer.new.state.counts c.args.names.now (listed (forms c.infer.new.state) is))) c.deref.ensures.value c.in_err-bind_parts.ensures.read))
 
 pub let_several-returns-in_err-given-clause-read : goal.let_several-returns-in_err-given-clause-read
 let_several-returns-in_err-given-clause-read t c =
     let p = err_from_is_err_and c.from_residual-in_err-given.result c.from_residual-in_err-given.ensures.1 in
-    rw (p.1, p.2) (along c.in_err-given.field-0.0 _ _ (walking.several_is c.args.named.now c.args.variables.now c.args.at.standing c.args.at.span c.args.names.now (generic_tree c.args.named.now c.args.sides.left.0) (generic_tree c.args.named.now c.args.sides.right.0) c.args.state.now c.one_more.new.self c.infer.new.state c.bind_parts.new.self c.in_ok-value.value c.in_ok-types.types.items (record { read = c.in_ok-one_more.ensures.counts; kept = c.one_more.ensures.scope; types = c.one_more.ensures.types }) (record { read = (subst (λ st. infer (generic_globals c.args.named.now) (variable_numbers c.args.variables.now) opaque st (in_scope c.one_more.new.self) c.one_more.new.self.counts (generic_tree c.args.named.now c.args.sides.left.0) ≡ Rattle.std.proofs.Common.Ok (forms_given c.infer.new.state c.in_ok-value.value, c.infer.new.state.counts)) c.standing_for.ensures c.in_ok-value.ensures.read); kept = c.in_ok-value.ensures.kept; met = c.in_ok-value.ensures.met }) (walking.seen (λ z. Rattle.gib_check.specs.Faults.types_bound c.args.names.now z ≡ Rattle.std.proofs.Common.Ok (listed (forms c.infer.new.state) c.in_ok-types.types.items)) c.infer.new.state c.part.result (record { ty = c.in_ok-value.value; place = Rattle.gib_check.specs.Faults.place (generic_tree c.args.named.now c.args.sides.left.0) }) c.part.ensures c.in_ok-types.ensures.types) (record { read = (subst (λ is. Rattle.gib_check.specs.Faults.bind_parts 0 (in_scope c.infer.new.state) c.infer.new.state.counts c.args.names.now (listed (forms c.infer.new.state) is) ≡ Rattle.std.proofs.Common.Ok (in_scope c.bind_parts.new.self, c.bind_parts.new.self.counts)) c.deref.ensures.value c.in_ok-bind_parts.ensures.read); types = c.bind_parts.ensures.types })) c.in_err-given.ensures.read)
+    rw (p.1, p.2) (along c.in_err-given.field-0.0 _ _ (walking.several_is c.args.around.now.named.now c.args.around.now.variables.now c.args.at.standing c.args.at.span c.args.names.now (generic_tree c.args.around.now.named.now c.args.sides.left.0) (generic_tree c.args.around.now.named.now c.args.sides.right.0) c.args.state.now c.one_more.new.self c.infer.new.state c.bind_parts.new.self c.in_ok-value.value c.in_ok-types.types.items (record { read = c.in_ok-one_more.ensures.counts; kept = c.one_more.ensures.scope; types = c.one_more.ensures.types }) (record { read = (subst (λ st. infer (generic_globals c.args.around.now.named.now) (variable_numbers c.args.around.now.variables.now) opaque st (in_scope c.one_more.new.self) c.one_more.new.self.counts (generic_tree c.args.around.now.named.now c.args.sides.left.0) ≡ Rattle.std.proofs.Common.Ok (forms_given c.infer.new.state c.in_ok-value.value, c.infer.new.state.counts)) c.standing_for.ensures c.in_ok-value.ensures.read); kept = c.in_ok-value.ensures.kept; met = c.in_ok-value.ensures.met }) (walking.seen (λ z. Rattle.gib_check.specs.Faults.types_bound c.args.names.now z ≡ Rattle.std.proofs.Common.Ok (listed (forms c.infer.new.state) c.in_ok-types.types.items)) c.infer.new.state c.part.result (record { ty = c.in_ok-value.value; place = Rattle.gib_check.specs.Faults.place (generic_tree c.args.around.now.named.now c.args.sides.left.0) }) c.part.ensures c.in_ok-types.ensures.types) (record { read = (subst (λ is. Rattle.gib_check.specs.Faults.bind_parts 0 (in_scope c.infer.new.state) c.infer.new.state.counts c.args.names.now (listed (forms c.infer.new.state) is) ≡ Rattle.std.proofs.Common.Ok (in_scope c.bind_parts.new.self, c.bind_parts.new.self.counts)) c.deref.ensures.value c.in_ok-bind_parts.ensures.read); types = c.bind_parts.ensures.types })) c.in_err-given.ensures.read)
 
 pub let_several-returns-clause-read : goal.let_several-returns-clause-read
 let_several-returns-clause-read t c =
-    walking.several_is c.args.named.now c.args.variables.now c.args.at.standing c.args.at.span c.args.names.now (generic_tree c.args.named.now c.args.sides.left.0) (generic_tree c.args.named.now c.args.sides.right.0) c.args.state.now c.one_more.new.self c.infer.new.state c.bind_parts.new.self c.in_ok-value.value c.in_ok-types.types.items (record { read = c.in_ok-one_more.ensures.counts; kept = c.one_more.ensures.scope; types = c.one_more.ensures.types }) (record { read = (subst (λ st. infer (generic_globals c.args.named.now) (variable_numbers c.args.variables.now) opaque st (in_scope c.one_more.new.self) c.one_more.new.self.counts (generic_tree c.args.named.now c.args.sides.left.0) ≡ Rattle.std.proofs.Common.Ok (forms_given c.infer.new.state c.in_ok-value.value, c.infer.new.state.counts)) c.standing_for.ensures c.in_ok-value.ensures.read); kept = c.in_ok-value.ensures.kept; met = c.in_ok-value.ensures.met }) (walking.seen (λ z. Rattle.gib_check.specs.Faults.types_bound c.args.names.now z ≡ Rattle.std.proofs.Common.Ok (listed (forms c.infer.new.state) c.in_ok-types.types.items)) c.infer.new.state c.part.result (record { ty = c.in_ok-value.value; place = Rattle.gib_check.specs.Faults.place (generic_tree c.args.named.now c.args.sides.left.0) }) c.part.ensures c.in_ok-types.ensures.types) (record { read = (subst (λ is. Rattle.gib_check.specs.Faults.bind_parts 0 (in_scope c.infer.new.state) c.infer.new.state.counts c.args.names.now (listed (forms c.infer.new.state) is) ≡ Rattle.std.proofs.Common.Ok (in_scope c.bind_parts.new.self, c.bind_parts.new.self.counts)) c.deref.ensures.value c.in_ok-bind_parts.ensures.read); types = c.bind_parts.ensures.types })
+    walking.several_is c.args.around.now.named.now c.args.around.now.variables.now c.args.at.standing c.args.at.span c.args.names.now (generic_tree c.args.around.now.named.now c.args.sides.left.0) (generic_tree c.args.around.now.named.now c.args.sides.right.0) c.args.state.now c.one_more.new.self c.infer.new.state c.bind_parts.new.self c.in_ok-value.value c.in_ok-types.types.items (record { read = c.in_ok-one_more.ensures.counts; kept = c.one_more.ensures.scope; types = c.one_more.ensures.types }) (record { read = (subst (λ st. infer (generic_globals c.args.around.now.named.now) (variable_numbers c.args.around.now.variables.now) opaque st (in_scope c.one_more.new.self) c.one_more.new.self.counts (generic_tree c.args.around.now.named.now c.args.sides.left.0) ≡ Rattle.std.proofs.Common.Ok (forms_given c.infer.new.state c.in_ok-value.value, c.infer.new.state.counts)) c.standing_for.ensures c.in_ok-value.ensures.read); kept = c.in_ok-value.ensures.kept; met = c.in_ok-value.ensures.met }) (walking.seen (λ z. Rattle.gib_check.specs.Faults.types_bound c.args.names.now z ≡ Rattle.std.proofs.Common.Ok (listed (forms c.infer.new.state) c.in_ok-types.types.items)) c.infer.new.state c.part.result (record { ty = c.in_ok-value.value; place = Rattle.gib_check.specs.Faults.place (generic_tree c.args.around.now.named.now c.args.sides.left.0) }) c.part.ensures c.in_ok-types.ensures.types) (record { read = (subst (λ is. Rattle.gib_check.specs.Faults.bind_parts 0 (in_scope c.infer.new.state) c.infer.new.state.counts c.args.names.now (listed (forms c.infer.new.state) is) ≡ Rattle.std.proofs.Common.Ok (in_scope c.bind_parts.new.self, c.bind_parts.new.self.counts)) c.deref.ensures.value c.in_ok-bind_parts.ensures.read); types = c.bind_parts.ensures.types })
     ∙ c.in_ok-given.ensures.read
     ∙ answering.same_answer c.infer-2.new.state c.truncate.new.self c.in_ok-given.given (same_advance c.infer-2.new.state c.truncate.new.self c.truncate.ensures.types c.truncate.ensures.parts) c.in_ok-given.ensures.met.here c.truncate.ensures.counts
 
@@ -299,41 +310,41 @@ let_several-bind_parts-requires t c =
 pub par_several-returns-in_err-left-clause-read : goal.par_several-returns-in_err-left-clause-read
 par_several-returns-in_err-left-clause-read t c =
     let p = err_from_is_err_and c.from_residual-in_err-left.result c.from_residual-in_err-left.ensures.1 in
-    rw (p.1, p.2) (walking.sides_fail_left c.args.named.now c.args.variables.now c.args.at.standing c.args.at.span c.args.names.now.left.now (generic_tree c.args.named.now c.args.parts.left.0) c.args.names.now.right.now (generic_tree c.args.named.now c.args.parts.right.0) (generic_tree c.args.named.now c.args.parts.body.0) c.in_err-left.field-0.0 c.args.state.now c.one_more.new.self (record { read = c.in_ok-one_more.ensures.counts; kept = c.one_more.ensures.scope; types = c.one_more.ensures.types }) (subst (λ st. Rattle.gib_check.specs.Answers.IsFaultOf c.in_err-left.field-0.0 (infer (generic_globals c.args.named.now) (variable_numbers c.args.variables.now) opaque st (in_scope c.one_more.new.self) c.one_more.new.self.counts (generic_tree c.args.named.now c.args.parts.left.0))) c.standing_for.ensures c.in_err-left.ensures.read))
+    rw (p.1, p.2) (walking.sides_fail_left c.args.around.now.named.now c.args.around.now.variables.now c.args.at.standing c.args.at.span c.args.names.now.left.now (generic_tree c.args.around.now.named.now c.args.parts.left.0) c.args.names.now.right.now (generic_tree c.args.around.now.named.now c.args.parts.right.0) (generic_tree c.args.around.now.named.now c.args.parts.body.0) c.in_err-left.field-0.0 c.args.state.now c.one_more.new.self (record { read = c.in_ok-one_more.ensures.counts; kept = c.one_more.ensures.scope; types = c.one_more.ensures.types }) (subst (λ st. Rattle.gib_check.specs.Answers.IsFaultOf c.in_err-left.field-0.0 (infer (generic_globals c.args.around.now.named.now) (variable_numbers c.args.around.now.variables.now) opaque st (in_scope c.one_more.new.self) c.one_more.new.self.counts (generic_tree c.args.around.now.named.now c.args.parts.left.0))) c.standing_for.ensures c.in_err-left.ensures.read))
 
 pub par_several-returns-in_err-right-clause-read : goal.par_several-returns-in_err-right-clause-read
 par_several-returns-in_err-right-clause-read t c =
     let p = err_from_is_err_and c.from_residual-in_err-right.result c.from_residual-in_err-right.ensures.1 in
-    rw (p.1, p.2) (walking.sides_fail_right c.args.named.now c.args.variables.now c.args.at.standing c.args.at.span c.args.names.now.left.now (generic_tree c.args.named.now c.args.parts.left.0) c.args.names.now.right.now (generic_tree c.args.named.now c.args.parts.right.0) (generic_tree c.args.named.now c.args.parts.body.0) c.in_err-right.field-0.0 c.args.state.now c.one_more.new.self c.infer.new.state c.in_ok-left.left (record { read = c.in_ok-one_more.ensures.counts; kept = c.one_more.ensures.scope; types = c.one_more.ensures.types }) (record { read = (subst (λ st. infer (generic_globals c.args.named.now) (variable_numbers c.args.variables.now) opaque st (in_scope c.one_more.new.self) c.one_more.new.self.counts (generic_tree c.args.named.now c.args.parts.left.0) ≡ Rattle.std.proofs.Common.Ok (forms_given c.infer.new.state c.in_ok-left.left, c.infer.new.state.counts)) c.standing_for.ensures c.in_ok-left.ensures.read); kept = c.in_ok-left.ensures.kept; met = c.in_ok-left.ensures.met }) (subst (λ st. Rattle.gib_check.specs.Answers.IsFaultOf c.in_err-right.field-0.0 (infer (generic_globals c.args.named.now) (variable_numbers c.args.variables.now) opaque st (in_scope c.infer.new.state) c.infer.new.state.counts (generic_tree c.args.named.now c.args.parts.right.0))) c.standing_for-2.ensures c.in_err-right.ensures.read))
+    rw (p.1, p.2) (walking.sides_fail_right c.args.around.now.named.now c.args.around.now.variables.now c.args.at.standing c.args.at.span c.args.names.now.left.now (generic_tree c.args.around.now.named.now c.args.parts.left.0) c.args.names.now.right.now (generic_tree c.args.around.now.named.now c.args.parts.right.0) (generic_tree c.args.around.now.named.now c.args.parts.body.0) c.in_err-right.field-0.0 c.args.state.now c.one_more.new.self c.infer.new.state c.in_ok-left.left (record { read = c.in_ok-one_more.ensures.counts; kept = c.one_more.ensures.scope; types = c.one_more.ensures.types }) (record { read = (subst (λ st. infer (generic_globals c.args.around.now.named.now) (variable_numbers c.args.around.now.variables.now) opaque st (in_scope c.one_more.new.self) c.one_more.new.self.counts (generic_tree c.args.around.now.named.now c.args.parts.left.0) ≡ Rattle.std.proofs.Common.Ok (forms_given c.infer.new.state c.in_ok-left.left, c.infer.new.state.counts)) c.standing_for.ensures c.in_ok-left.ensures.read); kept = c.in_ok-left.ensures.kept; met = c.in_ok-left.ensures.met }) (subst (λ st. Rattle.gib_check.specs.Answers.IsFaultOf c.in_err-right.field-0.0 (infer (generic_globals c.args.around.now.named.now) (variable_numbers c.args.around.now.variables.now) opaque st (in_scope c.infer.new.state) c.infer.new.state.counts (generic_tree c.args.around.now.named.now c.args.parts.right.0))) c.standing_for-2.ensures c.in_err-right.ensures.read))
 
 pub par_several-returns-in_err-left_types-clause-read : goal.par_several-returns-in_err-left_types-clause-read
 par_several-returns-in_err-left_types-clause-read t c =
     let p = err_from_is_err_and c.from_residual-in_err-left_types.result c.from_residual-in_err-left_types.ensures.1 in
-    rw (p.1, p.2) (walking.sides_left c.args.named.now c.args.variables.now c.args.at.standing c.args.at.span c.args.names.now.left.now (generic_tree c.args.named.now c.args.parts.left.0) c.args.names.now.right.now (generic_tree c.args.named.now c.args.parts.right.0) (generic_tree c.args.named.now c.args.parts.body.0) c.in_err-left_types.field-0.0 c.args.state.now c.one_more.new.self c.infer.new.state c.infer-2.new.state c.in_ok-left.left c.in_ok-right.right (record { read = c.in_ok-one_more.ensures.counts; kept = c.one_more.ensures.scope; types = c.one_more.ensures.types }) (record { read = (subst (λ st. infer (generic_globals c.args.named.now) (variable_numbers c.args.variables.now) opaque st (in_scope c.one_more.new.self) c.one_more.new.self.counts (generic_tree c.args.named.now c.args.parts.left.0) ≡ Rattle.std.proofs.Common.Ok (forms_given c.infer.new.state c.in_ok-left.left, c.infer.new.state.counts)) c.standing_for.ensures c.in_ok-left.ensures.read); kept = c.in_ok-left.ensures.kept; met = c.in_ok-left.ensures.met }) (record { read = (subst (λ st. infer (generic_globals c.args.named.now) (variable_numbers c.args.variables.now) opaque st (in_scope c.infer.new.state) c.infer.new.state.counts (generic_tree c.args.named.now c.args.parts.right.0) ≡ Rattle.std.proofs.Common.Ok (forms_given c.infer-2.new.state c.in_ok-right.right, c.infer-2.new.state.counts)) c.standing_for-2.ensures c.in_ok-right.ensures.read); kept = c.in_ok-right.ensures.kept; met = c.in_ok-right.ensures.met }) (walking.seen (λ z. Rattle.gib_check.specs.Answers.IsFaultOf c.in_err-left_types.field-0.0 (Rattle.gib_check.specs.Faults.types_bound c.args.names.now.left.now z)) c.infer-2.new.state c.part.result (record { ty = c.in_ok-left.left; place = Rattle.gib_check.specs.Faults.place (generic_tree c.args.named.now c.args.parts.left.0) }) c.part.ensures c.in_err-left_types.ensures.types))
+    rw (p.1, p.2) (walking.sides_left c.args.around.now.named.now c.args.around.now.variables.now c.args.at.standing c.args.at.span c.args.names.now.left.now (generic_tree c.args.around.now.named.now c.args.parts.left.0) c.args.names.now.right.now (generic_tree c.args.around.now.named.now c.args.parts.right.0) (generic_tree c.args.around.now.named.now c.args.parts.body.0) c.in_err-left_types.field-0.0 c.args.state.now c.one_more.new.self c.infer.new.state c.infer-2.new.state c.in_ok-left.left c.in_ok-right.right (record { read = c.in_ok-one_more.ensures.counts; kept = c.one_more.ensures.scope; types = c.one_more.ensures.types }) (record { read = (subst (λ st. infer (generic_globals c.args.around.now.named.now) (variable_numbers c.args.around.now.variables.now) opaque st (in_scope c.one_more.new.self) c.one_more.new.self.counts (generic_tree c.args.around.now.named.now c.args.parts.left.0) ≡ Rattle.std.proofs.Common.Ok (forms_given c.infer.new.state c.in_ok-left.left, c.infer.new.state.counts)) c.standing_for.ensures c.in_ok-left.ensures.read); kept = c.in_ok-left.ensures.kept; met = c.in_ok-left.ensures.met }) (record { read = (subst (λ st. infer (generic_globals c.args.around.now.named.now) (variable_numbers c.args.around.now.variables.now) opaque st (in_scope c.infer.new.state) c.infer.new.state.counts (generic_tree c.args.around.now.named.now c.args.parts.right.0) ≡ Rattle.std.proofs.Common.Ok (forms_given c.infer-2.new.state c.in_ok-right.right, c.infer-2.new.state.counts)) c.standing_for-2.ensures c.in_ok-right.ensures.read); kept = c.in_ok-right.ensures.kept; met = c.in_ok-right.ensures.met }) (walking.seen (λ z. Rattle.gib_check.specs.Answers.IsFaultOf c.in_err-left_types.field-0.0 (Rattle.gib_check.specs.Faults.types_bound c.args.names.now.left.now z)) c.infer-2.new.state c.part.result (record { ty = c.in_ok-left.left; place = Rattle.gib_check.specs.Faults.place (generic_tree c.args.around.now.named.now c.args.parts.left.0) }) c.part.ensures c.in_err-left_types.ensures.types))
 
 pub par_several-returns-in_err-right_types-clause-read : goal.par_several-returns-in_err-right_types-clause-read
 par_several-returns-in_err-right_types-clause-read t c =
     let p = err_from_is_err_and c.from_residual-in_err-right_types.result c.from_residual-in_err-right_types.ensures.1 in
-    rw (p.1, p.2) (walking.sides_right c.args.named.now c.args.variables.now c.args.at.standing c.args.at.span c.args.names.now.left.now (generic_tree c.args.named.now c.args.parts.left.0) c.args.names.now.right.now (generic_tree c.args.named.now c.args.parts.right.0) (generic_tree c.args.named.now c.args.parts.body.0) c.in_err-right_types.field-0.0 c.args.state.now c.one_more.new.self c.infer.new.state c.infer-2.new.state c.in_ok-left.left c.in_ok-right.right c.in_ok-left_types.left_types.items (record { read = c.in_ok-one_more.ensures.counts; kept = c.one_more.ensures.scope; types = c.one_more.ensures.types }) (record { read = (subst (λ st. infer (generic_globals c.args.named.now) (variable_numbers c.args.variables.now) opaque st (in_scope c.one_more.new.self) c.one_more.new.self.counts (generic_tree c.args.named.now c.args.parts.left.0) ≡ Rattle.std.proofs.Common.Ok (forms_given c.infer.new.state c.in_ok-left.left, c.infer.new.state.counts)) c.standing_for.ensures c.in_ok-left.ensures.read); kept = c.in_ok-left.ensures.kept; met = c.in_ok-left.ensures.met }) (record { read = (subst (λ st. infer (generic_globals c.args.named.now) (variable_numbers c.args.variables.now) opaque st (in_scope c.infer.new.state) c.infer.new.state.counts (generic_tree c.args.named.now c.args.parts.right.0) ≡ Rattle.std.proofs.Common.Ok (forms_given c.infer-2.new.state c.in_ok-right.right, c.infer-2.new.state.counts)) c.standing_for-2.ensures c.in_ok-right.ensures.read); kept = c.in_ok-right.ensures.kept; met = c.in_ok-right.ensures.met }) (walking.seen (λ z. Rattle.gib_check.specs.Faults.types_bound c.args.names.now.left.now z ≡ Rattle.std.proofs.Common.Ok (listed (forms c.infer-2.new.state) c.in_ok-left_types.left_types.items)) c.infer-2.new.state c.part.result (record { ty = c.in_ok-left.left; place = Rattle.gib_check.specs.Faults.place (generic_tree c.args.named.now c.args.parts.left.0) }) c.part.ensures c.in_ok-left_types.ensures.types) (walking.seen (λ z. Rattle.gib_check.specs.Answers.IsFaultOf c.in_err-right_types.field-0.0 (Rattle.gib_check.specs.Faults.types_bound c.args.names.now.right.now z)) c.infer-2.new.state c.part-2.result (record { ty = c.in_ok-right.right; place = Rattle.gib_check.specs.Faults.place (generic_tree c.args.named.now c.args.parts.right.0) }) c.part-2.ensures c.in_err-right_types.ensures.types))
+    rw (p.1, p.2) (walking.sides_right c.args.around.now.named.now c.args.around.now.variables.now c.args.at.standing c.args.at.span c.args.names.now.left.now (generic_tree c.args.around.now.named.now c.args.parts.left.0) c.args.names.now.right.now (generic_tree c.args.around.now.named.now c.args.parts.right.0) (generic_tree c.args.around.now.named.now c.args.parts.body.0) c.in_err-right_types.field-0.0 c.args.state.now c.one_more.new.self c.infer.new.state c.infer-2.new.state c.in_ok-left.left c.in_ok-right.right c.in_ok-left_types.left_types.items (record { read = c.in_ok-one_more.ensures.counts; kept = c.one_more.ensures.scope; types = c.one_more.ensures.types }) (record { read = (subst (λ st. infer (generic_globals c.args.around.now.named.now) (variable_numbers c.args.around.now.variables.now) opaque st (in_scope c.one_more.new.self) c.one_more.new.self.counts (generic_tree c.args.around.now.named.now c.args.parts.left.0) ≡ Rattle.std.proofs.Common.Ok (forms_given c.infer.new.state c.in_ok-left.left, c.infer.new.state.counts)) c.standing_for.ensures c.in_ok-left.ensures.read); kept = c.in_ok-left.ensures.kept; met = c.in_ok-left.ensures.met }) (record { read = (subst (λ st. infer (generic_globals c.args.around.now.named.now) (variable_numbers c.args.around.now.variables.now) opaque st (in_scope c.infer.new.state) c.infer.new.state.counts (generic_tree c.args.around.now.named.now c.args.parts.right.0) ≡ Rattle.std.proofs.Common.Ok (forms_given c.infer-2.new.state c.in_ok-right.right, c.infer-2.new.state.counts)) c.standing_for-2.ensures c.in_ok-right.ensures.read); kept = c.in_ok-right.ensures.kept; met = c.in_ok-right.ensures.met }) (walking.seen (λ z. Rattle.gib_check.specs.Faults.types_bound c.args.names.now.left.now z ≡ Rattle.std.proofs.Common.Ok (listed (forms c.infer-2.new.state) c.in_ok-left_types.left_types.items)) c.infer-2.new.state c.part.result (record { ty = c.in_ok-left.left; place = Rattle.gib_check.specs.Faults.place (generic_tree c.args.around.now.named.now c.args.parts.left.0) }) c.part.ensures c.in_ok-left_types.ensures.types) (walking.seen (λ z. Rattle.gib_check.specs.Answers.IsFaultOf c.in_err-right_types.field-0.0 (Rattle.gib_check.specs.Faults.types_bound c.args.names.now.right.now z)) c.infer-2.new.state c.part-2.result (record { ty = c.in_ok-right.right; place = Rattle.gib_check.specs.Faults.place (generic_tree c.args.around.now.named.now c.args.parts.right.0) }) c.part-2.ensures c.in_err-right_types.ensures.types))
 
 pub par_several-returns-in_err-bind_parts-clause-read : goal.par_several-returns-in_err-bind_parts-clause-read
 par_several-returns-in_err-bind_parts-clause-read t c =
     let p = err_from_is_err_and c.from_residual-in_err-bind_parts.result c.from_residual-in_err-bind_parts.ensures.1 in
-    rw (p.1, p.2) (walking.sides_first c.args.named.now c.args.variables.now c.args.at.standing c.args.at.span c.args.names.now.left.now (generic_tree c.args.named.now c.args.parts.left.0) c.args.names.now.right.now (generic_tree c.args.named.now c.args.parts.right.0) (generic_tree c.args.named.now c.args.parts.body.0) c.in_err-bind_parts.field-0.0 c.args.state.now c.one_more.new.self c.infer.new.state c.infer-2.new.state c.in_ok-left.left c.in_ok-right.right c.in_ok-left_types.left_types.items c.in_ok-right_types.right_types.items (record { read = c.in_ok-one_more.ensures.counts; kept = c.one_more.ensures.scope; types = c.one_more.ensures.types }) (record { read = (subst (λ st. infer (generic_globals c.args.named.now) (variable_numbers c.args.variables.now) opaque st (in_scope c.one_more.new.self) c.one_more.new.self.counts (generic_tree c.args.named.now c.args.parts.left.0) ≡ Rattle.std.proofs.Common.Ok (forms_given c.infer.new.state c.in_ok-left.left, c.infer.new.state.counts)) c.standing_for.ensures c.in_ok-left.ensures.read); kept = c.in_ok-left.ensures.kept; met = c.in_ok-left.ensures.met }) (record { read = (subst (λ st. infer (generic_globals c.args.named.now) (variable_numbers c.args.variables.now) opaque st (in_scope c.infer.new.state) c.infer.new.state.counts (generic_tree c.args.named.now c.args.parts.right.0) ≡ Rattle.std.proofs.Common.Ok (forms_given c.infer-2.new.state c.in_ok-right.right, c.infer-2.new.state.counts)) c.standing_for-2.ensures c.in_ok-right.ensures.read); kept = c.in_ok-right.ensures.kept; met = c.in_ok-right.ensures.met }) (record { left = (walking.seen (λ z. Rattle.gib_check.specs.Faults.types_bound c.args.names.now.left.now z ≡ Rattle.std.proofs.Common.Ok (listed (forms c.infer-2.new.state) c.in_ok-left_types.left_types.items)) c.infer-2.new.state c.part.result (record { ty = c.in_ok-left.left; place = Rattle.gib_check.specs.Faults.place (generic_tree c.args.named.now c.args.parts.left.0) }) c.part.ensures c.in_ok-left_types.ensures.types); right = (walking.seen (λ z. Rattle.gib_check.specs.Faults.types_bound c.args.names.now.right.now z ≡ Rattle.std.proofs.Common.Ok (listed (forms c.infer-2.new.state) c.in_ok-right_types.right_types.items)) c.infer-2.new.state c.part-2.result (record { ty = c.in_ok-right.right; place = Rattle.gib_check.specs.Faults.place (generic_tree c.args.named.now c.args.parts.right.0) }) c.part-2.ensures c.in_ok-right_types.ensures.types) }) (subst (λ is. Rattle.gib_check.specs.Answers.IsFaultOf c.in_err-bind_parts.field-0.0 (Rattle.gib_check.specs.Faults.bind_parts 0 (in_scope c.infer-2.new.state) c.infer-2.new.state.counts c.args.names.now.left.now (listed (forms c.infer-2.new.state) is))) c.deref.ensures.value c.in_err-bind_parts.ensures.read))
+    rw (p.1, p.2) (walking.sides_first c.args.around.now.named.now c.args.around.now.variables.now c.args.at.standing c.args.at.span c.args.names.now.left.now (generic_tree c.args.around.now.named.now c.args.parts.left.0) c.args.names.now.right.now (generic_tree c.args.around.now.named.now c.args.parts.right.0) (generic_tree c.args.around.now.named.now c.args.parts.body.0) c.in_err-bind_parts.field-0.0 c.args.state.now c.one_more.new.self c.infer.new.state c.infer-2.new.state c.in_ok-left.left c.in_ok-right.right c.in_ok-left_types.left_types.items c.in_ok-right_types.right_types.items (record { read = c.in_ok-one_more.ensures.counts; kept = c.one_more.ensures.scope; types = c.one_more.ensures.types }) (record { read = (subst (λ st. infer (generic_globals c.args.around.now.named.now) (variable_numbers c.args.around.now.variables.now) opaque st (in_scope c.one_more.new.self) c.one_more.new.self.counts (generic_tree c.args.around.now.named.now c.args.parts.left.0) ≡ Rattle.std.proofs.Common.Ok (forms_given c.infer.new.state c.in_ok-left.left, c.infer.new.state.counts)) c.standing_for.ensures c.in_ok-left.ensures.read); kept = c.in_ok-left.ensures.kept; met = c.in_ok-left.ensures.met }) (record { read = (subst (λ st. infer (generic_globals c.args.around.now.named.now) (variable_numbers c.args.around.now.variables.now) opaque st (in_scope c.infer.new.state) c.infer.new.state.counts (generic_tree c.args.around.now.named.now c.args.parts.right.0) ≡ Rattle.std.proofs.Common.Ok (forms_given c.infer-2.new.state c.in_ok-right.right, c.infer-2.new.state.counts)) c.standing_for-2.ensures c.in_ok-right.ensures.read); kept = c.in_ok-right.ensures.kept; met = c.in_ok-right.ensures.met }) (record { left = (walking.seen (λ z. Rattle.gib_check.specs.Faults.types_bound c.args.names.now.left.now z ≡ Rattle.std.proofs.Common.Ok (listed (forms c.infer-2.new.state) c.in_ok-left_types.left_types.items)) c.infer-2.new.state c.part.result (record { ty = c.in_ok-left.left; place = Rattle.gib_check.specs.Faults.place (generic_tree c.args.around.now.named.now c.args.parts.left.0) }) c.part.ensures c.in_ok-left_types.ensures.types); right = (walking.seen (λ z. Rattle.gib_check.specs.Faults.types_bound c.args.names.now.right.now z ≡ Rattle.std.proofs.Common.Ok (listed (forms c.infer-2.new.state) c.in_ok-right_types.right_types.items)) c.infer-2.new.state c.part-2.result (record { ty = c.in_ok-right.right; place = Rattle.gib_check.specs.Faults.place (generic_tree c.args.around.now.named.now c.args.parts.right.0) }) c.part-2.ensures c.in_ok-right_types.ensures.types) }) (subst (λ is. Rattle.gib_check.specs.Answers.IsFaultOf c.in_err-bind_parts.field-0.0 (Rattle.gib_check.specs.Faults.bind_parts 0 (in_scope c.infer-2.new.state) c.infer-2.new.state.counts c.args.names.now.left.now (listed (forms c.infer-2.new.state) is))) c.deref.ensures.value c.in_err-bind_parts.ensures.read))
 
 pub par_several-returns-in_err-bind_parts-2-clause-read : goal.par_several-returns-in_err-bind_parts-2-clause-read
 par_several-returns-in_err-bind_parts-2-clause-read t c =
     let p = err_from_is_err_and c.from_residual-in_err-bind_parts-2.result c.from_residual-in_err-bind_parts-2.ensures.1 in
-    rw (p.1, p.2) (walking.sides_second c.args.named.now c.args.variables.now c.args.at.standing c.args.at.span c.args.names.now.left.now (generic_tree c.args.named.now c.args.parts.left.0) c.args.names.now.right.now (generic_tree c.args.named.now c.args.parts.right.0) (generic_tree c.args.named.now c.args.parts.body.0) c.in_err-bind_parts-2.field-0.0 c.args.state.now c.one_more.new.self c.infer.new.state c.infer-2.new.state c.bind_parts.new.self c.in_ok-left.left c.in_ok-right.right c.in_ok-left_types.left_types.items c.in_ok-right_types.right_types.items (record { read = c.in_ok-one_more.ensures.counts; kept = c.one_more.ensures.scope; types = c.one_more.ensures.types }) (record { read = (subst (λ st. infer (generic_globals c.args.named.now) (variable_numbers c.args.variables.now) opaque st (in_scope c.one_more.new.self) c.one_more.new.self.counts (generic_tree c.args.named.now c.args.parts.left.0) ≡ Rattle.std.proofs.Common.Ok (forms_given c.infer.new.state c.in_ok-left.left, c.infer.new.state.counts)) c.standing_for.ensures c.in_ok-left.ensures.read); kept = c.in_ok-left.ensures.kept; met = c.in_ok-left.ensures.met }) (record { read = (subst (λ st. infer (generic_globals c.args.named.now) (variable_numbers c.args.variables.now) opaque st (in_scope c.infer.new.state) c.infer.new.state.counts (generic_tree c.args.named.now c.args.parts.right.0) ≡ Rattle.std.proofs.Common.Ok (forms_given c.infer-2.new.state c.in_ok-right.right, c.infer-2.new.state.counts)) c.standing_for-2.ensures c.in_ok-right.ensures.read); kept = c.in_ok-right.ensures.kept; met = c.in_ok-right.ensures.met }) (record { left = (walking.seen (λ z. Rattle.gib_check.specs.Faults.types_bound c.args.names.now.left.now z ≡ Rattle.std.proofs.Common.Ok (listed (forms c.infer-2.new.state) c.in_ok-left_types.left_types.items)) c.infer-2.new.state c.part.result (record { ty = c.in_ok-left.left; place = Rattle.gib_check.specs.Faults.place (generic_tree c.args.named.now c.args.parts.left.0) }) c.part.ensures c.in_ok-left_types.ensures.types); right = (walking.seen (λ z. Rattle.gib_check.specs.Faults.types_bound c.args.names.now.right.now z ≡ Rattle.std.proofs.Common.Ok (listed (forms c.infer-2.new.state) c.in_ok-right_types.right_types.items)) c.infer-2.new.state c.part-2.result (record { ty = c.in_ok-right.right; place = Rattle.gib_check.specs.Faults.place (generic_tree c.args.named.now c.args.parts.right.0) }) c.part-2.ensures c.in_ok-right_types.ensures.types) }) (record { read = (subst (λ is. Rattle.gib_check.specs.Faults.bind_parts 0 (in_scope c.infer-2.new.state) c.infer-2.new.state.counts c.args.names.now.left.now (listed (forms c.infer-2.new.state) is) ≡ Rattle.std.proofs.Common.Ok (in_scope c.bind_parts.new.self, c.bind_parts.new.self.counts)) c.deref.ensures.value c.in_ok-bind_parts.ensures.read); types = c.bind_parts.ensures.types }) (subst (λ is. Rattle.gib_check.specs.Answers.IsFaultOf c.in_err-bind_parts-2.field-0.0 (Rattle.gib_check.specs.Faults.bind_parts 0 (in_scope c.bind_parts.new.self) c.bind_parts.new.self.counts c.args.names.now.right.now (listed (forms c.bind_parts.new.self) is))) c.deref-2.ensures.value c.in_err-bind_parts-2.ensures.read))
+    rw (p.1, p.2) (walking.sides_second c.args.around.now.named.now c.args.around.now.variables.now c.args.at.standing c.args.at.span c.args.names.now.left.now (generic_tree c.args.around.now.named.now c.args.parts.left.0) c.args.names.now.right.now (generic_tree c.args.around.now.named.now c.args.parts.right.0) (generic_tree c.args.around.now.named.now c.args.parts.body.0) c.in_err-bind_parts-2.field-0.0 c.args.state.now c.one_more.new.self c.infer.new.state c.infer-2.new.state c.bind_parts.new.self c.in_ok-left.left c.in_ok-right.right c.in_ok-left_types.left_types.items c.in_ok-right_types.right_types.items (record { read = c.in_ok-one_more.ensures.counts; kept = c.one_more.ensures.scope; types = c.one_more.ensures.types }) (record { read = (subst (λ st. infer (generic_globals c.args.around.now.named.now) (variable_numbers c.args.around.now.variables.now) opaque st (in_scope c.one_more.new.self) c.one_more.new.self.counts (generic_tree c.args.around.now.named.now c.args.parts.left.0) ≡ Rattle.std.proofs.Common.Ok (forms_given c.infer.new.state c.in_ok-left.left, c.infer.new.state.counts)) c.standing_for.ensures c.in_ok-left.ensures.read); kept = c.in_ok-left.ensures.kept; met = c.in_ok-left.ensures.met }) (record { read = (subst (λ st. infer (generic_globals c.args.around.now.named.now) (variable_numbers c.args.around.now.variables.now) opaque st (in_scope c.infer.new.state) c.infer.new.state.counts (generic_tree c.args.around.now.named.now c.args.parts.right.0) ≡ Rattle.std.proofs.Common.Ok (forms_given c.infer-2.new.state c.in_ok-right.right, c.infer-2.new.state.counts)) c.standing_for-2.ensures c.in_ok-right.ensures.read); kept = c.in_ok-right.ensures.kept; met = c.in_ok-right.ensures.met }) (record { left = (walking.seen (λ z. Rattle.gib_check.specs.Faults.types_bound c.args.names.now.left.now z ≡ Rattle.std.proofs.Common.Ok (listed (forms c.infer-2.new.state) c.in_ok-left_types.left_types.items)) c.infer-2.new.state c.part.result (record { ty = c.in_ok-left.left; place = Rattle.gib_check.specs.Faults.place (generic_tree c.args.around.now.named.now c.args.parts.left.0) }) c.part.ensures c.in_ok-left_types.ensures.types); right = (walking.seen (λ z. Rattle.gib_check.specs.Faults.types_bound c.args.names.now.right.now z ≡ Rattle.std.proofs.Common.Ok (listed (forms c.infer-2.new.state) c.in_ok-right_types.right_types.items)) c.infer-2.new.state c.part-2.result (record { ty = c.in_ok-right.right; place = Rattle.gib_check.specs.Faults.place (generic_tree c.args.around.now.named.now c.args.parts.right.0) }) c.part-2.ensures c.in_ok-right_types.ensures.types) }) (record { read = (subst (λ is. Rattle.gib_check.specs.Faults.bind_parts 0 (in_scope c.infer-2.new.state) c.infer-2.new.state.counts c.args.names.now.left.now (listed (forms c.infer-2.new.state) is) ≡ Rattle.std.proofs.Common.Ok (in_scope c.bind_parts.new.self, c.bind_parts.new.self.counts)) c.deref.ensures.value c.in_ok-bind_parts.ensures.read); types = c.bind_parts.ensures.types }) (subst (λ is. Rattle.gib_check.specs.Answers.IsFaultOf c.in_err-bind_parts-2.field-0.0 (Rattle.gib_check.specs.Faults.bind_parts 0 (in_scope c.bind_parts.new.self) c.bind_parts.new.self.counts c.args.names.now.right.now (listed (forms c.bind_parts.new.self) is))) c.deref-2.ensures.value c.in_err-bind_parts-2.ensures.read))
 
 pub par_several-returns-in_err-given-clause-read : goal.par_several-returns-in_err-given-clause-read
 par_several-returns-in_err-given-clause-read t c =
     let p = err_from_is_err_and c.from_residual-in_err-given.result c.from_residual-in_err-given.ensures.1 in
-    rw (p.1, p.2) (along c.in_err-given.field-0.0 _ _ (walking.sides_is c.args.named.now c.args.variables.now c.args.at.standing c.args.at.span c.args.names.now.left.now (generic_tree c.args.named.now c.args.parts.left.0) c.args.names.now.right.now (generic_tree c.args.named.now c.args.parts.right.0) (generic_tree c.args.named.now c.args.parts.body.0) c.args.state.now c.one_more.new.self c.infer.new.state c.infer-2.new.state c.bind_parts.new.self c.bind_parts-2.new.self c.in_ok-left.left c.in_ok-right.right c.in_ok-left_types.left_types.items c.in_ok-right_types.right_types.items (record { read = c.in_ok-one_more.ensures.counts; kept = c.one_more.ensures.scope; types = c.one_more.ensures.types }) (record { read = (subst (λ st. infer (generic_globals c.args.named.now) (variable_numbers c.args.variables.now) opaque st (in_scope c.one_more.new.self) c.one_more.new.self.counts (generic_tree c.args.named.now c.args.parts.left.0) ≡ Rattle.std.proofs.Common.Ok (forms_given c.infer.new.state c.in_ok-left.left, c.infer.new.state.counts)) c.standing_for.ensures c.in_ok-left.ensures.read); kept = c.in_ok-left.ensures.kept; met = c.in_ok-left.ensures.met }) (record { read = (subst (λ st. infer (generic_globals c.args.named.now) (variable_numbers c.args.variables.now) opaque st (in_scope c.infer.new.state) c.infer.new.state.counts (generic_tree c.args.named.now c.args.parts.right.0) ≡ Rattle.std.proofs.Common.Ok (forms_given c.infer-2.new.state c.in_ok-right.right, c.infer-2.new.state.counts)) c.standing_for-2.ensures c.in_ok-right.ensures.read); kept = c.in_ok-right.ensures.kept; met = c.in_ok-right.ensures.met }) (record { left = (walking.seen (λ z. Rattle.gib_check.specs.Faults.types_bound c.args.names.now.left.now z ≡ Rattle.std.proofs.Common.Ok (listed (forms c.infer-2.new.state) c.in_ok-left_types.left_types.items)) c.infer-2.new.state c.part.result (record { ty = c.in_ok-left.left; place = Rattle.gib_check.specs.Faults.place (generic_tree c.args.named.now c.args.parts.left.0) }) c.part.ensures c.in_ok-left_types.ensures.types); right = (walking.seen (λ z. Rattle.gib_check.specs.Faults.types_bound c.args.names.now.right.now z ≡ Rattle.std.proofs.Common.Ok (listed (forms c.infer-2.new.state) c.in_ok-right_types.right_types.items)) c.infer-2.new.state c.part-2.result (record { ty = c.in_ok-right.right; place = Rattle.gib_check.specs.Faults.place (generic_tree c.args.named.now c.args.parts.right.0) }) c.part-2.ensures c.in_ok-right_types.ensures.types) }) (record { read = (subst (λ is. Rattle.gib_check.specs.Faults.bind_parts 0 (in_scope c.infer-2.new.state) c.infer-2.new.state.counts c.args.names.now.left.now (listed (forms c.infer-2.new.state) is) ≡ Rattle.std.proofs.Common.Ok (in_scope c.bind_parts.new.self, c.bind_parts.new.self.counts)) c.deref.ensures.value c.in_ok-bind_parts.ensures.read); types = c.bind_parts.ensures.types }) (record { read = (subst (λ is. Rattle.gib_check.specs.Faults.bind_parts 0 (in_scope c.bind_parts.new.self) c.bind_parts.new.self.counts c.args.names.now.right.now (listed (forms c.bind_parts.new.self) is) ≡ Rattle.std.proofs.Common.Ok (in_scope c.bind_parts-2.new.self, c.bind_parts-2.new.self.counts)) c.deref-2.ensures.value c.in_ok-bind_parts-2.ensures.read); types = c.bind_parts-2.ensures.types })) c.in_err-given.ensures.read)
+    rw (p.1, p.2) (along c.in_err-given.field-0.0 _ _ (walking.sides_is c.args.around.now.named.now c.args.around.now.variables.now c.args.at.standing c.args.at.span c.args.names.now.left.now (generic_tree c.args.around.now.named.now c.args.parts.left.0) c.args.names.now.right.now (generic_tree c.args.around.now.named.now c.args.parts.right.0) (generic_tree c.args.around.now.named.now c.args.parts.body.0) c.args.state.now c.one_more.new.self c.infer.new.state c.infer-2.new.state c.bind_parts.new.self c.bind_parts-2.new.self c.in_ok-left.left c.in_ok-right.right c.in_ok-left_types.left_types.items c.in_ok-right_types.right_types.items (record { read = c.in_ok-one_more.ensures.counts; kept = c.one_more.ensures.scope; types = c.one_more.ensures.types }) (record { read = (subst (λ st. infer (generic_globals c.args.around.now.named.now) (variable_numbers c.args.around.now.variables.now) opaque st (in_scope c.one_more.new.self) c.one_more.new.self.counts (generic_tree c.args.around.now.named.now c.args.parts.left.0) ≡ Rattle.std.proofs.Common.Ok (forms_given c.infer.new.state c.in_ok-left.left, c.infer.new.state.counts)) c.standing_for.ensures c.in_ok-left.ensures.read); kept = c.in_ok-left.ensures.kept; met = c.in_ok-left.ensures.met }) (record { read = (subst (λ st. infer (generic_globals c.args.around.now.named.now) (variable_numbers c.args.around.now.variables.now) opaque st (in_scope c.infer.new.state) c.infer.new.state.counts (generic_tree c.args.around.now.named.now c.args.parts.right.0) ≡ Rattle.std.proofs.Common.Ok (forms_given c.infer-2.new.state c.in_ok-right.right, c.infer-2.new.state.counts)) c.standing_for-2.ensures c.in_ok-right.ensures.read); kept = c.in_ok-right.ensures.kept; met = c.in_ok-right.ensures.met }) (record { left = (walking.seen (λ z. Rattle.gib_check.specs.Faults.types_bound c.args.names.now.left.now z ≡ Rattle.std.proofs.Common.Ok (listed (forms c.infer-2.new.state) c.in_ok-left_types.left_types.items)) c.infer-2.new.state c.part.result (record { ty = c.in_ok-left.left; place = Rattle.gib_check.specs.Faults.place (generic_tree c.args.around.now.named.now c.args.parts.left.0) }) c.part.ensures c.in_ok-left_types.ensures.types); right = (walking.seen (λ z. Rattle.gib_check.specs.Faults.types_bound c.args.names.now.right.now z ≡ Rattle.std.proofs.Common.Ok (listed (forms c.infer-2.new.state) c.in_ok-right_types.right_types.items)) c.infer-2.new.state c.part-2.result (record { ty = c.in_ok-right.right; place = Rattle.gib_check.specs.Faults.place (generic_tree c.args.around.now.named.now c.args.parts.right.0) }) c.part-2.ensures c.in_ok-right_types.ensures.types) }) (record { read = (subst (λ is. Rattle.gib_check.specs.Faults.bind_parts 0 (in_scope c.infer-2.new.state) c.infer-2.new.state.counts c.args.names.now.left.now (listed (forms c.infer-2.new.state) is) ≡ Rattle.std.proofs.Common.Ok (in_scope c.bind_parts.new.self, c.bind_parts.new.self.counts)) c.deref.ensures.value c.in_ok-bind_parts.ensures.read); types = c.bind_parts.ensures.types }) (record { read = (subst (λ is. Rattle.gib_check.specs.Faults.bind_parts 0 (in_scope c.bind_parts.new.self) c.bind_parts.new.self.counts c.args.names.now.right.now (listed (forms c.bind_parts.new.self) is) ≡ Rattle.std.proofs.Common.Ok (in_scope c.bind_parts-2.new.self, c.bind_parts-2.new.self.counts)) c.deref-2.ensures.value c.in_ok-bind_parts-2.ensures.read); types = c.bind_parts-2.ensures.types })) c.in_err-given.ensures.read)
 
 pub par_several-returns-clause-read : goal.par_several-returns-clause-read
 par_several-returns-clause-read t c =
-    walking.sides_is c.args.named.now c.args.variables.now c.args.at.standing c.args.at.span c.args.names.now.left.now (generic_tree c.args.named.now c.args.parts.left.0) c.args.names.now.right.now (generic_tree c.args.named.now c.args.parts.right.0) (generic_tree c.args.named.now c.args.parts.body.0) c.args.state.now c.one_more.new.self c.infer.new.state c.infer-2.new.state c.bind_parts.new.self c.bind_parts-2.new.self c.in_ok-left.left c.in_ok-right.right c.in_ok-left_types.left_types.items c.in_ok-right_types.right_types.items (record { read = c.in_ok-one_more.ensures.counts; kept = c.one_more.ensures.scope; types = c.one_more.ensures.types }) (record { read = (subst (λ st. infer (generic_globals c.args.named.now) (variable_numbers c.args.variables.now) opaque st (in_scope c.one_more.new.self) c.one_more.new.self.counts (generic_tree c.args.named.now c.args.parts.left.0) ≡ Rattle.std.proofs.Common.Ok (forms_given c.infer.new.state c.in_ok-left.left, c.infer.new.state.counts)) c.standing_for.ensures c.in_ok-left.ensures.read); kept = c.in_ok-left.ensures.kept; met = c.in_ok-left.ensures.met }) (record { read = (subst (λ st. infer (generic_globals c.args.named.now) (variable_numbers c.args.variables.now) opaque st (in_scope c.infer.new.state) c.infer.new.state.counts (generic_tree c.args.named.now c.args.parts.right.0) ≡ Rattle.std.proofs.Common.Ok (forms_given c.infer-2.new.state c.in_ok-right.right, c.infer-2.new.state.counts)) c.standing_for-2.ensures c.in_ok-right.ensures.read); kept = c.in_ok-right.ensures.kept; met = c.in_ok-right.ensures.met }) (record { left = (walking.seen (λ z. Rattle.gib_check.specs.Faults.types_bound c.args.names.now.left.now z ≡ Rattle.std.proofs.Common.Ok (listed (forms c.infer-2.new.state) c.in_ok-left_types.left_types.items)) c.infer-2.new.state c.part.result (record { ty = c.in_ok-left.left; place = Rattle.gib_check.specs.Faults.place (generic_tree c.args.named.now c.args.parts.left.0) }) c.part.ensures c.in_ok-left_types.ensures.types); right = (walking.seen (λ z. Rattle.gib_check.specs.Faults.types_bound c.args.names.now.right.now z ≡ Rattle.std.proofs.Common.Ok (listed (forms c.infer-2.new.state) c.in_ok-right_types.right_types.items)) c.infer-2.new.state c.part-2.result (record { ty = c.in_ok-right.right; place = Rattle.gib_check.specs.Faults.place (generic_tree c.args.named.now c.args.parts.right.0) }) c.part-2.ensures c.in_ok-right_types.ensures.types) }) (record { read = (subst (λ is. Rattle.gib_check.specs.Faults.bind_parts 0 (in_scope c.infer-2.new.state) c.infer-2.new.state.counts c.args.names.now.left.now (listed (forms c.infer-2.new.state) is) ≡ Rattle.std.proofs.Common.Ok (in_scope c.bind_parts.new.self, c.bind_parts.new.self.counts)) c.deref.ensures.value c.in_ok-bind_parts.ensures.read); types = c.bind_parts.ensures.types }) (record { read = (subst (λ is. Rattle.gib_check.specs.Faults.bind_parts 0 (in_scope c.bind_parts.new.self) c.bind_parts.new.self.counts c.args.names.now.right.now (listed (forms c.bind_parts.new.self) is) ≡ Rattle.std.proofs.Common.Ok (in_scope c.bind_parts-2.new.self, c.bind_parts-2.new.self.counts)) c.deref-2.ensures.value c.in_ok-bind_parts-2.ensures.read); types = c.bind_parts-2.ensures.types })
+    walking.sides_is c.args.around.now.named.now c.args.around.now.variables.now c.args.at.standing c.args.at.span c.args.names.now.left.now (generic_tree c.args.around.now.named.now c.args.parts.left.0) c.args.names.now.right.now (generic_tree c.args.around.now.named.now c.args.parts.right.0) (generic_tree c.args.around.now.named.now c.args.parts.body.0) c.args.state.now c.one_more.new.self c.infer.new.state c.infer-2.new.state c.bind_parts.new.self c.bind_parts-2.new.self c.in_ok-left.left c.in_ok-right.right c.in_ok-left_types.left_types.items c.in_ok-right_types.right_types.items (record { read = c.in_ok-one_more.ensures.counts; kept = c.one_more.ensures.scope; types = c.one_more.ensures.types }) (record { read = (subst (λ st. infer (generic_globals c.args.around.now.named.now) (variable_numbers c.args.around.now.variables.now) opaque st (in_scope c.one_more.new.self) c.one_more.new.self.counts (generic_tree c.args.around.now.named.now c.args.parts.left.0) ≡ Rattle.std.proofs.Common.Ok (forms_given c.infer.new.state c.in_ok-left.left, c.infer.new.state.counts)) c.standing_for.ensures c.in_ok-left.ensures.read); kept = c.in_ok-left.ensures.kept; met = c.in_ok-left.ensures.met }) (record { read = (subst (λ st. infer (generic_globals c.args.around.now.named.now) (variable_numbers c.args.around.now.variables.now) opaque st (in_scope c.infer.new.state) c.infer.new.state.counts (generic_tree c.args.around.now.named.now c.args.parts.right.0) ≡ Rattle.std.proofs.Common.Ok (forms_given c.infer-2.new.state c.in_ok-right.right, c.infer-2.new.state.counts)) c.standing_for-2.ensures c.in_ok-right.ensures.read); kept = c.in_ok-right.ensures.kept; met = c.in_ok-right.ensures.met }) (record { left = (walking.seen (λ z. Rattle.gib_check.specs.Faults.types_bound c.args.names.now.left.now z ≡ Rattle.std.proofs.Common.Ok (listed (forms c.infer-2.new.state) c.in_ok-left_types.left_types.items)) c.infer-2.new.state c.part.result (record { ty = c.in_ok-left.left; place = Rattle.gib_check.specs.Faults.place (generic_tree c.args.around.now.named.now c.args.parts.left.0) }) c.part.ensures c.in_ok-left_types.ensures.types); right = (walking.seen (λ z. Rattle.gib_check.specs.Faults.types_bound c.args.names.now.right.now z ≡ Rattle.std.proofs.Common.Ok (listed (forms c.infer-2.new.state) c.in_ok-right_types.right_types.items)) c.infer-2.new.state c.part-2.result (record { ty = c.in_ok-right.right; place = Rattle.gib_check.specs.Faults.place (generic_tree c.args.around.now.named.now c.args.parts.right.0) }) c.part-2.ensures c.in_ok-right_types.ensures.types) }) (record { read = (subst (λ is. Rattle.gib_check.specs.Faults.bind_parts 0 (in_scope c.infer-2.new.state) c.infer-2.new.state.counts c.args.names.now.left.now (listed (forms c.infer-2.new.state) is) ≡ Rattle.std.proofs.Common.Ok (in_scope c.bind_parts.new.self, c.bind_parts.new.self.counts)) c.deref.ensures.value c.in_ok-bind_parts.ensures.read); types = c.bind_parts.ensures.types }) (record { read = (subst (λ is. Rattle.gib_check.specs.Faults.bind_parts 0 (in_scope c.bind_parts.new.self) c.bind_parts.new.self.counts c.args.names.now.right.now (listed (forms c.bind_parts.new.self) is) ≡ Rattle.std.proofs.Common.Ok (in_scope c.bind_parts-2.new.self, c.bind_parts-2.new.self.counts)) c.deref-2.ensures.value c.in_ok-bind_parts-2.ensures.read); types = c.bind_parts-2.ensures.types })
     ∙ c.in_ok-given.ensures.read
     ∙ answering.same_answer c.infer-3.new.state c.truncate.new.self c.in_ok-given.given (same_advance c.infer-3.new.state c.truncate.new.self c.truncate.ensures.types c.truncate.ensures.parts) c.in_ok-given.ensures.met.here c.truncate.ensures.counts
 
@@ -366,21 +377,21 @@ par_several-bind_parts-requires-2 t c =
 pub tuple-returns-in_err-may_stand-clause-read : goal.tuple-returns-in_err-may_stand-clause-read
 tuple-returns-in_err-may_stand-clause-read t c =
     let p = err_from_is_err_and c.from_residual-in_err-may_stand.result c.from_residual-in_err-may_stand.ensures.1 in
-    rw (p.1, p.2) (walking.tuple_stands c.args.named.now c.args.variables.now c.args.at.standing c.args.at.span (length c.args.ids.now) (λ n. Rattle.gib_check.specs.Faults.infer_all (generic_globals c.args.named.now) (variable_numbers c.args.variables.now) opaque (in_scope c.args.state.now) n (Rattle.gib_syntax.specs.GenericArena.arguments_from (generic_tree c.args.named.now) c.args.ids.now)) c.in_err-may_stand.field-0.0 c.args.state.now c.one_more.new.self (record { read = c.in_ok-one_more.ensures.counts; kept = c.one_more.ensures.scope; types = c.one_more.ensures.types }) c.in_err-may_stand.ensures)
+    rw (p.1, p.2) (walking.tuple_stands c.args.around.now.named.now c.args.around.now.variables.now c.args.at.standing c.args.at.span (length c.args.ids.now) (λ n. Rattle.gib_check.specs.Faults.infer_all (generic_globals c.args.around.now.named.now) (variable_numbers c.args.around.now.variables.now) opaque (in_scope c.args.state.now) n (Rattle.gib_syntax.specs.GenericArena.arguments_from (generic_tree c.args.around.now.named.now) c.args.ids.now)) c.in_err-may_stand.field-0.0 c.args.state.now c.one_more.new.self (record { read = c.in_ok-one_more.ensures.counts; kept = c.one_more.ensures.scope; types = c.one_more.ensures.types }) c.in_err-may_stand.ensures)
 
 pub tuple-returns-in_err-parts-clause-read : goal.tuple-returns-in_err-parts-clause-read
 tuple-returns-in_err-parts-clause-read t c =
     let p = err_from_is_err_and c.from_residual-in_err-parts.result c.from_residual-in_err-parts.ensures.1 in
-    rw (p.1, p.2) (walking.tuple_parts c.args.named.now c.args.variables.now c.args.at.standing c.args.at.span (length c.args.ids.now) (λ n. Rattle.gib_check.specs.Faults.infer_all (generic_globals c.args.named.now) (variable_numbers c.args.variables.now) opaque (in_scope c.args.state.now) n (Rattle.gib_syntax.specs.GenericArena.arguments_from (generic_tree c.args.named.now) c.args.ids.now)) c.in_err-parts.field-0.0 c.args.state.now c.one_more.new.self (record { read = c.in_ok-one_more.ensures.counts; kept = c.one_more.ensures.scope; types = c.one_more.ensures.types }) c.in_ok-may_stand.ensures (along c.in_err-parts.field-0.0 _ _ (answering.results_same c.args.named.now c.args.variables.now c.args.state.now c.one_more.new.self c.args.ids.now c.one_more.ensures.scope) c.in_err-parts.ensures.read))
+    rw (p.1, p.2) (walking.tuple_parts c.args.around.now.named.now c.args.around.now.variables.now c.args.at.standing c.args.at.span (length c.args.ids.now) (λ n. Rattle.gib_check.specs.Faults.infer_all (generic_globals c.args.around.now.named.now) (variable_numbers c.args.around.now.variables.now) opaque (in_scope c.args.state.now) n (Rattle.gib_syntax.specs.GenericArena.arguments_from (generic_tree c.args.around.now.named.now) c.args.ids.now)) c.in_err-parts.field-0.0 c.args.state.now c.one_more.new.self (record { read = c.in_ok-one_more.ensures.counts; kept = c.one_more.ensures.scope; types = c.one_more.ensures.types }) c.in_ok-may_stand.ensures (along c.in_err-parts.field-0.0 _ _ (answering.results_same c.args.around.now.named.now c.args.around.now.variables.now c.args.state.now c.one_more.new.self c.args.ids.now c.one_more.ensures.scope) c.in_err-parts.ensures.read))
 
 pub tuple-returns-in_err-types-clause-read : goal.tuple-returns-in_err-types-clause-read
 tuple-returns-in_err-types-clause-read t c =
     let p = err_from_is_err_and c.from_residual-in_err-types.result c.from_residual-in_err-types.ensures.1 in
-    rw (p.1, p.2) (walking.tuple_single c.args.named.now c.args.variables.now c.args.at.standing c.args.at.span (length c.args.ids.now) (λ n. Rattle.gib_check.specs.Faults.infer_all (generic_globals c.args.named.now) (variable_numbers c.args.variables.now) opaque (in_scope c.args.state.now) n (Rattle.gib_syntax.specs.GenericArena.arguments_from (generic_tree c.args.named.now) c.args.ids.now)) c.in_err-types.field-0.0 c.args.state.now c.one_more.new.self (parts_in c.arguments.new.state c.in_ok-parts.parts.items) c.arguments.new.state.counts (record { read = c.in_ok-one_more.ensures.counts; kept = c.one_more.ensures.scope; types = c.one_more.ensures.types }) c.in_ok-may_stand.ensures ((answering.results_same c.args.named.now c.args.variables.now c.args.state.now c.one_more.new.self c.args.ids.now c.one_more.ensures.scope) ∙ c.in_ok-parts.ensures.read) (subst (λ ps. Rattle.gib_check.specs.Answers.IsFaultOf c.in_err-types.field-0.0 (Rattle.gib_check.specs.Faults.all_single (parts_in c.arguments.new.state ps))) c.deref.ensures.value c.in_err-types.ensures.types))
+    rw (p.1, p.2) (walking.tuple_single c.args.around.now.named.now c.args.around.now.variables.now c.args.at.standing c.args.at.span (length c.args.ids.now) (λ n. Rattle.gib_check.specs.Faults.infer_all (generic_globals c.args.around.now.named.now) (variable_numbers c.args.around.now.variables.now) opaque (in_scope c.args.state.now) n (Rattle.gib_syntax.specs.GenericArena.arguments_from (generic_tree c.args.around.now.named.now) c.args.ids.now)) c.in_err-types.field-0.0 c.args.state.now c.one_more.new.self (parts_in c.arguments.new.state c.in_ok-parts.parts.items) c.arguments.new.state.counts (record { read = c.in_ok-one_more.ensures.counts; kept = c.one_more.ensures.scope; types = c.one_more.ensures.types }) c.in_ok-may_stand.ensures ((answering.results_same c.args.around.now.named.now c.args.around.now.variables.now c.args.state.now c.one_more.new.self c.args.ids.now c.one_more.ensures.scope) ∙ c.in_ok-parts.ensures.read) (subst (λ ps. Rattle.gib_check.specs.Answers.IsFaultOf c.in_err-types.field-0.0 (Rattle.gib_check.specs.Faults.all_single (parts_in c.arguments.new.state ps))) c.deref.ensures.value c.in_err-types.ensures.types))
 
 pub tuple-returns-clause-read : goal.tuple-returns-clause-read
 tuple-returns-clause-read t c =
-    walking.tuple_ok c.args.named.now c.args.variables.now c.args.at.standing c.args.at.span (length c.args.ids.now) (λ n. Rattle.gib_check.specs.Faults.infer_all (generic_globals c.args.named.now) (variable_numbers c.args.variables.now) opaque (in_scope c.args.state.now) n (Rattle.gib_syntax.specs.GenericArena.arguments_from (generic_tree c.args.named.now) c.args.ids.now)) c.args.state.now c.one_more.new.self (parts_in c.arguments.new.state c.in_ok-parts.parts.items) c.arguments.new.state.counts (listed (forms c.arguments.new.state) c.in_ok-types.types.items) (record { read = c.in_ok-one_more.ensures.counts; kept = c.one_more.ensures.scope; types = c.one_more.ensures.types }) c.in_ok-may_stand.ensures ((answering.results_same c.args.named.now c.args.variables.now c.args.state.now c.one_more.new.self c.args.ids.now c.one_more.ensures.scope) ∙ c.in_ok-parts.ensures.read) (subst (λ ps. Rattle.gib_check.specs.Faults.all_single (parts_in c.arguments.new.state ps) ≡ Rattle.std.proofs.Common.Ok (listed (forms c.arguments.new.state) c.in_ok-types.types.items)) c.deref.ensures.value c.in_ok-types.ensures.types)
+    walking.tuple_ok c.args.around.now.named.now c.args.around.now.variables.now c.args.at.standing c.args.at.span (length c.args.ids.now) (λ n. Rattle.gib_check.specs.Faults.infer_all (generic_globals c.args.around.now.named.now) (variable_numbers c.args.around.now.variables.now) opaque (in_scope c.args.state.now) n (Rattle.gib_syntax.specs.GenericArena.arguments_from (generic_tree c.args.around.now.named.now) c.args.ids.now)) c.args.state.now c.one_more.new.self (parts_in c.arguments.new.state c.in_ok-parts.parts.items) c.arguments.new.state.counts (listed (forms c.arguments.new.state) c.in_ok-types.types.items) (record { read = c.in_ok-one_more.ensures.counts; kept = c.one_more.ensures.scope; types = c.one_more.ensures.types }) c.in_ok-may_stand.ensures ((answering.results_same c.args.around.now.named.now c.args.around.now.variables.now c.args.state.now c.one_more.new.self c.args.ids.now c.one_more.ensures.scope) ∙ c.in_ok-parts.ensures.read) (subst (λ ps. Rattle.gib_check.specs.Faults.all_single (parts_in c.arguments.new.state ps) ≡ Rattle.std.proofs.Common.Ok (listed (forms c.arguments.new.state) c.in_ok-types.types.items)) c.deref.ensures.value c.in_ok-types.ensures.types)
     ∙ ap₂ answering.answer_of (sym (c.in_ok-given.ensures.forms ∙ ap (λ is. Several (listed (forms c.arguments.new.state) is)) c.deref-2.ensures.value)) (sym c.put_parts.ensures.counts)
 
 pub tuple-returns-clause-kept : goal.tuple-returns-clause-kept
@@ -402,35 +413,35 @@ tuple-put_parts-requires t c =
 pub call-returns-in_err-function-clause-read : goal.call-returns-in_err-function-clause-read
 call-returns-in_err-function-clause-read t c =
     let p = err_from_is_err_and c.from_residual-in_err-function.result c.from_residual-in_err-function.ensures.1 in
-    rw (p.1, p.2) (walking.call_function c.args.named.now c.args.variables.now c.args.called.name (types_in c.args.named.now.exprs.words c.args.called.types) (length c.args.ids.now) (λ n. Rattle.gib_check.specs.Faults.infer_all (generic_globals c.args.named.now) (variable_numbers c.args.variables.now) Rattle.gib_syntax.specs.GenericTyping.opaque (in_scope c.args.state.now) n (Rattle.gib_syntax.specs.GenericArena.arguments_from (generic_tree c.args.named.now) c.args.ids.now)) c.in_err-function.field-0.0 c.args.state.now c.one_more.new.self (record { read = c.in_ok-one_more.ensures.counts; kept = c.one_more.ensures.scope; types = c.one_more.ensures.types }) c.in_err-function.ensures)
+    rw (p.1, p.2) (walking.call_function c.args.around.now.named.now c.args.around.now.variables.now c.args.called.name (types_in c.args.around.now.named.now.exprs.words c.args.called.types) (length c.args.ids.now) (λ n. Rattle.gib_check.specs.Faults.infer_all (generic_globals c.args.around.now.named.now) (variable_numbers c.args.around.now.variables.now) Rattle.gib_syntax.specs.GenericTyping.opaque (in_scope c.args.state.now) n (Rattle.gib_syntax.specs.GenericArena.arguments_from (generic_tree c.args.around.now.named.now) c.args.ids.now)) c.in_err-function.field-0.0 c.args.state.now c.one_more.new.self (record { read = c.in_ok-one_more.ensures.counts; kept = c.one_more.ensures.scope; types = c.one_more.ensures.types }) c.in_err-function.ensures)
 
 pub call-returns-in_err-types-clause-read : goal.call-returns-in_err-types-clause-read
 call-returns-in_err-types-clause-read t c =
     let p = err_from_is_err_and c.from_residual-in_err-types.result c.from_residual-in_err-types.ensures.1 in
-    rw (p.1, p.2) (walking.call_arguments c.args.named.now c.args.variables.now c.args.called.name (types_in c.args.named.now.exprs.words c.args.called.types) (length c.args.ids.now) (λ n. Rattle.gib_check.specs.Faults.infer_all (generic_globals c.args.named.now) (variable_numbers c.args.variables.now) Rattle.gib_syntax.specs.GenericTyping.opaque (in_scope c.args.state.now) n (Rattle.gib_syntax.specs.GenericArena.arguments_from (generic_tree c.args.named.now) c.args.ids.now)) c.in_err-types.field-0.0 c.args.state.now c.one_more.new.self (Rattle.gib_syntax.specs.GenericParts.function_in c.args.named.now.exprs c.in_ok-function.function.now) (record { read = c.in_ok-one_more.ensures.counts; kept = c.one_more.ensures.scope; types = c.one_more.ensures.types }) c.in_ok-function.ensures (subst (λ n. Rattle.gib_check.specs.Answers.IsFaultOf c.in_err-types.field-0.0 (walking.use_types c.args.named.now c.args.variables.now c.args.called.name (types_in c.args.named.now.exprs.words c.args.called.types) (length c.args.ids.now) (λ n. Rattle.gib_check.specs.Faults.infer_all (generic_globals c.args.named.now) (variable_numbers c.args.variables.now) Rattle.gib_syntax.specs.GenericTyping.opaque (in_scope c.args.state.now) n (Rattle.gib_syntax.specs.GenericArena.arguments_from (generic_tree c.args.named.now) c.args.ids.now)) n)) (omega (Rattle.std.proofs.Common.arith, c.len-due.ensures, c.in_ok-function.function.now.variables.ok)) c.in_err-types.ensures.read))
+    rw (p.1, p.2) (walking.call_arguments c.args.around.now.named.now c.args.around.now.variables.now c.args.called.name (types_in c.args.around.now.named.now.exprs.words c.args.called.types) (length c.args.ids.now) (λ n. Rattle.gib_check.specs.Faults.infer_all (generic_globals c.args.around.now.named.now) (variable_numbers c.args.around.now.variables.now) Rattle.gib_syntax.specs.GenericTyping.opaque (in_scope c.args.state.now) n (Rattle.gib_syntax.specs.GenericArena.arguments_from (generic_tree c.args.around.now.named.now) c.args.ids.now)) c.in_err-types.field-0.0 c.args.state.now c.one_more.new.self (Rattle.gib_syntax.specs.GenericParts.function_in c.args.around.now.named.now.exprs c.in_ok-function.function.now) (record { read = c.in_ok-one_more.ensures.counts; kept = c.one_more.ensures.scope; types = c.one_more.ensures.types }) c.in_ok-function.ensures (subst (λ n. Rattle.gib_check.specs.Answers.IsFaultOf c.in_err-types.field-0.0 (walking.use_types c.args.around.now.named.now c.args.around.now.variables.now c.args.called.name (types_in c.args.around.now.named.now.exprs.words c.args.called.types) (length c.args.ids.now) (λ n. Rattle.gib_check.specs.Faults.infer_all (generic_globals c.args.around.now.named.now) (variable_numbers c.args.around.now.variables.now) Rattle.gib_syntax.specs.GenericTyping.opaque (in_scope c.args.state.now) n (Rattle.gib_syntax.specs.GenericArena.arguments_from (generic_tree c.args.around.now.named.now) c.args.ids.now)) n)) (omega (Rattle.std.proofs.Common.arith, c.len-due.ensures, c.in_ok-function.function.now.variables.ok)) c.in_err-types.ensures.read))
 
 pub call-returns-in_err-as_many-clause-read : goal.call-returns-in_err-as_many-clause-read
 call-returns-in_err-as_many-clause-read t c =
     let p = err_from_is_err_and c.from_residual-in_err-as_many.result c.from_residual-in_err-as_many.ensures.1 in
-    rw (p.1, p.2) (walking.call_count c.args.named.now c.args.variables.now c.args.called.name (types_in c.args.named.now.exprs.words c.args.called.types) (length c.args.ids.now) (λ n. Rattle.gib_check.specs.Faults.infer_all (generic_globals c.args.named.now) (variable_numbers c.args.variables.now) Rattle.gib_syntax.specs.GenericTyping.opaque (in_scope c.args.state.now) n (Rattle.gib_syntax.specs.GenericArena.arguments_from (generic_tree c.args.named.now) c.args.ids.now)) c.in_err-as_many.field-0.0 c.args.state.now c.one_more.new.self (Rattle.gib_syntax.specs.GenericParts.function_in c.args.named.now.exprs c.in_ok-function.function.now) (record { read = c.in_ok-one_more.ensures.counts; kept = c.one_more.ensures.scope; types = c.one_more.ensures.types }) c.in_ok-function.ensures (subst (λ n. walking.use_types c.args.named.now c.args.variables.now c.args.called.name (types_in c.args.named.now.exprs.words c.args.called.types) (length c.args.ids.now) (λ n. Rattle.gib_check.specs.Faults.infer_all (generic_globals c.args.named.now) (variable_numbers c.args.variables.now) Rattle.gib_syntax.specs.GenericTyping.opaque (in_scope c.args.state.now) n (Rattle.gib_syntax.specs.GenericArena.arguments_from (generic_tree c.args.named.now) c.args.ids.now)) n ≡ Rattle.std.proofs.Common.Ok (tt {0})) (omega (Rattle.std.proofs.Common.arith, c.len-due.ensures, c.in_ok-function.function.now.variables.ok)) c.in_ok-types.ensures.read) (answering.counted_as (λ z. Rattle.gib_check.specs.Answers.IsFaultOf c.in_err-as_many.field-0.0 (z)) c.args.called.name (length c.args.ids.now) c.len.result (length c.args.ids.now) (length (Rattle.gib_syntax.specs.GenericParts.function_in c.args.named.now.exprs c.in_ok-function.function.now).parameters) refl (answering.mapped_length c.args.named.now.exprs.words c.len.result c.in_ok-function.function.now.parameters.items (omega (Rattle.std.proofs.Common.arith, c.len.ensures, c.in_ok-function.function.now.parameters.ok))) c.in_err-as_many.ensures))
+    rw (p.1, p.2) (walking.call_count c.args.around.now.named.now c.args.around.now.variables.now c.args.called.name (types_in c.args.around.now.named.now.exprs.words c.args.called.types) (length c.args.ids.now) (λ n. Rattle.gib_check.specs.Faults.infer_all (generic_globals c.args.around.now.named.now) (variable_numbers c.args.around.now.variables.now) Rattle.gib_syntax.specs.GenericTyping.opaque (in_scope c.args.state.now) n (Rattle.gib_syntax.specs.GenericArena.arguments_from (generic_tree c.args.around.now.named.now) c.args.ids.now)) c.in_err-as_many.field-0.0 c.args.state.now c.one_more.new.self (Rattle.gib_syntax.specs.GenericParts.function_in c.args.around.now.named.now.exprs c.in_ok-function.function.now) (record { read = c.in_ok-one_more.ensures.counts; kept = c.one_more.ensures.scope; types = c.one_more.ensures.types }) c.in_ok-function.ensures (subst (λ n. walking.use_types c.args.around.now.named.now c.args.around.now.variables.now c.args.called.name (types_in c.args.around.now.named.now.exprs.words c.args.called.types) (length c.args.ids.now) (λ n. Rattle.gib_check.specs.Faults.infer_all (generic_globals c.args.around.now.named.now) (variable_numbers c.args.around.now.variables.now) Rattle.gib_syntax.specs.GenericTyping.opaque (in_scope c.args.state.now) n (Rattle.gib_syntax.specs.GenericArena.arguments_from (generic_tree c.args.around.now.named.now) c.args.ids.now)) n ≡ Rattle.std.proofs.Common.Ok (tt {0})) (omega (Rattle.std.proofs.Common.arith, c.len-due.ensures, c.in_ok-function.function.now.variables.ok)) c.in_ok-types.ensures.read) (answering.counted_as (λ z. Rattle.gib_check.specs.Answers.IsFaultOf c.in_err-as_many.field-0.0 (z)) c.args.called.name (length c.args.ids.now) c.len.result (length c.args.ids.now) (length (Rattle.gib_syntax.specs.GenericParts.function_in c.args.around.now.named.now.exprs c.in_ok-function.function.now).parameters) refl (answering.mapped_length c.args.around.now.named.now.exprs.words c.len.result c.in_ok-function.function.now.parameters.items (omega (Rattle.std.proofs.Common.arith, c.len.ensures, c.in_ok-function.function.now.parameters.ok))) c.in_err-as_many.ensures))
 
 pub call-returns-in_err-parts-clause-read : goal.call-returns-in_err-parts-clause-read
 call-returns-in_err-parts-clause-read t c =
     let p = err_from_is_err_and c.from_residual-in_err-parts.result c.from_residual-in_err-parts.ensures.1 in
-    rw (p.1, p.2) (walking.call_parts c.args.named.now c.args.variables.now c.args.called.name (types_in c.args.named.now.exprs.words c.args.called.types) (length c.args.ids.now) (λ n. Rattle.gib_check.specs.Faults.infer_all (generic_globals c.args.named.now) (variable_numbers c.args.variables.now) Rattle.gib_syntax.specs.GenericTyping.opaque (in_scope c.args.state.now) n (Rattle.gib_syntax.specs.GenericArena.arguments_from (generic_tree c.args.named.now) c.args.ids.now)) c.in_err-parts.field-0.0 c.args.state.now c.one_more.new.self (Rattle.gib_syntax.specs.GenericParts.function_in c.args.named.now.exprs c.in_ok-function.function.now) (record { read = c.in_ok-one_more.ensures.counts; kept = c.one_more.ensures.scope; types = c.one_more.ensures.types }) c.in_ok-function.ensures (subst (λ n. walking.use_types c.args.named.now c.args.variables.now c.args.called.name (types_in c.args.named.now.exprs.words c.args.called.types) (length c.args.ids.now) (λ n. Rattle.gib_check.specs.Faults.infer_all (generic_globals c.args.named.now) (variable_numbers c.args.variables.now) Rattle.gib_syntax.specs.GenericTyping.opaque (in_scope c.args.state.now) n (Rattle.gib_syntax.specs.GenericArena.arguments_from (generic_tree c.args.named.now) c.args.ids.now)) n ≡ Rattle.std.proofs.Common.Ok (tt {0})) (omega (Rattle.std.proofs.Common.arith, c.len-due.ensures, c.in_ok-function.function.now.variables.ok)) c.in_ok-types.ensures.read) (answering.counted_as (λ z. z ≡ Rattle.std.proofs.Common.Ok (tt {0})) c.args.called.name (length c.args.ids.now) c.len.result (length c.args.ids.now) (length (Rattle.gib_syntax.specs.GenericParts.function_in c.args.named.now.exprs c.in_ok-function.function.now).parameters) refl (answering.mapped_length c.args.named.now.exprs.words c.len.result c.in_ok-function.function.now.parameters.items (omega (Rattle.std.proofs.Common.arith, c.len.ensures, c.in_ok-function.function.now.parameters.ok))) c.in_ok-as_many.ensures) (Rattle.gib_check.proofs.Loops.along c.in_err-parts.field-0.0 _ _ (answering.results_moved c.args.named.now c.args.variables.now c.args.state.now c.one_more.new.self c.type_arguments.new.state c.args.ids.now c.type_arguments.ensures.keeps c.one_more.ensures.scope) c.in_err-parts.ensures.read))
+    rw (p.1, p.2) (walking.call_parts c.args.around.now.named.now c.args.around.now.variables.now c.args.called.name (types_in c.args.around.now.named.now.exprs.words c.args.called.types) (length c.args.ids.now) (λ n. Rattle.gib_check.specs.Faults.infer_all (generic_globals c.args.around.now.named.now) (variable_numbers c.args.around.now.variables.now) Rattle.gib_syntax.specs.GenericTyping.opaque (in_scope c.args.state.now) n (Rattle.gib_syntax.specs.GenericArena.arguments_from (generic_tree c.args.around.now.named.now) c.args.ids.now)) c.in_err-parts.field-0.0 c.args.state.now c.one_more.new.self (Rattle.gib_syntax.specs.GenericParts.function_in c.args.around.now.named.now.exprs c.in_ok-function.function.now) (record { read = c.in_ok-one_more.ensures.counts; kept = c.one_more.ensures.scope; types = c.one_more.ensures.types }) c.in_ok-function.ensures (subst (λ n. walking.use_types c.args.around.now.named.now c.args.around.now.variables.now c.args.called.name (types_in c.args.around.now.named.now.exprs.words c.args.called.types) (length c.args.ids.now) (λ n. Rattle.gib_check.specs.Faults.infer_all (generic_globals c.args.around.now.named.now) (variable_numbers c.args.around.now.variables.now) Rattle.gib_syntax.specs.GenericTyping.opaque (in_scope c.args.state.now) n (Rattle.gib_syntax.specs.GenericArena.arguments_from (generic_tree c.args.around.now.named.now) c.args.ids.now)) n ≡ Rattle.std.proofs.Common.Ok (tt {0})) (omega (Rattle.std.proofs.Common.arith, c.len-due.ensures, c.in_ok-function.function.now.variables.ok)) c.in_ok-types.ensures.read) (answering.counted_as (λ z. z ≡ Rattle.std.proofs.Common.Ok (tt {0})) c.args.called.name (length c.args.ids.now) c.len.result (length c.args.ids.now) (length (Rattle.gib_syntax.specs.GenericParts.function_in c.args.around.now.named.now.exprs c.in_ok-function.function.now).parameters) refl (answering.mapped_length c.args.around.now.named.now.exprs.words c.len.result c.in_ok-function.function.now.parameters.items (omega (Rattle.std.proofs.Common.arith, c.len.ensures, c.in_ok-function.function.now.parameters.ok))) c.in_ok-as_many.ensures) (Rattle.gib_check.proofs.Loops.along c.in_err-parts.field-0.0 _ _ (answering.results_moved c.args.around.now.named.now c.args.around.now.variables.now c.args.state.now c.one_more.new.self c.type_arguments.new.state c.args.ids.now c.type_arguments.ensures.keeps c.one_more.ensures.scope) c.in_err-parts.ensures.read))
 
 pub call-returns-in_err-all_wanted-clause-read : goal.call-returns-in_err-all_wanted-clause-read
 call-returns-in_err-all_wanted-clause-read t c =
     let p = err_from_is_err_and c.from_residual-in_err-all_wanted.result c.from_residual-in_err-all_wanted.ensures.1 in
-    rw (p.1, p.2) (walking.call_shape c.args.named.now c.args.variables.now c.args.called.name (types_in c.args.named.now.exprs.words c.args.called.types) (length c.args.ids.now) (λ n. Rattle.gib_check.specs.Faults.infer_all (generic_globals c.args.named.now) (variable_numbers c.args.variables.now) Rattle.gib_syntax.specs.GenericTyping.opaque (in_scope c.args.state.now) n (Rattle.gib_syntax.specs.GenericArena.arguments_from (generic_tree c.args.named.now) c.args.ids.now)) c.in_err-all_wanted.field-0.0 c.args.state.now c.one_more.new.self (Rattle.gib_syntax.specs.GenericParts.function_in c.args.named.now.exprs c.in_ok-function.function.now) (parts_in c.arguments.new.state c.in_ok-parts.parts.items) (parts_in c.parameter_types.new.state c.deref-4.result.now) (listed (forms c.parameter_types.new.state) c.deref-5.result.now) c.arguments.new.state.counts (record { read = c.in_ok-one_more.ensures.counts; kept = c.one_more.ensures.scope; types = c.one_more.ensures.types }) c.in_ok-function.ensures (subst (λ n. walking.use_types c.args.named.now c.args.variables.now c.args.called.name (types_in c.args.named.now.exprs.words c.args.called.types) (length c.args.ids.now) (λ n. Rattle.gib_check.specs.Faults.infer_all (generic_globals c.args.named.now) (variable_numbers c.args.variables.now) Rattle.gib_syntax.specs.GenericTyping.opaque (in_scope c.args.state.now) n (Rattle.gib_syntax.specs.GenericArena.arguments_from (generic_tree c.args.named.now) c.args.ids.now)) n ≡ Rattle.std.proofs.Common.Ok (tt {0})) (omega (Rattle.std.proofs.Common.arith, c.len-due.ensures, c.in_ok-function.function.now.variables.ok)) c.in_ok-types.ensures.read) (answering.counted_as (λ z. z ≡ Rattle.std.proofs.Common.Ok (tt {0})) c.args.called.name (length c.args.ids.now) c.len.result (length c.args.ids.now) (length (Rattle.gib_syntax.specs.GenericParts.function_in c.args.named.now.exprs c.in_ok-function.function.now).parameters) refl (answering.mapped_length c.args.named.now.exprs.words c.len.result c.in_ok-function.function.now.parameters.items (omega (Rattle.std.proofs.Common.arith, c.len.ensures, c.in_ok-function.function.now.parameters.ok))) c.in_ok-as_many.ensures) ((answering.results_moved c.args.named.now c.args.variables.now c.args.state.now c.one_more.new.self c.type_arguments.new.state c.args.ids.now c.type_arguments.ensures.keeps c.one_more.ensures.scope) ∙ c.in_ok-parts.ensures.read) (ap (parts_in c.parameter_types.new.state) c.deref-4.ensures.value ∙ parts_grow c.arguments.new.state c.parameter_types.new.state c.in_ok-parts.parts.items (keeps_advance c.arguments.new.state c.parameter_types.new.state c.in_ok-wanted_types.ensures.keeps) c.in_ok-parts.ensures.met.here) (ap (listed (forms c.parameter_types.new.state)) c.deref-5.ensures.value ∙ c.in_ok-wanted_types.ensures.types ∙ answering.parameters_are c.args.named.now.exprs.words c.in_ok-function.function.now.parameters.items c.deref-3.result.now (Rattle.gib_syntax.specs.GenericParts.function_in c.args.named.now.exprs c.in_ok-function.function.now).variables (Rattle.gib_check.specs.Judging.meant_by (forms c.arguments.new.state) c.in_ok-meaning.meaning) _ (Rattle.gib_syntax.specs.Forms.formed_all Rattle.gib_syntax.specs.GenericTyping.opaque (types_in c.args.named.now.exprs.words c.args.called.types)) c.deref-3.ensures.value (c.in_ok-meaning.ensures.meant ∙ ap (λ vs. Rattle.gib_syntax.specs.Forms.assign vs (Rattle.gib_types.specs.Types.forms_at (forms c.arguments.new.state) c.deref-2.result.now)) c.deref.ensures.value) (ap (Rattle.gib_types.specs.Types.forms_at (forms c.arguments.new.state)) c.deref-2.ensures.value ∙ (answering.given_types c.type_arguments.new.state c.arguments.new.state c.in_ok-types.types.items (types_in c.args.named.now.exprs.words c.args.called.types) c.in_ok-types.ensures.types c.in_ok-parts.ensures.met.advances.types c.in_ok-types.ensures.below))) c.in_err-all_wanted.ensures)
+    rw (p.1, p.2) (walking.call_shape c.args.around.now.named.now c.args.around.now.variables.now c.args.called.name (types_in c.args.around.now.named.now.exprs.words c.args.called.types) (length c.args.ids.now) (λ n. Rattle.gib_check.specs.Faults.infer_all (generic_globals c.args.around.now.named.now) (variable_numbers c.args.around.now.variables.now) Rattle.gib_syntax.specs.GenericTyping.opaque (in_scope c.args.state.now) n (Rattle.gib_syntax.specs.GenericArena.arguments_from (generic_tree c.args.around.now.named.now) c.args.ids.now)) c.in_err-all_wanted.field-0.0 c.args.state.now c.one_more.new.self (Rattle.gib_syntax.specs.GenericParts.function_in c.args.around.now.named.now.exprs c.in_ok-function.function.now) (parts_in c.arguments.new.state c.in_ok-parts.parts.items) (parts_in c.parameter_types.new.state c.deref-4.result.now) (listed (forms c.parameter_types.new.state) c.deref-5.result.now) c.arguments.new.state.counts (record { read = c.in_ok-one_more.ensures.counts; kept = c.one_more.ensures.scope; types = c.one_more.ensures.types }) c.in_ok-function.ensures (subst (λ n. walking.use_types c.args.around.now.named.now c.args.around.now.variables.now c.args.called.name (types_in c.args.around.now.named.now.exprs.words c.args.called.types) (length c.args.ids.now) (λ n. Rattle.gib_check.specs.Faults.infer_all (generic_globals c.args.around.now.named.now) (variable_numbers c.args.around.now.variables.now) Rattle.gib_syntax.specs.GenericTyping.opaque (in_scope c.args.state.now) n (Rattle.gib_syntax.specs.GenericArena.arguments_from (generic_tree c.args.around.now.named.now) c.args.ids.now)) n ≡ Rattle.std.proofs.Common.Ok (tt {0})) (omega (Rattle.std.proofs.Common.arith, c.len-due.ensures, c.in_ok-function.function.now.variables.ok)) c.in_ok-types.ensures.read) (answering.counted_as (λ z. z ≡ Rattle.std.proofs.Common.Ok (tt {0})) c.args.called.name (length c.args.ids.now) c.len.result (length c.args.ids.now) (length (Rattle.gib_syntax.specs.GenericParts.function_in c.args.around.now.named.now.exprs c.in_ok-function.function.now).parameters) refl (answering.mapped_length c.args.around.now.named.now.exprs.words c.len.result c.in_ok-function.function.now.parameters.items (omega (Rattle.std.proofs.Common.arith, c.len.ensures, c.in_ok-function.function.now.parameters.ok))) c.in_ok-as_many.ensures) ((answering.results_moved c.args.around.now.named.now c.args.around.now.variables.now c.args.state.now c.one_more.new.self c.type_arguments.new.state c.args.ids.now c.type_arguments.ensures.keeps c.one_more.ensures.scope) ∙ c.in_ok-parts.ensures.read) (ap (parts_in c.parameter_types.new.state) c.deref-4.ensures.value ∙ parts_grow c.arguments.new.state c.parameter_types.new.state c.in_ok-parts.parts.items (keeps_advance c.arguments.new.state c.parameter_types.new.state c.in_ok-wanted_types.ensures.keeps) c.in_ok-parts.ensures.met.here) (ap (listed (forms c.parameter_types.new.state)) c.deref-5.ensures.value ∙ c.in_ok-wanted_types.ensures.types ∙ answering.parameters_are c.args.around.now.named.now.exprs.words c.in_ok-function.function.now.parameters.items c.deref-3.result.now (Rattle.gib_syntax.specs.GenericParts.function_in c.args.around.now.named.now.exprs c.in_ok-function.function.now).variables (Rattle.gib_check.specs.Judging.meant_by (forms c.arguments.new.state) c.in_ok-meaning.meaning) _ (Rattle.gib_syntax.specs.Forms.formed_all Rattle.gib_syntax.specs.GenericTyping.opaque (types_in c.args.around.now.named.now.exprs.words c.args.called.types)) c.deref-3.ensures.value (c.in_ok-meaning.ensures.meant ∙ ap (λ vs. Rattle.gib_syntax.specs.Forms.assign vs (Rattle.gib_types.specs.Types.forms_at (forms c.arguments.new.state) c.deref-2.result.now)) c.deref.ensures.value) (ap (Rattle.gib_types.specs.Types.forms_at (forms c.arguments.new.state)) c.deref-2.ensures.value ∙ (answering.given_types c.type_arguments.new.state c.arguments.new.state c.in_ok-types.types.items (types_in c.args.around.now.named.now.exprs.words c.args.called.types) c.in_ok-types.ensures.types c.in_ok-parts.ensures.met.advances.types c.in_ok-types.ensures.below))) c.in_err-all_wanted.ensures)
 
 pub call-returns-clause-read : goal.call-returns-clause-read
 call-returns-clause-read t c =
-    walking.call_ok c.args.named.now c.args.variables.now c.args.called.name (types_in c.args.named.now.exprs.words c.args.called.types) (length c.args.ids.now) (λ n. Rattle.gib_check.specs.Faults.infer_all (generic_globals c.args.named.now) (variable_numbers c.args.variables.now) Rattle.gib_syntax.specs.GenericTyping.opaque (in_scope c.args.state.now) n (Rattle.gib_syntax.specs.GenericArena.arguments_from (generic_tree c.args.named.now) c.args.ids.now)) c.args.state.now c.one_more.new.self (Rattle.gib_syntax.specs.GenericParts.function_in c.args.named.now.exprs c.in_ok-function.function.now) (parts_in c.arguments.new.state c.in_ok-parts.parts.items) (parts_in c.parameter_types.new.state c.deref-4.result.now) (listed (forms c.parameter_types.new.state) c.deref-5.result.now) c.arguments.new.state.counts (record { read = c.in_ok-one_more.ensures.counts; kept = c.one_more.ensures.scope; types = c.one_more.ensures.types }) c.in_ok-function.ensures (subst (λ n. walking.use_types c.args.named.now c.args.variables.now c.args.called.name (types_in c.args.named.now.exprs.words c.args.called.types) (length c.args.ids.now) (λ n. Rattle.gib_check.specs.Faults.infer_all (generic_globals c.args.named.now) (variable_numbers c.args.variables.now) Rattle.gib_syntax.specs.GenericTyping.opaque (in_scope c.args.state.now) n (Rattle.gib_syntax.specs.GenericArena.arguments_from (generic_tree c.args.named.now) c.args.ids.now)) n ≡ Rattle.std.proofs.Common.Ok (tt {0})) (omega (Rattle.std.proofs.Common.arith, c.len-due.ensures, c.in_ok-function.function.now.variables.ok)) c.in_ok-types.ensures.read) (answering.counted_as (λ z. z ≡ Rattle.std.proofs.Common.Ok (tt {0})) c.args.called.name (length c.args.ids.now) c.len.result (length c.args.ids.now) (length (Rattle.gib_syntax.specs.GenericParts.function_in c.args.named.now.exprs c.in_ok-function.function.now).parameters) refl (answering.mapped_length c.args.named.now.exprs.words c.len.result c.in_ok-function.function.now.parameters.items (omega (Rattle.std.proofs.Common.arith, c.len.ensures, c.in_ok-function.function.now.parameters.ok))) c.in_ok-as_many.ensures) ((answering.results_moved c.args.named.now c.args.variables.now c.args.state.now c.one_more.new.self c.type_arguments.new.state c.args.ids.now c.type_arguments.ensures.keeps c.one_more.ensures.scope) ∙ c.in_ok-parts.ensures.read)
+    walking.call_ok c.args.around.now.named.now c.args.around.now.variables.now c.args.called.name (types_in c.args.around.now.named.now.exprs.words c.args.called.types) (length c.args.ids.now) (λ n. Rattle.gib_check.specs.Faults.infer_all (generic_globals c.args.around.now.named.now) (variable_numbers c.args.around.now.variables.now) Rattle.gib_syntax.specs.GenericTyping.opaque (in_scope c.args.state.now) n (Rattle.gib_syntax.specs.GenericArena.arguments_from (generic_tree c.args.around.now.named.now) c.args.ids.now)) c.args.state.now c.one_more.new.self (Rattle.gib_syntax.specs.GenericParts.function_in c.args.around.now.named.now.exprs c.in_ok-function.function.now) (parts_in c.arguments.new.state c.in_ok-parts.parts.items) (parts_in c.parameter_types.new.state c.deref-4.result.now) (listed (forms c.parameter_types.new.state) c.deref-5.result.now) c.arguments.new.state.counts (record { read = c.in_ok-one_more.ensures.counts; kept = c.one_more.ensures.scope; types = c.one_more.ensures.types }) c.in_ok-function.ensures (subst (λ n. walking.use_types c.args.around.now.named.now c.args.around.now.variables.now c.args.called.name (types_in c.args.around.now.named.now.exprs.words c.args.called.types) (length c.args.ids.now) (λ n. Rattle.gib_check.specs.Faults.infer_all (generic_globals c.args.around.now.named.now) (variable_numbers c.args.around.now.variables.now) Rattle.gib_syntax.specs.GenericTyping.opaque (in_scope c.args.state.now) n (Rattle.gib_syntax.specs.GenericArena.arguments_from (generic_tree c.args.around.now.named.now) c.args.ids.now)) n ≡ Rattle.std.proofs.Common.Ok (tt {0})) (omega (Rattle.std.proofs.Common.arith, c.len-due.ensures, c.in_ok-function.function.now.variables.ok)) c.in_ok-types.ensures.read) (answering.counted_as (λ z. z ≡ Rattle.std.proofs.Common.Ok (tt {0})) c.args.called.name (length c.args.ids.now) c.len.result (length c.args.ids.now) (length (Rattle.gib_syntax.specs.GenericParts.function_in c.args.around.now.named.now.exprs c.in_ok-function.function.now).parameters) refl (answering.mapped_length c.args.around.now.named.now.exprs.words c.len.result c.in_ok-function.function.now.parameters.items (omega (Rattle.std.proofs.Common.arith, c.len.ensures, c.in_ok-function.function.now.parameters.ok))) c.in_ok-as_many.ensures) ((answering.results_moved c.args.around.now.named.now c.args.around.now.variables.now c.args.state.now c.one_more.new.self c.type_arguments.new.state c.args.ids.now c.type_arguments.ensures.keeps c.one_more.ensures.scope) ∙ c.in_ok-parts.ensures.read)
     (ap (parts_in c.parameter_types.new.state) c.deref-4.ensures.value ∙ parts_grow c.arguments.new.state c.parameter_types.new.state c.in_ok-parts.parts.items (keeps_advance c.arguments.new.state c.parameter_types.new.state c.in_ok-wanted_types.ensures.keeps) c.in_ok-parts.ensures.met.here)
-    (ap (listed (forms c.parameter_types.new.state)) c.deref-5.ensures.value ∙ c.in_ok-wanted_types.ensures.types ∙ answering.parameters_are c.args.named.now.exprs.words c.in_ok-function.function.now.parameters.items c.deref-3.result.now (Rattle.gib_syntax.specs.GenericParts.function_in c.args.named.now.exprs c.in_ok-function.function.now).variables (Rattle.gib_check.specs.Judging.meant_by (forms c.arguments.new.state) c.in_ok-meaning.meaning) _ (Rattle.gib_syntax.specs.Forms.formed_all Rattle.gib_syntax.specs.GenericTyping.opaque (types_in c.args.named.now.exprs.words c.args.called.types)) c.deref-3.ensures.value (c.in_ok-meaning.ensures.meant ∙ ap (λ vs. Rattle.gib_syntax.specs.Forms.assign vs (Rattle.gib_types.specs.Types.forms_at (forms c.arguments.new.state) c.deref-2.result.now)) c.deref.ensures.value) (ap (Rattle.gib_types.specs.Types.forms_at (forms c.arguments.new.state)) c.deref-2.ensures.value ∙ (answering.given_types c.type_arguments.new.state c.arguments.new.state c.in_ok-types.types.items (types_in c.args.named.now.exprs.words c.args.called.types) c.in_ok-types.ensures.types c.in_ok-parts.ensures.met.advances.types c.in_ok-types.ensures.below)))
+    (ap (listed (forms c.parameter_types.new.state)) c.deref-5.ensures.value ∙ c.in_ok-wanted_types.ensures.types ∙ answering.parameters_are c.args.around.now.named.now.exprs.words c.in_ok-function.function.now.parameters.items c.deref-3.result.now (Rattle.gib_syntax.specs.GenericParts.function_in c.args.around.now.named.now.exprs c.in_ok-function.function.now).variables (Rattle.gib_check.specs.Judging.meant_by (forms c.arguments.new.state) c.in_ok-meaning.meaning) _ (Rattle.gib_syntax.specs.Forms.formed_all Rattle.gib_syntax.specs.GenericTyping.opaque (types_in c.args.around.now.named.now.exprs.words c.args.called.types)) c.deref-3.ensures.value (c.in_ok-meaning.ensures.meant ∙ ap (λ vs. Rattle.gib_syntax.specs.Forms.assign vs (Rattle.gib_types.specs.Types.forms_at (forms c.arguments.new.state) c.deref-2.result.now)) c.deref.ensures.value) (ap (Rattle.gib_types.specs.Types.forms_at (forms c.arguments.new.state)) c.deref-2.ensures.value ∙ (answering.given_types c.type_arguments.new.state c.arguments.new.state c.in_ok-types.types.items (types_in c.args.around.now.named.now.exprs.words c.args.called.types) c.in_ok-types.ensures.types c.in_ok-parts.ensures.met.advances.types c.in_ok-types.ensures.below)))
     c.in_ok-all_wanted.ensures
-    ∙ answering.call_answer c.arguments.new.state c.parameter_types.new.state c.result_types.new.state c.in_ok-given.given _ _ _ (Rattle.gib_syntax.specs.GenericParts.results_in c.args.named.now.exprs.words c.in_ok-function.function.now.result) c.in_ok-given.ensures.forms (answering.meant_later c.arguments.new.state c.parameter_types.new.state c.in_ok-meaning.meaning (Rattle.gib_syntax.specs.GenericParts.function_in c.args.named.now.exprs c.in_ok-function.function.now).variables c.deref.result.now c.in_ok-types.types.items c.deref-2.result.now (Rattle.gib_syntax.specs.Forms.formed_all Rattle.gib_syntax.specs.GenericTyping.opaque (types_in c.args.named.now.exprs.words c.args.called.types)) c.in_ok-meaning.ensures.meant c.deref.ensures.value c.deref-2.ensures.value (answering.given_types c.type_arguments.new.state c.arguments.new.state c.in_ok-types.types.items (types_in c.args.named.now.exprs.words c.args.called.types) c.in_ok-types.ensures.types c.in_ok-parts.ensures.met.advances.types c.in_ok-types.ensures.below) c.in_ok-wanted_types.ensures.keeps.grows c.in_ok-meaning.ensures.below)
+    ∙ answering.call_answer c.arguments.new.state c.parameter_types.new.state c.result_types.new.state c.in_ok-given.given _ _ _ (Rattle.gib_syntax.specs.GenericParts.results_in c.args.around.now.named.now.exprs.words c.in_ok-function.function.now.result) c.in_ok-given.ensures.forms (answering.meant_later c.arguments.new.state c.parameter_types.new.state c.in_ok-meaning.meaning (Rattle.gib_syntax.specs.GenericParts.function_in c.args.around.now.named.now.exprs c.in_ok-function.function.now).variables c.deref.result.now c.in_ok-types.types.items c.deref-2.result.now (Rattle.gib_syntax.specs.Forms.formed_all Rattle.gib_syntax.specs.GenericTyping.opaque (types_in c.args.around.now.named.now.exprs.words c.args.called.types)) c.in_ok-meaning.ensures.meant c.deref.ensures.value c.deref-2.ensures.value (answering.given_types c.type_arguments.new.state c.arguments.new.state c.in_ok-types.types.items (types_in c.args.around.now.named.now.exprs.words c.args.called.types) c.in_ok-types.ensures.types c.in_ok-parts.ensures.met.advances.types c.in_ok-types.ensures.below) c.in_ok-wanted_types.ensures.keeps.grows c.in_ok-meaning.ensures.below)
     refl c.in_ok-wanted_types.ensures.keeps.counts c.in_ok-given.ensures.counts
 
 pub call-given-requires : goal.call-given-requires
@@ -447,35 +458,35 @@ call-all_wanted-requires-clause-due t c =
 pub make-returns-in_err-row-clause-read : goal.make-returns-in_err-row-clause-read
 make-returns-in_err-row-clause-read t c =
     let p = err_from_is_err_and c.from_residual-in_err-row.result c.from_residual-in_err-row.ensures.1 in
-    rw (p.1, p.2) (walking.make_constructor c.args.named.now c.args.variables.now c.args.made.name (types_in c.args.named.now.exprs.words c.args.made.types) (length c.args.ids.now) (λ n. Rattle.gib_check.specs.Faults.infer_all (generic_globals c.args.named.now) (variable_numbers c.args.variables.now) Rattle.gib_syntax.specs.GenericTyping.opaque (in_scope c.args.state.now) n (Rattle.gib_syntax.specs.GenericArena.arguments_from (generic_tree c.args.named.now) c.args.ids.now)) c.in_err-row.field-0.0 c.args.state.now c.one_more.new.self (record { read = c.in_ok-one_more.ensures.counts; kept = c.one_more.ensures.scope; types = c.one_more.ensures.types }) c.in_err-row.ensures.row)
+    rw (p.1, p.2) (walking.make_constructor c.args.around.now.named.now c.args.around.now.variables.now c.args.made.name (types_in c.args.around.now.named.now.exprs.words c.args.made.types) (length c.args.ids.now) (λ n. Rattle.gib_check.specs.Faults.infer_all (generic_globals c.args.around.now.named.now) (variable_numbers c.args.around.now.variables.now) Rattle.gib_syntax.specs.GenericTyping.opaque (in_scope c.args.state.now) n (Rattle.gib_syntax.specs.GenericArena.arguments_from (generic_tree c.args.around.now.named.now) c.args.ids.now)) c.in_err-row.field-0.0 c.args.state.now c.one_more.new.self (record { read = c.in_ok-one_more.ensures.counts; kept = c.one_more.ensures.scope; types = c.one_more.ensures.types }) c.in_err-row.ensures.row)
 
 pub make-returns-in_err-types-clause-read : goal.make-returns-in_err-types-clause-read
 make-returns-in_err-types-clause-read t c =
     let p = err_from_is_err_and c.from_residual-in_err-types.result c.from_residual-in_err-types.ensures.1 in
-    rw (p.1, p.2) (walking.make_arguments c.args.named.now c.args.variables.now c.args.made.name (types_in c.args.named.now.exprs.words c.args.made.types) (length c.args.ids.now) (λ n. Rattle.gib_check.specs.Faults.infer_all (generic_globals c.args.named.now) (variable_numbers c.args.variables.now) Rattle.gib_syntax.specs.GenericTyping.opaque (in_scope c.args.state.now) n (Rattle.gib_syntax.specs.GenericArena.arguments_from (generic_tree c.args.named.now) c.args.ids.now)) c.in_err-types.field-0.0 c.args.state.now c.one_more.new.self (Rattle.gib_check.specs.NameViews.row_in c.args.named.now c.in_ok-row.row) (record { read = c.in_ok-one_more.ensures.counts; kept = c.one_more.ensures.scope; types = c.one_more.ensures.types }) c.in_ok-row.ensures.row (subst (λ n. Rattle.gib_check.specs.Answers.IsFaultOf c.in_err-types.field-0.0 (walking.use_types c.args.named.now c.args.variables.now c.args.made.name (types_in c.args.named.now.exprs.words c.args.made.types) (length c.args.ids.now) (λ n. Rattle.gib_check.specs.Faults.infer_all (generic_globals c.args.named.now) (variable_numbers c.args.variables.now) Rattle.gib_syntax.specs.GenericTyping.opaque (in_scope c.args.state.now) n (Rattle.gib_syntax.specs.GenericArena.arguments_from (generic_tree c.args.named.now) c.args.ids.now)) n)) (ap length c.variables-due.ensures) c.in_err-types.ensures.read))
+    rw (p.1, p.2) (walking.make_arguments c.args.around.now.named.now c.args.around.now.variables.now c.args.made.name (types_in c.args.around.now.named.now.exprs.words c.args.made.types) (length c.args.ids.now) (λ n. Rattle.gib_check.specs.Faults.infer_all (generic_globals c.args.around.now.named.now) (variable_numbers c.args.around.now.variables.now) Rattle.gib_syntax.specs.GenericTyping.opaque (in_scope c.args.state.now) n (Rattle.gib_syntax.specs.GenericArena.arguments_from (generic_tree c.args.around.now.named.now) c.args.ids.now)) c.in_err-types.field-0.0 c.args.state.now c.one_more.new.self (Rattle.gib_check.specs.NameViews.row_in c.args.around.now.named.now c.in_ok-row.row) (record { read = c.in_ok-one_more.ensures.counts; kept = c.one_more.ensures.scope; types = c.one_more.ensures.types }) c.in_ok-row.ensures.row (subst (λ n. Rattle.gib_check.specs.Answers.IsFaultOf c.in_err-types.field-0.0 (walking.use_types c.args.around.now.named.now c.args.around.now.variables.now c.args.made.name (types_in c.args.around.now.named.now.exprs.words c.args.made.types) (length c.args.ids.now) (λ n. Rattle.gib_check.specs.Faults.infer_all (generic_globals c.args.around.now.named.now) (variable_numbers c.args.around.now.variables.now) Rattle.gib_syntax.specs.GenericTyping.opaque (in_scope c.args.state.now) n (Rattle.gib_syntax.specs.GenericArena.arguments_from (generic_tree c.args.around.now.named.now) c.args.ids.now)) n)) (ap length c.variables-due.ensures) c.in_err-types.ensures.read))
 
 pub make-returns-in_err-as_many-clause-read : goal.make-returns-in_err-as_many-clause-read
 make-returns-in_err-as_many-clause-read t c =
     let p = err_from_is_err_and c.from_residual-in_err-as_many.result c.from_residual-in_err-as_many.ensures.1 in
-    rw (p.1, p.2) (walking.make_count c.args.named.now c.args.variables.now c.args.made.name (types_in c.args.named.now.exprs.words c.args.made.types) (length c.args.ids.now) (λ n. Rattle.gib_check.specs.Faults.infer_all (generic_globals c.args.named.now) (variable_numbers c.args.variables.now) Rattle.gib_syntax.specs.GenericTyping.opaque (in_scope c.args.state.now) n (Rattle.gib_syntax.specs.GenericArena.arguments_from (generic_tree c.args.named.now) c.args.ids.now)) c.in_err-as_many.field-0.0 c.args.state.now c.one_more.new.self (Rattle.gib_check.specs.NameViews.row_in c.args.named.now c.in_ok-row.row) (record { read = c.in_ok-one_more.ensures.counts; kept = c.one_more.ensures.scope; types = c.one_more.ensures.types }) c.in_ok-row.ensures.row (subst (λ n. walking.use_types c.args.named.now c.args.variables.now c.args.made.name (types_in c.args.named.now.exprs.words c.args.made.types) (length c.args.ids.now) (λ n. Rattle.gib_check.specs.Faults.infer_all (generic_globals c.args.named.now) (variable_numbers c.args.variables.now) Rattle.gib_syntax.specs.GenericTyping.opaque (in_scope c.args.state.now) n (Rattle.gib_syntax.specs.GenericArena.arguments_from (generic_tree c.args.named.now) c.args.ids.now)) n ≡ Rattle.std.proofs.Common.Ok (tt {0})) (ap length c.variables-due.ensures) c.in_ok-types.ensures.read) (answering.counted_as (λ z. Rattle.gib_check.specs.Answers.IsFaultOf c.in_err-as_many.field-0.0 (z)) c.args.made.name (length c.args.ids.now) c.in_ok-row.row.count (length c.args.ids.now) (length (Rattle.gib_check.specs.NameViews.row_in c.args.named.now c.in_ok-row.row).fields) refl c.in_ok-row.ensures.count c.in_err-as_many.ensures))
+    rw (p.1, p.2) (walking.make_count c.args.around.now.named.now c.args.around.now.variables.now c.args.made.name (types_in c.args.around.now.named.now.exprs.words c.args.made.types) (length c.args.ids.now) (λ n. Rattle.gib_check.specs.Faults.infer_all (generic_globals c.args.around.now.named.now) (variable_numbers c.args.around.now.variables.now) Rattle.gib_syntax.specs.GenericTyping.opaque (in_scope c.args.state.now) n (Rattle.gib_syntax.specs.GenericArena.arguments_from (generic_tree c.args.around.now.named.now) c.args.ids.now)) c.in_err-as_many.field-0.0 c.args.state.now c.one_more.new.self (Rattle.gib_check.specs.NameViews.row_in c.args.around.now.named.now c.in_ok-row.row) (record { read = c.in_ok-one_more.ensures.counts; kept = c.one_more.ensures.scope; types = c.one_more.ensures.types }) c.in_ok-row.ensures.row (subst (λ n. walking.use_types c.args.around.now.named.now c.args.around.now.variables.now c.args.made.name (types_in c.args.around.now.named.now.exprs.words c.args.made.types) (length c.args.ids.now) (λ n. Rattle.gib_check.specs.Faults.infer_all (generic_globals c.args.around.now.named.now) (variable_numbers c.args.around.now.variables.now) Rattle.gib_syntax.specs.GenericTyping.opaque (in_scope c.args.state.now) n (Rattle.gib_syntax.specs.GenericArena.arguments_from (generic_tree c.args.around.now.named.now) c.args.ids.now)) n ≡ Rattle.std.proofs.Common.Ok (tt {0})) (ap length c.variables-due.ensures) c.in_ok-types.ensures.read) (answering.counted_as (λ z. Rattle.gib_check.specs.Answers.IsFaultOf c.in_err-as_many.field-0.0 (z)) c.args.made.name (length c.args.ids.now) c.in_ok-row.row.count (length c.args.ids.now) (length (Rattle.gib_check.specs.NameViews.row_in c.args.around.now.named.now c.in_ok-row.row).fields) refl c.in_ok-row.ensures.count c.in_err-as_many.ensures))
 
 pub make-returns-in_err-parts-clause-read : goal.make-returns-in_err-parts-clause-read
 make-returns-in_err-parts-clause-read t c =
     let p = err_from_is_err_and c.from_residual-in_err-parts.result c.from_residual-in_err-parts.ensures.1 in
-    rw (p.1, p.2) (walking.make_parts c.args.named.now c.args.variables.now c.args.made.name (types_in c.args.named.now.exprs.words c.args.made.types) (length c.args.ids.now) (λ n. Rattle.gib_check.specs.Faults.infer_all (generic_globals c.args.named.now) (variable_numbers c.args.variables.now) Rattle.gib_syntax.specs.GenericTyping.opaque (in_scope c.args.state.now) n (Rattle.gib_syntax.specs.GenericArena.arguments_from (generic_tree c.args.named.now) c.args.ids.now)) c.in_err-parts.field-0.0 c.args.state.now c.one_more.new.self (Rattle.gib_check.specs.NameViews.row_in c.args.named.now c.in_ok-row.row) (record { read = c.in_ok-one_more.ensures.counts; kept = c.one_more.ensures.scope; types = c.one_more.ensures.types }) c.in_ok-row.ensures.row (subst (λ n. walking.use_types c.args.named.now c.args.variables.now c.args.made.name (types_in c.args.named.now.exprs.words c.args.made.types) (length c.args.ids.now) (λ n. Rattle.gib_check.specs.Faults.infer_all (generic_globals c.args.named.now) (variable_numbers c.args.variables.now) Rattle.gib_syntax.specs.GenericTyping.opaque (in_scope c.args.state.now) n (Rattle.gib_syntax.specs.GenericArena.arguments_from (generic_tree c.args.named.now) c.args.ids.now)) n ≡ Rattle.std.proofs.Common.Ok (tt {0})) (ap length c.variables-due.ensures) c.in_ok-types.ensures.read) (answering.counted_as (λ z. z ≡ Rattle.std.proofs.Common.Ok (tt {0})) c.args.made.name (length c.args.ids.now) c.in_ok-row.row.count (length c.args.ids.now) (length (Rattle.gib_check.specs.NameViews.row_in c.args.named.now c.in_ok-row.row).fields) refl c.in_ok-row.ensures.count c.in_ok-as_many.ensures) (Rattle.gib_check.proofs.Loops.along c.in_err-parts.field-0.0 _ _ (answering.results_moved c.args.named.now c.args.variables.now c.args.state.now c.one_more.new.self c.type_arguments.new.state c.args.ids.now c.type_arguments.ensures.keeps c.one_more.ensures.scope) c.in_err-parts.ensures.read))
+    rw (p.1, p.2) (walking.make_parts c.args.around.now.named.now c.args.around.now.variables.now c.args.made.name (types_in c.args.around.now.named.now.exprs.words c.args.made.types) (length c.args.ids.now) (λ n. Rattle.gib_check.specs.Faults.infer_all (generic_globals c.args.around.now.named.now) (variable_numbers c.args.around.now.variables.now) Rattle.gib_syntax.specs.GenericTyping.opaque (in_scope c.args.state.now) n (Rattle.gib_syntax.specs.GenericArena.arguments_from (generic_tree c.args.around.now.named.now) c.args.ids.now)) c.in_err-parts.field-0.0 c.args.state.now c.one_more.new.self (Rattle.gib_check.specs.NameViews.row_in c.args.around.now.named.now c.in_ok-row.row) (record { read = c.in_ok-one_more.ensures.counts; kept = c.one_more.ensures.scope; types = c.one_more.ensures.types }) c.in_ok-row.ensures.row (subst (λ n. walking.use_types c.args.around.now.named.now c.args.around.now.variables.now c.args.made.name (types_in c.args.around.now.named.now.exprs.words c.args.made.types) (length c.args.ids.now) (λ n. Rattle.gib_check.specs.Faults.infer_all (generic_globals c.args.around.now.named.now) (variable_numbers c.args.around.now.variables.now) Rattle.gib_syntax.specs.GenericTyping.opaque (in_scope c.args.state.now) n (Rattle.gib_syntax.specs.GenericArena.arguments_from (generic_tree c.args.around.now.named.now) c.args.ids.now)) n ≡ Rattle.std.proofs.Common.Ok (tt {0})) (ap length c.variables-due.ensures) c.in_ok-types.ensures.read) (answering.counted_as (λ z. z ≡ Rattle.std.proofs.Common.Ok (tt {0})) c.args.made.name (length c.args.ids.now) c.in_ok-row.row.count (length c.args.ids.now) (length (Rattle.gib_check.specs.NameViews.row_in c.args.around.now.named.now c.in_ok-row.row).fields) refl c.in_ok-row.ensures.count c.in_ok-as_many.ensures) (Rattle.gib_check.proofs.Loops.along c.in_err-parts.field-0.0 _ _ (answering.results_moved c.args.around.now.named.now c.args.around.now.variables.now c.args.state.now c.one_more.new.self c.type_arguments.new.state c.args.ids.now c.type_arguments.ensures.keeps c.one_more.ensures.scope) c.in_err-parts.ensures.read))
 
 pub make-returns-in_err-all_wanted-clause-read : goal.make-returns-in_err-all_wanted-clause-read
 make-returns-in_err-all_wanted-clause-read t c =
     let p = err_from_is_err_and c.from_residual-in_err-all_wanted.result c.from_residual-in_err-all_wanted.ensures.1 in
-    rw (p.1, p.2) (walking.make_shape c.args.named.now c.args.variables.now c.args.made.name (types_in c.args.named.now.exprs.words c.args.made.types) (length c.args.ids.now) (λ n. Rattle.gib_check.specs.Faults.infer_all (generic_globals c.args.named.now) (variable_numbers c.args.variables.now) Rattle.gib_syntax.specs.GenericTyping.opaque (in_scope c.args.state.now) n (Rattle.gib_syntax.specs.GenericArena.arguments_from (generic_tree c.args.named.now) c.args.ids.now)) c.in_err-all_wanted.field-0.0 c.args.state.now c.one_more.new.self (Rattle.gib_check.specs.NameViews.row_in c.args.named.now c.in_ok-row.row) (parts_in c.arguments.new.state c.in_ok-parts.parts.items) (parts_in c.row_fields.new.state c.deref-2.result.now) (listed (forms c.row_fields.new.state) c.deref-3.result.now) c.arguments.new.state.counts (record { read = c.in_ok-one_more.ensures.counts; kept = c.one_more.ensures.scope; types = c.one_more.ensures.types }) c.in_ok-row.ensures.row (subst (λ n. walking.use_types c.args.named.now c.args.variables.now c.args.made.name (types_in c.args.named.now.exprs.words c.args.made.types) (length c.args.ids.now) (λ n. Rattle.gib_check.specs.Faults.infer_all (generic_globals c.args.named.now) (variable_numbers c.args.variables.now) Rattle.gib_syntax.specs.GenericTyping.opaque (in_scope c.args.state.now) n (Rattle.gib_syntax.specs.GenericArena.arguments_from (generic_tree c.args.named.now) c.args.ids.now)) n ≡ Rattle.std.proofs.Common.Ok (tt {0})) (ap length c.variables-due.ensures) c.in_ok-types.ensures.read) (answering.counted_as (λ z. z ≡ Rattle.std.proofs.Common.Ok (tt {0})) c.args.made.name (length c.args.ids.now) c.in_ok-row.row.count (length c.args.ids.now) (length (Rattle.gib_check.specs.NameViews.row_in c.args.named.now c.in_ok-row.row).fields) refl c.in_ok-row.ensures.count c.in_ok-as_many.ensures) ((answering.results_moved c.args.named.now c.args.variables.now c.args.state.now c.one_more.new.self c.type_arguments.new.state c.args.ids.now c.type_arguments.ensures.keeps c.one_more.ensures.scope) ∙ c.in_ok-parts.ensures.read) (ap (parts_in c.row_fields.new.state) c.deref-2.ensures.value ∙ parts_grow c.arguments.new.state c.row_fields.new.state c.in_ok-parts.parts.items (keeps_advance c.arguments.new.state c.row_fields.new.state c.row_fields.ensures.keeps) c.in_ok-parts.ensures.met.here) (ap (listed (forms c.row_fields.new.state)) c.deref-3.ensures.value ∙ c.in_ok-fields.ensures.types ∙ ap (Rattle.gib_syntax.specs.GenericTyping.field_forms (Rattle.gib_check.specs.NameViews.row_in c.args.named.now c.in_ok-row.row)) (ap (Rattle.gib_types.specs.Types.forms_at (forms c.arguments.new.state)) c.deref.ensures.value ∙ (answering.given_types c.type_arguments.new.state c.arguments.new.state c.in_ok-types.types.items (types_in c.args.named.now.exprs.words c.args.made.types) c.in_ok-types.ensures.types c.in_ok-parts.ensures.met.advances.types c.in_ok-types.ensures.below))) c.in_err-all_wanted.ensures)
+    rw (p.1, p.2) (walking.make_shape c.args.around.now.named.now c.args.around.now.variables.now c.args.made.name (types_in c.args.around.now.named.now.exprs.words c.args.made.types) (length c.args.ids.now) (λ n. Rattle.gib_check.specs.Faults.infer_all (generic_globals c.args.around.now.named.now) (variable_numbers c.args.around.now.variables.now) Rattle.gib_syntax.specs.GenericTyping.opaque (in_scope c.args.state.now) n (Rattle.gib_syntax.specs.GenericArena.arguments_from (generic_tree c.args.around.now.named.now) c.args.ids.now)) c.in_err-all_wanted.field-0.0 c.args.state.now c.one_more.new.self (Rattle.gib_check.specs.NameViews.row_in c.args.around.now.named.now c.in_ok-row.row) (parts_in c.arguments.new.state c.in_ok-parts.parts.items) (parts_in c.row_fields.new.state c.deref-2.result.now) (listed (forms c.row_fields.new.state) c.deref-3.result.now) c.arguments.new.state.counts (record { read = c.in_ok-one_more.ensures.counts; kept = c.one_more.ensures.scope; types = c.one_more.ensures.types }) c.in_ok-row.ensures.row (subst (λ n. walking.use_types c.args.around.now.named.now c.args.around.now.variables.now c.args.made.name (types_in c.args.around.now.named.now.exprs.words c.args.made.types) (length c.args.ids.now) (λ n. Rattle.gib_check.specs.Faults.infer_all (generic_globals c.args.around.now.named.now) (variable_numbers c.args.around.now.variables.now) Rattle.gib_syntax.specs.GenericTyping.opaque (in_scope c.args.state.now) n (Rattle.gib_syntax.specs.GenericArena.arguments_from (generic_tree c.args.around.now.named.now) c.args.ids.now)) n ≡ Rattle.std.proofs.Common.Ok (tt {0})) (ap length c.variables-due.ensures) c.in_ok-types.ensures.read) (answering.counted_as (λ z. z ≡ Rattle.std.proofs.Common.Ok (tt {0})) c.args.made.name (length c.args.ids.now) c.in_ok-row.row.count (length c.args.ids.now) (length (Rattle.gib_check.specs.NameViews.row_in c.args.around.now.named.now c.in_ok-row.row).fields) refl c.in_ok-row.ensures.count c.in_ok-as_many.ensures) ((answering.results_moved c.args.around.now.named.now c.args.around.now.variables.now c.args.state.now c.one_more.new.self c.type_arguments.new.state c.args.ids.now c.type_arguments.ensures.keeps c.one_more.ensures.scope) ∙ c.in_ok-parts.ensures.read) (ap (parts_in c.row_fields.new.state) c.deref-2.ensures.value ∙ parts_grow c.arguments.new.state c.row_fields.new.state c.in_ok-parts.parts.items (keeps_advance c.arguments.new.state c.row_fields.new.state c.row_fields.ensures.keeps) c.in_ok-parts.ensures.met.here) (ap (listed (forms c.row_fields.new.state)) c.deref-3.ensures.value ∙ c.in_ok-fields.ensures.types ∙ ap (Rattle.gib_syntax.specs.GenericTyping.field_forms (Rattle.gib_check.specs.NameViews.row_in c.args.around.now.named.now c.in_ok-row.row)) (ap (Rattle.gib_types.specs.Types.forms_at (forms c.arguments.new.state)) c.deref.ensures.value ∙ (answering.given_types c.type_arguments.new.state c.arguments.new.state c.in_ok-types.types.items (types_in c.args.around.now.named.now.exprs.words c.args.made.types) c.in_ok-types.ensures.types c.in_ok-parts.ensures.met.advances.types c.in_ok-types.ensures.below))) c.in_err-all_wanted.ensures)
 
 pub make-returns-clause-read : goal.make-returns-clause-read
 make-returns-clause-read t c =
-    walking.make_ok c.args.named.now c.args.variables.now c.args.made.name (types_in c.args.named.now.exprs.words c.args.made.types) (length c.args.ids.now) (λ n. Rattle.gib_check.specs.Faults.infer_all (generic_globals c.args.named.now) (variable_numbers c.args.variables.now) Rattle.gib_syntax.specs.GenericTyping.opaque (in_scope c.args.state.now) n (Rattle.gib_syntax.specs.GenericArena.arguments_from (generic_tree c.args.named.now) c.args.ids.now)) c.args.state.now c.one_more.new.self (Rattle.gib_check.specs.NameViews.row_in c.args.named.now c.in_ok-row.row) (parts_in c.arguments.new.state c.in_ok-parts.parts.items) (parts_in c.row_fields.new.state c.deref-2.result.now) (listed (forms c.row_fields.new.state) c.deref-3.result.now) c.arguments.new.state.counts (record { read = c.in_ok-one_more.ensures.counts; kept = c.one_more.ensures.scope; types = c.one_more.ensures.types }) c.in_ok-row.ensures.row (subst (λ n. walking.use_types c.args.named.now c.args.variables.now c.args.made.name (types_in c.args.named.now.exprs.words c.args.made.types) (length c.args.ids.now) (λ n. Rattle.gib_check.specs.Faults.infer_all (generic_globals c.args.named.now) (variable_numbers c.args.variables.now) Rattle.gib_syntax.specs.GenericTyping.opaque (in_scope c.args.state.now) n (Rattle.gib_syntax.specs.GenericArena.arguments_from (generic_tree c.args.named.now) c.args.ids.now)) n ≡ Rattle.std.proofs.Common.Ok (tt {0})) (ap length c.variables-due.ensures) c.in_ok-types.ensures.read) (answering.counted_as (λ z. z ≡ Rattle.std.proofs.Common.Ok (tt {0})) c.args.made.name (length c.args.ids.now) c.in_ok-row.row.count (length c.args.ids.now) (length (Rattle.gib_check.specs.NameViews.row_in c.args.named.now c.in_ok-row.row).fields) refl c.in_ok-row.ensures.count c.in_ok-as_many.ensures) ((answering.results_moved c.args.named.now c.args.variables.now c.args.state.now c.one_more.new.self c.type_arguments.new.state c.args.ids.now c.type_arguments.ensures.keeps c.one_more.ensures.scope) ∙ c.in_ok-parts.ensures.read)
+    walking.make_ok c.args.around.now.named.now c.args.around.now.variables.now c.args.made.name (types_in c.args.around.now.named.now.exprs.words c.args.made.types) (length c.args.ids.now) (λ n. Rattle.gib_check.specs.Faults.infer_all (generic_globals c.args.around.now.named.now) (variable_numbers c.args.around.now.variables.now) Rattle.gib_syntax.specs.GenericTyping.opaque (in_scope c.args.state.now) n (Rattle.gib_syntax.specs.GenericArena.arguments_from (generic_tree c.args.around.now.named.now) c.args.ids.now)) c.args.state.now c.one_more.new.self (Rattle.gib_check.specs.NameViews.row_in c.args.around.now.named.now c.in_ok-row.row) (parts_in c.arguments.new.state c.in_ok-parts.parts.items) (parts_in c.row_fields.new.state c.deref-2.result.now) (listed (forms c.row_fields.new.state) c.deref-3.result.now) c.arguments.new.state.counts (record { read = c.in_ok-one_more.ensures.counts; kept = c.one_more.ensures.scope; types = c.one_more.ensures.types }) c.in_ok-row.ensures.row (subst (λ n. walking.use_types c.args.around.now.named.now c.args.around.now.variables.now c.args.made.name (types_in c.args.around.now.named.now.exprs.words c.args.made.types) (length c.args.ids.now) (λ n. Rattle.gib_check.specs.Faults.infer_all (generic_globals c.args.around.now.named.now) (variable_numbers c.args.around.now.variables.now) Rattle.gib_syntax.specs.GenericTyping.opaque (in_scope c.args.state.now) n (Rattle.gib_syntax.specs.GenericArena.arguments_from (generic_tree c.args.around.now.named.now) c.args.ids.now)) n ≡ Rattle.std.proofs.Common.Ok (tt {0})) (ap length c.variables-due.ensures) c.in_ok-types.ensures.read) (answering.counted_as (λ z. z ≡ Rattle.std.proofs.Common.Ok (tt {0})) c.args.made.name (length c.args.ids.now) c.in_ok-row.row.count (length c.args.ids.now) (length (Rattle.gib_check.specs.NameViews.row_in c.args.around.now.named.now c.in_ok-row.row).fields) refl c.in_ok-row.ensures.count c.in_ok-as_many.ensures) ((answering.results_moved c.args.around.now.named.now c.args.around.now.variables.now c.args.state.now c.one_more.new.self c.type_arguments.new.state c.args.ids.now c.type_arguments.ensures.keeps c.one_more.ensures.scope) ∙ c.in_ok-parts.ensures.read)
     (ap (parts_in c.row_fields.new.state) c.deref-2.ensures.value ∙ parts_grow c.arguments.new.state c.row_fields.new.state c.in_ok-parts.parts.items (keeps_advance c.arguments.new.state c.row_fields.new.state c.row_fields.ensures.keeps) c.in_ok-parts.ensures.met.here)
-    (ap (listed (forms c.row_fields.new.state)) c.deref-3.ensures.value ∙ c.in_ok-fields.ensures.types ∙ ap (Rattle.gib_syntax.specs.GenericTyping.field_forms (Rattle.gib_check.specs.NameViews.row_in c.args.named.now c.in_ok-row.row)) (ap (Rattle.gib_types.specs.Types.forms_at (forms c.arguments.new.state)) c.deref.ensures.value ∙ (answering.given_types c.type_arguments.new.state c.arguments.new.state c.in_ok-types.types.items (types_in c.args.named.now.exprs.words c.args.made.types) c.in_ok-types.ensures.types c.in_ok-parts.ensures.met.advances.types c.in_ok-types.ensures.below)))
+    (ap (listed (forms c.row_fields.new.state)) c.deref-3.ensures.value ∙ c.in_ok-fields.ensures.types ∙ ap (Rattle.gib_syntax.specs.GenericTyping.field_forms (Rattle.gib_check.specs.NameViews.row_in c.args.around.now.named.now c.in_ok-row.row)) (ap (Rattle.gib_types.specs.Types.forms_at (forms c.arguments.new.state)) c.deref.ensures.value ∙ (answering.given_types c.type_arguments.new.state c.arguments.new.state c.in_ok-types.types.items (types_in c.args.around.now.named.now.exprs.words c.args.made.types) c.in_ok-types.ensures.types c.in_ok-parts.ensures.met.advances.types c.in_ok-types.ensures.below)))
     c.in_ok-all_wanted.ensures
-    ∙ answering.make_answer c.arguments.new.state c.put.new.self c.in_ok-ty.ty _ c.arguments.new.state.counts (c.in_ok-ty.ensures.met.form ∙ ap (Rattle.gib_types.specs.Form.DataForm c.in_ok-row.row.owner.0) (Rattle.gib_check.proofs.Growing.forms_grow c.arguments.new.state.types c.row_fields.new.state.types c.in_ok-types.types.items c.row_fields.ensures.keeps.grows (Rattle.gib_check.proofs.Growing.below_more (length c.type_arguments.new.state.types) (length c.arguments.new.state.types) c.in_ok-types.types.items c.in_ok-parts.ensures.met.advances.types.longer c.in_ok-types.ensures.below) ∙ (answering.given_types c.type_arguments.new.state c.arguments.new.state c.in_ok-types.types.items (types_in c.args.named.now.exprs.words c.args.made.types) c.in_ok-types.ensures.types c.in_ok-parts.ensures.met.advances.types c.in_ok-types.ensures.below))) (c.put.ensures.keeps.counts ∙ c.row_fields.ensures.keeps.counts)
+    ∙ answering.make_answer c.arguments.new.state c.put.new.self c.in_ok-ty.ty _ c.arguments.new.state.counts (c.in_ok-ty.ensures.met.form ∙ ap (Rattle.gib_types.specs.Form.DataForm c.in_ok-row.row.owner.0) (Rattle.gib_check.proofs.Growing.forms_grow c.arguments.new.state.types c.row_fields.new.state.types c.in_ok-types.types.items c.row_fields.ensures.keeps.grows (Rattle.gib_check.proofs.Growing.below_more (length c.type_arguments.new.state.types) (length c.arguments.new.state.types) c.in_ok-types.types.items c.in_ok-parts.ensures.met.advances.types.longer c.in_ok-types.ensures.below) ∙ (answering.given_types c.type_arguments.new.state c.arguments.new.state c.in_ok-types.types.items (types_in c.args.around.now.named.now.exprs.words c.args.made.types) c.in_ok-types.ensures.types c.in_ok-parts.ensures.met.advances.types c.in_ok-types.ensures.below))) (c.put.ensures.keeps.counts ∙ c.row_fields.ensures.keeps.counts)
 
 pub make-row_fields-requires : goal.make-row_fields-requires
 make-row_fields-requires t c = subst (Rattle.gib_types.specs.Types.AreBelow (length c.arguments.new.state.types)) (sym c.deref.ensures.value) (Rattle.gib_check.proofs.Growing.below_more (length c.type_arguments.new.state.types) (length c.arguments.new.state.types) c.in_ok-types.types.items c.in_ok-parts.ensures.met.advances.types.longer c.in_ok-types.ensures.below)
@@ -512,16 +523,16 @@ call-result_types-requires t c = Rattle.gib_check.proofs.Loops.meaning_more (len
 pub arm_result-returns-in_err-bind_all-clause-read : goal.arm_result-returns-in_err-bind_all-clause-read
 arm_result-returns-in_err-bind_all-clause-read t c =
     let p = err_from_is_err_and c.from_residual-in_err-bind_all.result c.from_residual-in_err-bind_all.ensures.1 in
-    rw (p.1, p.2) (answering.arm_fails c.args.named.now c.args.variables.now c.args.at.standing (Rattle.gib_types.specs.Types.forms_at (forms c.args.state.now) c.args.types.now) c.args.arm.now.constructor c.args.arm.now.variables.items (generic_tree c.args.named.now c.args.arm.now.body.0) c.in_err-bind_all.field-0.0 c.args.state.now c.fields_named.new.state c.deref.result.now (Rattle.gib_check.specs.Judging.listed (forms c.fields_named.new.state) c.deref-2.result.now) c.fields_named.ensures.keeps c.deref.ensures.value (ap (Rattle.gib_check.specs.Judging.listed (forms c.fields_named.new.state)) c.deref-2.ensures.value ∙ c.in_ok-fields.ensures.types) c.in_err-bind_all.ensures.read)
+    rw (p.1, p.2) (answering.arm_fails c.args.around.now.named.now c.args.around.now.variables.now c.args.at.standing (Rattle.gib_types.specs.Types.forms_at (forms c.args.state.now) c.args.types.now) c.args.arm.now.constructor c.args.arm.now.variables.items (generic_tree c.args.around.now.named.now c.args.arm.now.body.0) c.in_err-bind_all.field-0.0 c.args.state.now c.fields_named.new.state c.deref.result.now (Rattle.gib_check.specs.Judging.listed (forms c.fields_named.new.state) c.deref-2.result.now) c.fields_named.ensures.keeps c.deref.ensures.value (ap (Rattle.gib_check.specs.Judging.listed (forms c.fields_named.new.state)) c.deref-2.ensures.value ∙ c.in_ok-fields.ensures.types) c.in_err-bind_all.ensures.read)
 
 pub arm_result-returns-in_err-given-clause-read : goal.arm_result-returns-in_err-given-clause-read
 arm_result-returns-in_err-given-clause-read t c =
     let p = err_from_is_err_and c.from_residual-in_err-given.result c.from_residual-in_err-given.ensures.1 in
-    rw (p.1, p.2) (Rattle.gib_check.proofs.Loops.along c.in_err-given.field-0.0 _ _ (answering.arm_is c.args.named.now c.args.variables.now c.args.at.standing (Rattle.gib_types.specs.Types.forms_at (forms c.args.state.now) c.args.types.now) c.args.arm.now.constructor c.args.arm.now.variables.items (generic_tree c.args.named.now c.args.arm.now.body.0) c.args.state.now c.fields_named.new.state c.bind_all.new.self c.deref.result.now (Rattle.gib_check.specs.Judging.listed (forms c.fields_named.new.state) c.deref-2.result.now) c.fields_named.ensures.keeps c.deref.ensures.value (ap (Rattle.gib_check.specs.Judging.listed (forms c.fields_named.new.state)) c.deref-2.ensures.value ∙ c.in_ok-fields.ensures.types) c.in_ok-bind_all.ensures.read) c.in_err-given.ensures.read)
+    rw (p.1, p.2) (Rattle.gib_check.proofs.Loops.along c.in_err-given.field-0.0 _ _ (answering.arm_is c.args.around.now.named.now c.args.around.now.variables.now c.args.at.standing (Rattle.gib_types.specs.Types.forms_at (forms c.args.state.now) c.args.types.now) c.args.arm.now.constructor c.args.arm.now.variables.items (generic_tree c.args.around.now.named.now c.args.arm.now.body.0) c.args.state.now c.fields_named.new.state c.bind_all.new.self c.deref.result.now (Rattle.gib_check.specs.Judging.listed (forms c.fields_named.new.state) c.deref-2.result.now) c.fields_named.ensures.keeps c.deref.ensures.value (ap (Rattle.gib_check.specs.Judging.listed (forms c.fields_named.new.state)) c.deref-2.ensures.value ∙ c.in_ok-fields.ensures.types) c.in_ok-bind_all.ensures.read) c.in_err-given.ensures.read)
 
 pub arm_result-returns-clause-read : goal.arm_result-returns-clause-read
 arm_result-returns-clause-read t c =
-    answering.arm_is c.args.named.now c.args.variables.now c.args.at.standing (Rattle.gib_types.specs.Types.forms_at (forms c.args.state.now) c.args.types.now) c.args.arm.now.constructor c.args.arm.now.variables.items (generic_tree c.args.named.now c.args.arm.now.body.0) c.args.state.now c.fields_named.new.state c.bind_all.new.self c.deref.result.now (Rattle.gib_check.specs.Judging.listed (forms c.fields_named.new.state) c.deref-2.result.now) c.fields_named.ensures.keeps c.deref.ensures.value (ap (Rattle.gib_check.specs.Judging.listed (forms c.fields_named.new.state)) c.deref-2.ensures.value ∙ c.in_ok-fields.ensures.types) c.in_ok-bind_all.ensures.read
+    answering.arm_is c.args.around.now.named.now c.args.around.now.variables.now c.args.at.standing (Rattle.gib_types.specs.Types.forms_at (forms c.args.state.now) c.args.types.now) c.args.arm.now.constructor c.args.arm.now.variables.items (generic_tree c.args.around.now.named.now c.args.arm.now.body.0) c.args.state.now c.fields_named.new.state c.bind_all.new.self c.deref.result.now (Rattle.gib_check.specs.Judging.listed (forms c.fields_named.new.state) c.deref-2.result.now) c.fields_named.ensures.keeps c.deref.ensures.value (ap (Rattle.gib_check.specs.Judging.listed (forms c.fields_named.new.state)) c.deref-2.ensures.value ∙ c.in_ok-fields.ensures.types) c.in_ok-bind_all.ensures.read
     ∙ c.in_ok-given.ensures.read
     ∙ answering.same_answer c.infer.new.state c.truncate.new.self c.in_ok-given.given (same_advance c.infer.new.state c.truncate.new.self c.truncate.ensures.types c.truncate.ensures.parts) c.in_ok-given.ensures.met.here c.truncate.ensures.counts
 
@@ -534,42 +545,42 @@ arm_result-returns-clause-kept t c =
 pub case-returns-in_err-ty-clause-read : goal.case-returns-in_err-ty-clause-read
 case-returns-in_err-ty-clause-read t c =
     let p = err_from_is_err_and c.from_residual-in_err-ty.result c.from_residual-in_err-ty.ensures.1 in
-    rw (p.1, p.2) (answering.case_unknown c.args.named.now c.args.variables.now (generic_globals c.args.named.now).rows c.args.at.span c.args.variable (Rattle.std.proofs.Common.map Rattle.gib_check.specs.Judging.arm_head c.args.arms.now) (λ ts n. Rattle.gib_check.specs.Judging.infer_each_arm (generic_globals c.args.named.now) (variable_numbers c.args.variables.now) c.args.at.standing ts (generic_tree c.args.named.now) (in_scope c.args.state.now) n c.args.arms.now) c.in_err-ty.field-0.0 c.args.state.now c.one_more.new.self (record { read = c.in_ok-one_more.ensures.counts; kept = c.one_more.ensures.scope; types = c.one_more.ensures.types }) c.in_err-ty.ensures.read)
+    rw (p.1, p.2) (answering.case_unknown c.args.around.now.named.now c.args.around.now.variables.now (generic_globals c.args.around.now.named.now).rows c.args.at.span c.args.variable (Rattle.std.proofs.Common.map Rattle.gib_check.specs.Judging.arm_head c.args.arms.now) (λ ts n. Rattle.gib_check.specs.Judging.infer_each_arm (generic_globals c.args.around.now.named.now) (variable_numbers c.args.around.now.variables.now) c.args.at.standing ts (generic_tree c.args.around.now.named.now) (in_scope c.args.state.now) n c.args.arms.now) c.in_err-ty.field-0.0 c.args.state.now c.one_more.new.self (record { read = c.in_ok-one_more.ensures.counts; kept = c.one_more.ensures.scope; types = c.one_more.ensures.types }) c.in_err-ty.ensures.read)
 
 pub case-returns-in_err-ty-2-clause-read : goal.case-returns-in_err-ty-2-clause-read
 case-returns-in_err-ty-2-clause-read t c =
     let p = err_from_is_err_and c.from_residual-in_err-ty-2.result c.from_residual-in_err-ty-2.ensures.1 in
-    rw (p.1, p.2) (answering.case_shape c.args.named.now c.args.variables.now (generic_globals c.args.named.now).rows c.args.at.span c.args.variable (Rattle.std.proofs.Common.map Rattle.gib_check.specs.Judging.arm_head c.args.arms.now) (λ ts n. Rattle.gib_check.specs.Judging.infer_each_arm (generic_globals c.args.named.now) (variable_numbers c.args.variables.now) c.args.at.standing ts (generic_tree c.args.named.now) (in_scope c.args.state.now) n c.args.arms.now) c.in_err-ty-2.field-0.0 c.args.state.now c.one_more.new.self (form_at (forms c.one_more.new.self) c.in_ok-ty.ty.0) (record { read = c.in_ok-one_more.ensures.counts; kept = c.one_more.ensures.scope; types = c.one_more.ensures.types }) c.in_ok-ty.ensures.read (subst (λ ns. Rattle.gib_check.specs.Answers.IsFaultOf c.in_err-ty-2.field-0.0 (Rattle.gib_check.specs.Faults.declared_type (form_at (forms_of ns) c.in_ok-ty.ty.0) c.args.variable)) c.types.ensures c.in_err-ty-2.ensures.read))
+    rw (p.1, p.2) (answering.case_shape c.args.around.now.named.now c.args.around.now.variables.now (generic_globals c.args.around.now.named.now).rows c.args.at.span c.args.variable (Rattle.std.proofs.Common.map Rattle.gib_check.specs.Judging.arm_head c.args.arms.now) (λ ts n. Rattle.gib_check.specs.Judging.infer_each_arm (generic_globals c.args.around.now.named.now) (variable_numbers c.args.around.now.variables.now) c.args.at.standing ts (generic_tree c.args.around.now.named.now) (in_scope c.args.state.now) n c.args.arms.now) c.in_err-ty-2.field-0.0 c.args.state.now c.one_more.new.self (form_at (forms c.one_more.new.self) c.in_ok-ty.ty.0) (record { read = c.in_ok-one_more.ensures.counts; kept = c.one_more.ensures.scope; types = c.one_more.ensures.types }) c.in_ok-ty.ensures.read (subst (λ ns. Rattle.gib_check.specs.Answers.IsFaultOf c.in_err-ty-2.field-0.0 (Rattle.gib_check.specs.Faults.declared_type (form_at (forms_of ns) c.in_ok-ty.ty.0) c.args.variable)) c.types.ensures c.in_err-ty-2.ensures.read))
 
 pub case-returns-in_err-all_declared-clause-read : goal.case-returns-in_err-all_declared-clause-read
 case-returns-in_err-all_declared-clause-read t c =
     let p = err_from_is_err_and c.from_residual-in_err-all_declared.result c.from_residual-in_err-all_declared.ensures.1 in
-    rw (p.1, p.2) (answering.case_missing c.args.named.now c.args.variables.now (generic_globals c.args.named.now).rows c.args.at.span c.args.variable (Rattle.std.proofs.Common.map Rattle.gib_check.specs.Judging.arm_head c.args.arms.now) (λ ts n. Rattle.gib_check.specs.Judging.infer_each_arm (generic_globals c.args.named.now) (variable_numbers c.args.variables.now) c.args.at.standing ts (generic_tree c.args.named.now) (in_scope c.args.state.now) n c.args.arms.now) c.in_err-all_declared.field-0.0 c.args.state.now c.one_more.new.self (form_at (forms c.one_more.new.self) c.in_ok-ty.ty.0) (c.in_ok-ty-2.ty.name, Rattle.gib_types.specs.Types.forms_at (forms c.one_more.new.self) c.in_ok-ty-2.ty.arguments.items) (record { read = c.in_ok-one_more.ensures.counts; kept = c.one_more.ensures.scope; types = c.one_more.ensures.types }) c.in_ok-ty.ensures.read (subst (λ ns. Rattle.gib_check.specs.Faults.declared_type (form_at (forms_of ns) c.in_ok-ty.ty.0) c.args.variable ≡ Rattle.std.proofs.Common.Ok (c.in_ok-ty-2.ty.name, Rattle.gib_types.specs.Types.forms_at (forms_of ns) c.in_ok-ty-2.ty.arguments.items)) c.types.ensures c.in_ok-ty-2.ensures.read) c.in_err-all_declared.ensures)
+    rw (p.1, p.2) (answering.case_missing c.args.around.now.named.now c.args.around.now.variables.now (generic_globals c.args.around.now.named.now).rows c.args.at.span c.args.variable (Rattle.std.proofs.Common.map Rattle.gib_check.specs.Judging.arm_head c.args.arms.now) (λ ts n. Rattle.gib_check.specs.Judging.infer_each_arm (generic_globals c.args.around.now.named.now) (variable_numbers c.args.around.now.variables.now) c.args.at.standing ts (generic_tree c.args.around.now.named.now) (in_scope c.args.state.now) n c.args.arms.now) c.in_err-all_declared.field-0.0 c.args.state.now c.one_more.new.self (form_at (forms c.one_more.new.self) c.in_ok-ty.ty.0) (c.in_ok-ty-2.ty.name, Rattle.gib_types.specs.Types.forms_at (forms c.one_more.new.self) c.in_ok-ty-2.ty.arguments.items) (record { read = c.in_ok-one_more.ensures.counts; kept = c.one_more.ensures.scope; types = c.one_more.ensures.types }) c.in_ok-ty.ensures.read (subst (λ ns. Rattle.gib_check.specs.Faults.declared_type (form_at (forms_of ns) c.in_ok-ty.ty.0) c.args.variable ≡ Rattle.std.proofs.Common.Ok (c.in_ok-ty-2.ty.name, Rattle.gib_types.specs.Types.forms_at (forms_of ns) c.in_ok-ty-2.ty.arguments.items)) c.types.ensures c.in_ok-ty-2.ensures.read) c.in_err-all_declared.ensures)
 
 pub case-returns-in_err-covered-clause-read : goal.case-returns-in_err-covered-clause-read
 case-returns-in_err-covered-clause-read t c =
     let p = err_from_is_err_and c.from_residual-in_err-covered.result c.from_residual-in_err-covered.ensures.1 in
-    rw (p.1, p.2) (answering.case_uncovered c.args.named.now c.args.variables.now (generic_globals c.args.named.now).rows c.args.at.span c.args.variable (Rattle.std.proofs.Common.map Rattle.gib_check.specs.Judging.arm_head c.args.arms.now) (λ ts n. Rattle.gib_check.specs.Judging.infer_each_arm (generic_globals c.args.named.now) (variable_numbers c.args.variables.now) c.args.at.standing ts (generic_tree c.args.named.now) (in_scope c.args.state.now) n c.args.arms.now) c.in_err-covered.field-0.0 c.args.state.now c.one_more.new.self (form_at (forms c.one_more.new.self) c.in_ok-ty.ty.0) (c.in_ok-ty-2.ty.name, Rattle.gib_types.specs.Types.forms_at (forms c.one_more.new.self) c.in_ok-ty-2.ty.arguments.items) (record { read = c.in_ok-one_more.ensures.counts; kept = c.one_more.ensures.scope; types = c.one_more.ensures.types }) c.in_ok-ty.ensures.read (subst (λ ns. Rattle.gib_check.specs.Faults.declared_type (form_at (forms_of ns) c.in_ok-ty.ty.0) c.args.variable ≡ Rattle.std.proofs.Common.Ok (c.in_ok-ty-2.ty.name, Rattle.gib_types.specs.Types.forms_at (forms_of ns) c.in_ok-ty-2.ty.arguments.items)) c.types.ensures c.in_ok-ty-2.ensures.read) c.in_ok-all_declared.ensures c.in_err-covered.ensures)
+    rw (p.1, p.2) (answering.case_uncovered c.args.around.now.named.now c.args.around.now.variables.now (generic_globals c.args.around.now.named.now).rows c.args.at.span c.args.variable (Rattle.std.proofs.Common.map Rattle.gib_check.specs.Judging.arm_head c.args.arms.now) (λ ts n. Rattle.gib_check.specs.Judging.infer_each_arm (generic_globals c.args.around.now.named.now) (variable_numbers c.args.around.now.variables.now) c.args.at.standing ts (generic_tree c.args.around.now.named.now) (in_scope c.args.state.now) n c.args.arms.now) c.in_err-covered.field-0.0 c.args.state.now c.one_more.new.self (form_at (forms c.one_more.new.self) c.in_ok-ty.ty.0) (c.in_ok-ty-2.ty.name, Rattle.gib_types.specs.Types.forms_at (forms c.one_more.new.self) c.in_ok-ty-2.ty.arguments.items) (record { read = c.in_ok-one_more.ensures.counts; kept = c.one_more.ensures.scope; types = c.one_more.ensures.types }) c.in_ok-ty.ensures.read (subst (λ ns. Rattle.gib_check.specs.Faults.declared_type (form_at (forms_of ns) c.in_ok-ty.ty.0) c.args.variable ≡ Rattle.std.proofs.Common.Ok (c.in_ok-ty-2.ty.name, Rattle.gib_types.specs.Types.forms_at (forms_of ns) c.in_ok-ty-2.ty.arguments.items)) c.types.ensures c.in_ok-ty-2.ensures.read) c.in_ok-all_declared.ensures c.in_err-covered.ensures)
 
 pub case-returns-in_err-all_counted-clause-read : goal.case-returns-in_err-all_counted-clause-read
 case-returns-in_err-all_counted-clause-read t c =
     let p = err_from_is_err_and c.from_residual-in_err-all_counted.result c.from_residual-in_err-all_counted.ensures.1 in
-    rw (p.1, p.2) (answering.case_count c.args.named.now c.args.variables.now (generic_globals c.args.named.now).rows c.args.at.span c.args.variable (Rattle.std.proofs.Common.map Rattle.gib_check.specs.Judging.arm_head c.args.arms.now) (λ ts n. Rattle.gib_check.specs.Judging.infer_each_arm (generic_globals c.args.named.now) (variable_numbers c.args.variables.now) c.args.at.standing ts (generic_tree c.args.named.now) (in_scope c.args.state.now) n c.args.arms.now) c.in_err-all_counted.field-0.0 c.args.state.now c.one_more.new.self (form_at (forms c.one_more.new.self) c.in_ok-ty.ty.0) (c.in_ok-ty-2.ty.name, Rattle.gib_types.specs.Types.forms_at (forms c.one_more.new.self) c.in_ok-ty-2.ty.arguments.items) (record { read = c.in_ok-one_more.ensures.counts; kept = c.one_more.ensures.scope; types = c.one_more.ensures.types }) c.in_ok-ty.ensures.read (subst (λ ns. Rattle.gib_check.specs.Faults.declared_type (form_at (forms_of ns) c.in_ok-ty.ty.0) c.args.variable ≡ Rattle.std.proofs.Common.Ok (c.in_ok-ty-2.ty.name, Rattle.gib_types.specs.Types.forms_at (forms_of ns) c.in_ok-ty-2.ty.arguments.items)) c.types.ensures c.in_ok-ty-2.ensures.read) c.in_ok-all_declared.ensures c.in_ok-covered.ensures c.in_err-all_counted.ensures)
+    rw (p.1, p.2) (answering.case_count c.args.around.now.named.now c.args.around.now.variables.now (generic_globals c.args.around.now.named.now).rows c.args.at.span c.args.variable (Rattle.std.proofs.Common.map Rattle.gib_check.specs.Judging.arm_head c.args.arms.now) (λ ts n. Rattle.gib_check.specs.Judging.infer_each_arm (generic_globals c.args.around.now.named.now) (variable_numbers c.args.around.now.variables.now) c.args.at.standing ts (generic_tree c.args.around.now.named.now) (in_scope c.args.state.now) n c.args.arms.now) c.in_err-all_counted.field-0.0 c.args.state.now c.one_more.new.self (form_at (forms c.one_more.new.self) c.in_ok-ty.ty.0) (c.in_ok-ty-2.ty.name, Rattle.gib_types.specs.Types.forms_at (forms c.one_more.new.self) c.in_ok-ty-2.ty.arguments.items) (record { read = c.in_ok-one_more.ensures.counts; kept = c.one_more.ensures.scope; types = c.one_more.ensures.types }) c.in_ok-ty.ensures.read (subst (λ ns. Rattle.gib_check.specs.Faults.declared_type (form_at (forms_of ns) c.in_ok-ty.ty.0) c.args.variable ≡ Rattle.std.proofs.Common.Ok (c.in_ok-ty-2.ty.name, Rattle.gib_types.specs.Types.forms_at (forms_of ns) c.in_ok-ty-2.ty.arguments.items)) c.types.ensures c.in_ok-ty-2.ensures.read) c.in_ok-all_declared.ensures c.in_ok-covered.ensures c.in_err-all_counted.ensures)
 
 pub case-returns-in_err-parts-clause-read : goal.case-returns-in_err-parts-clause-read
 case-returns-in_err-parts-clause-read t c =
     let p = err_from_is_err_and c.from_residual-in_err-parts.result c.from_residual-in_err-parts.ensures.1 in
-    rw (p.1, p.2) (answering.case_parts c.args.named.now c.args.variables.now (generic_globals c.args.named.now).rows c.args.at.span c.args.variable (Rattle.std.proofs.Common.map Rattle.gib_check.specs.Judging.arm_head c.args.arms.now) (λ ts n. Rattle.gib_check.specs.Judging.infer_each_arm (generic_globals c.args.named.now) (variable_numbers c.args.variables.now) c.args.at.standing ts (generic_tree c.args.named.now) (in_scope c.args.state.now) n c.args.arms.now) c.in_err-parts.field-0.0 c.args.state.now c.one_more.new.self (form_at (forms c.one_more.new.self) c.in_ok-ty.ty.0) (c.in_ok-ty-2.ty.name, Rattle.gib_types.specs.Types.forms_at (forms c.one_more.new.self) c.in_ok-ty-2.ty.arguments.items) (record { read = c.in_ok-one_more.ensures.counts; kept = c.one_more.ensures.scope; types = c.one_more.ensures.types }) c.in_ok-ty.ensures.read (subst (λ ns. Rattle.gib_check.specs.Faults.declared_type (form_at (forms_of ns) c.in_ok-ty.ty.0) c.args.variable ≡ Rattle.std.proofs.Common.Ok (c.in_ok-ty-2.ty.name, Rattle.gib_types.specs.Types.forms_at (forms_of ns) c.in_ok-ty-2.ty.arguments.items)) c.types.ensures c.in_ok-ty-2.ensures.read) c.in_ok-all_declared.ensures c.in_ok-covered.ensures c.in_ok-all_counted.ensures (Rattle.gib_check.proofs.Loops.along c.in_err-parts.field-0.0 _ _ (λ i. Rattle.gib_check.specs.Judging.infer_each_arm (generic_globals c.args.named.now) (variable_numbers c.args.variables.now) c.args.at.standing (Rattle.gib_types.specs.Types.forms_at (forms c.one_more.new.self) (sym c.deref.ensures.value i)) (generic_tree c.args.named.now) (sym c.one_more.ensures.scope i) c.one_more.new.self.counts c.args.arms.now) c.in_err-parts.ensures.read))
+    rw (p.1, p.2) (answering.case_parts c.args.around.now.named.now c.args.around.now.variables.now (generic_globals c.args.around.now.named.now).rows c.args.at.span c.args.variable (Rattle.std.proofs.Common.map Rattle.gib_check.specs.Judging.arm_head c.args.arms.now) (λ ts n. Rattle.gib_check.specs.Judging.infer_each_arm (generic_globals c.args.around.now.named.now) (variable_numbers c.args.around.now.variables.now) c.args.at.standing ts (generic_tree c.args.around.now.named.now) (in_scope c.args.state.now) n c.args.arms.now) c.in_err-parts.field-0.0 c.args.state.now c.one_more.new.self (form_at (forms c.one_more.new.self) c.in_ok-ty.ty.0) (c.in_ok-ty-2.ty.name, Rattle.gib_types.specs.Types.forms_at (forms c.one_more.new.self) c.in_ok-ty-2.ty.arguments.items) (record { read = c.in_ok-one_more.ensures.counts; kept = c.one_more.ensures.scope; types = c.one_more.ensures.types }) c.in_ok-ty.ensures.read (subst (λ ns. Rattle.gib_check.specs.Faults.declared_type (form_at (forms_of ns) c.in_ok-ty.ty.0) c.args.variable ≡ Rattle.std.proofs.Common.Ok (c.in_ok-ty-2.ty.name, Rattle.gib_types.specs.Types.forms_at (forms_of ns) c.in_ok-ty-2.ty.arguments.items)) c.types.ensures c.in_ok-ty-2.ensures.read) c.in_ok-all_declared.ensures c.in_ok-covered.ensures c.in_ok-all_counted.ensures (Rattle.gib_check.proofs.Loops.along c.in_err-parts.field-0.0 _ _ (λ i. Rattle.gib_check.specs.Judging.infer_each_arm (generic_globals c.args.around.now.named.now) (variable_numbers c.args.around.now.variables.now) c.args.at.standing (Rattle.gib_types.specs.Types.forms_at (forms c.one_more.new.self) (sym c.deref.ensures.value i)) (generic_tree c.args.around.now.named.now) (sym c.one_more.ensures.scope i) c.one_more.new.self.counts c.args.arms.now) c.in_err-parts.ensures.read))
 
 pub case-returns-in_err-common-clause-read : goal.case-returns-in_err-common-clause-read
 case-returns-in_err-common-clause-read t c =
     let p = err_from_is_err_and c.from_residual-in_err-common.result c.from_residual-in_err-common.ensures.1 in
-    rw (p.1, p.2) (Rattle.gib_check.proofs.Loops.along c.in_err-common.field-0.0 _ _ (answering.case_ends c.args.named.now c.args.variables.now (generic_globals c.args.named.now).rows c.args.at.span c.args.variable (Rattle.std.proofs.Common.map Rattle.gib_check.specs.Judging.arm_head c.args.arms.now) (λ ts n. Rattle.gib_check.specs.Judging.infer_each_arm (generic_globals c.args.named.now) (variable_numbers c.args.variables.now) c.args.at.standing ts (generic_tree c.args.named.now) (in_scope c.args.state.now) n c.args.arms.now) c.args.state.now c.one_more.new.self (form_at (forms c.one_more.new.self) c.in_ok-ty.ty.0) (c.in_ok-ty-2.ty.name, Rattle.gib_types.specs.Types.forms_at (forms c.one_more.new.self) c.in_ok-ty-2.ty.arguments.items) (parts_in c.arm_results.new.state c.in_ok-parts.parts.items) c.arm_results.new.state.counts (record { read = c.in_ok-one_more.ensures.counts; kept = c.one_more.ensures.scope; types = c.one_more.ensures.types }) c.in_ok-ty.ensures.read (subst (λ ns. Rattle.gib_check.specs.Faults.declared_type (form_at (forms_of ns) c.in_ok-ty.ty.0) c.args.variable ≡ Rattle.std.proofs.Common.Ok (c.in_ok-ty-2.ty.name, Rattle.gib_types.specs.Types.forms_at (forms_of ns) c.in_ok-ty-2.ty.arguments.items)) c.types.ensures c.in_ok-ty-2.ensures.read) c.in_ok-all_declared.ensures c.in_ok-covered.ensures c.in_ok-all_counted.ensures ((λ i. Rattle.gib_check.specs.Judging.infer_each_arm (generic_globals c.args.named.now) (variable_numbers c.args.variables.now) c.args.at.standing (Rattle.gib_types.specs.Types.forms_at (forms c.one_more.new.self) (sym c.deref.ensures.value i)) (generic_tree c.args.named.now) (sym c.one_more.ensures.scope i) c.one_more.new.self.counts c.args.arms.now) ∙ c.in_ok-parts.ensures.read))
+    rw (p.1, p.2) (Rattle.gib_check.proofs.Loops.along c.in_err-common.field-0.0 _ _ (answering.case_ends c.args.around.now.named.now c.args.around.now.variables.now (generic_globals c.args.around.now.named.now).rows c.args.at.span c.args.variable (Rattle.std.proofs.Common.map Rattle.gib_check.specs.Judging.arm_head c.args.arms.now) (λ ts n. Rattle.gib_check.specs.Judging.infer_each_arm (generic_globals c.args.around.now.named.now) (variable_numbers c.args.around.now.variables.now) c.args.at.standing ts (generic_tree c.args.around.now.named.now) (in_scope c.args.state.now) n c.args.arms.now) c.args.state.now c.one_more.new.self (form_at (forms c.one_more.new.self) c.in_ok-ty.ty.0) (c.in_ok-ty-2.ty.name, Rattle.gib_types.specs.Types.forms_at (forms c.one_more.new.self) c.in_ok-ty-2.ty.arguments.items) (parts_in c.arm_results.new.state c.in_ok-parts.parts.items) c.arm_results.new.state.counts (record { read = c.in_ok-one_more.ensures.counts; kept = c.one_more.ensures.scope; types = c.one_more.ensures.types }) c.in_ok-ty.ensures.read (subst (λ ns. Rattle.gib_check.specs.Faults.declared_type (form_at (forms_of ns) c.in_ok-ty.ty.0) c.args.variable ≡ Rattle.std.proofs.Common.Ok (c.in_ok-ty-2.ty.name, Rattle.gib_types.specs.Types.forms_at (forms_of ns) c.in_ok-ty-2.ty.arguments.items)) c.types.ensures c.in_ok-ty-2.ensures.read) c.in_ok-all_declared.ensures c.in_ok-covered.ensures c.in_ok-all_counted.ensures ((λ i. Rattle.gib_check.specs.Judging.infer_each_arm (generic_globals c.args.around.now.named.now) (variable_numbers c.args.around.now.variables.now) c.args.at.standing (Rattle.gib_types.specs.Types.forms_at (forms c.one_more.new.self) (sym c.deref.ensures.value i)) (generic_tree c.args.around.now.named.now) (sym c.one_more.ensures.scope i) c.one_more.new.self.counts c.args.arms.now) ∙ c.in_ok-parts.ensures.read))
     (subst (λ ps. Rattle.gib_check.specs.Answers.IsFaultOf {B = Results Form × Counts} c.in_err-common.field-0.0 (Rattle.gib_check.specs.Faults.and_then {B = Results Form × Counts} (Rattle.gib_check.specs.Faults.all_of (Rattle.gib_check.specs.Faults.first_type ps) ps) (λ _. Rattle.std.proofs.Common.Ok (Rattle.gib_check.specs.Faults.first_type ps, c.arm_results.new.state.counts)))) (ap (parts_in c.arm_results.new.state) c.deref-2.ensures.value) (answering.fault_with c.in_err-common.field-0.0 (Rattle.gib_check.specs.Faults.all_of (Rattle.gib_check.specs.Faults.first_type (parts_in c.arm_results.new.state c.deref-2.result.now)) (parts_in c.arm_results.new.state c.deref-2.result.now)) (Rattle.gib_check.specs.Faults.first_type (parts_in c.arm_results.new.state c.deref-2.result.now)) c.arm_results.new.state.counts c.in_err-common.ensures.read)))
 
 pub case-returns-clause-read : goal.case-returns-clause-read
 case-returns-clause-read t c =
-    answering.case_ends c.args.named.now c.args.variables.now (generic_globals c.args.named.now).rows c.args.at.span c.args.variable (Rattle.std.proofs.Common.map Rattle.gib_check.specs.Judging.arm_head c.args.arms.now) (λ ts n. Rattle.gib_check.specs.Judging.infer_each_arm (generic_globals c.args.named.now) (variable_numbers c.args.variables.now) c.args.at.standing ts (generic_tree c.args.named.now) (in_scope c.args.state.now) n c.args.arms.now) c.args.state.now c.one_more.new.self (form_at (forms c.one_more.new.self) c.in_ok-ty.ty.0) (c.in_ok-ty-2.ty.name, Rattle.gib_types.specs.Types.forms_at (forms c.one_more.new.self) c.in_ok-ty-2.ty.arguments.items) (parts_in c.arm_results.new.state c.in_ok-parts.parts.items) c.arm_results.new.state.counts (record { read = c.in_ok-one_more.ensures.counts; kept = c.one_more.ensures.scope; types = c.one_more.ensures.types }) c.in_ok-ty.ensures.read (subst (λ ns. Rattle.gib_check.specs.Faults.declared_type (form_at (forms_of ns) c.in_ok-ty.ty.0) c.args.variable ≡ Rattle.std.proofs.Common.Ok (c.in_ok-ty-2.ty.name, Rattle.gib_types.specs.Types.forms_at (forms_of ns) c.in_ok-ty-2.ty.arguments.items)) c.types.ensures c.in_ok-ty-2.ensures.read) c.in_ok-all_declared.ensures c.in_ok-covered.ensures c.in_ok-all_counted.ensures ((λ i. Rattle.gib_check.specs.Judging.infer_each_arm (generic_globals c.args.named.now) (variable_numbers c.args.variables.now) c.args.at.standing (Rattle.gib_types.specs.Types.forms_at (forms c.one_more.new.self) (sym c.deref.ensures.value i)) (generic_tree c.args.named.now) (sym c.one_more.ensures.scope i) c.one_more.new.self.counts c.args.arms.now) ∙ c.in_ok-parts.ensures.read)
+    answering.case_ends c.args.around.now.named.now c.args.around.now.variables.now (generic_globals c.args.around.now.named.now).rows c.args.at.span c.args.variable (Rattle.std.proofs.Common.map Rattle.gib_check.specs.Judging.arm_head c.args.arms.now) (λ ts n. Rattle.gib_check.specs.Judging.infer_each_arm (generic_globals c.args.around.now.named.now) (variable_numbers c.args.around.now.variables.now) c.args.at.standing ts (generic_tree c.args.around.now.named.now) (in_scope c.args.state.now) n c.args.arms.now) c.args.state.now c.one_more.new.self (form_at (forms c.one_more.new.self) c.in_ok-ty.ty.0) (c.in_ok-ty-2.ty.name, Rattle.gib_types.specs.Types.forms_at (forms c.one_more.new.self) c.in_ok-ty-2.ty.arguments.items) (parts_in c.arm_results.new.state c.in_ok-parts.parts.items) c.arm_results.new.state.counts (record { read = c.in_ok-one_more.ensures.counts; kept = c.one_more.ensures.scope; types = c.one_more.ensures.types }) c.in_ok-ty.ensures.read (subst (λ ns. Rattle.gib_check.specs.Faults.declared_type (form_at (forms_of ns) c.in_ok-ty.ty.0) c.args.variable ≡ Rattle.std.proofs.Common.Ok (c.in_ok-ty-2.ty.name, Rattle.gib_types.specs.Types.forms_at (forms_of ns) c.in_ok-ty-2.ty.arguments.items)) c.types.ensures c.in_ok-ty-2.ensures.read) c.in_ok-all_declared.ensures c.in_ok-covered.ensures c.in_ok-all_counted.ensures ((λ i. Rattle.gib_check.specs.Judging.infer_each_arm (generic_globals c.args.around.now.named.now) (variable_numbers c.args.around.now.variables.now) c.args.at.standing (Rattle.gib_types.specs.Types.forms_at (forms c.one_more.new.self) (sym c.deref.ensures.value i)) (generic_tree c.args.around.now.named.now) (sym c.one_more.ensures.scope i) c.one_more.new.self.counts c.args.arms.now) ∙ c.in_ok-parts.ensures.read)
     ∙ subst (λ ps. Rattle.gib_check.specs.Faults.and_then {B = Results Form × Counts} (Rattle.gib_check.specs.Faults.all_of (Rattle.gib_check.specs.Faults.first_type ps) ps) (λ _. Rattle.std.proofs.Common.Ok (Rattle.gib_check.specs.Faults.first_type ps, c.arm_results.new.state.counts)) ≡ Rattle.std.proofs.Common.Ok (forms_given c.common_type.new.state c.in_ok-common.common, c.arm_results.new.state.counts)) (ap (parts_in c.arm_results.new.state) c.deref-2.ensures.value) (answering.ok_with (Rattle.gib_check.specs.Faults.all_of (Rattle.gib_check.specs.Faults.first_type (parts_in c.arm_results.new.state c.deref-2.result.now)) (parts_in c.arm_results.new.state c.deref-2.result.now)) (Rattle.gib_check.specs.Faults.first_type (parts_in c.arm_results.new.state c.deref-2.result.now)) (forms_given c.common_type.new.state c.in_ok-common.common) c.arm_results.new.state.counts c.in_ok-common.ensures.read)
     ∙ ap (λ (n : Rattle.gib_check.specs.declared.counts.Counts.Counts). Rattle.std.proofs.Common.Ok (forms_given c.common_type.new.state c.in_ok-common.common, n)) (sym c.common_type.ensures.counts)
 
