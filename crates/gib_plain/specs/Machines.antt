@@ -4,11 +4,10 @@ use Rattle.std.specs.List.{AllByRecursion}
 use Rattle.gib_value.specs.declared.node.Node.{Node}
 use Rattle.gib_value.specs.Heap.{value_of, IsWithin}
 use Rattle.gib_types.specs.Tree.{Datum}
-use Rattle.gib_syntax.specs.Meaning.{Deep, Trap}
 use Rattle.gib_plain.specs.declared.stack.Binding.{Binding}
 use Rattle.gib_plain.specs.declared.machine.Frame.{Frame}
 use Rattle.gib_plain.specs.declared.machine.Now.{Now}
-use Rattle.gib_plain.specs.declared.machine.Now.TheVariants.{Enter, Leave, TooDeep, ByZero}
+use Rattle.gib_plain.specs.declared.machine.Now.TheVariants.{Enter, Leave, Stop}
 use Rattle.gib_plain.specs.declared.machine.Machine.TheInside.{Inside}
 use Rattle.gib_plain.specs.Stacks.{cut, env_of, IsBound}
 use Rattle.gib_plain.specs.Running.{Waiting, Doing, Entering, Leaving, Ended, State}
@@ -30,8 +29,7 @@ all_waiting heap vars temps fs = map (waiting heap vars temps) fs
 abbrev pub doing_of : List Datum → Now → Doing
 doing_of heap (Enter id) = Entering id.0
 doing_of heap (Leave w) = Leaving (value_of heap w)
-doing_of heap TooDeep = Ended Deep
-doing_of heap ByZero = Ended Trap
+doing_of heap (Stop why) = Ended why
 
 -- The state of a machine.
 abbrev pub state_of : Inside → State
@@ -46,8 +44,7 @@ state_of m = record {
 abbrev pub IsNowWithin : ℕ → Now → Type 0
 IsNowWithin n (Enter id) = Unit {0}
 IsNowWithin n (Leave w) = IsWithin n w
-IsNowWithin n TooDeep = Unit {0}
-IsNowWithin n ByZero = Unit {0}
+IsNowWithin n (Stop why) = Unit {0}
 
 -- The parts of the two stacks that the frames see lie one after another, between these ends.
 abbrev pub Nest : ℕ → ℕ → List Frame → ℕ → ℕ → Type 0

@@ -28,7 +28,7 @@ use crate::turns::put_in_place;
 use gib_base::{Memory, Name};
 use gib_check::Typed;
 use gib_syntax::{Arm, ExprId, Ident, Node as Syntax, Parameter, TypeName};
-use gib_types::{ConId, Operator, Ty};
+use gib_types::{ConId, Operator, Reason, Ty};
 use gib_value::{Heap, Node, Value};
 use std::alloc::{AllocError, Global};
 use std::marker::Model;
@@ -45,14 +45,12 @@ pub struct Frame {
     pub temps_len: usize,
 }
 
-/// What comes next: an expression, the value of one, or nothing, since a call had no depth left or a number was
-/// divided by 0.
+/// What comes next: an expression, the value of one, or nothing, since there is none, for this reason.
 #[derive(Clone, Copy)]
 pub enum Now {
     Enter(ExprId),
     Leave(Node),
-    TooDeep,
-    ByZero,
+    Stop(Reason),
 }
 
 /// Makes a constructor of the values of its fields, where these have the types and come in turn. In `placed` they are put in
@@ -153,7 +151,7 @@ impl Machine {
     fn end(&mut self)
         ensures { self.new ≡ record self.old { doing = Ended Deep } }
     {
-        self.next = Now::TooDeep;
+        self.next = Now::Stop(Reason::Deep);
     }
 
     // Leaves with the value of a variable.
@@ -622,8 +620,7 @@ impl Machine {
         match self.next {
             Now::Enter(_) => false,
             Now::Leave(_) => self.frames.is_empty(),
-            Now::TooDeep => true,
-            Now::ByZero => true,
+            Now::Stop(_) => true,
         }
     }
 
@@ -638,8 +635,7 @@ impl Machine {
                 self.take_in()?;
                 self.go_on(typed)
             }
-            Now::TooDeep => Ok(()),
-            Now::ByZero => Ok(()),
+            Now::Stop(_) => Ok(()),
         }
     }
 
@@ -675,10 +671,9 @@ impl Machine {
         ensures { (code : Code) → told result ≡ owes code self }
     {
         match self.next {
-            Now::Enter(_) => Outcome::Deep,
+            Now::Enter(_) => Outcome::NoValue(Reason::Deep),
             Now::Leave(value) => Outcome::Gives(Value::from_parts(self.heap, value)),
-            Now::TooDeep => Outcome::Deep,
-            Now::ByZero => Outcome::Trap,
+            Now::Stop(why) => Outcome::NoValue(why),
         }
     }
 }

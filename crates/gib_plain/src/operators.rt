@@ -8,7 +8,7 @@ ghost use Rattle.gib_plain.specs.Running.{doing_for};
 ghost use Rattle.gib_plain.specs.Machines.{doing_of, IsNowWithin};
 
 use crate::machine::Now;
-use gib_types::Operator;
+use gib_types::{Operator, Reason};
 use gib_value::Node;
 
 /// The number that a value is, 0 where it is none.
@@ -41,7 +41,7 @@ pub fn operated(operator: Operator, left: Node, right: Node) -> Now
     let left = number(left);
     let right = number(right);
     if is_by_zero(operator, right) {
-        return Now::ByZero;
+        return Now::Stop(Reason::Trap);
     }
     Now::Leave(applied(operator, left, right))
 }

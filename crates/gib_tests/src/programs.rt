@@ -17,6 +17,7 @@ use gib_parse::parse;
 use gib_plain::{Outcome, plain};
 use gib_syntax::GenericProgram;
 use gib_syntax::law::results_are_typed;
+use gib_types::Reason;
 use gib_unit_tests::bytes::packed;
 use gib_value::{Value, write_text};
 use std::alloc::{AllocError, Global};
@@ -79,8 +80,8 @@ pub fn run(
     results_are_typed();
     let result = match plain(alloc, &compiled.typed, value, depth) {
         Ok(Outcome::Gives(result)) => result,
-        Ok(Outcome::Deep) => return Vec::from_slice(alloc, b"deep"),
-        Ok(Outcome::Trap) => return Vec::from_slice(alloc, b"trap"),
+        Ok(Outcome::NoValue(Reason::Deep)) => return Vec::from_slice(alloc, b"deep"),
+        Ok(Outcome::NoValue(Reason::Trap)) => return Vec::from_slice(alloc, b"trap"),
         Err(_) => return Err(AllocError),
     };
     let types = compiled.typed.types();

@@ -5,7 +5,6 @@ ghost use Rattle.gib_types.specs.Tree.{Datum, HasType};
 ghost use Rattle.gib_syntax.specs.Parts.{program_of};
 ghost use Rattle.gib_syntax.specs.Declarations.{table_of_program, input_type};
 ghost use Rattle.gib_syntax.specs.Meaning.{run, Gives, Stops};
-ghost use Rattle.gib_weave.specs.Sound.{means_why};
 ghost use Rattle.gib_app.specs.Running.{text_line};
 ghost use Rattle.gib_app.specs.Jobs.{Means};
 ghost use Rattle.gib_app.specs.Kept.{EndsBy, file_of};
@@ -36,14 +35,13 @@ fn evaluate(
     ensures { IfOk result (λ found. MatchResult found
         (λ output. (u : Datum) × (run (program_of compiled.now.typed) depth value ≡ Gives u)
         × (output.items ≡ text_line (program_of compiled.now.typed) compiled.now.names u))
-        (λ why. run (program_of compiled.now.typed) depth value ≡ Stops (means_why why))) }
+        (λ why. run (program_of compiled.now.typed) depth value ≡ Stops why)) }
 {
     let _program = compiled.typed.program();
     results_are_typed();
     let result = match evaluated(alloc, &compiled.typed, value, depth) {
         Ok(Outcome::Gives(result)) => result,
-        Ok(Outcome::Deep) => return Ok(Err(gib_types::Reason::Deep)),
-        Ok(Outcome::Trap) => return Ok(Err(gib_types::Reason::Trap)),
+        Ok(Outcome::NoValue(why)) => return Ok(Err(why)),
         Err(memory) => return Err(memory),
     };
     match value_line(alloc, compiled, &result) {
