@@ -4,7 +4,6 @@ use Rattle.std.proofs.Common.{◌≡◌, ◌∙◌, refl, ℕ, List, length, Opt
 use Rattle.gib_edge.specs.Causes.{Rose, Appends, AppendsPart, PutsPieces, PutsSomePieces}
 use Rattle.gib_edge.specs.Views.{ShelfView, SinkView}
 use Rattle.gib_types.specs.declared.reason.Reason.{Reason as Why}
-use Rattle.gib_types.specs.declared.reason.Reason.TheVariants as why
 use Rattle.gib_app.specs.declared.input_fault.InputFault.{InputFault}
 use Rattle.gib_app.specs.declared.status.Status.{Status}
 use Rattle.gib_app.specs.declared.status.Status.TheVariants as status
@@ -51,7 +50,7 @@ abbrev pub IsCause : Bool → World → World → Plan → Status → Type 0
 IsCause tells before now r status.Done = OnBoth (K tells before.shelf r) r (Whole tells before.shelf now.shelf before.out now.out r)
 IsCause tells before now r status.Source = OnSource (K tells before.shelf r) r.source (IsNoProgramIn (dialect_of r.job))
 IsCause tells before now r status.Usage = ⊥
-IsCause tells before now r status.Depth = OnBoth (K tells before.shelf r) r (Valueless why.Deep r)
+IsCause tells before now r (status.NoValue x) = OnBoth (K tells before.shelf r) r (Valueless x r)
 IsCause tells before now r status.Full = OnBoth (K tells before.shelf r) r (HasNoValue Full r)
 IsCause tells before now r status.Memory = Unit {0}
 IsCause tells before now r status.ReadFault = (name : List ℕ) × FailsToRead (K tells before.shelf r) before.shelf now.shelf r name
@@ -59,7 +58,6 @@ IsCause tells before now r status.WriteFault =
     ((name : List ℕ) × FailsToWrite tells before.shelf now.shelf r name)
     ⊎ (OnBoth (K tells before.shelf r) r (Front tells before.shelf now.shelf before.out now.out r) × Rose before.out.faults now.out.faults)
 IsCause tells before now r status.Input = OnReached (K tells before.shelf r) r (Unfit r)
-IsCause tells before now r status.Trap = OnBoth (K tells before.shelf r) r (Valueless why.Trap r)
 IsCause tells before now r status.Long = OnBoth (K tells before.shelf r) r (HasNoValue Long r)
 
 on_source : (kept : Files) (d : Document) (P Q : List ℕ → Type 0) → ((source : List ℕ) → P source → Q source) → OnSource kept d P → OnSource kept d Q
@@ -101,7 +99,7 @@ module _ (tells : Bool) (words : List (List ℕ)) (before now : World) (r : Plan
       on_source (K tells before.shelf r) r.source (λ bytes. IsSourceFaultIn (dialect_of r.job) bytes h.0 × IsNoProgramIn (dialect_of r.job) bytes) (IsNoProgramIn (dialect_of r.job))
       (λ bytes both. both.1) (asked_is (asked words) r P is h.1)
   cause_of status.Usage said h = none_is_some (asked words) r h.0 is
-  cause_of status.Depth said h = without_of (Meant why.Deep) h.0
+  cause_of (status.NoValue x) said h = without_of (Meant x) h.0
   cause_of status.Full said h = without_of Full h.0
   cause_of status.Memory said h = tt {0}
   cause_of status.ReadFault said h =
@@ -116,7 +114,6 @@ module _ (tells : Bool) (words : List (List ℕ)) (before now : World) (r : Plan
   cause_of status.Input said h =
       let P : Plan → Type 0 = λ q. OnReached (K tells before.shelf q) q (Refused q h.0) in
       map_reached (K tells before.shelf r) r (Refused r h.0) (Unfit r) (λ p names given both. both.1) (asked_is (asked words) r P is h.1)
-  cause_of status.Trap said h = without_of (Meant why.Trap) h.0
   cause_of status.Long said h = without_of Long h.0
 
 -- Where the words are not taken, that is told, or memory runs out.
@@ -134,14 +131,13 @@ module _ (tells : Bool) (words : List (List ℕ)) (before now : World) (no' : as
   untaken_ends status.Source said h =
       absurd (none_asked (asked words) (λ q. OnSource (K tells before.shelf q) q.source (λ bytes. IsSourceFaultIn (dialect_of q.job) bytes h.0 × IsNoProgramIn (dialect_of q.job) bytes)) no' h.1)
   untaken_ends status.Usage said h = inl refl
-  untaken_ends status.Depth said h = none_without (Meant why.Deep) h.0
+  untaken_ends (status.NoValue x) said h = none_without (Meant x) h.0
   untaken_ends status.Full said h = none_without Full h.0
   untaken_ends status.Memory said h = inr refl
   untaken_ends status.ReadFault said h = absurd (none_asked (asked words) (λ q. FailsToRead (K tells before.shelf q) before.shelf now.shelf q h.0) no' h.1)
   untaken_ends status.WriteFault said (inl h) = absurd (none_asked (asked words) (λ q. FailsToWrite tells before.shelf now.shelf q h.0) no' h.1)
   untaken_ends status.WriteFault said (inr h) = absurd (none_asked (asked words) (λ q. OnBoth (K tells before.shelf q) q (Front tells before.shelf now.shelf before.out now.out q)) no' h.0)
   untaken_ends status.Input said h = absurd (none_asked (asked words) (λ q. OnReached (K tells before.shelf q) q (Refused q h.0)) no' h.1)
-  untaken_ends status.Trap said h = none_without (Meant why.Trap) h.0
   untaken_ends status.Long said h = none_without Long h.0
 
 -- From the stop of a call to its status and its line.
@@ -151,8 +147,7 @@ ending_of tells words before now Usage h = (h, refl)
 ending_of tells words before now (Source fault) h = (fault, h, refl)
 ending_of tells words before now (Unread name) h = (name.now, h, refl)
 ending_of tells words before now (Input fault) h = (fault, h, refl)
-ending_of tells words before now (NoValue (Meant why.Deep)) h = (h, refl)
-ending_of tells words before now (NoValue (Meant why.Trap)) h = (h, refl)
+ending_of tells words before now (NoValue (Meant x)) h = (h, refl)
 ending_of tells words before now (NoValue Full) h = (h, refl)
 ending_of tells words before now (NoValue Long) h = (h, refl)
 ending_of tells words before now Memory h = refl

@@ -5,7 +5,7 @@ use Rattle.std.specs.Prelude.{◌≢◌, ⊤}
 use Rattle.gib_types.specs.Tree.{Datum}
 use Rattle.gib_syntax.specs.Tree.{ProgramTree}
 use Rattle.gib_core.specs.Tree.{CoreTree}
-use Rattle.gib_machine.specs.Machine.{stopped}
+use Rattle.gib_code.specs.declared.answer.Answer.TheVariants as answer
 use Rattle.gib_locked.specs.declared.journal.Line.{Line}
 use Rattle.gib_locked.specs.declared.settings.Settings.{Settings}
 use Rattle.gib_app.specs.declared.input_fault.InputFault.{InputFault}
@@ -75,7 +75,7 @@ row_accepts PacksValue o p names given file (NoValue reason) h = absurd h
 row_accepts ShowsFile o p names given file (Prints text) h = (h.1.value, h.1.is_value)
 row_accepts ShowsFile o p names given file (NoValue reason) h = absurd h
 row_accepts FollowsJournal o p names given file (Prints text) h = on_happens p.tree given.second (journal_in given) (IsShownEnd p.tree names o.image file text) (λ v settings lines e. inl (e.memory, e.ends_with, e.ended)) h
-row_accepts FollowsJournal o p names given file (NoValue (Meant why)) h = on_happens p.tree given.second (journal_in given) (IsValueless p.tree why) (λ v settings lines e. inl (e.memory, stopped why, e.ended)) h.1
+row_accepts FollowsJournal o p names given file (NoValue (Meant why)) h = on_happens p.tree given.second (journal_in given) (IsValueless p.tree why) (λ v settings lines e. inl (e.memory, answer.NoValue why, e.ended)) h.1
 row_accepts FollowsJournal o p names given file (NoValue Full) h = on_happens p.tree given.second (journal_in given) (LacksChunks p.tree) (λ v settings lines e. inr e) h.1
 row_accepts FollowsJournal o p names given file (NoValue Long) h = absurd h
 

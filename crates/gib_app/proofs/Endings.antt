@@ -2,7 +2,6 @@
 use Rattle.std.proofs.Common.{◌≡◌, ◌∙◌, refl, ℕ, List, Option, Some, None, MatchOption, ◌⊎◌, inl, inr, subst, Bool}
 use Rattle.gib_syntax.specs.Meaning.{run}
 use Rattle.gib_types.specs.declared.reason.Reason.{Reason as Why}
-use Rattle.gib_types.specs.declared.reason.Reason.TheVariants as why
 use Rattle.gib_app.specs.declared.status.Status.{Status}
 use Rattle.gib_app.specs.declared.status.Status.TheVariants as status
 use Rattle.gib_app.specs.declared.made.Reason.TheVariants.{Meant, Full}
@@ -32,13 +31,12 @@ abbrev DueOf : Bool → World → World → Plan → Status → Type 0
 DueOf tells before now r status.Done = DueAll tells before now r
 DueOf tells before now r status.Source = DueRefusal tells before.shelf now.shelf r
 DueOf tells before now r status.Usage = ⊥
-DueOf tells before now r status.Depth = DueNone tells before.shelf now.shelf why.Deep r
+DueOf tells before now r (status.NoValue x) = DueNone tells before.shelf now.shelf x r
 DueOf tells before now r status.Full = DueFull tells before.shelf now.shelf r
 DueOf tells before now r status.Memory = ⊥
 DueOf tells before now r status.ReadFault = DueMissing tells before.shelf now.shelf r
 DueOf tells before now r status.WriteFault = ⊥
 DueOf tells before now r status.Input = DueRefused tells before.shelf now.shelf r
-DueOf tells before now r status.Trap = DueNone tells before.shelf now.shelf why.Trap r
 DueOf tells before now r status.Long = DueLong tells before.shelf now.shelf r
 
 -- Chunks run out in a run alone, or where that is due.
@@ -51,8 +49,7 @@ module _ (laws : Laws) (tells : Bool) (before now : World) (r : Plan) where
   ends status.Done due ended h = done_due laws tells before now r due ended h
   ends status.Source due ended h = source_due laws tells before now r due ended h
   ends status.Usage due ended h = absurd due
-  ends status.Depth due ended h = none_due laws tells before now r why.Deep due ended h
-  ends status.Trap due ended h = none_due laws tells before now r why.Trap due ended h
+  ends (status.NoValue x) due ended h = none_due laws tells before now r x due ended h
   ends status.Full due ended h = full_due laws tells before now r due ended h
   ends status.Memory due ended h = absurd due
   ends status.Long due ended h = long_due laws tells before now r due ended h
@@ -96,8 +93,7 @@ module _ (laws : Laws) (tells : Bool) (before now : World) (r : Plan) where
   scarce status.Done due h = inr (done_or_scarce due h)
   scarce status.Source due h = absurd (a_program tells before.shelf now.shelf r (HasNoValue Full r) due h)
   scarce status.Usage due h = absurd due
-  scarce status.Depth due h = inr (none_or_scarce why.Deep due h)
-  scarce status.Trap due h = inr (none_or_scarce why.Trap due h)
+  scarce (status.NoValue x) due h = inr (none_or_scarce x due h)
   scarce status.Full due h = inl refl
   scarce status.Memory due h = absurd due
   scarce status.Long due h = inr (ForFiles, due.0, (λ e. cc))
@@ -136,8 +132,7 @@ module _ (laws : Laws) (tells : Bool) (words : List (List ℕ)) (before now : Wo
   ends_as_due status.Done d = asked_due status.Done d
   ends_as_due status.Source d = asked_due status.Source d
   ends_as_due status.Usage d = usage_due (untaken_ends tells words before now d ended said h)
-  ends_as_due status.Depth d = asked_due status.Depth d
-  ends_as_due status.Trap d = asked_due status.Trap d
+  ends_as_due (status.NoValue x) d = asked_due (status.NoValue x) d
   ends_as_due status.Full d = asked_due status.Full d
   ends_as_due status.Memory d = absurd d
   ends_as_due status.Long d = asked_due status.Long d

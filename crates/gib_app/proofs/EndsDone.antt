@@ -2,7 +2,6 @@
 use Rattle.gib_base.specs.Texts.{TextsView}
 use Rattle.std.proofs.Common.{◌≡◌, refl, ℕ, List, ◌⊎◌, inl, inr, Bool}
 use Rattle.gib_types.specs.declared.reason.Reason.{Reason as Why}
-use Rattle.gib_types.specs.declared.reason.Reason.TheVariants as why
 use Rattle.gib_app.specs.declared.status.Status.{Status}
 use Rattle.gib_app.specs.declared.status.Status.TheVariants as status
 use Rattle.gib_app.specs.declared.made.Reason.TheVariants.{Long}
@@ -51,8 +50,7 @@ module _ (laws : Laws) (tells : Bool) (before now : World) (r : Plan) where
   done_due due status.Done h = inl refl
   done_due due status.Source h = absurd (no_program tells before.shelf now.shelf r (HasText r) due.0 h)
   done_due due status.Usage h = absurd h
-  done_due due status.Depth h = absurd (done_or_none why.Deep due h)
-  done_due due status.Trap h = absurd (done_or_none why.Trap due h)
+  done_due due (status.NoValue x) h = absurd (done_or_none x due h)
   done_due due status.Full h = inr (inr refl)
   done_due due status.Memory h = inr (inl refl)
   done_due due status.Long h =
@@ -65,13 +63,12 @@ module _ (laws : Laws) (tells : Bool) (before now : World) (r : Plan) where
       absurd (fit_or_unfit laws tells before.shelf now.shelf r (HasText r) (λ p names given d. accepts_without r.job r.options p names given (ends_accept (row r.job) (without_image r.options) p names given d.0 (Prints d.1) d.2)) due.0 h)
 
   pub fit_ends : DueFit tells before now r → (ended : Status) → IsCause tells before now r ended →
-      (ended ≡ status.Done) ⊎ (ended ≡ status.Depth) ⊎ (ended ≡ status.Trap) ⊎ (ended ≡ status.Memory) ⊎ (ended ≡ status.Long) ⊎ (ended ≡ status.Full)
+      (ended ≡ status.Done) ⊎ ((x : Why) × (ended ≡ status.NoValue x)) ⊎ (ended ≡ status.Memory) ⊎ (ended ≡ status.Long) ⊎ (ended ≡ status.Full)
   fit_ends due status.Done h = inl refl
-  fit_ends due status.Depth h = inr (inl refl)
-  fit_ends due status.Trap h = inr (inr (inl refl))
-  fit_ends due status.Memory h = inr (inr (inr (inl refl)))
-  fit_ends due status.Long h = inr (inr (inr (inr (inl refl))))
-  fit_ends due status.Full h = inr (inr (inr (inr (inr refl))))
+  fit_ends due (status.NoValue x) h = inr (inl (x, refl))
+  fit_ends due status.Memory h = inr (inr (inl refl))
+  fit_ends due status.Long h = inr (inr (inr (inl refl)))
+  fit_ends due status.Full h = inr (inr (inr (inr refl)))
   fit_ends due status.Source h =
       absurd (no_program tells before.shelf now.shelf r (λ p names given. Accepts r.job r.options p names given) due.0 h)
   fit_ends due status.Usage h = absurd h

@@ -2,7 +2,6 @@
 use Rattle.std.proofs.Common.{◌≡◌, ◌∙◌, refl, ℕ, List, Option, Some, inl, inr, subst, sym, Bool}
 use Rattle.gib_edge.specs.Views.{ShelfView}
 use Rattle.gib_types.specs.declared.reason.Reason.{Reason as Why}
-use Rattle.gib_types.specs.declared.reason.Reason.TheVariants as why
 use Rattle.gib_app.specs.declared.status.Status.{Status}
 use Rattle.gib_app.specs.declared.status.Status.TheVariants as status
 use Rattle.gib_app.specs.declared.made.Reason.TheVariants.{Meant, Full, Long}
@@ -41,8 +40,7 @@ module _ (laws : Laws) (tells : Bool) (before now : World) (r : Plan) where
   full_due due status.Source h =
       absurd (no_program tells before.shelf now.shelf r (DueWithout before.shelf now.shelf Full r) due.1 h)
   full_due due status.Usage h = absurd h
-  full_due due status.Depth h = absurd (full_or_none why.Deep due h)
-  full_due due status.Trap h = absurd (full_or_none why.Trap due h)
+  full_due due (status.NoValue x) h = absurd (full_or_none x due h)
   full_due due status.Full h = inl refl
   full_due due status.Memory h = inr (inl refl)
   full_due due status.Long h =

@@ -3,8 +3,6 @@ use Rattle.gib_base.specs.Texts.{TextsView}
 use Rattle.std.proofs.Common.{◌≡◌, ◌∙◌, refl, ap, ℕ, List, Option, Some, inl, inr, subst, Bool, true}
 use Rattle.gib_edge.specs.Views.{ShelfView}
 use Rattle.gib_types.specs.declared.reason.Reason.{Reason as Why}
-use Rattle.gib_types.specs.declared.reason.Reason.TheVariants as why
-use Rattle.gib_weave.specs.Sound.{means_why}
 use Rattle.gib_app.specs.declared.status.Status.{Status}
 use Rattle.gib_app.specs.declared.status.Status.TheVariants as status
 use Rattle.gib_words.specs.declared.plan.Options.{Options}
@@ -48,7 +46,7 @@ module _ (laws : Laws) (o : Options) (p : Program) (names : TextsView) (given : 
       packed_or_long laws p.tree names o.depth given.second k.0 k.2 long.0
 
   long_lacks : (r : Row) → r ≡ Evaluates ForFiles → (x : Why) (file : Option (List ℕ)) → DoesBy r o p names given file (Without (Meant x)) → ⊥
-  long_lacks r is x file d = long_well laws p.tree names o.depth given.second (means_why x) long.0 (as_run r o p names given file (Without (Meant x)) is d).1
+  long_lacks r is x file d = long_well laws p.tree names o.depth given.second x long.0 (as_run r o p names given file (Without (Meant x)) is d).1
 
   -- where it makes a file, it ends so
   long_file : (r : Row) → r ≡ Evaluates ForFiles → (bytes : List ℕ) (packed : Option (List ℕ)) (e : End) → DoesBy r o p names given (Some bytes) e → PacksResult (packs_of r o) p.tree names o.depth given.second packed e → e ≡ Without Long
@@ -72,8 +70,7 @@ module _ (laws : Laws) (tells : Bool) (before now : World) (r : Plan) where
   long_due due status.Source h =
       absurd (no_program tells before.shelf now.shelf r (DueWithout before.shelf now.shelf Long r) due.1 h)
   long_due due status.Usage h = absurd h
-  long_due due status.Depth h = absurd (long_or_lacking why.Deep due h)
-  long_due due status.Trap h = absurd (long_or_lacking why.Trap due h)
+  long_due due (status.NoValue x) h = absurd (long_or_lacking x due h)
   long_due due status.Long h = inl refl
   long_due due status.Full h = inr (inr refl)
   long_due due status.Memory h = inr (inl refl)

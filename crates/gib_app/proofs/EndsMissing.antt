@@ -5,7 +5,6 @@ use Rattle.gib_types.specs.Tree.{Datum}
 use Rattle.gib_edge.specs.Causes.{IsAllOf}
 use Rattle.gib_edge.specs.Views.{Held, Missing, ShelfView}
 use Rattle.gib_types.specs.declared.reason.Reason.{Reason as Why}
-use Rattle.gib_types.specs.declared.reason.Reason.TheVariants as why
 use Rattle.gib_app.specs.declared.status.Status.{Status}
 use Rattle.gib_app.specs.declared.status.Status.TheVariants as status
 use Rattle.gib_app.specs.declared.made.Reason.TheVariants.{Long}
@@ -90,8 +89,7 @@ module _ (laws : Laws) (tells : Bool) (before now : World) (r : Plan) where
       absurd (missing_both tells before.shelf now.shelf r (Whole tells before.shelf now.shelf before.out now.out r) due h)
   read_due due status.Source h = absurd (missing_program tells before.shelf now.shelf r due h)
   read_due due status.Usage h = absurd h
-  read_due due status.Depth h = absurd (read_or_none why.Deep due h)
-  read_due due status.Trap h = absurd (read_or_none why.Trap due h)
+  read_due due (status.NoValue x) h = absurd (read_or_none x due h)
   read_due due status.Full h = inr (inr refl)
   read_due due status.Memory h = inr (inl refl)
   read_due due status.Long h = absurd (missing_both tells before.shelf now.shelf r (HasNoValue Long r) due h)

@@ -2,7 +2,6 @@
 use Rattle.std.proofs.Common.{◌≡◌, refl, ap, ℕ, List, Option, Some, inl, inr, subst, sym, Bool}
 use Rattle.gib_edge.specs.Views.{ShelfView}
 use Rattle.gib_types.specs.declared.reason.Reason.{Reason as Why}
-use Rattle.gib_types.specs.declared.reason.Reason.TheVariants as why
 use Rattle.gib_app.specs.declared.status.Status.{Status}
 use Rattle.gib_app.specs.declared.status.Status.TheVariants as status
 use Rattle.gib_app.specs.declared.made.Reason.TheVariants.{Meant, Long}
@@ -23,25 +22,20 @@ use Rattle.gib_app.proofs.EndsDone.{Ends}
 abbrev pub DueNone : Bool → ShelfView → ShelfView → Why → Plan → Type 0
 DueNone tells before now x r = DueOfFiles tells before now r (DueWithout before now (Meant x) r)
 
--- the status that tells a reason
-abbrev pub told_by : Why → Status
-told_by why.Deep = status.Depth
-told_by why.Trap = status.Trap
-
 module _ (laws : Laws) (tells : Bool) (before now : World) (r : Plan) (x : Why) where
   none_or_none : (y : Why) → DueNone tells before.shelf now.shelf x r → OnBoth (K tells before.shelf r) r (Valueless y r) → x ≡ y
   none_or_none y due h =
       let both = clash laws tells before.shelf now.shelf r (DueWithout before.shelf now.shelf (Meant x) r) (Valueless y r) due h in
       one_end laws r.options both.0 both.1 both.2 (row r.job) x y both.3.0.0 both.4.0 both.3.0.1 both.4.1
 
-  pub none_due : DueNone tells before.shelf now.shelf x r → (ended : Status) → IsCause tells before now r ended → Ends (told_by x) ended
+  pub none_due : DueNone tells before.shelf now.shelf x r → (ended : Status) → IsCause tells before now r ended → Ends (status.NoValue x) ended
   none_due due status.Done h =
       let both = clash laws tells before.shelf now.shelf r (DueWithout before.shelf now.shelf (Meant x) r) (Whole tells before.shelf now.shelf before.out now.out r) due h in
       absurd (none_or_text laws r.options both.0 both.1 both.2 (row r.job) x both.4.0 both.3.0.0 both.4.1.ended.file both.3.0.1 both.4.1.ended.does)
   none_due due status.Source h =
       absurd (no_program tells before.shelf now.shelf r (DueWithout before.shelf now.shelf (Meant x) r) due h)
   none_due due status.Usage h = absurd h
-  none_due due status.Depth h = inl (ap told_by (sym (none_or_none why.Deep due h)))
+  none_due due (status.NoValue y) h = inl (ap status.NoValue (sym (none_or_none y due h)))
   none_due due status.Full h = inr (inr refl)
   none_due due status.Memory h = inr (inl refl)
   none_due due status.Long h =
@@ -68,4 +62,3 @@ module _ (laws : Laws) (tells : Bool) (before now : World) (r : Plan) (x : Why) 
       absurd (none_or_text laws r.options both.0 both.1 both.2 (row r.job) x both.4.0 both.3.0.0 both.4.1.ended.file both.3.0.1 both.4.1.ended.does)
   none_due due status.Input h =
       absurd (fit_or_unfit laws tells before.shelf now.shelf r (DueWithout before.shelf now.shelf (Meant x) r) (λ p names given d. accepts_without r.job r.options p names given (ends_accept (row r.job) (without_image r.options) p names given d.0.0 (Without (Meant x)) d.0.1)) due h)
-  none_due due status.Trap h = inl (ap told_by (sym (none_or_none why.Trap due h)))

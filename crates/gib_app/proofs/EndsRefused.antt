@@ -5,7 +5,6 @@ use Rattle.gib_types.specs.Tree.{Datum}
 use Rattle.gib_edge.specs.Causes.{IsAllOf}
 use Rattle.gib_edge.specs.Views.{ShelfView}
 use Rattle.gib_types.specs.declared.reason.Reason.{Reason as Why}
-use Rattle.gib_types.specs.declared.reason.Reason.TheVariants as why
 use Rattle.gib_app.specs.declared.status.Status.{Status}
 use Rattle.gib_app.specs.declared.status.Status.TheVariants as status
 use Rattle.gib_words.specs.declared.plan.Job.{Job}
@@ -42,8 +41,7 @@ module _ (laws : Laws) (tells : Bool) (before now : World) (r : Plan) where
       absurd (a_program tells before.shelf now.shelf r (Whole tells before.shelf now.shelf before.out now.out r) due h)
   source_due due status.Source h = inl refl
   source_due due status.Usage h = absurd h
-  source_due due status.Depth h = absurd (source_or_none why.Deep due h)
-  source_due due status.Trap h = absurd (source_or_none why.Trap due h)
+  source_due due (status.NoValue x) h = absurd (source_or_none x due h)
   source_due due status.Full h = inr (inr refl)
   source_due due status.Memory h = inr (inl refl)
   source_due due status.Long h = absurd (a_program tells before.shelf now.shelf r (HasNoValue Long r) due h)
@@ -136,8 +134,7 @@ module _ (laws : Laws) (tells : Bool) (before now : World) (r : Plan) where
       absurd (unfit_both laws tells before.shelf now.shelf r (Whole tells before.shelf now.shelf before.out now.out r) (λ p names given w. does_accepts r.job r.options p names given w.1.ended.file (Prints w.0) w.1.ended.does) due h)
   input_due due status.Source h = absurd (unfit_program laws tells before.shelf now.shelf r due h)
   input_due due status.Usage h = absurd h
-  input_due due status.Depth h = absurd (input_or_none why.Deep due h)
-  input_due due status.Trap h = absurd (input_or_none why.Trap due h)
+  input_due due (status.NoValue x) h = absurd (input_or_none x due h)
   input_due due status.Full h = inr (inr refl)
   input_due due status.Memory h = inr (inl refl)
   input_due due status.Long h =

@@ -4,11 +4,9 @@ use Rattle.gib_base.specs.declared.token.Dialect.TheVariants as dialect
 use Rattle.std.proofs.lemmas.Option.{none-some}
 use Rattle.std.proofs.Common.{◌≡◌, ◌∙◌, refl, ℕ, List, [], ◌∷◌, ◌++◌, Option, Some, None, IfSome, ◌⊎◌, inl, inr, subst, subst₂, sym, Bool, true, false, true≢false}
 use Rattle.gib_syntax.specs.Tree.{ProgramTree}
-use Rattle.gib_syntax.specs.Meaning.{Deep, Trap, run}
+use Rattle.gib_syntax.specs.Meaning.{run}
 use Rattle.gib_app.proofs.Copied.{OnTree}
 use Rattle.gib_types.specs.declared.reason.Reason.{Reason as Why}
-use Rattle.gib_types.specs.declared.reason.Reason.TheVariants as why
-use Rattle.gib_weave.specs.Sound.{means_why}
 use Rattle.gib_edge.specs.Causes.{Rose, told}
 use Rattle.gib_edge.specs.Views.{Has, ShelfView, SinkView}
 use Rattle.gib_app.specs.declared.status.Status.{Status}
@@ -24,7 +22,7 @@ use Rattle.gib_app.specs.Running.{Program, sourced, IsOutput, IsRunImage, IsPack
 use Rattle.gib_app.specs.Jobs.{Prints, MakesImage, PacksResult, run_forks}
 use Rattle.gib_app.specs.Causes.{OnProgram, OnBoth, EndsWithout, AsksProgram, IsStored, IsUnread}
 use Rattle.gib_app.specs.Ending.{IsEnding, HasText, DueOfFiles, DueWithout, TakesAll}
-use Rattle.gib_app.specs.Headline.{IsRun, IsPackingRun, Given, IsResult, IsResultImage, IsResultFile, HasLongFile, HasNoResult, IsTooDeep, DividesByZero, IsTooBig, TellsWhatIsMeant, NoneFailed, NoWriteFailed}
+use Rattle.gib_app.specs.Headline.{IsRun, IsPackingRun, Given, IsResult, IsResultImage, IsResultFile, HasLongFile, HasNoResult, IsTooBig, TellsWhatIsMeant, NoneFailed, NoWriteFailed}
 use Rattle.gib_app.proofs.Performing.{asked_is}
 use Rattle.gib_app.proofs.Fitting.{image_asked, packs_agrees, valueless_packs}
 use Rattle.gib_app.proofs.FirstWriting.{others_after, written_first}
@@ -34,7 +32,7 @@ use Rattle.gib_app.proofs.Replays.{some_or_none}
 use Rattle.gib_app.proofs.CallCauses.{Whole, cause_of}
 use Rattle.gib_app.proofs.EndsDone.{done_due, fit_ends}
 use Rattle.gib_app.proofs.EndsLong.{long_due}
-use Rattle.gib_app.proofs.EndsNone.{none_due, told_by}
+use Rattle.gib_app.proofs.EndsNone.{none_due}
 use Rattle.gib_app.proofs.OneProgram.{Laws}
 use Rattle.gib_app.proofs.SameFiles.{packed_read, same_bytes, same_given}
 use Rattle.gib_app.proofs.Results.{big_of, file_result, file_text, from_given, image_result, input_in, joined_trees, long_of, long_result, none_of, of_none, output_of, result_file, result_of}
@@ -167,20 +165,16 @@ any_long_image tells words before now out out_now source input options front sai
     (there.0, there.1, image_result source input options.skips options.depth options.chunks there.0 (record { texts = on.texts; program = on.program; is_program = on.is_program; holds = there.2 }))
 
 any_none : (tells : Bool) (words : List (List ℕ)) (before now : ShelfView) (out : SinkView) (source input : List ℕ) (options : Options) (front : List ℕ) (x : Why) →
-    AnyRun words before out source input options front → AsksProgram tells words before.kept (EndsWithout tells before now (Meant x)) → HasNoResult source input options.depth (means_why x)
+    AnyRun words before out source input options front → AsksProgram tells words before.kept (EndsWithout tells before now (Meant x)) → HasNoResult source input options.depth x
 any_none tells words before now out source input options front x r h =
     let plan = any_plan r.program r.packed r.image r.pack options in
     let P : Plan → Type 0 = λ q. OnBoth (at_reading tells before.kept q) q (EndsWithout tells before now (Meant x) q) in
     let on = of_files words before out source input options front r (EndsWithout tells before now (Meant x) plan) (asked_is (asked words) plan P r.asks h) in
-    none_of source input options.depth (means_why x) (record { texts = on.texts; program = on.program; is_program = on.is_program; holds = on.holds.does.1 })
+    none_of source input options.depth x (record { texts = on.texts; program = on.program; is_program = on.is_program; holds = on.holds.does.1 })
 
-any_deep : (tells : Bool) (words : List (List ℕ)) (before now : ShelfView) (out out_now : SinkView) (source input : List ℕ) (options : Options) (front said : List ℕ) →
-    AnyRun words before out source input options front → IsEnding tells words before now out out_now status.Depth said → IsTooDeep source input options.depth
-any_deep tells words before now out out_now source input options front said r h = any_none tells words before now out source input options front why.Deep r h.0
-
-any_trapped : (tells : Bool) (words : List (List ℕ)) (before now : ShelfView) (out out_now : SinkView) (source input : List ℕ) (options : Options) (front said : List ℕ) →
-    AnyRun words before out source input options front → IsEnding tells words before now out out_now status.Trap said → DividesByZero source input options.depth
-any_trapped tells words before now out out_now source input options front said r h = any_none tells words before now out source input options front why.Trap r h.0
+any_valueless : (tells : Bool) (words : List (List ℕ)) (before now : ShelfView) (out out_now : SinkView) (source input : List ℕ) (options : Options) (front said : List ℕ) (x : Why) →
+    AnyRun words before out source input options front → IsEnding tells words before now out out_now (status.NoValue x) said → HasNoResult source input options.depth x
+any_valueless tells words before now out out_now source input options front said x r h = any_none tells words before now out source input options front x r h.0
 
 any_full : (tells : Bool) (words : List (List ℕ)) (before now : ShelfView) (out out_now : SinkView) (source input : List ℕ) (options : Options) (front said : List ℕ) →
     AnyRun words before out source input options front → IsEnding tells words before now out out_now status.Full said → IsTooBig source input options.skips options.depth (run_forks options) options.chunks
@@ -239,33 +233,21 @@ any_ends_long laws tells words before now out out_now source input options front
     (record { texts = on.texts; program = on.program; is_program = on.is_program; holds = ((None, (refl, on.holds, packs)), λ name bytes named does. quiet.image_written name named) }) in
     long_due laws tells (record { shelf = before; out = out }) (record { shelf = now; out = out_now }) plan (refl, due) end' (cause_of tells words (record { shelf = before; out = out }) (record { shelf = now; out = out_now }) plan r.asks end' said ends)
 
-any_ends_none : Laws → (tells : Bool) (words : List (List ℕ)) (before now : ShelfView) (out out_now : SinkView) (source input : List ℕ) (options : Options) (front said : List ℕ) (end' : Status) (x : Why) →
-    (r : AnyRun words before out source input options front) → NoFault r.program r.packed r.image r.pack before now out out_now → HasNoResult source input options.depth (means_why x) →
-    IsEnding tells words before now out out_now end' said → (end' ≡ told_by x) ⊎ (end' ≡ status.Memory) ⊎ (end' ≡ status.Full)
-any_ends_none laws tells words before now out out_now source input options front said end' x r quiet h ends =
+any_ends_valueless : Laws → (tells : Bool) (words : List (List ℕ)) (before now : ShelfView) (out out_now : SinkView) (source input : List ℕ) (options : Options) (front said : List ℕ) (x : Why) (end' : Status) →
+    (r : AnyRun words before out source input options front) → NoFault r.program r.packed r.image r.pack before now out out_now → HasNoResult source input options.depth x →
+    IsEnding tells words before now out out_now end' said → (end' ≡ status.NoValue x) ⊎ (end' ≡ status.Memory) ⊎ (end' ≡ status.Full)
+any_ends_valueless laws tells words before now out out_now source input options front said x end' r quiet h ends =
     let plan = any_plan r.program r.packed r.image r.pack options in
-    let on = of_none source input options.depth (means_why x) h in
+    let on = of_none source input options.depth x h in
     let due = due_of tells words before now out out_now source input options front r quiet (DueWithout before now (Meant x) plan)
     (record { texts = on.texts; program = on.program; is_program = on.is_program; holds = ((None, (refl, on.holds)), λ name bytes named does. absurd (some_or_none bytes does.0)) }) in
     none_due laws tells (record { shelf = before; out = out }) (record { shelf = now; out = out_now }) plan x due end' (cause_of tells words (record { shelf = before; out = out }) (record { shelf = now; out = out_now }) plan r.asks end' said ends)
-
-any_ends_deep : Laws → (tells : Bool) (words : List (List ℕ)) (before now : ShelfView) (out out_now : SinkView) (source input : List ℕ) (options : Options) (front said : List ℕ) (end' : Status) →
-    (r : AnyRun words before out source input options front) → NoFault r.program r.packed r.image r.pack before now out out_now → IsTooDeep source input options.depth →
-    IsEnding tells words before now out out_now end' said → (end' ≡ status.Depth) ⊎ (end' ≡ status.Memory) ⊎ (end' ≡ status.Full)
-any_ends_deep laws tells words before now out out_now source input options front said end' r quiet h ends =
-    any_ends_none laws tells words before now out out_now source input options front said end' why.Deep r quiet h ends
-
-any_ends_trapped : Laws → (tells : Bool) (words : List (List ℕ)) (before now : ShelfView) (out out_now : SinkView) (source input : List ℕ) (options : Options) (front said : List ℕ) (end' : Status) →
-    (r : AnyRun words before out source input options front) → NoFault r.program r.packed r.image r.pack before now out out_now → DividesByZero source input options.depth →
-    IsEnding tells words before now out out_now end' said → (end' ≡ status.Trap) ⊎ (end' ≡ status.Memory) ⊎ (end' ≡ status.Full)
-any_ends_trapped laws tells words before now out out_now source input options front said end' r quiet h ends =
-    any_ends_none laws tells words before now out out_now source input options front said end' why.Trap r quiet h ends
 
 -- Chunks that are enough do not run out
 
 -- the statuses of a run whose chunks are enough
 abbrev IsFitting : Options → Status → Type 0
-IsFitting options s = (s ≡ status.Done) ⊎ (s ≡ status.Depth) ⊎ (s ≡ status.Trap) ⊎ (s ≡ status.Memory) ⊎ ((s ≡ status.Long) × (options.packs ≡ true))
+IsFitting options s = (s ≡ status.Done) ⊎ ((x : Why) × (s ≡ status.NoValue x)) ⊎ (s ≡ status.Memory) ⊎ ((s ≡ status.Long) × (options.packs ≡ true))
 
 any_fits : Laws → (tells : Bool) (words : List (List ℕ)) (before now : ShelfView) (out out_now : SinkView) (source input : List ℕ) (options : Options) (front said : List ℕ) (end' : Status) →
     (r : AnyRun words before out source input options front) → NoFault r.program r.packed r.image r.pack before now out out_now → Given source input → (IsTooBig source input options.skips options.depth (run_forks options) options.chunks → ⊥) →
@@ -280,9 +262,8 @@ any_fits laws tells words before now out out_now source input options front said
       | inl e ↦ inl e
       | inr (inl e) ↦ inr (inl e)
       | inr (inr (inl e)) ↦ inr (inr (inl e))
-      | inr (inr (inr (inl e))) ↦ inr (inr (inr (inl e)))
-      | inr (inr (inr (inr (inl e)))) ↦ inr (inr (inr (inr (e, (any_long tells words before now out out_now source input options front said r (subst E e ends)).1))))
-      | inr (inr (inr (inr (inr e)))) ↦ absurd (fits (any_full tells words before now out out_now source input options front said r (subst E e ends)))
+      | inr (inr (inr (inl e))) ↦ inr (inr (inr (e, (any_long tells words before now out out_now source input options front said r (subst E e ends)).1)))
+      | inr (inr (inr (inr e))) ↦ absurd (fits (any_full tells words before now out out_now source input options front said r (subst E e ends)))
     ]
 
 -- ---- A run without a packed file of its result
@@ -304,18 +285,15 @@ pub run_image : (tells : Bool) (words : List (List ℕ)) (before now : ShelfView
     (bytes : List ℕ) × (now.kept name ≡ told tells bytes) × IsResultImage source input options.skips options.depth options.chunks bytes
 run_image tells words before now out out_now source input options front said name r named h = any_image tells words before now out out_now source input options front said name (bare words before out source input options front r) named (none-some name) h
 
-pub run_deep : (tells : Bool) (words : List (List ℕ)) (before now : ShelfView) (out out_now : SinkView) (source input : List ℕ) (options : Options) (front said : List ℕ) → IsRun words before out source input options front → IsEnding tells words before now out out_now status.Depth said → IsTooDeep source input options.depth
-run_deep tells words before now out out_now source input options front said r h = any_deep tells words before now out out_now source input options front said (bare words before out source input options front r) h
-
-pub run_trapped : (tells : Bool) (words : List (List ℕ)) (before now : ShelfView) (out out_now : SinkView) (source input : List ℕ) (options : Options) (front said : List ℕ) → IsRun words before out source input options front → IsEnding tells words before now out out_now status.Trap said → DividesByZero source input options.depth
-run_trapped tells words before now out out_now source input options front said r h = any_trapped tells words before now out out_now source input options front said (bare words before out source input options front r) h
+pub run_valueless : (tells : Bool) (words : List (List ℕ)) (before now : ShelfView) (out out_now : SinkView) (source input : List ℕ) (options : Options) (front said : List ℕ) (x : Why) →
+    IsRun words before out source input options front → IsEnding tells words before now out out_now (status.NoValue x) said → HasNoResult source input options.depth x
+run_valueless tells words before now out out_now source input options front said x r h = any_valueless tells words before now out out_now source input options front said x (bare words before out source input options front r) h
 
 -- What the status of a run tells, by how the call ends.
 pub run_tells : (tells : Bool) (words : List (List ℕ)) (before now : ShelfView) (out out_now : SinkView) (end' : Status) (said : List ℕ) → IsEnding tells words before now out out_now end' said
     → (source input : List ℕ) (options : Options) (front : List ℕ) → IsRun words before out source input options front → TellsWhatIsMeant source input options.depth front out_now end'
 run_tells tells words before now out out_now status.Done said h source input options front r = run_done tells words before now out out_now source input options front said r h
-run_tells tells words before now out out_now status.Depth said h source input options front r = run_deep tells words before now out out_now source input options front said r h
-run_tells tells words before now out out_now status.Trap said h source input options front r = run_trapped tells words before now out out_now source input options front said r h
+run_tells tells words before now out out_now (status.NoValue x) said h source input options front r = run_valueless tells words before now out out_now source input options front said x r h
 run_tells tells words before now out out_now status.Source said h source input options front r = tt
 run_tells tells words before now out out_now status.Usage said h source input options front r = tt
 run_tells tells words before now out out_now status.Full said h source input options front r = tt
@@ -334,26 +312,20 @@ run_ends_done laws tells words before now out out_now source input options front
     any_ends_done laws tells words before now out out_now source input options front output said end' (bare words before out source input options front r) (bare_quiet words before out source input options front r now out_now quiet) h
     (λ on. bare_packs words before out source input options front r on) ends
 
-pub run_ends_deep : Laws → (tells : Bool) (words : List (List ℕ)) (before now : ShelfView) (out out_now : SinkView) (source input : List ℕ) (options : Options) (front said : List ℕ) (end' : Status) →
-    (r : IsRun words before out source input options front) → NoneFailed r.program r.packed r.image before now out out_now → IsTooDeep source input options.depth → IsEnding tells words before now out out_now end' said → (end' ≡ status.Depth) ⊎ (end' ≡ status.Memory) ⊎ (end' ≡ status.Full)
-run_ends_deep laws tells words before now out out_now source input options front said end' r quiet h ends =
-    any_ends_deep laws tells words before now out out_now source input options front said end' (bare words before out source input options front r) (bare_quiet words before out source input options front r now out_now quiet) h ends
-
-pub run_ends_trapped : Laws → (tells : Bool) (words : List (List ℕ)) (before now : ShelfView) (out out_now : SinkView) (source input : List ℕ) (options : Options) (front said : List ℕ) (end' : Status) →
-    (r : IsRun words before out source input options front) → NoneFailed r.program r.packed r.image before now out out_now → DividesByZero source input options.depth → IsEnding tells words before now out out_now end' said → (end' ≡ status.Trap) ⊎ (end' ≡ status.Memory) ⊎ (end' ≡ status.Full)
-run_ends_trapped laws tells words before now out out_now source input options front said end' r quiet h ends =
-    any_ends_trapped laws tells words before now out out_now source input options front said end' (bare words before out source input options front r) (bare_quiet words before out source input options front r now out_now quiet) h ends
+pub run_ends_valueless : Laws → (tells : Bool) (words : List (List ℕ)) (before now : ShelfView) (out out_now : SinkView) (source input : List ℕ) (options : Options) (front said : List ℕ) (x : Why) (end' : Status) →
+    (r : IsRun words before out source input options front) → NoneFailed r.program r.packed r.image before now out out_now → HasNoResult source input options.depth x → IsEnding tells words before now out out_now end' said → (end' ≡ status.NoValue x) ⊎ (end' ≡ status.Memory) ⊎ (end' ≡ status.Full)
+run_ends_valueless laws tells words before now out out_now source input options front said x end' r quiet h ends =
+    any_ends_valueless laws tells words before now out out_now source input options front said x end' (bare words before out source input options front r) (bare_quiet words before out source input options front r now out_now quiet) h ends
 
 pub run_fits : Laws → (tells : Bool) (words : List (List ℕ)) (before now : ShelfView) (out out_now : SinkView) (source input : List ℕ) (options : Options) (front said : List ℕ) (end' : Status) →
     (r : IsRun words before out source input options front) → NoneFailed r.program r.packed r.image before now out out_now → Given source input → (IsTooBig source input options.skips options.depth (run_forks options) options.chunks → ⊥) → IsEnding tells words before now out out_now end' said →
-    (end' ≡ status.Done) ⊎ (end' ≡ status.Depth) ⊎ (end' ≡ status.Trap) ⊎ (end' ≡ status.Memory)
+    (end' ≡ status.Done) ⊎ ((x : Why) × (end' ≡ status.NoValue x)) ⊎ (end' ≡ status.Memory)
 run_fits laws tells words before now out out_now source input options front said end' r quiet g fits ends =
     elim (any_fits laws tells words before now out out_now source input options front said end' (bare words before out source input options front r) (bare_quiet words before out source input options front r now out_now quiet) g fits ends) [
       | inl e ↦ inl e
       | inr (inl e) ↦ inr (inl e)
-      | inr (inr (inl e)) ↦ inr (inr (inl e))
-      | inr (inr (inr (inl e))) ↦ inr (inr (inr e))
-      | inr (inr (inr (inr e))) ↦ bare_packs words before out source input options front r e.1
+      | inr (inr (inl e)) ↦ inr (inr e)
+      | inr (inr (inr e)) ↦ bare_packs words before out source input options front r e.1
     ]
 
 -- ---- A run with one
@@ -397,11 +369,9 @@ pack_long_image tells words before now out out_now source input options front sa
 pub pack_unwritten : (tells : Bool) (words : List (List ℕ)) (before now : ShelfView) (out out_now : SinkView) (source input : List ℕ) (options : Options) (front said name : List ℕ) → (r : IsPackingRun words before out source input options front) → (r.image ≡ Some name → ⊥) → IsEnding tells words before now out out_now status.Long said → now.kept name ≡ before.kept name
 pack_unwritten tells words before now out out_now source input options front said name r other h = (any_long tells words before now out out_now source input options front said (with_pack words before out source input options front r) h).2 name other
 
-pub pack_deep : (tells : Bool) (words : List (List ℕ)) (before now : ShelfView) (out out_now : SinkView) (source input : List ℕ) (options : Options) (front said : List ℕ) → IsPackingRun words before out source input options front → IsEnding tells words before now out out_now status.Depth said → IsTooDeep source input options.depth
-pack_deep tells words before now out out_now source input options front said r h = any_deep tells words before now out out_now source input options front said (with_pack words before out source input options front r) h
-
-pub pack_trapped : (tells : Bool) (words : List (List ℕ)) (before now : ShelfView) (out out_now : SinkView) (source input : List ℕ) (options : Options) (front said : List ℕ) → IsPackingRun words before out source input options front → IsEnding tells words before now out out_now status.Trap said → DividesByZero source input options.depth
-pack_trapped tells words before now out out_now source input options front said r h = any_trapped tells words before now out out_now source input options front said (with_pack words before out source input options front r) h
+pub pack_valueless : (tells : Bool) (words : List (List ℕ)) (before now : ShelfView) (out out_now : SinkView) (source input : List ℕ) (options : Options) (front said : List ℕ) (x : Why) →
+    IsPackingRun words before out source input options front → IsEnding tells words before now out out_now (status.NoValue x) said → HasNoResult source input options.depth x
+pack_valueless tells words before now out out_now source input options front said x r h = any_valueless tells words before now out out_now source input options front said x (with_pack words before out source input options front r) h
 
 pub pack_full : (tells : Bool) (words : List (List ℕ)) (before now : ShelfView) (out out_now : SinkView) (source input : List ℕ) (options : Options) (front said : List ℕ) → IsPackingRun words before out source input options front → IsEnding tells words before now out out_now status.Full said → IsTooBig source input options.skips options.depth (run_forks options) options.chunks
 pack_full tells words before now out out_now source input options front said r h = any_full tells words before now out out_now source input options front said (with_pack words before out source input options front r) h
@@ -417,24 +387,18 @@ pub pack_ends_long : Laws → (tells : Bool) (words : List (List ℕ)) (before n
 pack_ends_long laws tells words before now out out_now source input options front said end' r quiet h ends =
     any_ends_long laws tells words before now out out_now source input options front said end' (with_pack words before out source input options front r) (pack_quiet words before out source input options front r now out_now quiet) h (pack_on words before out source input options front r) ends
 
-pub pack_ends_deep : Laws → (tells : Bool) (words : List (List ℕ)) (before now : ShelfView) (out out_now : SinkView) (source input : List ℕ) (options : Options) (front said : List ℕ) (end' : Status) →
-    (r : IsPackingRun words before out source input options front) → NoWriteFailed r.program r.packed r.image r.pack before now out out_now → IsTooDeep source input options.depth → IsEnding tells words before now out out_now end' said → (end' ≡ status.Depth) ⊎ (end' ≡ status.Memory) ⊎ (end' ≡ status.Full)
-pack_ends_deep laws tells words before now out out_now source input options front said end' r quiet h ends =
-    any_ends_deep laws tells words before now out out_now source input options front said end' (with_pack words before out source input options front r) (pack_quiet words before out source input options front r now out_now quiet) h ends
-
-pub pack_ends_trapped : Laws → (tells : Bool) (words : List (List ℕ)) (before now : ShelfView) (out out_now : SinkView) (source input : List ℕ) (options : Options) (front said : List ℕ) (end' : Status) →
-    (r : IsPackingRun words before out source input options front) → NoWriteFailed r.program r.packed r.image r.pack before now out out_now → DividesByZero source input options.depth → IsEnding tells words before now out out_now end' said → (end' ≡ status.Trap) ⊎ (end' ≡ status.Memory) ⊎ (end' ≡ status.Full)
-pack_ends_trapped laws tells words before now out out_now source input options front said end' r quiet h ends =
-    any_ends_trapped laws tells words before now out out_now source input options front said end' (with_pack words before out source input options front r) (pack_quiet words before out source input options front r now out_now quiet) h ends
+pub pack_ends_valueless : Laws → (tells : Bool) (words : List (List ℕ)) (before now : ShelfView) (out out_now : SinkView) (source input : List ℕ) (options : Options) (front said : List ℕ) (x : Why) (end' : Status) →
+    (r : IsPackingRun words before out source input options front) → NoWriteFailed r.program r.packed r.image r.pack before now out out_now → HasNoResult source input options.depth x → IsEnding tells words before now out out_now end' said → (end' ≡ status.NoValue x) ⊎ (end' ≡ status.Memory) ⊎ (end' ≡ status.Full)
+pack_ends_valueless laws tells words before now out out_now source input options front said x end' r quiet h ends =
+    any_ends_valueless laws tells words before now out out_now source input options front said x end' (with_pack words before out source input options front r) (pack_quiet words before out source input options front r now out_now quiet) h ends
 
 pub pack_fits : Laws → (tells : Bool) (words : List (List ℕ)) (before now : ShelfView) (out out_now : SinkView) (source input : List ℕ) (options : Options) (front said : List ℕ) (end' : Status) →
     (r : IsPackingRun words before out source input options front) → NoWriteFailed r.program r.packed r.image r.pack before now out out_now → Given source input → (IsTooBig source input options.skips options.depth (run_forks options) options.chunks → ⊥) → IsEnding tells words before now out out_now end' said →
-    (end' ≡ status.Done) ⊎ (end' ≡ status.Depth) ⊎ (end' ≡ status.Trap) ⊎ (end' ≡ status.Memory) ⊎ (end' ≡ status.Long)
+    (end' ≡ status.Done) ⊎ ((x : Why) × (end' ≡ status.NoValue x)) ⊎ (end' ≡ status.Memory) ⊎ (end' ≡ status.Long)
 pack_fits laws tells words before now out out_now source input options front said end' r quiet g fits ends =
     elim (any_fits laws tells words before now out out_now source input options front said end' (with_pack words before out source input options front r) (pack_quiet words before out source input options front r now out_now quiet) g fits ends) [
       | inl e ↦ inl e
       | inr (inl e) ↦ inr (inl e)
       | inr (inr (inl e)) ↦ inr (inr (inl e))
-      | inr (inr (inr (inl e))) ↦ inr (inr (inr (inl e)))
-      | inr (inr (inr (inr e))) ↦ inr (inr (inr (inr e.0)))
+      | inr (inr (inr e)) ↦ inr (inr (inr e.0))
     ]

@@ -19,13 +19,13 @@ use Rattle.gib_core.specs.Parts.{core_of}
 use Rattle.gib_core.specs.Tight.{Tight}
 use Rattle.gib_core.specs.Tree.{CoreTree}
 use Rattle.gib_code.specs.declared.answer.Answer.{Answer}
+use Rattle.gib_code.specs.declared.answer.Answer.TheVariants as answer
 use Rattle.gib_types.specs.declared.reason.Reason.{Reason as Why}
 use Rattle.gib_code.specs.Program.{CodeTree}
 use Rattle.gib_lower.specs.Lowering.{lower_program}
 use Rattle.gib_load.specs.Placement.{Placement}
 use Rattle.gib_weave.specs.Running.{word_of}
-use Rattle.gib_machine.specs.Machine.{stopped}
-use Rattle.gib_weave.specs.Sound.{IsAnswer, means_why}
+use Rattle.gib_weave.specs.Sound.{IsAnswer}
 use Rattle.gib_weave.specs.Weave.{weave_start}
 use Rattle.gib_locked.specs.JournalText.{journal_text}
 use Rattle.gib_locked.specs.Lines.{are_lines}
@@ -82,13 +82,13 @@ abbrev pub end_stands : {names : TextsView} (p : ProgramTree) (input : List ℕ)
 end_stands p input v settings lines m a place is ended there =
     let laid = layouts_of settings.skips p in
     let owed = run p settings.depth v in
-    let P : Result Root Why → Type 0 = λ found. Rattle.std.specs.Prelude.MatchResult found (IsRootOf laid m.cells (output_type p) owed) (λ other. owed ≡ Stops (means_why other)) in
+    let P : Result Root Why → Type 0 = λ found. Rattle.std.specs.Prelude.MatchResult found (IsRootOf laid m.cells (output_type p) owed) (λ other. owed ≡ Stops other) in
     let root : IsRootOf laid m.cells (output_type p) owed place = subst P there (answered laid m.cells (output_type p) owed a ended.means) in
     record { value = v; result = root.result; is_input = is; means = root.means; table = table_laid p settings.skips laid refl; stands = root.stands }
 
 -- Where there is none, the program means none, for the answer's reason.
 pub end_stopped : (p : ProgramTree) (v : Datum) (settings : Settings) (lines : List Line) (m : Memory) (a : Answer) (other : Why) → IsEndOf p v settings lines m a → root_in a ≡ Err other
-    → (a ≡ stopped other) × (run p settings.depth v ≡ Stops (means_why other))
+    → (a ≡ answer.NoValue other) × (run p settings.depth v ≡ Stops other)
 end_stopped p v settings lines m a other ended nowhere = stopped_so (layouts_of settings.skips p) m.cells (output_type p) (run p settings.depth v) a ended.means other nowhere
 
 -- What becomes of a value that was loaded.
@@ -156,11 +156,11 @@ ran_stands p o input settings lines m n a other place h e f there =
     stands_again p o.depth input (layouts_of o.skips p) other m n place place e f refl (traced_stands p o input settings lines m a place h there)
 
 pub traced_none : {names : TextsView} (p : ProgramTree) (o : Options) (input : List ℕ) (settings : Settings) (lines : List Line) (m : Memory) (a : Answer) (other : Why) → IsTraced p names o input settings lines m a → root_in a ≡ Err other
-    → MeansNone p names o.depth input (means_why other)
+    → MeansNone p names o.depth input other
 traced_none p o input settings lines m a other h nowhere = record {
   value = h.value;
   is_input = h.is_input;
-  means = subst (λ (d : ℕ). run p d h.value ≡ Stops (means_why other)) h.set.depth (end_stopped p h.value settings lines m a other h.ended nowhere).1;
+  means = subst (λ (d : ℕ). run p d h.value ≡ Stops other) h.set.depth (end_stopped p h.value settings lines m a other h.ended nowhere).1;
 }
 
 -- The text of the journal of such a run is a trace.

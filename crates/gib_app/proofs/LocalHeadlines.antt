@@ -6,10 +6,8 @@ use Rattle.std.proofs.Common.{◌≡◌, ◌∙◌, refl, ℕ, List, [], ◌++�
 use Rattle.gib_types.specs.Tree.{Datum}
 use Rattle.gib_core.specs.Marking.{mark_core}
 use Rattle.gib_syntax.specs.Declarations.{table_of_program, input_type}
-use Rattle.gib_syntax.specs.Meaning.{Reason, Deep, Trap, Gives, run}
+use Rattle.gib_syntax.specs.Meaning.{Gives, run}
 use Rattle.gib_types.specs.declared.reason.Reason.{Reason as Why}
-use Rattle.gib_types.specs.declared.reason.Reason.TheVariants as why
-use Rattle.gib_weave.specs.Sound.{means_why}
 use Rattle.gib_edge.specs.Views.{ShelfView, SinkView}
 use Rattle.gib_app.specs.declared.made.Reason.TheVariants.{Meant, Full, Long}
 use Rattle.gib_words.specs.declared.plan.Options.{Options}
@@ -26,7 +24,7 @@ use Rattle.gib_app.specs.Ending.{IsEnding, HasText, DueOfFiles, DueOfSource, Due
 use Rattle.gib_app.specs.LocalHeadline.{IsLocalRun, MakesCore, LocalGiven, IsLocalResult, HasNoLocalResult, IsLocalTooBig, NoReadFailed, local_plan, program_in}
 use Rattle.gib_app.proofs.CallCauses.{Whole, cause_of}
 use Rattle.gib_app.proofs.EndsDone.{done_due, fit_ends}
-use Rattle.gib_app.proofs.EndsNone.{none_due, told_by}
+use Rattle.gib_app.proofs.EndsNone.{none_due}
 use Rattle.gib_app.proofs.EndsRefused.{source_due}
 use Rattle.gib_app.proofs.OneEnd.{one_meaning, runs_well}
 use Rattle.gib_app.proofs.OneProgram.{Laws, together}
@@ -76,7 +74,7 @@ input_in given = record { short = given.short; file = given.file }
 abbrev IsText : (depth : ℕ) (input output : List ℕ) → Program → TextsView → Type 0
 IsText depth input output p names = IsOutput p.tree names depth input output
 
-abbrev IsNone : (depth : ℕ) (input : List ℕ) → Reason → Program → TextsView → Type 0
+abbrev IsNone : (depth : ℕ) (input : List ℕ) → Why → Program → TextsView → Type 0
 IsNone depth input meant p names = MeansNone p.tree names depth input meant
 
 result_of : (source input : List ℕ) (depth : ℕ) (output : List ℕ) → OnProgram dialect.Located source (IsText depth input output) → IsLocalResult source input depth output
@@ -88,12 +86,12 @@ output_of : (source input : List ℕ) (depth : ℕ) (output : List ℕ) → IsLo
 output_of source input depth output h =
     of_made source (IsText depth input output) h.given.made (record { value = h.given.value; result = h.result; is_input = input_in h.given; means = h.means; is_text = h.is_text })
 
-none_of : (source input : List ℕ) (depth : ℕ) (meant : Reason) → OnProgram dialect.Located source (IsNone depth input meant) → HasNoLocalResult source input depth meant
+none_of : (source input : List ℕ) (depth : ℕ) (meant : Why) → OnProgram dialect.Located source (IsNone depth input meant) → HasNoLocalResult source input depth meant
 none_of source input depth meant on =
     let m = to_made source (IsNone depth input meant) on in
     record { given = given_of source input m.made m.holds.value m.holds.is_input; means = m.holds.means }
 
-of_none : (source input : List ℕ) (depth : ℕ) (meant : Reason) → HasNoLocalResult source input depth meant → OnProgram dialect.Located source (IsNone depth input meant)
+of_none : (source input : List ℕ) (depth : ℕ) (meant : Why) → HasNoLocalResult source input depth meant → OnProgram dialect.Located source (IsNone depth input meant)
 of_none source input depth meant h = of_made source (IsNone depth input meant) h.given.made (record { value = h.given.value; is_input = input_in h.given; means = h.means })
 
 -- ---- There is one
@@ -109,12 +107,12 @@ one_result laws source input depth output other h k =
     let u = one_given (run p depth a.value) a.result b.result a.means (subst M same b.means) in
     a.is_text ∙ ap (text_line p both.1) u ∙ sym b.is_text
 
-pub no_result : Laws → (source input : List ℕ) (depth : ℕ) (output : List ℕ) (meant : Reason) → IsLocalResult source input depth output → HasNoLocalResult source input depth meant → ⊥
+pub no_result : Laws → (source input : List ℕ) (depth : ℕ) (output : List ℕ) (meant : Why) → IsLocalResult source input depth output → HasNoLocalResult source input depth meant → ⊥
 no_result laws source input depth output meant h k =
     let both = together laws dialect.Located source (IsText depth input output) (IsNone depth input meant) (output_of source input depth output h) (of_none source input depth meant k) in
     runs_well laws both.0.tree both.1 depth input output meant both.2 both.3
 
-pub one_reason : Laws → (source input : List ℕ) (depth : ℕ) (x y : Reason) → HasNoLocalResult source input depth x → HasNoLocalResult source input depth y → x ≡ y
+pub one_reason : Laws → (source input : List ℕ) (depth : ℕ) (x y : Why) → HasNoLocalResult source input depth x → HasNoLocalResult source input depth y → x ≡ y
 one_reason laws source input depth x y h k =
     let both = together laws dialect.Located source (IsNone depth input x) (IsNone depth input y) (of_none source input depth x h) (of_none source input depth y k) in
     one_meaning laws both.0.tree both.1 depth input x y both.2 both.3
@@ -146,17 +144,14 @@ module _ (tells : Bool) (words : List (List ℕ)) (before now : ShelfView) (out 
         subst T r.front_is on.holds.2,
       )
 
-  local_none : (x : Why) → AsksProgram tells words before.kept (EndsWithout tells before now (Meant x)) → HasNoLocalResult source input options.depth (means_why x)
+  local_none : (x : Why) → AsksProgram tells words before.kept (EndsWithout tells before now (Meant x)) → HasNoLocalResult source input options.depth x
   local_none x h =
       let P : Plan → Type 0 = λ q. OnBoth (at_reading tells before.kept q) q (EndsWithout tells before now (Meant x) q) in
       let on = of_files (EndsWithout tells before now (Meant x) plan) (asked_is (asked words) plan P r.asks h) in
-      none_of source input options.depth (means_why x) (record { texts = on.texts; program = on.program; is_program = on.is_program; holds = on.holds.does.1 })
+      none_of source input options.depth x (record { texts = on.texts; program = on.program; is_program = on.is_program; holds = on.holds.does.1 })
 
-  pub local_deep : (said : List ℕ) → IsEnding tells words before now out out_now status.Depth said → HasNoLocalResult source input options.depth Deep
-  local_deep said h = local_none why.Deep h.0
-
-  pub local_trapped : (said : List ℕ) → IsEnding tells words before now out out_now status.Trap said → HasNoLocalResult source input options.depth Trap
-  local_trapped said h = local_none why.Trap h.0
+  pub local_valueless : (said : List ℕ) (x : Why) → IsEnding tells words before now out out_now (status.NoValue x) said → HasNoLocalResult source input options.depth x
+  local_valueless said x h = local_none x h.0
 
   pub local_full : (said : List ℕ) → IsEnding tells words before now out out_now status.Full said → IsLocalTooBig source input options.depth (run_forks options) options.chunks
   local_full said h =
@@ -201,17 +196,11 @@ module _ (tells : Bool) (words : List (List ℕ)) (before now : ShelfView) (out 
         let due = due_of (HasText plan) (record { texts = on.texts; program = on.program; is_program = on.is_program; holds = (None, output, (refl, on.holds), (None, refl)) }) in
         done_due laws tells (record { shelf = before; out = out }) (record { shelf = now; out = out_now }) plan (due, takes) end' (cause_of tells words (record { shelf = before; out = out }) (record { shelf = now; out = out_now }) plan r.asks end' said ends)
 
-    ends_none : (x : Why) (said : List ℕ) (end' : Status) → HasNoLocalResult source input options.depth (means_why x) → IsEnding tells words before now out out_now end' said → (end' ≡ told_by x) ⊎ (end' ≡ status.Memory) ⊎ (end' ≡ status.Full)
-    ends_none x said end' h ends =
-        let on = of_none source input options.depth (means_why x) h in
+    pub ends_valueless : (said : List ℕ) (x : Why) (end' : Status) → HasNoLocalResult source input options.depth x → IsEnding tells words before now out out_now end' said → (end' ≡ status.NoValue x) ⊎ (end' ≡ status.Memory) ⊎ (end' ≡ status.Full)
+    ends_valueless said x end' h ends =
+        let on = of_none source input options.depth x h in
         let due = due_of (DueWithout before now (Meant x) plan) (record { texts = on.texts; program = on.program; is_program = on.is_program; holds = ((None, (refl, on.holds)), λ name bytes named does. absurd (none-some name named)) }) in
         none_due laws tells (record { shelf = before; out = out }) (record { shelf = now; out = out_now }) plan x due end' (cause_of tells words (record { shelf = before; out = out }) (record { shelf = now; out = out_now }) plan r.asks end' said ends)
-
-    pub ends_deep : (said : List ℕ) (end' : Status) → HasNoLocalResult source input options.depth Deep → IsEnding tells words before now out out_now end' said → (end' ≡ status.Depth) ⊎ (end' ≡ status.Memory) ⊎ (end' ≡ status.Full)
-    ends_deep said end' h ends = ends_none why.Deep said end' h ends
-
-    pub ends_trapped : (said : List ℕ) (end' : Status) → HasNoLocalResult source input options.depth Trap → IsEnding tells words before now out out_now end' said → (end' ≡ status.Trap) ⊎ (end' ≡ status.Memory) ⊎ (end' ≡ status.Full)
-    ends_trapped said end' h ends = ends_none why.Trap said end' h ends
 
     pub ends_refused : (said : List ℕ) (end' : Status) → (MakesCore source → ⊥) → IsEnding tells words before now out out_now end' said → (end' ≡ status.Source) ⊎ (end' ≡ status.Memory)
     ends_refused said end' no' ends =
@@ -231,15 +220,14 @@ module _ (tells : Bool) (words : List (List ℕ)) (before now : ShelfView) (out 
         ]
 
     pub local_fits : (said : List ℕ) (end' : Status) → LocalGiven source input → (IsLocalTooBig source input options.depth (run_forks options) options.chunks → ⊥) → IsEnding tells words before now out out_now end' said →
-        (end' ≡ status.Done) ⊎ (end' ≡ status.Depth) ⊎ (end' ≡ status.Trap) ⊎ (end' ≡ status.Memory)
+        (end' ≡ status.Done) ⊎ ((x : Why) × (end' ≡ status.NoValue x)) ⊎ (end' ≡ status.Memory)
     local_fits said end' g fits ends =
         let E : Status → Type 0 = λ s. IsEnding tells words before now out out_now s said in
         let due = due_of (λ p names contents. Accepts plan.job plan.options p names contents) (of_made source (λ p names. Accepts plan.job plan.options p names given) g.made (g.value, input_in g)) in
         elim (fit_ends laws tells (record { shelf = before; out = out }) (record { shelf = now; out = out_now }) plan (due, takes) end' (cause_of tells words (record { shelf = before; out = out }) (record { shelf = now; out = out_now }) plan r.asks end' said ends)) [
           | inl e ↦ inl e
           | inr (inl e) ↦ inr (inl e)
-          | inr (inr (inl e)) ↦ inr (inr (inl e))
-          | inr (inr (inr (inl e))) ↦ inr (inr (inr e))
-          | inr (inr (inr (inr (inl e)))) ↦ absurd (long_never said (subst E e ends))
-          | inr (inr (inr (inr (inr e)))) ↦ absurd (fits (local_full said (subst E e ends)))
+          | inr (inr (inl e)) ↦ inr (inr e)
+          | inr (inr (inr (inl e))) ↦ absurd (long_never said (subst E e ends))
+          | inr (inr (inr (inr e))) ↦ absurd (fits (local_full said (subst E e ends)))
         ]

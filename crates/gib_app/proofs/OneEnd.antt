@@ -7,9 +7,7 @@ use Rattle.gib_syntax.specs.Declarations.{table_of_program, input_type, output_t
 use Rattle.gib_file.specs.Framed.{File2}
 use Rattle.gib_file.proofs.FileLaws.{file2_length}
 use Rattle.gib_syntax.specs.Meaning.{Gives, Stops, run}
-use Rattle.gib_syntax.specs.Meaning.{Reason as Meaning}
 use Rattle.gib_types.specs.declared.reason.Reason.{Reason as Why}
-use Rattle.gib_weave.specs.Sound.{means_why}
 use Rattle.gib_words.specs.declared.plan.Job.{Job}
 use Rattle.gib_app.specs.declared.inputs.Format.{Format}
 use Rattle.gib_app.specs.declared.inputs.Format.TheVariants.{Packed, Packable, Shown, Journaled}
@@ -23,24 +21,24 @@ use Rattle.gib_app.specs.Formats.{format_by, format_of, Accepts}
 use Rattle.gib_app.specs.Jobs.{End, Prints, Does, DoesBy, DoesPack, IsSaid, PacksResult, packs_of, without_image}
 use Rattle.gib_app.specs.Jobs.{NoValue as Without}
 use Rattle.gib_app.specs.Ending.{ends_as, ends_in}
-use Rattle.gib_app.proofs.Replays.{gives_or_stops, one_given, some_or_none, one_reason, one_why, shown_or_valueless, shown_or_full, one_valueless, valueless_or_full}
+use Rattle.gib_app.proofs.Replays.{gives_or_stops, one_given, some_or_none, one_why, shown_or_valueless, shown_or_full, one_valueless, valueless_or_full}
 use Rattle.gib_app.proofs.Doing.{AcceptsBy, row_accepts}
 use Rattle.gib_app.proofs.Fitting.{valueless_packs}
 use Rattle.gib_app.proofs.OneProgram.{Laws}
 
-pub runs_well : Laws → (p : ProgramTree) (names : TextsView) (depth : ℕ) (input output : List ℕ) (meant : Meaning) → IsOutput p names depth input output → MeansNone p names depth input meant → ⊥
+pub runs_well : Laws → (p : ProgramTree) (names : TextsView) (depth : ℕ) (input output : List ℕ) (meant : Why) → IsOutput p names depth input output → MeansNone p names depth input meant → ⊥
 runs_well laws p names depth input output meant o d =
     let v = laws.filed (table_of_program p) _ (input_type p) d.value o.value input d.is_input.file o.is_input.file in
     let S : Datum → Type 0 = λ x. run p depth x ≡ Stops meant in
     gives_or_stops (run p depth o.value) o.result meant o.means (subst S v d.means)
 
-sums_well : {names : TextsView} → Laws → (p : ProgramTree) (number levels depth : ℕ) (input output : List ℕ) (meant : Meaning) → IsSummary p names number levels depth input output → MeansNone p names depth input meant → ⊥
+sums_well : {names : TextsView} → Laws → (p : ProgramTree) (number levels depth : ℕ) (input output : List ℕ) (meant : Why) → IsSummary p names number levels depth input output → MeansNone p names depth input meant → ⊥
 sums_well laws p number levels depth input output meant o d =
     let v = laws.filed (table_of_program p) _ (input_type p) d.value o.value input d.is_input.file o.is_input.file in
     let S : Datum → Type 0 = λ x. run p depth x ≡ Stops meant in
     gives_or_stops (run p depth o.value) o.result meant o.means (subst S v d.means)
 
-said_well : Laws → (way : Way) (p : ProgramTree) (names : TextsView) (o : Options) (input text : List ℕ) (meant : Meaning) → IsSaid way p names o input text → MeansNone p names o.depth input meant → ⊥
+said_well : Laws → (way : Way) (p : ProgramTree) (names : TextsView) (o : Options) (input text : List ℕ) (meant : Why) → IsSaid way p names o input text → MeansNone p names o.depth input meant → ⊥
 said_well laws Plainly p names o input text meant h k = runs_well laws p names o.depth input text meant h k
 said_well laws ForFiles p names o input text meant h k = runs_well laws p names o.depth input text meant h k
 said_well laws ForSummary p names o input text meant h k = sums_well laws p o.number o.levels o.depth input text meant h k
@@ -48,17 +46,14 @@ said_well laws ForJournal p names o input text meant h k = runs_well laws p name
 said_well laws ForPlaces p names o input text meant h k = runs_well laws p names o.depth input text meant h k
 
 -- a program means none for one reason
-pub one_meaning : Laws → (p : ProgramTree) (names : TextsView) (depth : ℕ) (input : List ℕ) (x y : Meaning) → MeansNone p names depth input x → MeansNone p names depth input y → x ≡ y
+pub one_meaning : Laws → (p : ProgramTree) (names : TextsView) (depth : ℕ) (input : List ℕ) (x y : Why) → MeansNone p names depth input x → MeansNone p names depth input y → x ≡ y
 one_meaning laws p names depth input x y a b =
     let v = laws.filed (table_of_program p) _ (input_type p) b.value a.value input b.is_input.file a.is_input.file in
     let S : Datum → Type 0 = λ z. run p depth z ≡ Stops y in
     one_why (run p depth a.value) x y a.means (subst S v b.means)
 
-one_cause : Laws → (p : ProgramTree) (names : TextsView) (depth : ℕ) (input : List ℕ) (x y : Why) → MeansNone p names depth input (means_why x) → MeansNone p names depth input (means_why y) → x ≡ y
-one_cause laws p names depth input x y a b = one_reason x y (one_meaning laws p names depth input (means_why x) (means_why y) a b)
-
 -- a result with too long a packed file is a value
-pub long_well : Laws → (p : ProgramTree) (names : TextsView) (depth : ℕ) (input : List ℕ) (meant : Meaning) → IsLongResult p names depth input → MeansNone p names depth input meant → ⊥
+pub long_well : Laws → (p : ProgramTree) (names : TextsView) (depth : ℕ) (input : List ℕ) (meant : Why) → IsLongResult p names depth input → MeansNone p names depth input meant → ⊥
 long_well laws p names depth input meant o d =
     let v = laws.filed (table_of_program p) _ (input_type p) d.value o.value input d.is_input.file o.is_input.file in
     let S : Datum → Type 0 = λ x. run p depth x ≡ Stops meant in
@@ -108,14 +103,14 @@ full_no_file FollowsJournal o p names given bytes h = some_or_none bytes h.0
 module _ (laws : Laws) (o : Options) (p : Program) (names : TextsView) (given : Contents) where
   pub text_or_none : (r : Row) (text : List ℕ) (x : Why) (file other : Option (List ℕ)) → DoesBy (ends_as r) (without_image o) p names given file (Prints text) → DoesBy r o p names given other (Without (Meant x)) → ⊥
   text_or_none (Says said) text x file other h k = k
-  text_or_none (Evaluates way) text x file other h k = said_well laws (ends_in way) p.tree names (without_image o) given.second text (means_why x) h.1 k.1
+  text_or_none (Evaluates way) text x file other h k = said_well laws (ends_in way) p.tree names (without_image o) given.second text x h.1 k.1
   text_or_none PacksValue text x file other h k = k
   text_or_none ShowsFile text x file other h k = k
   text_or_none FollowsJournal text x file other h k = shown_or_valueless laws.filed p.tree names given.second (journal_in given) false file text x h k.1
 
   pub none_or_text : (r : Row) (x : Why) (text : List ℕ) (file other : Option (List ℕ)) → DoesBy (ends_as r) (without_image o) p names given file (Without (Meant x)) → DoesBy r o p names given other (Prints text) → ⊥
   none_or_text (Says said) x text file other h k = h
-  none_or_text (Evaluates way) x text file other h k = said_well laws way p.tree names o given.second text (means_why x) k.1 h.1
+  none_or_text (Evaluates way) x text file other h k = said_well laws way p.tree names o given.second text x k.1 h.1
   none_or_text PacksValue x text file other h k = h
   none_or_text ShowsFile x text file other h k = h
   none_or_text FollowsJournal x text file other h k = shown_or_valueless laws.filed p.tree names given.second (journal_in given) o.image other text x k h.1
@@ -123,7 +118,7 @@ module _ (laws : Laws) (o : Options) (p : Program) (names : TextsView) (given : 
   -- without a value, the reason is one
   pub one_end : (r : Row) (x y : Why) (file other : Option (List ℕ)) → DoesBy (ends_as r) (without_image o) p names given file (Without (Meant x)) → DoesBy r o p names given other (Without (Meant y)) → x ≡ y
   one_end (Says said) x y file other h k = absurd h
-  one_end (Evaluates way) x y file other h k = one_cause laws p.tree names o.depth given.second x y h.1 k.1
+  one_end (Evaluates way) x y file other h k = one_meaning laws p.tree names o.depth given.second x y h.1 k.1
   one_end PacksValue x y file other h k = absurd h
   one_end ShowsFile x y file other h k = absurd h
   one_end FollowsJournal x y file other h k = one_valueless laws.filed p.tree names given.second (journal_in given) x y h.1 k.1
@@ -131,7 +126,7 @@ module _ (laws : Laws) (o : Options) (p : Program) (names : TextsView) (given : 
   -- a result with too long a packed file is a value
   pub long_or_none : (r : Row) (x : Why) (file other : Option (List ℕ)) → DoesBy (ends_as r) (without_image o) p names given file (Without (Meant x)) → DoesBy r o p names given other (Without Long) → ⊥
   long_or_none (Says said) x file other h k = k
-  long_or_none (Evaluates way) x file other h k = long_well laws p.tree names o.depth given.second (means_why x) k.1 h.1
+  long_or_none (Evaluates way) x file other h k = long_well laws p.tree names o.depth given.second x k.1 h.1
   long_or_none PacksValue x file other h k = k
   long_or_none ShowsFile x file other h k = k
   long_or_none FollowsJournal x file other h k = k

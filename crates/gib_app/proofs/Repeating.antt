@@ -4,7 +4,6 @@ use Rattle.std.proofs.lemmas.Option.{none-some}
 use Rattle.std.proofs.Common.{◌≡◌, ◌∙◌, refl, sym, subst, ℕ, List, [], ◌∷◌, ◌++◌, Option, Some, None, IfSome, ◌⊎◌, inl, inr, Bool, true, false}
 use Rattle.gib_base.specs.declared.token.Dialect.TheVariants as dialect
 use Rattle.gib_types.specs.declared.reason.Reason.{Reason as Why}
-use Rattle.gib_types.specs.declared.reason.Reason.TheVariants as why
 use Rattle.gib_edge.specs.Causes.{Rose, told}
 use Rattle.gib_edge.specs.Views.{Held, Has, ShelfView, SinkView}
 use Rattle.gib_app.specs.declared.made.Reason.TheVariants.{Meant}
@@ -193,16 +192,9 @@ module _ (laws : Laws) (tells : Bool) (words again : List (List ℕ)) (before le
   due_none : NoneFails r.program r.packed r.name r.image later now out_later out_now → (x : Why) → OnProgram dialect.Source r.source (Valueless x) → DueNone tells later now x second
   due_none quiet x on = due_of quiet (DueWithout later now (Meant x) second) (map_program r.source (Valueless x) (λ p names. DueWithout later now (Meant x) second p names given_again) (again_valueless quiet x) on)
 
-  pub repeats_deep : (said said_later : List ℕ) (end' : Status) → NoneFails r.program r.packed r.name r.image later now out_later out_now →
-      IsEnding tells words before left out out_left status.Depth said → IsEnding tells again later now out_later out_now end' said_later → (end' ≡ status.Depth) ⊎ (end' ≡ status.Memory)
-  repeats_deep said said_later end' quiet h k =
-      let due = due_none quiet why.Deep (stopped_at why.Deep h.0) in
-      let is = ends_as_due laws tells again (record { shelf = later; out = out_later }) (record { shelf = now; out = out_now }) end' said_later k status.Depth (asked_of (asked again) second (DueNone tells later now why.Deep) r.replays due) in
-      due_alone again r.program r.packed r.name r.image r.others r.replays status.Depth end' is
-
-  pub repeats_trapped : (said said_later : List ℕ) (end' : Status) → NoneFails r.program r.packed r.name r.image later now out_later out_now →
-      IsEnding tells words before left out out_left status.Trap said → IsEnding tells again later now out_later out_now end' said_later → (end' ≡ status.Trap) ⊎ (end' ≡ status.Memory)
-  repeats_trapped said said_later end' quiet h k =
-      let due = due_none quiet why.Trap (stopped_at why.Trap h.0) in
-      let is = ends_as_due laws tells again (record { shelf = later; out = out_later }) (record { shelf = now; out = out_now }) end' said_later k status.Trap (asked_of (asked again) second (DueNone tells later now why.Trap) r.replays due) in
-      due_alone again r.program r.packed r.name r.image r.others r.replays status.Trap end' is
+  pub repeats_valueless : (said said_later : List ℕ) (x : Why) (end' : Status) → NoneFails r.program r.packed r.name r.image later now out_later out_now →
+      IsEnding tells words before left out out_left (status.NoValue x) said → IsEnding tells again later now out_later out_now end' said_later → (end' ≡ status.NoValue x) ⊎ (end' ≡ status.Memory)
+  repeats_valueless said said_later x end' quiet h k =
+      let due = due_none quiet x (stopped_at x h.0) in
+      let is = ends_as_due laws tells again (record { shelf = later; out = out_later }) (record { shelf = now; out = out_now }) end' said_later k (status.NoValue x) (asked_of (asked again) second (DueNone tells later now x) r.replays due) in
+      due_alone again r.program r.packed r.name r.image r.others r.replays (status.NoValue x) end' is

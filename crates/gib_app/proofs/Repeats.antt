@@ -4,7 +4,6 @@ use Rattle.std.proofs.Common.{◌≡◌, ◌∙◌, ◌≤◌, refl, sym, ap, su
 use Rattle.gib_types.specs.Tree.{Datum}
 use Rattle.gib_code.specs.declared.answer.Answer.{Answer}
 use Rattle.gib_types.specs.declared.reason.Reason.{Reason}
-use Rattle.gib_weave.specs.Sound.{means_why}
 use Rattle.gib_syntax.specs.Tree.{ProgramTree}
 use Rattle.gib_syntax.specs.Declarations.{table_of_program, input_type, output_type}
 use Rattle.gib_syntax.specs.Meaning.{Outcome, Gives, Stops, run}
@@ -50,10 +49,10 @@ module _ (one : OneValue) (p : ProgramTree) (names : TextsView) (options : Optio
         };
       }
 
-  pub stopped_again : (why : Reason) → MeansNone p names options.depth input (means_why why) → OnJournal p names input bytes (IsValueless p why)
+  pub stopped_again : (why : Reason) → MeansNone p names options.depth input why → OnJournal p names input bytes (IsValueless p why)
   stopped_again why h =
       let same = one (table_of_program p) _ (input_type p) h.value t.value input h.is_input.file t.is_input.file in
-      let means = means_there h.value (Stops (means_why why)) same h.means in
+      let means = means_there h.value (Stops why) same h.means in
       let is = is_stopped (layouts_of t.settings.skips p) t.memory.cells (output_type p) (run p t.settings.depth t.value) t.ends_with t.ended.means why means in
       let E : Answer → Type 0 = IsEndOf p t.value t.settings t.lines t.memory in
       record {

@@ -20,7 +20,6 @@ use Rattle.gib_packed.specs.declared.root.Root.TheVariants as root
 use Rattle.gib_code.specs.declared.answer.Answer.{Answer}
 use Rattle.gib_code.specs.declared.answer.Answer.TheVariants as answer
 use Rattle.gib_types.specs.declared.reason.Reason.{Reason}
-use Rattle.gib_types.specs.declared.reason.Reason.TheVariants as reason
 use Rattle.gib_weave.specs.declared.task.WeaveFault.TheVariants as event
 use Rattle.gib_locked.specs.declared.journal.Line.{Line}
 use Rattle.gib_locked.specs.declared.settings.Settings.{Settings}
@@ -30,9 +29,7 @@ use Rattle.gib_syntax.specs.Results as results
 use Rattle.gib_syntax.specs.Tree.{ProgramTree}
 use Rattle.gib_syntax.specs.Declarations.{table_of_program, input_type}
 use Rattle.gib_syntax.specs.Meaning.{Outcome, Gives, Stops, run}
-use Rattle.gib_syntax.specs.Meaning.{Reason as Meaning}
-use Rattle.gib_machine.specs.Machine.{stopped}
-use Rattle.gib_weave.specs.Sound.{IsAnswer, means_why}
+use Rattle.gib_weave.specs.Sound.{IsAnswer}
 use Rattle.gib_weave.proofs.Roots.{no_parts}
 use Rattle.gib_app.specs.Cores.{layouts_of}
 use Rattle.gib_app.specs.Replaying.{IsEndOf, IsShownEnd, IsValueless, LacksChunks, OnJournal, code_for, root_in, start_for}
@@ -79,51 +76,43 @@ pub ends_or_lacks : (p : ProgramTree) (v : Datum) (settings : Settings) (lines :
 ends_or_lacks p v settings lines m a e (inl no') = no' e.goes_in
 ends_or_lacks p v settings lines m a e (inr h) = not_answered (code_for p settings) (start_for p settings v) lines (start_alone p settings v) h.1 event.Full tt h.2 m a e.answered
 
-pub gives_or_stops : (o : Outcome) (v : Datum) (why : Meaning) → o ≡ Gives v → o ≡ Stops why → ⊥
+pub gives_or_stops : (o : Outcome) (v : Datum) (why : Reason) → o ≡ Gives v → o ≡ Stops why → ⊥
 gives_or_stops (Gives u) v why e f = cc
 gives_or_stops (Stops other) v why e f = cc
 
-pub one_why : (o : Outcome) (a b : Meaning) → o ≡ Stops a → o ≡ Stops b → a ≡ b
+pub one_why : (o : Outcome) (a b : Reason) → o ≡ Stops a → o ≡ Stops b → a ≡ b
 one_why o a b e f = let both = sym e ∙ f in cc
-
--- what two reasons of the code mean is one, where they are one
-pub one_reason : (a b : Reason) → means_why a ≡ means_why b → a ≡ b
-one_reason reason.Deep reason.Deep e = refl
-one_reason reason.Deep reason.Trap e = cc
-one_reason reason.Trap reason.Deep e = cc
-one_reason reason.Trap reason.Trap e = refl
 
 -- an answer is a root for a value that was owed, or says why there is none
 abbrev Told : LaidOut → Store → Ty → Outcome → Answer → Type 0
-Told laid s ty owed a = ((place : Root) × (root_in a ≡ Ok place) × ((v : Datum) × (owed ≡ Gives v))) ⊎ ((why : Reason) × (a ≡ stopped why) × (root_in a ≡ Err why) × (owed ≡ Stops (means_why why)))
+Told laid s ty owed a = ((place : Root) × (root_in a ≡ Ok place) × ((v : Datum) × (owed ≡ Gives v))) ⊎ ((why : Reason) × (a ≡ answer.NoValue why) × (root_in a ≡ Err why) × (owed ≡ Stops why))
 
 told_by : (laid : LaidOut) (s : Store) (ty : Ty) (owed : Outcome) (a : Answer) → IsAnswer laid s (results.One ty) owed a → Told laid s ty owed a
 told_by laid s ty owed (answer.Whole z) h = inl (root.Whole z, refl, (whole z, h.2))
 told_by laid s ty owed (answer.Truth b) h = inl (root.Truth b, refl, (truth b, h.1))
 told_by laid s ty owed (answer.At a) h = inl (root.At a, refl, (h.1, h.3))
 told_by laid s ty owed (answer.Parts ws) h = absurd (no_parts ty h.0 h.2)
-told_by laid s ty owed answer.Deep h = inr (reason.Deep, refl, refl, h)
-told_by laid s ty owed answer.Trap h = inr (reason.Trap, refl, refl, h)
+told_by laid s ty owed (answer.NoValue why) h = inr (why, refl, refl, h)
 
 module _ (laid : LaidOut) (s : Store) (ty : Ty) (owed : Outcome) (a : Answer) (is : IsAnswer laid s (results.One ty) owed a) where
   pub root_there : (v : Datum) → owed ≡ Gives v → (place : Root) × (root_in a ≡ Ok place)
   root_there v e = elim (told_by laid s ty owed a is) [
     | inl r ↦ (r.0, r.1)
-    | inr w ↦ absurd (gives_or_stops owed v (means_why w.0) e w.3)
+    | inr w ↦ absurd (gives_or_stops owed v w.0 e w.3)
   ]
 
-  pub is_stopped : (why : Reason) → owed ≡ Stops (means_why why) → a ≡ stopped why
+  pub is_stopped : (why : Reason) → owed ≡ Stops why → a ≡ answer.NoValue why
   is_stopped why e = elim (told_by laid s ty owed a is) [
-    | inl r ↦ absurd (gives_or_stops owed r.2.0 (means_why why) r.2.1 e)
-    | inr w ↦ w.1 ∙ ap stopped (one_reason w.0 why (one_why owed (means_why w.0) (means_why why) w.3 e))
+    | inl r ↦ absurd (gives_or_stops owed r.2.0 why r.2.1 e)
+    | inr w ↦ w.1 ∙ ap answer.NoValue (one_why owed w.0 why w.3 e)
   ]
 
-  pub stopped_so : (why : Reason) → root_in a ≡ Err why → (a ≡ stopped why) × (owed ≡ Stops (means_why why))
+  pub stopped_so : (why : Reason) → root_in a ≡ Err why → (a ≡ answer.NoValue why) × (owed ≡ Stops why)
   stopped_so why e = elim (told_by laid s ty owed a is) [
     | inl r ↦ absurd (let both = sym r.1 ∙ e in cc)
     | inr w ↦
         let same : w.0 ≡ why = let both = sym w.2 ∙ e in cc in
-        (w.1 ∙ ap stopped same, w.3 ∙ ap (λ (y : Reason). Stops (means_why y)) same)
+        (w.1 ∙ ap answer.NoValue same, w.3 ∙ ap (λ (y : Reason). Stops y) same)
   ]
 
 -- One outcome gives one value.
@@ -137,12 +126,12 @@ module _ (one : OneValue) (p : ProgramTree) (names : TextsView) (input bytes : L
   pub shown_or_valueless : (image : Bool) (file : Option (List ℕ)) (text : List ℕ) (why : Reason) → OnJournal p names input bytes (IsShownEnd p names image file text) → OnJournal p names input bytes (IsValueless p why) → ⊥
   shown_or_valueless image file text why h k =
       let both = both_on one p input bytes (IsShownEnd p names image file text) (IsValueless p why) h k in
-      gives_or_stops (run p both.1.depth both.0) both.3.result (means_why why) both.3.means both.4.means
+      gives_or_stops (run p both.1.depth both.0) both.3.result why both.3.means both.4.means
 
   pub one_valueless : (a b : Reason) → OnJournal p names input bytes (IsValueless p a) → OnJournal p names input bytes (IsValueless p b) → a ≡ b
   one_valueless a b h k =
       let both = both_on one p input bytes (IsValueless p a) (IsValueless p b) h k in
-      one_reason a b (one_why (run p both.1.depth both.0) (means_why a) (means_why b) both.3.means both.4.means)
+      one_why (run p both.1.depth both.0) a b both.3.means both.4.means
 
   pub shown_or_full : (image : Bool) (file : Option (List ℕ)) (text : List ℕ) → OnJournal p names input bytes (IsShownEnd p names image file text) → OnJournal p names input bytes (LacksChunks p) → ⊥
   shown_or_full image file text h k =
@@ -152,4 +141,4 @@ module _ (one : OneValue) (p : ProgramTree) (names : TextsView) (input bytes : L
   pub valueless_or_full : (why : Reason) → OnJournal p names input bytes (IsValueless p why) → OnJournal p names input bytes (LacksChunks p) → ⊥
   valueless_or_full why h k =
       let both = both_on one p input bytes (IsValueless p why) (LacksChunks p) h k in
-      ends_or_lacks p both.0 both.1 both.2 both.3.memory (stopped why) both.3.ended both.4
+      ends_or_lacks p both.0 both.1 both.2 both.3.memory (answer.NoValue why) both.3.ended both.4

@@ -1,14 +1,14 @@
 -- What a source gives on an input, by what its copy gives.
 use Rattle.gib_base.specs.Texts.{TextsView}
 use Rattle.gib_base.specs.declared.token.Dialect.TheVariants as dialect
-use Rattle.std.proofs.Common.{◌≡◌, ◌∙◌, refl, ℕ, List, [], ◌∷◌, ◌++◌, ◌⊎◌, inl, inr, subst, sym, ap, Bool}
+use Rattle.std.proofs.Common.{◌≡◌, ◌∙◌, refl, ℕ, List, [], ◌∷◌, ◌++◌, subst, sym, ap, Bool}
 use Rattle.gib_types.specs.Tree.{Datum}
 use Rattle.gib_syntax.specs.Tree.{ProgramTree}
 use Rattle.gib_types.specs.Table.{Table}
 use Rattle.gib_types.specs.declared.table.Ty.{Ty}
 use Rattle.gib_file.specs.Framed.{File2}
 use Rattle.gib_syntax.specs.Declarations.{table_of_program, input_type, output_type}
-use Rattle.gib_syntax.specs.Meaning.{Reason, Deep, Trap, Outcome, Gives, Stops, run, OutcomeHas}
+use Rattle.gib_syntax.specs.Meaning.{Reason, Outcome, Gives, Stops, run, OutcomeHas}
 use Rattle.gib_base.specs.Lexed.{Lexed}
 use Rattle.gib_base.specs.Names.{AreNames}
 use Rattle.gib_types.specs.Tree.{HasType}
@@ -21,10 +21,8 @@ use Rattle.gib_mono.specs.Naming.{entries}
 use Rattle.gib_mono.specs.Showing.{long_texts}
 use Rattle.gib_app.specs.GenericText.{generic_text}
 use Rattle.gib_app.proofs.Copied.{IsSpelled, OnTree, texts_with, to_copy, of_copy, has, means, text_is, read_once}
-use Rattle.gib_types.specs.declared.reason.Reason.TheVariants as why
-use Rattle.gib_app.specs.declared.status.Status.TheVariants as status
 use Rattle.gib_app.specs.Running.{sourced, IsProgram, IsInput, IsOutput, IsRunImage, IsPackedResult, IsLongResult, MeansNone, FillsUp, text_line}
-use Rattle.gib_app.specs.Headline.{copy_with, copy_in, read_in, meant_in, Given, IsResult, IsResultImage, IsResultFile, HasLongFile, HasNoResult, IsTooDeep, DividesByZero, IsTooBig}
+use Rattle.gib_app.specs.Headline.{copy_with, copy_in, read_in, meant_in, Given, IsResult, IsResultImage, IsResultFile, HasLongFile, HasNoResult, IsTooBig}
 use Rattle.gib_app.proofs.Replays.{one_given}
 use Rattle.gib_app.proofs.OneEnd.{one_meaning, packed_or_long, runs_well}
 use Rattle.gib_app.proofs.OneProgram.{Laws, joined, together}
@@ -232,24 +230,17 @@ one_result laws source input depth output other h k =
     let u = one_given (run p depth a.value) a.result b.result a.means (subst M same b.means) in
     a.is_text ∙ ap (text_line p both.1) u ∙ sym b.is_text
 
-result_or_none : Laws → (source input : List ℕ) (depth : ℕ) (output : List ℕ) (meant : Reason) → IsResult source input depth output → HasNoResult source input depth meant → ⊥
-result_or_none laws source input depth output meant h k =
+pub no_result : Laws → (source input : List ℕ) (depth : ℕ) (output : List ℕ) (meant : Reason) → IsResult source input depth output → HasNoResult source input depth meant → ⊥
+no_result laws source input depth output meant h k =
     let both = together_trees laws source (λ p names. IsOutput p names depth input output) (λ p names. MeansNone p names depth input meant)
     (output_of source input depth output h) (of_none source input depth meant k) in
     runs_well laws both.0 both.1 depth input output meant both.2 both.3
 
-pub no_result : Laws → (source input : List ℕ) (depth : ℕ) (output : List ℕ) → IsResult source input depth output → IsTooDeep source input depth ⊎ DividesByZero source input depth → ⊥
-no_result laws source input depth output h (inl k) = result_or_none laws source input depth output Deep h k
-no_result laws source input depth output h (inr k) = result_or_none laws source input depth output Trap h k
-
-two_reasons : Deep ≡ Trap → ⊥
-two_reasons e = cc
-
-pub not_either : Laws → (source input : List ℕ) (depth : ℕ) → IsTooDeep source input depth → DividesByZero source input depth → ⊥
-not_either laws source input depth h k =
-    let both = together_trees laws source (λ p names. MeansNone p names depth input Deep) (λ p names. MeansNone p names depth input Trap)
-    (of_none source input depth Deep h) (of_none source input depth Trap k) in
-    two_reasons (one_meaning laws both.0 both.1 depth input Deep Trap both.2 both.3)
+pub one_reason : Laws → (source input : List ℕ) (depth : ℕ) (x y : Reason) → HasNoResult source input depth x → HasNoResult source input depth y → x ≡ y
+one_reason laws source input depth x y h k =
+    let both = together_trees laws source (λ p names. MeansNone p names depth input x) (λ p names. MeansNone p names depth input y)
+    (of_none source input depth x h) (of_none source input depth y k) in
+    one_meaning laws both.0 both.1 depth input x y both.2 both.3
 
 -- The text of the value that a packed file is of.
 pub file_text : (source input : List ℕ) (depth : ℕ) (bytes : List ℕ) → IsResultFile source input depth bytes → (output : List ℕ) × IsResult source input depth output

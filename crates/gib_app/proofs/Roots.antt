@@ -39,7 +39,7 @@ use Rattle.gib_weave.specs.declared.root_run.RunFault.{RunFault}
 use Rattle.gib_weave.specs.declared.root_run.RunFault.TheVariants as fault
 use Rattle.gib_weave.specs.Running.{IsStart, RunEnds}
 use Rattle.gib_pool.specs.Runs.{IsRun}
-use Rattle.gib_weave.specs.Sound.{IsAnswer, means_why}
+use Rattle.gib_weave.specs.Sound.{IsAnswer}
 use Rattle.gib_weave.proofs.Roots.{no_parts}
 use Rattle.gib_arena.specs.declared.sole_mem.SoleMem.{SoleMem}
 use Rattle.gib_app.specs.declared.machine_run.Rooted.{Rooted}
@@ -98,13 +98,12 @@ module _ (laid : LaidOut) (s : Store) (ty : Ty) (owed : Outcome) where
   tree_stands a h = record { result = h.1; means = h.3; stands = subst (λ (t : Ty). Stands laid s (root.At a) t h.1) (sym (ap one_type h.2)) (a_tree {t = record { 0 = h.0 }} h.4.dec) }
 
 -- An answer is a root for what was owed, or says why there is none.
-pub answered : (laid : LaidOut) (s : Store) (ty : Ty) (owed : Outcome) (a : Answer) → IsAnswer laid s (results.One ty) owed a → MatchResult (root_in a) (IsRootOf laid s ty owed) (λ other. owed ≡ Stops (means_why other))
+pub answered : (laid : LaidOut) (s : Store) (ty : Ty) (owed : Outcome) (a : Answer) → IsAnswer laid s (results.One ty) owed a → MatchResult (root_in a) (IsRootOf laid s ty owed) (λ other. owed ≡ Stops other)
 answered laid s ty owed (answer.Whole z) h = whole_stands laid s ty owed z h
 answered laid s ty owed (answer.Truth b) h = truth_stands laid s ty owed b h
 answered laid s ty owed (answer.At a) h = tree_stands laid s ty owed a h
 answered laid s ty owed (answer.Parts ws) h = absurd (no_parts ty h.0 h.2)
-answered laid s ty owed answer.Deep h = h
-answered laid s ty owed answer.Trap h = h
+answered laid s ty owed (answer.NoValue why) h = h
 
 -- The run of one worker is one that may nest no forks.
 pub alone_is_run : (l : LoweredParts) (depth : ℕ) (v : Datum) (m m' : Memory) (end' : Result Answer RunFault) → RunEnds l depth v m m' end' → IsRun l depth 0 v m m' end'
@@ -114,12 +113,12 @@ alone_is_run l depth v m m' (Err fault.Memory) h = h
 
 -- The answer with which a run ends is such a root, or none.
 pub answer_ends : (l : LoweredParts) (depth forks : ℕ) (v : Datum) (m m' : Memory) (end' : Result Answer RunFault) (a : Answer) (found : Result Root Why) → end' ≡ Ok a → found ≡ root_in a → IsRun l depth forks v m m' end'
-    → MatchResult found (IsRootOf l.code.laid m'.cells (core_of l.core).main.result (core_run (core_of l.core) depth v)) (λ other. core_run (core_of l.core) depth v ≡ Stops (means_why other))
+    → MatchResult found (IsRootOf l.code.laid m'.cells (core_of l.core).main.result (core_run (core_of l.core) depth v)) (λ other. core_run (core_of l.core) depth v ≡ Stops other)
 answer_ends l depth forks v m m' end' a found is there ends =
     let owed = core_run (core_of l.core) depth v in
     let ty = (core_of l.core).main.result in
     let ended = subst (λ (e : Result Answer RunFault). IsRun l depth forks v m m' e) is ends in
-    subst (λ (o : Result Root Why). MatchResult o (IsRootOf l.code.laid m'.cells ty owed) (λ other. owed ≡ Stops (means_why other))) (sym there) (answered l.code.laid m'.cells ty owed a ended)
+    subst (λ (o : Result Root Why). MatchResult o (IsRootOf l.code.laid m'.cells ty owed) (λ other. owed ≡ Stops other)) (sym there) (answered l.code.laid m'.cells ty owed a ended)
 
 -- What is packed by the survey's table is so by that of the layouts.
 pub packed_in : (l : LoweredParts) (laid : LaidOut) (s : Surveyed) (v : Datum) → laid ≡ l.code.laid → s.table ≡ l.code.laid.table → Packed s.table s.ty v s.bytes → Packed laid.table s.ty v s.bytes

@@ -6,7 +6,6 @@ use Rattle.gib_edge.specs.Causes.{told}
 use Rattle.gib_edge.specs.Views.{Held}
 use Rattle.gib_app.specs.declared.status.Status.{Status}
 use Rattle.gib_app.specs.declared.status.Status.TheVariants as status
-use Rattle.gib_types.specs.declared.reason.Reason.TheVariants as why
 use Rattle.gib_app.specs.declared.made.Reason.{Reason}
 use Rattle.gib_app.specs.declared.made.Reason.TheVariants.{Meant, Full, Long}
 use Rattle.gib_app.specs.declared.stop.Stop.TheVariants.{NoValue as Stopped}
@@ -29,13 +28,12 @@ pub stays_from : (tells : Bool) (first : List Write) (f g now : Files) (end' : S
 stays_from tells first f g now status.Done e h = h
 stays_from tells first f g now status.Source e h = made_from tells f g now first e h
 stays_from tells first f g now status.Usage e h = made_from tells f g now first e h
-stays_from tells first f g now status.Depth e h = h
+stays_from tells first f g now (status.NoValue x) e h = h
 stays_from tells first f g now status.Full e h = h
 stays_from tells first f g now status.Memory e h = (h.0, made_from tells f g now (take h.0 first) e h.1)
 stays_from tells first f g now status.ReadFault e h = made_from tells f g now first e h
 stays_from tells first f g now status.WriteFault e h = h
 stays_from tells first f g now status.Input e h = made_from tells f g now first e h
-stays_from tells first f g now status.Trap e h = h
 stays_from tells first f g now status.Long e h = h
 
 -- Where all of the first writes were made and nothing else, that stays.
@@ -43,13 +41,12 @@ pub all_stay : (tells : Bool) (first : List Write) (before now : Files) (end' : 
 all_stay tells first before now status.Done h = tt
 all_stay tells first before now status.Source h = h
 all_stay tells first before now status.Usage h = h
-all_stay tells first before now status.Depth h = tt
+all_stay tells first before now (status.NoValue x) h = tt
 all_stay tells first before now status.Full h = tt
 all_stay tells first before now status.Memory h = (length first, let P : List Write → Type 0 = AreMade tells before now in subst P (sym (take-length first)) h)
 all_stay tells first before now status.ReadFault h = h
 all_stay tells first before now status.WriteFault h = tt
 all_stay tells first before now status.Input h = h
-all_stay tells first before now status.Trap h = tt
 all_stay tells first before now status.Long h = tt
 
 -- what was written first, and then nothing else
@@ -57,7 +54,7 @@ pub first_stay : (tells : Bool) (before mid now : Files) (first : List Write) (e
 first_stay tells before mid now first status.Done h k = tt
 first_stay tells before mid now first status.Source h k = λ name. k name ∙ h name
 first_stay tells before mid now first status.Usage h k = λ name. k name ∙ h name
-first_stay tells before mid now first status.Depth h k = tt
+first_stay tells before mid now first (status.NoValue x) h k = tt
 first_stay tells before mid now first status.Full h k = tt
 first_stay tells before mid now first status.Memory h k =
     let P : List Write → Type 0 = AreMade tells before now in
@@ -69,13 +66,11 @@ first_stay tells before mid now first status.Memory h k =
 first_stay tells before mid now first status.ReadFault h k = λ name. k name ∙ h name
 first_stay tells before mid now first status.WriteFault h k = tt
 first_stay tells before mid now first status.Input h k = λ name. k name ∙ h name
-first_stay tells before mid now first status.Trap h k = tt
 first_stay tells before mid now first status.Long h k = tt
 
 -- Where there is no value, its cause says what was written.
 pub valueless_stay : (tells : Bool) (first : List Write) (before now : Files) (reason : Reason) → StaysAfter tells first before now (answer_for (Stopped reason)).status
-valueless_stay tells first before now (Meant why.Deep) = tt
-valueless_stay tells first before now (Meant why.Trap) = tt
+valueless_stay tells first before now (Meant x) = tt
 valueless_stay tells first before now Full = tt
 valueless_stay tells first before now Long = tt
 

@@ -5,11 +5,11 @@ use Rattle.std.specs.Option.{option_map_or}
 use Rattle.gib_edge.specs.Causes.{Rose}
 use Rattle.gib_edge.specs.Views.{Has, Missing, ShelfView, SinkView}
 use Rattle.gib_types.specs.Tree.{Datum}
-use Rattle.gib_types.specs.declared.reason.Reason.TheVariants as why
 use Rattle.gib_app.specs.declared.input_fault.InputFault.{InputFault}
 use Rattle.gib_app.specs.declared.source_fault.SourceFault.{SourceFault}
 use Rattle.gib_app.specs.declared.status.Status.{Status}
-use Rattle.gib_app.specs.declared.status.Status.TheVariants.{Done, Source, Usage, Depth, Full, Memory, ReadFault, WriteFault, Input, Trap, Long}
+use Rattle.gib_app.specs.declared.status.Status.TheVariants as status
+use Rattle.gib_app.specs.declared.status.Status.TheVariants.{Done, Source, Usage, Full, Memory, ReadFault, WriteFault, Input, Long}
 use Rattle.gib_app.specs.declared.made.Reason.{Reason}
 use Rattle.gib_app.specs.declared.made.Reason.TheVariants as reason
 use Rattle.gib_app.specs.declared.made.Reason.TheVariants.{Meant}
@@ -21,7 +21,7 @@ use Rattle.gib_app.specs.Running.{Program, IsInput, IsSourceIn, IsNoProgramIn}
 use Rattle.gib_app.specs.SourceFaults.{IsSourceFaultIn}
 use Rattle.gib_app.specs.Formats.{inputs_of, dialect_of, Accepts, Refuses}
 use Rattle.gib_app.specs.Formats.{Input as PlanInput}
-use Rattle.gib_app.specs.Lines.{line, source_text, input_text}
+use Rattle.gib_app.specs.Lines.{line, source_text, reason_text, input_text}
 use Rattle.gib_app.specs.Jobs.{End, Prints, NoValue, Does, DoesBy, DoesPack, DoesAll, without_image}
 use Rattle.gib_app.specs.Causes.{Counts, OnProgram, OnBoth, OnReached, EndsWithout, AsksSource, AsksProgram, IsPrinted, IsPrintedInPart, IsUnread, AreUnread, first_of, further_of, FailsToRead, FailsToWrite}
 
@@ -36,17 +36,17 @@ IsWriteEnding tells words before now out_before out_now said =
     × (said ≡ line (codes "cannot write")))
 
 -- Why a call ends with a status, and the line that tells it: what is asked for was made, put and written; the source is no
--- program, by this fault; the words are not taken; the meaning runs out of depth; chunks may run out; this file could not be read,
--- or not be written; the inputs are none that the job accepts, by this fault; the meaning is a division by 0; the packed file of the
--- result would be too long. Want of memory is free.
+-- program, by this fault; the words are not taken; the program means no value, for this reason; chunks may run out; this file could
+-- not be read, or not be written; the inputs are none that the job accepts, by this fault; the packed file of the result would be too
+-- long. Want of memory is free.
 abbrev pub IsEnding : Bool → List (List ℕ) → ShelfView → ShelfView → SinkView → SinkView → Status → List ℕ → Type 0
 IsEnding tells words before now out_before out_now Done said = IsPrinted tells words before now out_before out_now × (said ≡ [])
 IsEnding tells words before now out_before out_now Source said =
     (fault : SourceFault) × AsksSource tells words before.kept (λ dialect bytes. IsSourceFaultIn dialect bytes fault × IsNoProgramIn dialect bytes)
     × (said ≡ line (source_text fault))
 IsEnding tells words before now out_before out_now Usage said = (asked words ≡ None) × (said ≡ line (codes "usage"))
-IsEnding tells words before now out_before out_now Depth said =
-    AsksProgram tells words before.kept (EndsWithout tells before now (Meant why.Deep)) × (said ≡ line (codes "depth"))
+IsEnding tells words before now out_before out_now (status.NoValue why) said =
+    AsksProgram tells words before.kept (EndsWithout tells before now (Meant why)) × (said ≡ line (reason_text why))
 IsEnding tells words before now out_before out_now Full said =
     AsksProgram tells words before.kept (EndsWithout tells before now reason.Full) × (said ≡ line (codes "chunks"))
 IsEnding tells words before now out_before out_now Memory said = said ≡ line (codes "memory")
@@ -60,8 +60,6 @@ IsEnding tells words before now out_before out_now Input said =
     (λ plan. OnReached (at_reading tells before.kept plan) plan
     (λ p names given. Refuses plan.job plan.options p names given fault × (Accepts plan.job plan.options p names given → ⊥)))
     × (said ≡ line (input_text fault))
-IsEnding tells words before now out_before out_now Trap said =
-    AsksProgram tells words before.kept (EndsWithout tells before now (Meant why.Trap)) × (said ≡ line (codes "division by zero"))
 IsEnding tells words before now out_before out_now Long said =
     AsksProgram tells words before.kept (EndsWithout tells before now reason.Long) × (said ≡ line (codes "result longer than 16777216 bytes"))
 
@@ -79,13 +77,12 @@ abbrev pub StaysAfter : Bool → List Write → (before now : Files) → Status 
 StaysAfter tells first before now Done = ⊤
 StaysAfter tells first before now Source = AreMade tells before now first
 StaysAfter tells first before now Usage = AreMade tells before now first
-StaysAfter tells first before now Depth = ⊤
+StaysAfter tells first before now (status.NoValue why) = ⊤
 StaysAfter tells first before now Full = ⊤
 StaysAfter tells first before now Memory = (count : ℕ) × AreMade tells before now (take count first)
 StaysAfter tells first before now ReadFault = AreMade tells before now first
 StaysAfter tells first before now WriteFault = ⊤
 StaysAfter tells first before now Input = AreMade tells before now first
-StaysAfter tells first before now Trap = ⊤
 StaysAfter tells first before now Long = ⊤
 
 -- The job makes both files, of which this is the first.
@@ -233,16 +230,14 @@ IsDue tells words before now out_before out_now Done =
 IsDue tells words before now out_before out_now Source =
     MatchOption (asked words) ⊥ (λ plan. DueOfSource tells before now plan (IsNoProgramIn (dialect_of plan.job)))
 IsDue tells words before now out_before out_now Usage = asked words ≡ None
-IsDue tells words before now out_before out_now Depth =
-    MatchOption (asked words) ⊥ (λ plan. DueOfFiles tells before now plan (DueWithout before now (Meant why.Deep) plan))
+IsDue tells words before now out_before out_now (status.NoValue why) =
+    MatchOption (asked words) ⊥ (λ plan. DueOfFiles tells before now plan (DueWithout before now (Meant why) plan))
 IsDue tells words before now out_before out_now Full =
     MatchOption (asked words) ⊥ (λ plan. (row plan.job ≡ FollowsJournal) × DueOfFiles tells before now plan (DueWithout before now reason.Full plan))
 IsDue tells words before now out_before out_now Memory = ⊥
 IsDue tells words before now out_before out_now ReadFault = MatchOption (asked words) ⊥ (DueMissing tells before now)
 IsDue tells words before now out_before out_now WriteFault = ⊥
 IsDue tells words before now out_before out_now Input = MatchOption (asked words) ⊥ (DueRefused tells before now)
-IsDue tells words before now out_before out_now Trap =
-    MatchOption (asked words) ⊥ (λ plan. DueOfFiles tells before now plan (DueWithout before now (Meant why.Trap) plan))
 IsDue tells words before now out_before out_now Long =
     MatchOption (asked words) ⊥ (λ plan. (row plan.job ≡ Evaluates ForFiles) × DueOfFiles tells before now plan (DueWithout before now reason.Long plan))
 

@@ -11,7 +11,7 @@ use Rattle.gib_syntax.specs.Declarations.{table_of_program, input_type, output_t
 use Rattle.gib_syntax.specs.GenericTree.{GenericProgramTree, rows_of}
 use Rattle.gib_syntax.specs.GenericTyping.{IsTypedGeneric}
 use Rattle.gib_syntax.specs.GenericMeaning.{run_generic}
-use Rattle.gib_syntax.specs.Meaning.{Reason, Deep, Trap, Outcome, Gives, Stops}
+use Rattle.gib_syntax.specs.Meaning.{Reason, Deep, Outcome, Gives, Stops}
 use Rattle.gib_mono.specs.Copied.{shown}
 use Rattle.gib_mono.specs.Walk.{Copy, copies_of, copied_program, base_of}
 use Rattle.gib_mono.specs.Naming.{entries, naming_of}
@@ -103,10 +103,6 @@ pub record HasNoResult (source input : List ℕ) (depth : ℕ) (why : Reason) : 
 abbrev pub IsTooDeep : (source input : List ℕ) → (depth : ℕ) → Type 0
 IsTooDeep source input depth = HasNoResult source input depth Deep
 
--- Its meaning is a division by 0.
-abbrev pub DividesByZero : (source input : List ℕ) → (depth : ℕ) → Type 0
-DividesByZero source input depth = HasNoResult source input depth Trap
-
 -- So many chunks may not be enough for what the run costs, where so many calls and forks may be nested.
 pub record IsTooBig (source input : List ℕ) (skips : Bool) (depth forks chunks : ℕ) : Type 0 where
   pub given : Given source input
@@ -116,8 +112,7 @@ pub record IsTooBig (source input : List ℕ) (skips : Bool) (depth forks chunks
 -- put behind what `out` had taken. It is 3 only where the meaning runs out of depth, and 9 only where that is a division by 0.
 abbrev pub TellsWhatIsMeant : (source input : List ℕ) → (depth : ℕ) → (front : List ℕ) → SinkView → Status → Type 0
 TellsWhatIsMeant source input depth front out status.Done = (output : List ℕ) × IsResult source input depth output × (out.taken ≡ Some (front ++ output))
-TellsWhatIsMeant source input depth front out status.Depth = IsTooDeep source input depth
-TellsWhatIsMeant source input depth front out status.Trap = DividesByZero source input depth
+TellsWhatIsMeant source input depth front out (status.NoValue why) = HasNoResult source input depth why
 TellsWhatIsMeant source input depth front out end' = ⊤
 
 -- A call ends with this status, or for want of memory, or of chunks.

@@ -3,7 +3,6 @@ use Rattle.gib_base.specs.Texts.{TextsView}
 use Rattle.std.specs.Prelude.{◌≡◌, ℕ, List, Bool, true, false, nat_lt, if◌then◌else◌, Option, None, Some, MatchOption}
 use Rattle.gib_syntax.specs.Tree.{ProgramTree}
 use Rattle.gib_core.specs.Tree.{CoreTree}
-use Rattle.gib_weave.specs.Sound.{means_why}
 use Rattle.gib_words.specs.declared.plan.Job.{Job}
 use Rattle.gib_words.specs.declared.plan.Options.{Options}
 use Rattle.gib_app.specs.declared.made.Reason.{Reason}
@@ -73,7 +72,7 @@ packs_of other options = false
 -- not be enough for what the run of the core costs; or the packed file of the value would be too long: the other file is made then too.
 abbrev pub Ran : Way → Option CoreTree → ProgramTree → TextsView → Options → List ℕ → Option (List ℕ) → End → Type 0
 Ran way core p names options input file (Prints text) = MakesOf way true p names options input file × IsSaid way p names options input text
-Ran way core p names options input file (NoValue (Meant why)) = MakesOf way false p names options input file × MeansNone p names options.depth input (means_why why)
+Ran way core p names options input file (NoValue (Meant why)) = MakesOf way false p names options input file × MeansNone p names options.depth input why
 Ran way core p names options input file (NoValue Full) =
     (file ≡ None) × MatchOption core ⊥ (λ c. FillsUpBy c p names options.depth (forks_of way options) options.chunks input)
 Ran way core p names options input file (NoValue Long) =

@@ -22,6 +22,7 @@ pub mod Causes
 pub mod Ending
 pub mod Lines
 pub mod Codes
+pub mod Statuses
 -- What the parts of a call answer: stops.
 pub mod Stops
 pub mod Stopping

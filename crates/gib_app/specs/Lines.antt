@@ -1,6 +1,8 @@
 -- What the line of a call says.
 use Rattle.std.specs.Prelude.{◌≡◌, ℕ, ◌≤◌, List, [], ◌∷◌, ◌++◌, codes}
 use Rattle.std.specs.Fmt.{decimal}
+use Rattle.gib_types.specs.declared.reason.Reason.{Reason}
+use Rattle.gib_types.specs.declared.reason.Reason.TheVariants as reason
 use Rattle.gib_edge.specs.Causes.{Rose, Appends, AppendsPart}
 use Rattle.gib_edge.specs.Views.{SinkView}
 use Rattle.gib_check.specs.declared.fault.Kind.{Kind}
@@ -54,6 +56,11 @@ source_text (source.Broken kind place) = codes "source: " ++ rule_text kind ++ d
 source_text (source.OverLimit place) = codes "source: over a limit at " ++ decimal place
 source_text (source.Misplaced place) = codes "source: wrong place at " ++ decimal place
 source_text (source.BreaksRule n term) = codes "source: location rule " ++ (decimal n ++ (codes " at term " ++ decimal term))
+
+-- What is said of a program that means no value.
+abbrev pub reason_text : Reason → List ℕ
+reason_text reason.Deep = codes "depth"
+reason_text reason.Trap = codes "division by zero"
 
 -- What is said of the header of a packed file.
 abbrev pub header_text : HeadFault → List ℕ

@@ -19,7 +19,6 @@ use Rattle.gib_core.specs.Meaning.{core_run}
 use Rattle.gib_core.specs.Parts.{core_of}
 use Rattle.gib_core.specs.Tight.{Tight}
 use Rattle.gib_core.specs.Tree.{CoreTree}
-use Rattle.gib_weave.specs.Sound.{means_why}
 use Rattle.gib_app.specs.declared.made.Reason.{Reason}
 use Rattle.gib_app.specs.declared.made.Reason.TheVariants as reason
 use Rattle.gib_app.specs.declared.machine_run.Ran.{Ran}
@@ -76,7 +75,7 @@ program_cost p skips depth forks v = run_cost (core_after skips 4 p) depth forks
 
 -- Why a program has no value on an input by a run of this core: it means none, for a reason, or so many chunks may not be enough.
 abbrev pub LacksValueBy : CoreTree → ProgramTree → TextsView → (depth forks chunks : ℕ) → (input : List ℕ) → Reason → Type 0
-LacksValueBy core p names depth forks chunks input (reason.Meant why) = MeansNone p names depth input (means_why why)
+LacksValueBy core p names depth forks chunks input (reason.Meant why) = MeansNone p names depth input why
 LacksValueBy core p names depth forks chunks input reason.Full = FillsUpBy core p names depth forks chunks input
 LacksValueBy core p names depth forks chunks input reason.Long = ⊥
 
@@ -101,7 +100,7 @@ pub record IsRootOf (laid : LaidOut) (s : Store) (ty : Ty) (owed : Outcome) (pla
 
 -- Why there is no value, where this outcome was owed, and the run costs so much at most.
 abbrev pub Lacks : Outcome → (chunks : ℕ) → Cost → Reason → Type 0
-Lacks owed chunks most (reason.Meant why) = owed ≡ Stops (means_why why)
+Lacks owed chunks most (reason.Meant why) = owed ≡ Stops why
 Lacks owed chunks most reason.Full = Tight chunks most
 Lacks owed chunks most reason.Long = ⊥
 

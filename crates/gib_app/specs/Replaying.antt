@@ -20,9 +20,8 @@ use Rattle.gib_types.specs.declared.reason.Reason.TheVariants as reason
 use Rattle.gib_code.specs.Program.{CodeTree}
 use Rattle.gib_lower.specs.Lowering.{lower_program}
 use Rattle.gib_load.specs.Placement.{Placement, placed_in}
-use Rattle.gib_machine.specs.Machine.{stopped}
 use Rattle.gib_weave.specs.Running.{word_of}
-use Rattle.gib_weave.specs.Sound.{IsAnswer, means_why}
+use Rattle.gib_weave.specs.Sound.{IsAnswer}
 use Rattle.gib_weave.specs.Weave.{Weave, weave_start}
 use Rattle.gib_weave.specs.declared.task.WeaveFault.TheVariants as event
 use Rattle.gib_locked.specs.declared.journal.Line.{Line}
@@ -111,8 +110,7 @@ root_in (answer.Whole z) = Ok (place.Whole z)
 root_in (answer.Truth b) = Ok (place.Truth b)
 root_in (answer.At a) = Ok (place.At a)
 root_in (answer.Parts ws) = Err reason.Deep
-root_in answer.Deep = Err reason.Deep
-root_in answer.Trap = Err reason.Trap
+root_in (answer.NoValue why) = Err why
 
 -- What a run by workers is started with.
 pub record IsSetBy (options : Options) (settings : Settings) : Type 0 where
@@ -157,5 +155,5 @@ pub record IsShownEnd (p : ProgramTree) (names : TextsView) (image : Bool) (file
 -- They lead to a root that ended without a value, for this reason.
 pub record IsValueless (p : ProgramTree) (why : Reason) (v : Datum) (settings : Settings) (lines : List Line) : Type 0 where
   pub memory : Memory
-  pub ended : IsEndOf p v settings lines memory (stopped why)
-  pub means : run p settings.depth v ≡ Stops (means_why why)
+  pub ended : IsEndOf p v settings lines memory (answer.NoValue why)
+  pub means : run p settings.depth v ≡ Stops why

@@ -1,13 +1,12 @@
 -- What a call answers to a stop: its status, and what its line says.
 use Rattle.std.specs.Prelude.{ℕ, List, ◌++◌, codes}
-use Rattle.gib_types.specs.declared.reason.Reason.TheVariants as why
 use Rattle.gib_app.specs.declared.answer.Answer.{Answer as KeptAnswer}
 use Rattle.gib_app.specs.declared.made.Reason.TheVariants as reason
 use Rattle.gib_app.specs.declared.status.Status.{Status}
 use Rattle.gib_app.specs.declared.status.Status.TheVariants as status
 use Rattle.gib_app.specs.declared.stop.Stop.{Stop}
 use Rattle.gib_app.specs.declared.stop.Stop.TheVariants.{Usage, Source, Unread, Input, NoValue, Memory, Unwritten, Unput}
-use Rattle.gib_app.specs.Lines.{said_text, source_text, input_text}
+use Rattle.gib_app.specs.Lines.{said_text, source_text, reason_text, input_text}
 
 -- A status, and what is said.
 pub record Answer : Type 0 where
@@ -20,8 +19,7 @@ answer_for Usage = record { status = status.Usage; said = codes "usage" }
 answer_for (Source fault) = record { status = status.Source; said = source_text fault }
 answer_for (Unread name) = record { status = status.ReadFault; said = codes "cannot read " ++ name.now }
 answer_for (Input fault) = record { status = status.Input; said = input_text fault }
-answer_for (NoValue (reason.Meant why.Deep)) = record { status = status.Depth; said = codes "depth" }
-answer_for (NoValue (reason.Meant why.Trap)) = record { status = status.Trap; said = codes "division by zero" }
+answer_for (NoValue (reason.Meant why)) = record { status = status.NoValue why; said = reason_text why }
 answer_for (NoValue reason.Full) = record { status = status.Full; said = codes "chunks" }
 answer_for (NoValue reason.Long) = record { status = status.Long; said = codes "result longer than 16777216 bytes" }
 answer_for Memory = record { status = status.Memory; said = codes "memory" }

@@ -2,7 +2,7 @@
 
 ghost use Rattle.std.specs.Prelude.{◌≡◌, ◌++◌, codes};
 ghost use Rattle.std.specs.Fmt.{decimal};
-ghost use Rattle.gib_app.specs.Lines.{rule_text, source_text, header_text, packed_text, image_text, journal_text, input_text, said_text};
+ghost use Rattle.gib_app.specs.Lines.{rule_text, source_text, reason_text, header_text, packed_text, image_text, journal_text, input_text, said_text};
 ghost use Rattle.gib_app.specs.Stopping.{answer_for, answer_of};
 
 use crate::input_fault::{ImageFault, InputFault, JournalFault, PackedFault};
@@ -115,6 +115,16 @@ fn of_source(fault: SourceFault) -> Said<'static>
     }
 }
 
+/// What is said of a program that means no value.
+fn of_reason(why: gib_types::Reason) -> Said<'static>
+    ensures { said_text result ≡ reason_text why }
+{
+    match why {
+        gib_types::Reason::Deep => only(b"depth"),
+        gib_types::Reason::Trap => only(b"division by zero"),
+    }
+}
+
 /// What is said of the header of a packed file.
 fn of_header(fault: HeadFault) -> Said<'static>
     ensures { said_text result ≡ codes "input: " ++ header_text fault }
@@ -186,10 +196,7 @@ fn without_value(reason: Reason) -> Answer<'static>
     ensures { answer_of result ≡ answer_for (Stop.NoValue reason) }
 {
     match reason {
-        Reason::Meant(gib_types::Reason::Deep) => Answer::new(Status::Depth, only(b"depth")),
-        Reason::Meant(gib_types::Reason::Trap) => {
-            Answer::new(Status::Trap, only(b"division by zero"))
-        }
+        Reason::Meant(why) => Answer::new(Status::NoValue(why), of_reason(why)),
         Reason::Full => Answer::new(Status::Full, only(b"chunks")),
         Reason::Long => Answer::new(Status::Long, only(b"result longer than 16777216 bytes")),
     }

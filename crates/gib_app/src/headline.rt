@@ -1,13 +1,14 @@
 //! What `gib run` promises. Read this first: the function does nothing, and its contract is the promise.
 
 ghost use Rattle.std.specs.Prelude.{◌≡◌, ◌⊎◌, ◌++◌, ℕ, List, Bool, Some};
+ghost use Rattle.gib_types.specs.declared.reason.Reason.{Reason as Why};
 ghost use Rattle.gib_edge.specs.Causes.{told};
 ghost use Rattle.gib_edge.specs.Views.{ShelfView, SinkView};
 ghost use Rattle.gib_words.specs.declared.plan.Options.{Options as OptionValues};
 ghost use Rattle.gib_app.specs.declared.status.Status.{Status as Statuses};
 ghost use Rattle.gib_app.specs.Ending.{IsEnding};
 ghost use Rattle.gib_app.specs.Jobs.{run_forks};
-ghost use Rattle.gib_app.specs.Headline.{IsRun, IsPackingRun, Given, IsResult, IsResultImage, IsResultFile, HasLongFile, IsTooDeep, DividesByZero, IsTooBig, NoneFailed, NoWriteFailed};
+ghost use Rattle.gib_app.specs.Headline.{IsRun, IsPackingRun, Given, IsResult, IsResultImage, IsResultFile, HasLongFile, HasNoResult, IsTooBig, NoneFailed, NoWriteFailed};
 
 use crate::status::Status;
 use gib_file::one_file;
@@ -30,53 +31,44 @@ pub fn run_prints_what_is_meant()
         (front said name : List ℕ)
         → (r : IsRun words before out source input options front) → r.image ≡ Some name → IsEnding tells words before now out out_now Status.Done said
         → (bytes : List ℕ) × (now.kept name ≡ told tells bytes) × IsResultImage source input options.skips options.depth options.chunks bytes }
-    // Status 3: the meaning runs out of depth.
-    ensures deep { (tells : Bool) (words : List (List ℕ)) (before now : ShelfView) (out out_now : SinkView) (source input : List ℕ) (options : OptionValues)
-        (front said : List ℕ)
-        → IsRun words before out source input options front → IsEnding tells words before now out out_now Status.Depth said
-        → IsTooDeep source input options.depth }
-    // Status 9: the meaning is a division by 0.
-    ensures trapped { (tells : Bool) (words : List (List ℕ)) (before now : ShelfView) (out out_now : SinkView) (source input : List ℕ)
-        (options : OptionValues) (front said : List ℕ)
-        → IsRun words before out source input options front → IsEnding tells words before now out out_now Status.Trap said
-        → DividesByZero source input options.depth }
+    // Status 3 or 9: the program means no value, for the reason that the status tells: its meaning runs out of depth, or is a division by 0.
+    ensures valueless { (tells : Bool) (words : List (List ℕ)) (before now : ShelfView) (out out_now : SinkView) (source input : List ℕ)
+        (options : OptionValues) (front said : List ℕ) (why : Why)
+        → IsRun words before out source input options front → IsEnding tells words before now out out_now (Status.NoValue why) said
+        → HasNoResult source input options.depth why }
     // Status 4: the chunks of memory may not be enough for what the run costs.
     ensures full { (tells : Bool) (words : List (List ℕ)) (before now : ShelfView) (out out_now : SinkView) (source input : List ℕ) (options : OptionValues)
         (front said : List ℕ)
         → IsRun words before out source input options front → IsEnding tells words before now out out_now Status.Full said
         → IsTooBig source input options.skips options.depth (run_forks options) options.chunks }
 
-    // The other way round: where the program means a value, the status is 0 and no other; where its meaning runs out of depth it is
-    // 3, and where that is a division by 0 it is 9; unless memory or its chunks run out, or a file or `out` failed.
+    // The other way round: where the program means a value, the status is 0 and no other; where it means none, the status tells the
+    // reason; unless memory or its chunks run out, or a file or `out` failed.
     ensures ends_done { (tells : Bool) (words : List (List ℕ)) (before now : ShelfView) (out out_now : SinkView) (source input : List ℕ)
         (options : OptionValues) (front output said : List ℕ) (status : Statuses)
         → (r : IsRun words before out source input options front) → NoneFailed r.program r.packed r.image before now out out_now
         → IsResult source input options.depth output
         → IsEnding tells words before now out out_now status said → (status ≡ Status.Done) ⊎ (status ≡ Status.Memory) ⊎ (status ≡ Status.Full) }
-    ensures ends_deep { (tells : Bool) (words : List (List ℕ)) (before now : ShelfView) (out out_now : SinkView) (source input : List ℕ)
-        (options : OptionValues) (front said : List ℕ) (status : Statuses)
+    ensures ends_valueless { (tells : Bool) (words : List (List ℕ)) (before now : ShelfView) (out out_now : SinkView) (source input : List ℕ)
+        (options : OptionValues) (front said : List ℕ) (why : Why) (status : Statuses)
         → (r : IsRun words before out source input options front) → NoneFailed r.program r.packed r.image before now out out_now
-        → IsTooDeep source input options.depth
-        → IsEnding tells words before now out out_now status said → (status ≡ Status.Depth) ⊎ (status ≡ Status.Memory) ⊎ (status ≡ Status.Full) }
-    ensures ends_trapped { (tells : Bool) (words : List (List ℕ)) (before now : ShelfView) (out out_now : SinkView) (source input : List ℕ)
-        (options : OptionValues) (front said : List ℕ) (status : Statuses)
-        → (r : IsRun words before out source input options front) → NoneFailed r.program r.packed r.image before now out out_now
-        → DividesByZero source input options.depth
-        → IsEnding tells words before now out out_now status said → (status ≡ Status.Trap) ⊎ (status ≡ Status.Memory) ⊎ (status ≡ Status.Full) }
+        → HasNoResult source input options.depth why
+        → IsEnding tells words before now out out_now status said → (status ≡ Status.NoValue why) ⊎ (status ≡ Status.Memory) ⊎ (status ≡ Status.Full) }
     // Where so many chunks are enough for what the run costs, they do not run out: the status is 0, 3 or 9, and never 4.
     ensures fits { (tells : Bool) (words : List (List ℕ)) (before now : ShelfView) (out out_now : SinkView) (source input : List ℕ) (options : OptionValues)
         (front said : List ℕ) (status : Statuses)
         → (r : IsRun words before out source input options front) → NoneFailed r.program r.packed r.image before now out out_now → Given source input
         → (IsTooBig source input options.skips options.depth (run_forks options) options.chunks → ⊥)
         → IsEnding tells words before now out out_now status said
-        → (status ≡ Status.Done) ⊎ (status ≡ Status.Depth) ⊎ (status ≡ Status.Trap) ⊎ (status ≡ Status.Memory) }
+        → (status ≡ Status.Done) ⊎ ((why : Why) × (status ≡ Status.NoValue why)) ⊎ (status ≡ Status.Memory) }
 
-    // There is one result at most, none where the meaning runs out of depth or is a division by 0, and these exclude one another.
+    // There is one result at most, and none where there is no value, for one reason.
     ensures one { (source input : List ℕ) (depth : ℕ) (output other : List ℕ) → IsResult source input depth output → IsResult source input depth other
         → output ≡ other }
-    ensures none { (source input : List ℕ) (depth : ℕ) (output : List ℕ) → IsResult source input depth output
-        → IsTooDeep source input depth ⊎ DividesByZero source input depth → ⊥ }
-    ensures either { (source input : List ℕ) (depth : ℕ) → IsTooDeep source input depth → DividesByZero source input depth → ⊥ }
+    ensures none { (source input : List ℕ) (depth : ℕ) (output : List ℕ) (why : Why) → IsResult source input depth output
+        → HasNoResult source input depth why → ⊥ }
+    ensures reason { (source input : List ℕ) (depth : ℕ) (why other : Why) → HasNoResult source input depth why
+        → HasNoResult source input depth other → why ≡ other }
 {
     one_reading();
     one_program();
@@ -118,22 +110,17 @@ pub fn run_packs_what_is_meant()
         → (r : IsPackingRun words before out source input options front) → (r.image ≡ Some name → ⊥)
         → IsEnding tells words before now out out_now Status.Long said → now.kept name ≡ before.kept name }
     // Status 3, 9 and 4 come as without that file.
-    ensures deep { (tells : Bool) (words : List (List ℕ)) (before now : ShelfView) (out out_now : SinkView) (source input : List ℕ) (options : OptionValues)
-        (front said : List ℕ)
-        → IsPackingRun words before out source input options front → IsEnding tells words before now out out_now Status.Depth said
-        → IsTooDeep source input options.depth }
-    ensures trapped { (tells : Bool) (words : List (List ℕ)) (before now : ShelfView) (out out_now : SinkView) (source input : List ℕ)
-        (options : OptionValues) (front said : List ℕ)
-        → IsPackingRun words before out source input options front → IsEnding tells words before now out out_now Status.Trap said
-        → DividesByZero source input options.depth }
+    ensures valueless { (tells : Bool) (words : List (List ℕ)) (before now : ShelfView) (out out_now : SinkView) (source input : List ℕ)
+        (options : OptionValues) (front said : List ℕ) (why : Why)
+        → IsPackingRun words before out source input options front → IsEnding tells words before now out out_now (Status.NoValue why) said
+        → HasNoResult source input options.depth why }
     ensures full { (tells : Bool) (words : List (List ℕ)) (before now : ShelfView) (out out_now : SinkView) (source input : List ℕ) (options : OptionValues)
         (front said : List ℕ)
         → IsPackingRun words before out source input options front → IsEnding tells words before now out out_now Status.Full said
         → IsTooBig source input options.skips options.depth (run_forks options) options.chunks }
 
     // The other way round: where the program means a value the status is 0 where its packed file is not too long, and 10 where it is; where
-    // the meaning runs out of depth it is 3, and where that is a division by 0 it is 9; unless memory or its chunks run out, or a file or
-    // `out` failed.
+    // it means none, the status tells the reason; unless memory or its chunks run out, or a file or `out` failed.
     ensures ends_done { (tells : Bool) (words : List (List ℕ)) (before now : ShelfView) (out out_now : SinkView) (source input : List ℕ)
         (options : OptionValues) (front bytes said : List ℕ) (status : Statuses)
         → (r : IsPackingRun words before out source input options front) → NoWriteFailed r.program r.packed r.image r.pack before now out out_now
@@ -144,16 +131,11 @@ pub fn run_packs_what_is_meant()
         → (r : IsPackingRun words before out source input options front) → NoWriteFailed r.program r.packed r.image r.pack before now out out_now
         → HasLongFile source input options.depth
         → IsEnding tells words before now out out_now status said → (status ≡ Status.Long) ⊎ (status ≡ Status.Memory) ⊎ (status ≡ Status.Full) }
-    ensures ends_deep { (tells : Bool) (words : List (List ℕ)) (before now : ShelfView) (out out_now : SinkView) (source input : List ℕ)
-        (options : OptionValues) (front said : List ℕ) (status : Statuses)
+    ensures ends_valueless { (tells : Bool) (words : List (List ℕ)) (before now : ShelfView) (out out_now : SinkView) (source input : List ℕ)
+        (options : OptionValues) (front said : List ℕ) (why : Why) (status : Statuses)
         → (r : IsPackingRun words before out source input options front) → NoWriteFailed r.program r.packed r.image r.pack before now out out_now
-        → IsTooDeep source input options.depth
-        → IsEnding tells words before now out out_now status said → (status ≡ Status.Depth) ⊎ (status ≡ Status.Memory) ⊎ (status ≡ Status.Full) }
-    ensures ends_trapped { (tells : Bool) (words : List (List ℕ)) (before now : ShelfView) (out out_now : SinkView) (source input : List ℕ)
-        (options : OptionValues) (front said : List ℕ) (status : Statuses)
-        → (r : IsPackingRun words before out source input options front) → NoWriteFailed r.program r.packed r.image r.pack before now out out_now
-        → DividesByZero source input options.depth
-        → IsEnding tells words before now out out_now status said → (status ≡ Status.Trap) ⊎ (status ≡ Status.Memory) ⊎ (status ≡ Status.Full) }
+        → HasNoResult source input options.depth why
+        → IsEnding tells words before now out out_now status said → (status ≡ Status.NoValue why) ⊎ (status ≡ Status.Memory) ⊎ (status ≡ Status.Full) }
     // Where so many chunks are enough for what the run costs, they do not run out.
     ensures fits { (tells : Bool) (words : List (List ℕ)) (before now : ShelfView) (out out_now : SinkView) (source input : List ℕ) (options : OptionValues)
         (front said : List ℕ) (status : Statuses)
@@ -161,7 +143,7 @@ pub fn run_packs_what_is_meant()
         → Given source input
         → (IsTooBig source input options.skips options.depth (run_forks options) options.chunks → ⊥)
         → IsEnding tells words before now out out_now status said
-        → (status ≡ Status.Done) ⊎ (status ≡ Status.Depth) ⊎ (status ≡ Status.Trap) ⊎ (status ≡ Status.Memory) ⊎ (status ≡ Status.Long) }
+        → (status ≡ Status.Done) ⊎ ((why : Why) × (status ≡ Status.NoValue why)) ⊎ (status ≡ Status.Memory) ⊎ (status ≡ Status.Long) }
 
     // There is one packed file at most, and a text with it; and none where it is too long, which has a text too.
     ensures one { (source input : List ℕ) (depth : ℕ) (bytes other : List ℕ) → IsResultFile source input depth bytes → IsResultFile source input depth other

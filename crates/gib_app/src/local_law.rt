@@ -1,8 +1,7 @@
 //! What `gib local` promises. The function does nothing, and its contract is the promise.
 
 ghost use Rattle.std.specs.Prelude.{◌≡◌, ◌⊎◌, ◌++◌, ℕ, List, Bool, Some};
-ghost use Rattle.gib_syntax.specs.Meaning.{Deep, Trap};
-ghost use Rattle.gib_syntax.specs.Meaning.{Reason as Meaning};
+ghost use Rattle.gib_types.specs.declared.reason.Reason.{Reason as Why};
 ghost use Rattle.gib_edge.specs.Views.{ShelfView, SinkView};
 ghost use Rattle.gib_words.specs.declared.plan.Options.{Options as OptionValues};
 ghost use Rattle.gib_app.specs.declared.status.Status.{Status as Statuses};
@@ -25,16 +24,11 @@ pub fn local_prints_what_is_meant()
         (front said : List ℕ)
         → IsLocalRun words before out source input options front → IsEnding tells words before now out out_now Status.Done said
         → (output : List ℕ) × IsLocalResult source input options.depth output × (out_now.taken ≡ Some (front ++ output)) }
-    // Status 3: the meaning runs out of depth.
-    ensures deep { (tells : Bool) (words : List (List ℕ)) (before now : ShelfView) (out out_now : SinkView) (source input : List ℕ) (options : OptionValues)
-        (front said : List ℕ)
-        → IsLocalRun words before out source input options front → IsEnding tells words before now out out_now Status.Depth said
-        → HasNoLocalResult source input options.depth Deep }
-    // Status 9: the meaning is a division by 0.
-    ensures trapped { (tells : Bool) (words : List (List ℕ)) (before now : ShelfView) (out out_now : SinkView) (source input : List ℕ)
-        (options : OptionValues) (front said : List ℕ)
-        → IsLocalRun words before out source input options front → IsEnding tells words before now out out_now Status.Trap said
-        → HasNoLocalResult source input options.depth Trap }
+    // Status 3 or 9: it means no value, for the reason that the status tells: the meaning runs out of depth, or is a division by 0.
+    ensures valueless { (tells : Bool) (words : List (List ℕ)) (before now : ShelfView) (out out_now : SinkView) (source input : List ℕ)
+        (options : OptionValues) (front said : List ℕ) (why : Why)
+        → IsLocalRun words before out source input options front → IsEnding tells words before now out out_now (Status.NoValue why) said
+        → HasNoLocalResult source input options.depth why }
     // Status 4: the chunks of memory may not be enough for what the run of this core costs.
     ensures full { (tells : Bool) (words : List (List ℕ)) (before now : ShelfView) (out out_now : SinkView) (source input : List ℕ) (options : OptionValues)
         (front said : List ℕ)
@@ -51,16 +45,11 @@ pub fn local_prints_what_is_meant()
         → (r : IsLocalRun words before out source input options front) → NoReadFailed r.program r.packed before now out out_now
         → IsLocalResult source input options.depth output
         → IsEnding tells words before now out out_now status said → (status ≡ Status.Done) ⊎ (status ≡ Status.Memory) ⊎ (status ≡ Status.Full) }
-    ensures ends_deep { (tells : Bool) (words : List (List ℕ)) (before now : ShelfView) (out out_now : SinkView) (source input : List ℕ)
-        (options : OptionValues) (front said : List ℕ) (status : Statuses)
+    ensures ends_valueless { (tells : Bool) (words : List (List ℕ)) (before now : ShelfView) (out out_now : SinkView) (source input : List ℕ)
+        (options : OptionValues) (front said : List ℕ) (why : Why) (status : Statuses)
         → (r : IsLocalRun words before out source input options front) → NoReadFailed r.program r.packed before now out out_now
-        → HasNoLocalResult source input options.depth Deep
-        → IsEnding tells words before now out out_now status said → (status ≡ Status.Depth) ⊎ (status ≡ Status.Memory) ⊎ (status ≡ Status.Full) }
-    ensures ends_trapped { (tells : Bool) (words : List (List ℕ)) (before now : ShelfView) (out out_now : SinkView) (source input : List ℕ)
-        (options : OptionValues) (front said : List ℕ) (status : Statuses)
-        → (r : IsLocalRun words before out source input options front) → NoReadFailed r.program r.packed before now out out_now
-        → HasNoLocalResult source input options.depth Trap
-        → IsEnding tells words before now out out_now status said → (status ≡ Status.Trap) ⊎ (status ≡ Status.Memory) ⊎ (status ≡ Status.Full) }
+        → HasNoLocalResult source input options.depth why
+        → IsEnding tells words before now out out_now status said → (status ≡ Status.NoValue why) ⊎ (status ≡ Status.Memory) ⊎ (status ≡ Status.Full) }
     // Where the source makes no such core, the status is 1, unless memory runs out.
     ensures ends_refused { (tells : Bool) (words : List (List ℕ)) (before now : ShelfView) (out out_now : SinkView) (source input : List ℕ)
         (options : OptionValues) (front said : List ℕ) (status : Statuses)
@@ -72,14 +61,14 @@ pub fn local_prints_what_is_meant()
         → (r : IsLocalRun words before out source input options front) → NoReadFailed r.program r.packed before now out out_now → LocalGiven source input
         → (IsLocalTooBig source input options.depth (run_forks options) options.chunks → ⊥)
         → IsEnding tells words before now out out_now status said
-        → (status ≡ Status.Done) ⊎ (status ≡ Status.Depth) ⊎ (status ≡ Status.Trap) ⊎ (status ≡ Status.Memory) }
+        → (status ≡ Status.Done) ⊎ ((why : Why) × (status ≡ Status.NoValue why)) ⊎ (status ≡ Status.Memory) }
 
     // There is one result at most, and none where there is no value, for one reason.
     ensures one { (source input : List ℕ) (depth : ℕ) (output other : List ℕ) → IsLocalResult source input depth output
         → IsLocalResult source input depth other → output ≡ other }
-    ensures none { (source input : List ℕ) (depth : ℕ) (output : List ℕ) (why : Meaning) → IsLocalResult source input depth output
+    ensures none { (source input : List ℕ) (depth : ℕ) (output : List ℕ) (why : Why) → IsLocalResult source input depth output
         → HasNoLocalResult source input depth why → ⊥ }
-    ensures reason { (source input : List ℕ) (depth : ℕ) (why other : Meaning) → HasNoLocalResult source input depth why
+    ensures reason { (source input : List ℕ) (depth : ℕ) (why other : Why) → HasNoLocalResult source input depth why
         → HasNoLocalResult source input depth other → why ≡ other }
 {
     one_reading();

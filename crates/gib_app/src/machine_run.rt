@@ -83,8 +83,8 @@ fn root_in(answer: Answer) -> Result<Root, gib_types::Reason>
         Answer::Truth(value) => Ok(Root::Truth(value)),
         Answer::At(address) => Ok(Root::At(address)),
         // main gives one value
-        Answer::Parts(_) | Answer::Deep => Err(gib_types::Reason::Deep),
-        Answer::Trap => Err(gib_types::Reason::Trap),
+        Answer::Parts(_) => Err(gib_types::Reason::Deep),
+        Answer::NoValue(why) => Err(why),
     }
 }
 

@@ -1,6 +1,7 @@
 //! The law of two calls of `gib`: a trace, and a replay of the journal that it wrote. The function does nothing: its contract is the law.
 
 ghost use Rattle.std.specs.Prelude.{◌≡◌, ◌⊎◌, ℕ, List, Bool, Some};
+ghost use Rattle.gib_types.specs.declared.reason.Reason.{Reason as Why};
 ghost use Rattle.gib_edge.specs.Views.{ShelfView, SinkView};
 ghost use Rattle.gib_app.specs.declared.status.Status.{Status as Statuses};
 ghost use Rattle.gib_app.specs.Ending.{IsEnding};
@@ -22,18 +23,12 @@ pub fn a_replay_ends_as_its_trace()
         → out_later.taken ≡ Some front_later
         → IsEnding tells words before left out out_left Status.Done said → IsEnding tells again later now out_later out_now status said_later
         → ((status ≡ Status.Done) × PutAlike out out_left out_later out_now front front_later) ⊎ (status ≡ Status.Memory) }
-    // Where the first call ends with status 3, so does the second one.
-    ensures deep { (tells : Bool) (words again : List (List ℕ)) (before left later now : ShelfView) (out out_left out_later out_now : SinkView)
-        (said said_later : List ℕ) (status : Statuses)
+    // Where the first call ends with status 3 or 9, without a value, so does the second one, for the same reason.
+    ensures valueless { (tells : Bool) (words again : List (List ℕ)) (before left later now : ShelfView) (out out_left out_later out_now : SinkView)
+        (said said_later : List ℕ) (why : Why) (status : Statuses)
         → (r : IsRepeated words again before left later) → NoneFails r.program r.packed r.name r.image later now out_later out_now
-        → IsEnding tells words before left out out_left Status.Depth said → IsEnding tells again later now out_later out_now status said_later
-        → (status ≡ Status.Depth) ⊎ (status ≡ Status.Memory) }
-    // Where the first call ends with status 9, so does the second one.
-    ensures trapped { (tells : Bool) (words again : List (List ℕ)) (before left later now : ShelfView) (out out_left out_later out_now : SinkView)
-        (said said_later : List ℕ) (status : Statuses)
-        → (r : IsRepeated words again before left later) → NoneFails r.program r.packed r.name r.image later now out_later out_now
-        → IsEnding tells words before left out out_left Status.Trap said → IsEnding tells again later now out_later out_now status said_later
-        → (status ≡ Status.Trap) ⊎ (status ≡ Status.Memory) }
+        → IsEnding tells words before left out out_left (Status.NoValue why) said → IsEnding tells again later now out_later out_now status said_later
+        → (status ≡ Status.NoValue why) ⊎ (status ≡ Status.Memory) }
 {
     one_reading();
     one_program();

@@ -1,6 +1,9 @@
 //! How a call ends.
 
 ghost use Rattle.std.specs.Prelude.{◌≡◌};
+ghost use Rattle.gib_app.specs.Codes.{reason_code, code_of};
+
+use gib_types::Reason;
 
 /// How a call ends.
 #[derive(Clone, Copy, PartialEq, Eq)]
@@ -11,8 +14,8 @@ pub enum Status {
     Source,
     /// The words are not taken.
     Usage,
-    /// The program's meaning runs out of depth.
-    Depth,
+    /// The program means no value on the input, for this reason.
+    NoValue(Reason),
     /// So many chunks of region memory may not be enough for what the run costs; in a replay they are not.
     Full,
     /// Want of memory.
@@ -23,15 +26,21 @@ pub enum Status {
     WriteFault,
     /// The input is refused.
     Input,
-    /// The program divides by 0.
-    Trap,
     /// The packed file of the result would be too long.
     Long,
 }
 
-impl Status {
-    ghost use Rattle.gib_app.specs.Codes.{code_of};
+/// The exit status of the process where a program means no value, for this reason.
+fn reason_code(why: Reason) -> u8
+    ensures { result ≡ reason_code why }
+{
+    match why {
+        Reason::Deep => 3,
+        Reason::Trap => 9,
+    }
+}
 
+impl Status {
     /// The exit status of the process.
     pub fn code(self) -> u8
         ensures { result ≡ code_of self }
@@ -40,13 +49,12 @@ impl Status {
             Status::Done => 0,
             Status::Source => 1,
             Status::Usage => 2,
-            Status::Depth => 3,
+            Status::NoValue(why) => reason_code(why),
             Status::Full => 4,
             Status::Memory => 5,
             Status::ReadFault => 6,
             Status::WriteFault => 7,
             Status::Input => 8,
-            Status::Trap => 9,
             Status::Long => 10,
         }
     }

@@ -2,6 +2,7 @@
 
 ghost use Rattle.std.specs.Prelude.{◌≤◌, ℕ, List, OnOk, IfErr};
 ghost use Rattle.gib_edge.specs.Causes.{AppendsPart};
+ghost use Rattle.gib_app.specs.Statuses;
 ghost use Rattle.gib_app.specs.declared.status.Status.{Status as Statuses};
 ghost use Rattle.gib_words.specs.Words.{bytes_of};
 ghost use Rattle.gib_app.specs.Calls.{calls_asked};

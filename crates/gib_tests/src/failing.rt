@@ -6,6 +6,7 @@ use crate::harness::{End, Ended, Fails, call, is_end};
 use gib_app::Status;
 use gib_edge::mem_shelf::MemShelf;
 use gib_edge::outside::FreeGate;
+use gib_types::Reason;
 use gib_unit_tests::bytes::{packed, push_times};
 use std::alloc::{AllocError, Global};
 use std::sync::Wait;
@@ -339,7 +340,7 @@ fn ends_unheard<R: Threads + Wait + Sync>(rt: &R, alloc: Global) -> Result<bool,
     let words = "run a.gib a.gbp --depth 1";
     let ended = call(rt, alloc, &FreeGate, words, &files, fails)?;
     let end = End {
-        status: Status::Depth,
+        status: Status::NoValue(Reason::Deep),
         out: "",
         err: "",
     };

@@ -5,6 +5,7 @@ use crate::forking::{ADD_ONE, BOTH, Counting, Meeting, Sleeping, TWO_LEAVES};
 use crate::harness::{End, Ended, Fails, call, has_files, is_end};
 use gib_app::Status;
 use gib_edge::outside::Gate;
+use gib_types::Reason;
 use gib_unit_tests::bytes::{packed, push_times};
 use std::alloc::{AllocError, Global};
 use std::sync::Wait;
@@ -51,6 +52,10 @@ const ADDED: &str = "(Node (Leaf 2) (Leaf 3))\n";
 
 const BUILT: &str =
     "(Node (Node (Node (Leaf 0) (Leaf 0)) (Node (Leaf 0) (Leaf 0))) (Node (Node (Leaf 0) (Leaf 0)) (Node (Leaf 0) (Leaf 0))))\n";
+
+const TOO_DEEP: Status = Status::NoValue(Reason::Deep);
+
+const DIVIDED: Status = Status::NoValue(Reason::Trap);
 
 const DEPTH: &str = "gib: depth\n";
 
@@ -108,8 +113,8 @@ const ROWS: [Row<'static>; 14] = [
     (COUNT, NINE, RUN, Status::Done, "512\n", None),
     (RIGHT_DOWN, FIVE, TEN_DEEP, Status::Done, "8\n", None),
     // One of the sides runs out of depth.
-    (RIGHT_DOWN, FIFTY, TEN_DEEP, Status::Depth, DEPTH, None),
-    (LEFT_DOWN, FIFTY, TEN_DEEP, Status::Depth, DEPTH, None),
+    (RIGHT_DOWN, FIFTY, TEN_DEEP, TOO_DEEP, DEPTH, None),
+    (LEFT_DOWN, FIFTY, TEN_DEEP, TOO_DEEP, DEPTH, None),
     // The whole tree has no room in so many chunks.
     (BUILD, THIRTEEN, FEW_CHUNKS, Status::Full, CHUNKS, None),
     // The journal tells it so.
@@ -125,21 +130,21 @@ const ROWS: [Row<'static>; 14] = [
         PARTS_STOLEN,
     ),
     // The left side's reason is told, whichever ends first.
-    (DIVIDES_LEFT, ZERO, THREE_DEEP, Status::Trap, BY_ZERO, None),
+    (DIVIDES_LEFT, ZERO, THREE_DEEP, DIVIDED, BY_ZERO, None),
     (
         DIVIDES_LEFT,
         ZERO,
         TRACE_DEEP,
-        Status::Trap,
+        DIVIDED,
         BY_ZERO,
         LEFT_DIVIDED,
     ),
-    (DIVIDES_RIGHT, ZERO, THREE_DEEP, Status::Depth, DEPTH, None),
+    (DIVIDES_RIGHT, ZERO, THREE_DEEP, TOO_DEEP, DEPTH, None),
     (
         DIVIDES_RIGHT,
         ZERO,
         TRACE_DEEP,
-        Status::Depth,
+        TOO_DEEP,
         DEPTH,
         RIGHT_DIVIDED,
     ),

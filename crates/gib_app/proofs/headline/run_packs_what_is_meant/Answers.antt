@@ -1,5 +1,5 @@
 use Rattle.gib_app.proofs.OneProgram.{Laws}
-use Rattle.gib_app.proofs.Headlines.{pack_done, pack_packed, pack_image, pack_long, pack_long_image, pack_unwritten, pack_deep, pack_trapped, pack_full, pack_ends_done, pack_ends_long, pack_ends_deep, pack_ends_trapped, pack_fits}
+use Rattle.gib_app.proofs.Headlines.{pack_done, pack_packed, pack_image, pack_long, pack_long_image, pack_unwritten, pack_valueless, pack_full, pack_ends_done, pack_ends_long, pack_ends_valueless, pack_fits}
 use Rattle.gib_app.proofs.Results.{file_text, long_text, one_packed, short_or_long}
 use Rattle.gib_app.proofs.headline.run_packs_what_is_meant.Goals as goal
 
@@ -21,11 +21,8 @@ returns-clause-long_image c = pack_long_image
 pub returns-clause-unwritten : goal.returns-clause-unwritten
 returns-clause-unwritten c = pack_unwritten
 
-pub returns-clause-deep : goal.returns-clause-deep
-returns-clause-deep c = pack_deep
-
-pub returns-clause-trapped : goal.returns-clause-trapped
-returns-clause-trapped c = pack_trapped
+pub returns-clause-valueless : goal.returns-clause-valueless
+returns-clause-valueless c = pack_valueless
 
 pub returns-clause-full : goal.returns-clause-full
 returns-clause-full c = pack_full
@@ -44,13 +41,9 @@ pub returns-clause-ends_long : goal.returns-clause-ends_long
 returns-clause-ends_long c =
     let laws : Laws = record { lexed = c.one_reading.ensures; parsed = c.one_program.ensures; located = c.one_reading_in.ensures; texts = c.one_text.ensures; filed = c.one_file.ensures.value } in pack_ends_long laws
 
-pub returns-clause-ends_deep : goal.returns-clause-ends_deep
-returns-clause-ends_deep c =
-    let laws : Laws = record { lexed = c.one_reading.ensures; parsed = c.one_program.ensures; located = c.one_reading_in.ensures; texts = c.one_text.ensures; filed = c.one_file.ensures.value } in pack_ends_deep laws
-
-pub returns-clause-ends_trapped : goal.returns-clause-ends_trapped
-returns-clause-ends_trapped c =
-    let laws : Laws = record { lexed = c.one_reading.ensures; parsed = c.one_program.ensures; located = c.one_reading_in.ensures; texts = c.one_text.ensures; filed = c.one_file.ensures.value } in pack_ends_trapped laws
+pub returns-clause-ends_valueless : goal.returns-clause-ends_valueless
+returns-clause-ends_valueless c =
+    let laws : Laws = record { lexed = c.one_reading.ensures; parsed = c.one_program.ensures; located = c.one_reading_in.ensures; texts = c.one_text.ensures; filed = c.one_file.ensures.value } in pack_ends_valueless laws
 
 pub returns-clause-fits : goal.returns-clause-fits
 returns-clause-fits c =

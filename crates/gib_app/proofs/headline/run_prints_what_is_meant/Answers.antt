@@ -1,6 +1,6 @@
 use Rattle.gib_app.proofs.OneProgram.{Laws}
-use Rattle.gib_app.proofs.Headlines.{run_done, run_image, run_deep, run_trapped, run_full, run_ends_done, run_ends_deep, run_ends_trapped, run_fits}
-use Rattle.gib_app.proofs.Results.{one_result, no_result, not_either}
+use Rattle.gib_app.proofs.Headlines.{run_done, run_image, run_valueless, run_full, run_ends_done, run_ends_valueless, run_fits}
+use Rattle.gib_app.proofs.Results.{one_result, no_result, one_reason}
 use Rattle.gib_app.proofs.headline.run_prints_what_is_meant.Goals as goal
 
 pub returns-clause-done : goal.returns-clause-done
@@ -9,11 +9,8 @@ returns-clause-done c = run_done
 pub returns-clause-image : goal.returns-clause-image
 returns-clause-image c = run_image
 
-pub returns-clause-deep : goal.returns-clause-deep
-returns-clause-deep c = run_deep
-
-pub returns-clause-trapped : goal.returns-clause-trapped
-returns-clause-trapped c = run_trapped
+pub returns-clause-valueless : goal.returns-clause-valueless
+returns-clause-valueless c = run_valueless
 
 pub returns-clause-full : goal.returns-clause-full
 returns-clause-full c = run_full
@@ -22,13 +19,9 @@ pub returns-clause-ends_done : goal.returns-clause-ends_done
 returns-clause-ends_done c =
     let laws : Laws = record { lexed = c.one_reading.ensures; parsed = c.one_program.ensures; located = c.one_reading_in.ensures; texts = c.one_text.ensures; filed = c.one_file.ensures.value } in run_ends_done laws
 
-pub returns-clause-ends_deep : goal.returns-clause-ends_deep
-returns-clause-ends_deep c =
-    let laws : Laws = record { lexed = c.one_reading.ensures; parsed = c.one_program.ensures; located = c.one_reading_in.ensures; texts = c.one_text.ensures; filed = c.one_file.ensures.value } in run_ends_deep laws
-
-pub returns-clause-ends_trapped : goal.returns-clause-ends_trapped
-returns-clause-ends_trapped c =
-    let laws : Laws = record { lexed = c.one_reading.ensures; parsed = c.one_program.ensures; located = c.one_reading_in.ensures; texts = c.one_text.ensures; filed = c.one_file.ensures.value } in run_ends_trapped laws
+pub returns-clause-ends_valueless : goal.returns-clause-ends_valueless
+returns-clause-ends_valueless c =
+    let laws : Laws = record { lexed = c.one_reading.ensures; parsed = c.one_program.ensures; located = c.one_reading_in.ensures; texts = c.one_text.ensures; filed = c.one_file.ensures.value } in run_ends_valueless laws
 
 pub returns-clause-fits : goal.returns-clause-fits
 returns-clause-fits c =
@@ -42,6 +35,6 @@ pub returns-clause-none : goal.returns-clause-none
 returns-clause-none c =
     let laws : Laws = record { lexed = c.one_reading.ensures; parsed = c.one_program.ensures; located = c.one_reading_in.ensures; texts = c.one_text.ensures; filed = c.one_file.ensures.value } in no_result laws
 
-pub returns-clause-either : goal.returns-clause-either
-returns-clause-either c =
-    let laws : Laws = record { lexed = c.one_reading.ensures; parsed = c.one_program.ensures; located = c.one_reading_in.ensures; texts = c.one_text.ensures; filed = c.one_file.ensures.value } in not_either laws
+pub returns-clause-reason : goal.returns-clause-reason
+returns-clause-reason c =
+    let laws : Laws = record { lexed = c.one_reading.ensures; parsed = c.one_program.ensures; located = c.one_reading_in.ensures; texts = c.one_text.ensures; filed = c.one_file.ensures.value } in one_reason laws

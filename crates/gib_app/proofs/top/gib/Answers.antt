@@ -1,4 +1,5 @@
 use Rattle.std.proofs.Common.{[], refl, sym, subst, arith}
+use Rattle.gib_types.specs.declared.reason.Reason.TheVariants as reason
 use Rattle.gib_app.specs.declared.status.Status.{Status}
 use Rattle.gib_app.specs.declared.status.Status.TheVariants as status
 use Rattle.gib_words.specs.Words.{bytes_of}
@@ -13,7 +14,7 @@ use Rattle.gib_app.specs.Headline.{IsOrScarce, TellsWhatIsMeant}
 use Rattle.gib_app.proofs.CallCauses.{ending_of}
 use Rattle.gib_app.proofs.Endings.{ends_as_due}
 use Rattle.gib_app.proofs.OneProgram.{Laws}
-use Rattle.gib_app.proofs.Headlines.{run_tells, run_ends_done, run_ends_deep}
+use Rattle.gib_app.proofs.Headlines.{run_tells, run_ends_done, run_ends_valueless}
 use Rattle.gib_app.proofs.top.gib.Goals as goal
 
 pub returns-in-Ok-clause-ends : goal.returns-in-Ok-clause-ends
@@ -78,12 +79,12 @@ returns-in-Ok-clause-runs_done g c = λ source input output options front r quie
 pub returns-in-Ok-clause-runs_deep : goal.returns-in-Ok-clause-runs_deep
 returns-in-Ok-clause-runs_deep g c = λ source input options front r quiet h.
     let laws : Laws = record { lexed = c.one_reading.ensures; parsed = c.one_program.ensures; located = c.one_reading_in.ensures; texts = c.one_text.ensures; filed = c.one_file.ensures.value } in
-    run_ends_deep laws g.S.Shelf.tells (bytes_of c.args.words.now)
+    run_ends_valueless laws g.S.Shelf.tells (bytes_of c.args.words.now)
     (g.S.Shelf.view c.args.shelf.now)
     (g.S.Shelf.view c.call.new.shelf)
     (g.O.Sink.view c.args.out.now)
     (g.O.Sink.view c.call.new.out)
-    source input options front [] status.Done r quiet h (c.in-Ok.ensures.done.printed, refl)
+    source input options front [] reason.Deep status.Done r quiet h (c.in-Ok.ensures.done.printed, refl)
 
 pub returns-clause-runs : goal.returns-clause-runs
 returns-clause-runs g c = λ source input options front r.
@@ -119,9 +120,9 @@ returns-clause-runs_deep g c = λ source input options front r quiet h.
     let b : SinkView = g.O.Sink.view c.call.new.out in
     let words = bytes_of c.args.words.now in
     let stop = c.in-Err.stop in
-    let P : Answer → Type 0 = λ x. IsOrScarce status.Depth x.status in
+    let P : Answer → Type 0 = λ x. IsOrScarce (status.NoValue reason.Deep) x.status in
     subst P (sym c.answer_to-answer.ensures.answer)
-    (run_ends_deep laws g.S.Shelf.tells words before now a b source input options front (line (answer_for stop).said) (answer_for stop).status r quiet h (ending_of g.S.Shelf.tells words (record { shelf = before; out = a }) (record { shelf = now; out = b }) stop c.in-Err.ensures.stop.cause))
+    (run_ends_valueless laws g.S.Shelf.tells words before now a b source input options front (line (answer_for stop).said) reason.Deep (answer_for stop).status r quiet h (ending_of g.S.Shelf.tells words (record { shelf = before; out = a }) (record { shelf = now; out = b }) stop c.in-Err.ensures.stop.cause))
 
 -- ---- What stays
 
