@@ -7,7 +7,7 @@ use Rattle.std.proofs.lemmas.Bool.Decides.{nat_tests}
 use Rattle.std.proofs.lemmas.Bool.{and_parts}
 use Rattle.gib_locked.specs.Cuts.{IsCut, lacks}
 use Rattle.gib_locked.specs.Limits.{are_settings}
-use Rattle.gib_locked.specs.JournalText.{flag_text, settings_text}
+use Rattle.gib_locked.specs.JournalText.{access_text, settings_text}
 use Rattle.gib_locked.specs.declared.settings.Settings.{Settings}
 use Rattle.gib_locked.proofs.LineTexts.{halves, has_lacks, number_lacks}
 
@@ -54,10 +54,10 @@ are_small s =
 
 -- What is behind the first number, behind the second, and behind the third.
 abbrev pub behind_two : Settings → List ℕ
-behind_two s = codes "fork " ++ (decimal s.fork ++ (codes " skips " ++ flag_text s.skips))
+behind_two s = codes "fork " ++ (decimal s.fork ++ 32 ∷ access_text s.access)
 
 abbrev pub behind_one : Settings → List ℕ
-behind_one s = codes "chunks " ++ (decimal s.chunks ++ (codes " fork " ++ (decimal s.fork ++ (codes " skips " ++ flag_text s.skips))))
+behind_one s = codes "chunks " ++ (decimal s.chunks ++ (codes " fork " ++ (decimal s.fork ++ 32 ∷ access_text s.access)))
 
 pub first_is : (text rest : List ℕ) (n : ℕ) (s : Settings) → n < 2 ^ 64 → text ≡ named (codes "depth") n rest → text ≡ settings_text s → (n ≡ s.depth) × (rest ≡ behind_one s)
 first_is text rest n s small is e = named_is_one (codes "depth") n s.depth rest (behind_one s) refl small (are_small s).depth (sym is ∙ e)
@@ -65,8 +65,8 @@ first_is text rest n s small is e = named_is_one (codes "depth") n s.depth rest 
 pub second_is : (text rest more : List ℕ) (n m : ℕ) (s : Settings) → n < 2 ^ 64 → m < 2 ^ 64 → text ≡ named (codes "depth") n rest → rest ≡ named (codes "chunks") m more → text ≡ settings_text s → (m ≡ s.chunks) × (more ≡ behind_two s)
 second_is text rest more n m s small few is has e = named_is_one (codes "chunks") m s.chunks more (behind_two s) refl few (are_small s).chunks (sym has ∙ (first_is text rest n s small is e).1)
 
-pub third_is : (text rest more last : List ℕ) (n m k : ℕ) (s : Settings) → n < 2 ^ 64 → m < 2 ^ 64 → k < 2 ^ 64 → text ≡ named (codes "depth") n rest → rest ≡ named (codes "chunks") m more → more ≡ named (codes "fork") k last → text ≡ settings_text s → (k ≡ s.fork) × (last ≡ codes "skips " ++ flag_text s.skips)
-third_is text rest more last n m k s small few low is has holds e = named_is_one (codes "fork") k s.fork last (codes "skips " ++ flag_text s.skips) refl low (are_small s).fork (sym holds ∙ (second_is text rest more n m s small few is has e).1)
+pub third_is : (text rest more last : List ℕ) (n m k : ℕ) (s : Settings) → n < 2 ^ 64 → m < 2 ^ 64 → k < 2 ^ 64 → text ≡ named (codes "depth") n rest → rest ≡ named (codes "chunks") m more → more ≡ named (codes "fork") k last → text ≡ settings_text s → (k ≡ s.fork) × (last ≡ access_text s.access)
+third_is text rest more last n m k s small few low is has holds e = named_is_one (codes "fork") k s.fork last (access_text s.access) refl low (are_small s).fork (sym holds ∙ (second_is text rest more n m s small few is has e).1)
 
 pub not_within : (n m k : ℕ) (s : Settings) → n ≡ s.depth → m ≡ s.chunks → k ≡ s.fork → are_settings n m k ≡ false → ⊥
 not_within n m k s a b c h = true≢false (sym s.within ∙ (ap (λ x. are_settings x s.chunks s.fork) (sym a) ∙ (ap (λ x. are_settings n x s.fork) (sym b) ∙ (ap (λ x. are_settings n m x) (sym c) ∙ h))))

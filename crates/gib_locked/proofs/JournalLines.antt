@@ -1,17 +1,19 @@
 -- The lines of journals, and what begins like them.
 use Rattle.std.proofs.Common.{◌≡◌, ◌⊎◌, inl, inr, ℕ, ◌^◌, ◌<◌, List, [], ◌∷◌, ◌++◌, Bool, true, false, not, ◌&&◌, length, map, sym, refl, ap, ◌∙◌, subst, append_assoc, arith}
-use Rattle.std.specs.Prelude.{◌==◌, codes, slice_index}
+use Rattle.std.specs.Prelude.{◌==◌, if◌then◌else◌, codes, slice_index}
 use Rattle.std.specs.List.{flat_map}
 use Rattle.std.specs.Fmt.{decimal}
 use Rattle.std.proofs.Math.Bool.{Bool-set}
 use Rattle.std.proofs.lemmas.Bool.{and_parts, and_from}
+use Rattle.gib_types.specs.declared.access.FieldAccess.{FieldAccess}
+use Rattle.gib_types.specs.declared.access.FieldAccess.TheVariants.{Ends, Skips}
 use Rattle.gib_locked.specs.Cuts.{lacks}
 use Rattle.gib_locked.specs.Limits.{are_settings}
 use Rattle.gib_locked.specs.declared.journal.Line.{Line}
 use Rattle.gib_locked.specs.declared.journal.Line.TheVariants.{Steps, Forks, Steals, Takes, Finishes, Joins}
 use Rattle.gib_locked.specs.declared.settings.Settings.{Settings}
 use Rattle.gib_locked.specs.Lines.{are_lines, first_may_follow, is_line}
-use Rattle.gib_locked.specs.JournalText.{events_text, fed, flag_text, line_text, lines_text, numbers_text, settings_text, word_text}
+use Rattle.gib_locked.specs.JournalText.{access_text, events_text, fed, line_text, lines_text, numbers_text, settings_text, word_text}
 use Rattle.gib_locked.proofs.LineTexts.{count_fits, halves, has_lacks, line_is_one, number_lacks, steps_count, steps_task, task_fits}
 use Rattle.gib_locked.proofs.HeadTexts.{are_small, first_is, second_is, third_is}
 
@@ -32,15 +34,15 @@ line_lacks (Takes t) h = one_number t (task_fits t h)
 line_lacks (Finishes t) h = one_number t (task_fits t h)
 line_lacks (Joins t) h = one_number t (task_fits t h)
 
-flag_lacks : (b : Bool) → lacks 10 (flag_text b) ≡ true
-flag_lacks true = refl
-flag_lacks false = refl
+access_lacks : (access : FieldAccess) → lacks 10 (access_text access) ≡ true
+access_lacks Ends = refl
+access_lacks Skips = refl
 
 pub settings_lacks : (s : Settings) → lacks 10 (settings_text s) ≡ true
 settings_lacks s =
-    lack_both 10 (decimal s.depth) (codes " chunks " ++ (decimal s.chunks ++ (codes " fork " ++ (decimal s.fork ++ (codes " skips " ++ flag_text s.skips))))) (one_number s.depth (are_small s).depth)
-    (lack_both 10 (decimal s.chunks) (codes " fork " ++ (decimal s.fork ++ (codes " skips " ++ flag_text s.skips))) (one_number s.chunks (are_small s).chunks)
-    (lack_both 10 (decimal s.fork) (codes " skips " ++ flag_text s.skips) (one_number s.fork (are_small s).fork) (flag_lacks s.skips)))
+    lack_both 10 (decimal s.depth) (codes " chunks " ++ (decimal s.chunks ++ (codes " fork " ++ (decimal s.fork ++ 32 ∷ access_text s.access)))) (one_number s.depth (are_small s).depth)
+    (lack_both 10 (decimal s.chunks) (codes " fork " ++ (decimal s.fork ++ 32 ∷ access_text s.access)) (one_number s.chunks (are_small s).chunks)
+    (lack_both 10 (decimal s.fork) (32 ∷ access_text s.access) (one_number s.fork (are_small s).fork) (access_lacks s.access)))
 
 -- None of the lines has a line feed in it.
 abbrev pub AreLines : List (List ℕ) → Type 0
@@ -139,19 +141,19 @@ events_are_one (l ∷ ls) (k ∷ ks) f g e =
     let same : l ≡ k = line_is_one l k (and_parts (is_line l) (first_may_follow l ls && are_lines ls) f).0 (and_parts (is_line k) (first_may_follow k ks && are_lines ks) g).0 (ap first_of e) in
     ap (λ x. x ∷ ls) same ∙ ap (λ xs. k ∷ xs) (events_are_one ls ks (and_parts (first_may_follow l ls) (are_lines ls) (and_parts (is_line l) (first_may_follow l ls && are_lines ls) f).1).1 (and_parts (first_may_follow k ks) (are_lines ks) (and_parts (is_line k) (first_may_follow k ks && are_lines ks) g).1).1 (ap others_of e))
 
-abbrev flag_in : List ℕ → Bool
-flag_in xs = slice_index xs 6 == 49
+abbrev access_in : List ℕ → FieldAccess
+access_in xs = if slice_index xs 6 == 49 then Skips else Ends
 
-flag_is_one : (a b : Bool) → codes "skips " ++ flag_text a ≡ codes "skips " ++ flag_text b → a ≡ b
-flag_is_one true true e = refl
-flag_is_one false false e = refl
-flag_is_one true false e = ap flag_in e
-flag_is_one false true e = ap flag_in e
+access_is_one : (a b : FieldAccess) → access_text a ≡ access_text b → a ≡ b
+access_is_one Ends Ends e = refl
+access_is_one Skips Skips e = refl
+access_is_one Ends Skips e = ap access_in e
+access_is_one Skips Ends e = ap access_in e
 
-abbrev made : (d c f : ℕ) (k : Bool) → are_settings d c f ≡ true → Settings
-made d c f k p = record { depth = d; chunks = c; fork = f; skips = k; within = p }
+abbrev made : (d c f : ℕ) (k : FieldAccess) → are_settings d c f ≡ true → Settings
+made d c f k p = record { depth = d; chunks = c; fork = f; access = k; within = p }
 
-same_settings : (d c f d' c' f' : ℕ) (k k' : Bool) (p : are_settings d c f ≡ true) (q : are_settings d' c' f' ≡ true) → d ≡ d' → c ≡ c' → f ≡ f' → k ≡ k' → made d c f k p ≡ made d' c' f' k' q
+same_settings : (d c f d' c' f' : ℕ) (k k' : FieldAccess) (p : are_settings d c f ≡ true) (q : are_settings d' c' f' ≡ true) → d ≡ d' → c ≡ c' → f ≡ f' → k ≡ k' → made d c f k p ≡ made d' c' f' k' q
 same_settings d c f d' c' f' k k' p q ed ec ef ek =
     subst (λ k''. made d c f k p ≡ made d' c' f' k'' q) ek
     (subst (λ f''. (r : are_settings d' c' f'' ≡ true) → made d c f k p ≡ made d' c' f'' k r) ef
@@ -164,4 +166,4 @@ settings_are_one s t e =
     let a = first_is (settings_text s) _ s.depth t (are_small s).depth refl e in
     let b = second_is (settings_text s) _ _ s.depth s.chunks t (are_small s).depth (are_small s).chunks refl refl e in
     let c = third_is (settings_text s) _ _ _ s.depth s.chunks s.fork t (are_small s).depth (are_small s).chunks (are_small s).fork refl refl refl e in
-    same_settings s.depth s.chunks s.fork t.depth t.chunks t.fork s.skips t.skips s.within t.within a.0 b.0 c.0 (flag_is_one s.skips t.skips c.1)
+    same_settings s.depth s.chunks s.fork t.depth t.chunks t.fork s.access t.access s.within t.within a.0 b.0 c.0 (access_is_one s.access t.access c.1)

@@ -4,6 +4,7 @@ use Rattle.std.specs.Prelude.{codes, MatchResult}
 use Rattle.std.specs.List.{flat_map}
 use Rattle.std.proofs.lemmas.List.{length-map, append-nil}
 use Rattle.std.proofs.lemmas.Bool.{and_parts}
+use Rattle.gib_types.specs.declared.access.FieldAccess.TheVariants.{Ends}
 use Rattle.gib_locked.specs.Cuts.{IsCut, lacks}
 use Rattle.gib_locked.specs.declared.journal.Journal.{Journal}
 use Rattle.gib_locked.specs.declared.journal.Line.{Line}
@@ -17,7 +18,7 @@ use Rattle.gib_locked.proofs.LineTexts.{halves, has_lacks}
 use Rattle.gib_locked.proofs.JournalLines.{AreLines, comes_next, events_are_one, front_are, front_may, journal_are, no_end, no_more, rest_of, settings_are_one, settings_lacks}
 
 abbrev least : Settings
-least = record { depth = 1; chunks = 16; fork = 0; skips = false; within = refl }
+least = record { depth = 1; chunks = 16; fork = 0; access = Ends; within = refl }
 
 abbrev head : List (List ℕ) → List ℕ
 head [] = []

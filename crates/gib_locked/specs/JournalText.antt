@@ -1,7 +1,9 @@
 -- The text of a journal.
-use Rattle.std.specs.Prelude.{ℕ, List, [], ◌∷◌, ◌++◌, map, codes, Bool, true, false}
+use Rattle.std.specs.Prelude.{ℕ, List, [], ◌∷◌, ◌++◌, map, codes}
 use Rattle.std.specs.List.{flat_map}
 use Rattle.std.specs.Fmt.{decimal}
+use Rattle.gib_types.specs.declared.access.FieldAccess.{FieldAccess}
+use Rattle.gib_types.specs.declared.access.FieldAccess.TheVariants.{Ends, Skips}
 use Rattle.gib_locked.specs.declared.settings.Settings.{Settings}
 use Rattle.gib_locked.specs.declared.journal.Line.{Line}
 use Rattle.gib_locked.specs.declared.journal.Line.TheVariants.{Steps, Forks, Steals, Takes, Finishes, Joins}
@@ -28,14 +30,14 @@ numbers_text (Joins t) = decimal t
 abbrev pub line_text : Line → List ℕ
 line_text l = word_text l ++ 32 ∷ numbers_text l
 
--- A truth value is 0 or 1.
-abbrev pub flag_text : Bool → List ℕ
-flag_text false = codes "0"
-flag_text true = codes "1"
+-- How fields are reached: 1 where by walks over the fields before.
+abbrev pub access_text : FieldAccess → List ℕ
+access_text Ends = codes "skips 0"
+access_text Skips = codes "skips 1"
 
 -- The line of what the weave was started with.
 abbrev pub settings_text : Settings → List ℕ
-settings_text s = codes "depth " ++ (decimal s.depth ++ (codes " chunks " ++ (decimal s.chunks ++ (codes " fork " ++ (decimal s.fork ++ (codes " skips " ++ flag_text s.skips))))))
+settings_text s = codes "depth " ++ (decimal s.depth ++ (codes " chunks " ++ (decimal s.chunks ++ (codes " fork " ++ (decimal s.fork ++ 32 ∷ access_text s.access)))))
 
 -- The lines behind the first two: the events', and the last one.
 abbrev pub events_text : List Line → List (List ℕ)

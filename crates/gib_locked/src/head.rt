@@ -1,13 +1,15 @@
 //! The line of what a weave was started with, read.
 
-ghost use Rattle.std.specs.Prelude.{◌≡◌, ◌<◌, ◌^◌, ◌++◌, ◌∷◌, ℕ, List, Bool, codes, true, false, MatchOption};
+ghost use Rattle.std.specs.Prelude.{◌≡◌, ◌<◌, ◌^◌, ◌++◌, ◌∷◌, ℕ, List, true, MatchOption};
 ghost use Rattle.std.specs.Fmt.{decimal};
+ghost use Rattle.gib_types.specs.declared.access.FieldAccess.{FieldAccess as Accesses};
 ghost use Rattle.gib_locked.specs.Cuts.{lacks};
-ghost use Rattle.gib_locked.specs.JournalText.{flag_text, settings_text};
+ghost use Rattle.gib_locked.specs.JournalText.{access_text, settings_text};
 ghost use Rattle.gib_locked.specs.declared.settings.Settings.{Settings};
 
 use crate::cut::{cut, read_number};
 use crate::settings::{Settings, are_settings};
+use gib_types::FieldAccess;
 
 /// A number that stands behind a word, and what is behind both.
 #[derive(Clone, Copy)]
@@ -41,14 +43,14 @@ fn read_named<'a>(text: &'a [u8], word: &[u8]) -> Option<Named<'a>>
     })
 }
 
-/// Whether values are skipped.
-fn read_skips(text: &[u8]) -> Option<bool>
-    ensures { MatchOption result ((b : Bool) → text.now ≡ codes "skips " ++ flag_text b → ⊥) (λ b. text.now ≡ codes "skips " ++ flag_text b) }
+/// How fields are reached.
+fn read_access(text: &[u8]) -> Option<FieldAccess>
+    ensures { MatchOption result ((access : Accesses) → text.now ≡ access_text access → ⊥) (λ access. text.now ≡ access_text access) }
 {
     if text == b"skips 0".as_slice() {
-        Some(false)
+        Some(FieldAccess::Ends)
     } else if text == b"skips 1".as_slice() {
-        Some(true)
+        Some(FieldAccess::Skips)
     } else {
         None
     }
@@ -67,7 +69,7 @@ pub(crate) fn read_settings(text: &[u8]) -> Option<Settings>
     let Some(fork) = read_named(chunks.rest, b"fork") else {
         return None;
     };
-    let Some(skips) = read_skips(fork.rest) else {
+    let Some(access) = read_access(fork.rest) else {
         return None;
     };
     if !are_settings(depth.number, chunks.number, fork.number) {
@@ -77,6 +79,6 @@ pub(crate) fn read_settings(text: &[u8]) -> Option<Settings>
         depth: depth.number as u32,
         chunks: chunks.number as u32,
         fork: fork.number as u32,
-        skips,
+        access,
     })
 }

@@ -6,6 +6,7 @@ ghost use Rattle.gib_locked.specs.JournalText.{fed, journal_text, line_text, num
 use crate::journal::{Journal, Line};
 use crate::settings::Settings;
 use gib_base::{Memory, push_decimal};
+use gib_types::FieldAccess;
 use std::alloc::Global;
 
 /// The word of an event.
@@ -61,10 +62,9 @@ fn push_settings(alloc: Global, out: &mut Vec<u8>, settings: Settings) -> Result
     push_decimal(alloc, out, settings.chunks as u64)?;
     out.extend_from_slice(b" fork ")?;
     push_decimal(alloc, out, settings.fork as u64)?;
-    if settings.skips {
-        out.extend_from_slice(b" skips 1\n")?;
-    } else {
-        out.extend_from_slice(b" skips 0\n")?;
+    match settings.access {
+        FieldAccess::Ends => out.extend_from_slice(b" skips 0\n")?,
+        FieldAccess::Skips => out.extend_from_slice(b" skips 1\n")?,
     }
     Ok(())
 }

@@ -13,6 +13,8 @@ use Rattle.clap.specs.Simple.{App, new_app, new_rule, on_top, subcommand_of, wit
 use Rattle.clap.specs.Takes.{takes}
 use Rattle.clap.specs.declared.builder.action.ArgAction.TheVariants.{SetTrue}
 use Rattle.clap.specs.declared.builder.value_parser.ValueParser.TheVariants.{Unsigned}
+use Rattle.gib_types.specs.declared.access.FieldAccess.{FieldAccess}
+use Rattle.gib_types.specs.declared.access.FieldAccess.TheVariants.{Ends, Skips}
 use Rattle.gib_words.specs.declared.plan.Job.{Job}
 use Rattle.gib_words.specs.declared.plan.Job.TheVariants.{Run, Plain, Check, Core, Code, Pack, Show, Gen, Trace, Replay, Local}
 use Rattle.gib_words.specs.declared.plan.Options.{Options}
@@ -117,6 +119,10 @@ byte_or id default rows = option_map_or (λ n. n) (option_and_then byte_of (numb
 abbrev pub flag_of : Text → List Row → Bool
 flag_of id rows = option_map_or (λ value. bytes_eq value (codes "true")) (word_of id rows) false
 
+-- How fields are reached, by whether the flag is given.
+abbrev pub access_of : List Row → FieldAccess
+access_of rows = if flag_of (codes "skips") rows then Skips else Ends
+
 -- The options where none is given.
 abbrev pub usual : Options
 usual = record {
@@ -127,7 +133,7 @@ usual = record {
   pass = 4;
   image = false;
   packs = false;
-  skips = false;
+  access = Ends;
   number = 0;
   levels = 0;
   repacks = false;
@@ -144,7 +150,7 @@ options_of rows = record {
   pass = number_or (codes "pass") usual.pass rows;
   image = is_some (word_of (codes "image") rows);
   packs = is_some (word_of (codes "pack") rows);
-  skips = flag_of (codes "skips") rows;
+  access = access_of rows;
   number = number_or (codes "number") usual.number rows;
   levels = byte_or (codes "levels") usual.levels rows;
   repacks = flag_of (codes "from") rows;

@@ -4,12 +4,13 @@ ghost use Rattle.std.specs.Prelude.{◌≡◌, None, Some, codes, is_some, optio
 ghost use Rattle.clap.specs.Walk.{rows_of};
 ghost use Rattle.clap.specs.Simple.{subcommand_rows_of};
 ghost use Rattle.clap.specs.Matches.{found_of};
-ghost use Rattle.gib_words.specs.Words.{file_of, flag_of, number_of, number_or as number_asked, byte_or as byte_asked, made_requested, options_of, planned, read_requested, requested, usual as usual_options, word_of};
+ghost use Rattle.gib_words.specs.Words.{access_of, file_of, flag_of, number_of, number_or as number_asked, byte_or as byte_asked, made_requested, options_of, planned, read_requested, requested, usual as usual_options, word_of};
 ghost use Rattle.gib_words.specs.Words.{NoTarget, AtPlace, ByOption};
 ghost use Rattle.gib_words.specs.Kept.{document_of, plan_of};
 
 use crate::plan::{Document, Job, MadeNames, Options, Plan};
 use clap::ArgMatches;
+use gib_types::FieldAccess;
 
 /// The options where none is given.
 pub fn usual() -> Options
@@ -23,7 +24,7 @@ pub fn usual() -> Options
         pass: 4,
         image: false,
         packs: false,
-        skips: false,
+        access: FieldAccess::Ends,
         number: 0,
         levels: 0,
         repacks: false,
@@ -94,6 +95,17 @@ fn flag(matches: &ArgMatches<'_>, id: &str) -> bool
     }
 }
 
+/// How fields are reached, by whether `--skips` is given.
+fn access(matches: &ArgMatches<'_>) -> FieldAccess
+    ensures { result ≡ access_of (rows_of (found_of matches.now)) }
+{
+    if flag(matches, "skips") {
+        FieldAccess::Skips
+    } else {
+        FieldAccess::Ends
+    }
+}
+
 /// All options.
 fn options(matches: &ArgMatches<'_>) -> Options
     ensures { result ≡ options_of (rows_of (found_of matches.now)) }
@@ -107,7 +119,7 @@ fn options(matches: &ArgMatches<'_>) -> Options
         pass: number_or(matches, "pass", usual.pass),
         image: is_given(matches, "image"),
         packs: is_given(matches, "pack"),
-        skips: flag(matches, "skips"),
+        access: access(matches),
         number: number_or(matches, "number", usual.number),
         levels: byte_or(matches, "levels", usual.levels),
         repacks: flag(matches, "from"),

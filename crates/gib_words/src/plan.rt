@@ -1,5 +1,7 @@
 //! What the words of a command line ask to do.
 
+use gib_types::FieldAccess;
+
 /// Where bytes come from.
 #[derive(Clone, Copy)]
 pub enum Document<'a> {
@@ -57,8 +59,8 @@ pub struct Options {
     pub image: bool,
     /// Whether the packed file of the result is written.
     pub packs: bool,
-    /// Whether fields are reached by a walk over the field before them, and not by ends that calls tell or offsets that heads store.
-    pub skips: bool,
+    /// How fields are reached.
+    pub access: FieldAccess,
     /// What a program and its input are made of.
     pub number: u32,
     /// How many levels the input that is made has below its root.

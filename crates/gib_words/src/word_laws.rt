@@ -1,6 +1,7 @@
 //! What holds of the definitions: each law is the clause of a function that does nothing.
 
 ghost use Rattle.std.specs.Prelude.{◌≡◌, ◌∷◌, [], ℕ, List, None, Some, codes, is_some, true};
+ghost use Rattle.gib_types.specs.declared.access.FieldAccess.TheVariants.{Skips};
 ghost use Rattle.gib_words.specs.declared.plan.Job.TheVariants.{Run, Plain, Core, Code, Pack, Trace, Replay, Local};
 ghost use Rattle.gib_words.specs.Plan.{Named};
 ghost use Rattle.gib_words.specs.Words.{asked, taken, usual};
@@ -44,9 +45,9 @@ pub fn examples()
     ensures code { asked (codes "gib" ∷ codes "code" ∷ codes "a.gib" ∷ []) ≡ Some (record { first = []; source = Named (codes "a.gib"); inputs = []; target = None; pack = None; job = Code; options = usual }) }
     // The flag, on the commands that take it, and on one that takes it not.
     ensures skips { asked (codes "gib" ∷ codes "run" ∷ codes "--skips" ∷ codes "a" ∷ codes "b" ∷ [])
-        ≡ Some (record { first = []; source = Named (codes "a"); inputs = Named (codes "b") ∷ []; target = None; pack = None; job = Run; options = record usual { skips = true } }) }
+        ≡ Some (record { first = []; source = Named (codes "a"); inputs = Named (codes "b") ∷ []; target = None; pack = None; job = Run; options = record usual { access = Skips } }) }
     ensures code_skips { asked (codes "gib" ∷ codes "code" ∷ codes "a.gib" ∷ codes "--skips" ∷ [])
-        ≡ Some (record { first = []; source = Named (codes "a.gib"); inputs = []; target = None; pack = None; job = Code; options = record usual { skips = true } }) }
+        ≡ Some (record { first = []; source = Named (codes "a.gib"); inputs = []; target = None; pack = None; job = Code; options = record usual { access = Skips } }) }
     ensures plain_skips { asked (codes "gib" ∷ codes "plain" ∷ codes "a" ∷ codes "b" ∷ codes "--skips" ∷ []) ≡ None }
     // Workers and forks, of a run and of one that is traced.
     ensures workers { asked (codes "gib" ∷ codes "run" ∷ codes "a" ∷ codes "b" ∷ codes "--workers" ∷ codes "64" ∷ codes "--fork=0" ∷ [])

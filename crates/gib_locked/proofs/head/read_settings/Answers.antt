@@ -8,8 +8,8 @@ returns-in_default-read_named c = λ s is. c.in_default-read_named.ensures s.chu
 pub returns-in_default-read_named-2 : goal.returns-in_default-read_named-2
 returns-in_default-read_named-2 c = λ s is. c.in_default-read_named-2.ensures s.fork _ (are_small s).fork (second_is c.args.text.now c.in-Some.depth.rest.now c.in-Some-read_named.chunks.rest.now c.in-Some.depth.number c.in-Some-read_named.chunks.number s (search rules) (search rules) c.in-Some.ensures c.in-Some-read_named.ensures is).1
 
-pub returns-in_default-read_skips : goal.returns-in_default-read_skips
-returns-in_default-read_skips c = λ s is. c.in_default-read_skips.ensures s.skips (third_is c.args.text.now c.in-Some.depth.rest.now c.in-Some-read_named.chunks.rest.now c.in-Some-read_named-2.fork.rest.now c.in-Some.depth.number c.in-Some-read_named.chunks.number c.in-Some-read_named-2.fork.number s (search rules) (search rules) (search rules) c.in-Some.ensures c.in-Some-read_named.ensures c.in-Some-read_named-2.ensures is).1
+pub returns-in_default-read_access : goal.returns-in_default-read_access
+returns-in_default-read_access c = λ s is. c.in_default-read_access.ensures s.access (third_is c.args.text.now c.in-Some.depth.rest.now c.in-Some-read_named.chunks.rest.now c.in-Some-read_named-2.fork.rest.now c.in-Some.depth.number c.in-Some-read_named.chunks.number c.in-Some-read_named-2.fork.number s (search rules) (search rules) (search rules) c.in-Some.ensures c.in-Some-read_named.ensures c.in-Some-read_named-2.ensures is).1
 
 pub returns-then-not-are_settings : goal.returns-then-not-are_settings
 returns-then-not-are_settings c = λ s is.
