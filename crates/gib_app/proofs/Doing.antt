@@ -26,6 +26,7 @@ use Rattle.gib_app.specs.Jobs.{End, Prints, NoValue, Does, DoesBy, IsSaid, Ran, 
 use Rattle.gib_app.specs.Kept.{EndsBy, file_of}
 use Rattle.gib_app.specs.MachineRun.{LacksValue, LacksValueBy}
 use Rattle.gib_app.specs.Workers.{OnlyFull}
+use Rattle.gib_types.specs.Layout.{LaidOut}
 
 -- what the events of a journal lead to, they lead to
 on_happens : {names : TextsView} (p : ProgramTree) (input bytes : List ℕ) (P : Datum → Settings → List Line → Type 0) → ((v : Datum) (settings : Settings) (lines : List Line) → P v settings lines → Happens p v settings lines) → OnJournal p names input bytes P
@@ -83,9 +84,9 @@ pub does_accepts : (job : Job) (o : Options) (p : Program) (names : TextsView) (
 does_accepts job o p names given file e h = row_accepts (row job) o p names given file e h
 
 -- a file whose value is shown is not too long
-pub shown_short : {names : TextsView} (p : ProgramTree) (skips : Bool) (v : Datum) (bytes : List ℕ) → IsShownValue p names skips v bytes → length bytes ≤ 268435480
-shown_short p skips v bytes (inl is) = let short = is.short in omega (arith, short)
-shown_short p skips v bytes (inr read) = let few = read.image.formed.few in let long = read.image.formed.long in omega (arith, few, long)
+pub shown_short : {names : TextsView} (p : ProgramTree) (laid : LaidOut) (v : Datum) (bytes : List ℕ) → IsShownValue p names laid v bytes → length bytes ≤ 268435480
+shown_short p laid v bytes (inl is) = let short = is.short in omega (arith, short)
+shown_short p laid v bytes (inr read) = let few = read.image.formed.few in let long = read.image.formed.long in omega (arith, few, long)
 
 -- chunks run out in the run of a core, or where a journal leads
 
@@ -107,12 +108,12 @@ full_runs job o p names given file h = row_full (row job) o p names given file h
 
 -- a run that lacks a value
 
-pub lacks_runs : (p : ProgramTree) (names : TextsView) (o : Options) (input : List ℕ) (why : Reason) → LacksValue p names o.skips o.depth (run_forks o) o.chunks input why → Runs p names o input None (NoValue why)
+pub lacks_runs : (p : ProgramTree) (names : TextsView) (o : Options) (input : List ℕ) (why : Reason) → LacksValue p names o (run_forks o) input why → Runs p names o input None (NoValue why)
 lacks_runs p names o input (Meant why) h = (refl, h)
 lacks_runs p names o input Full h = (refl, h)
 lacks_runs p names o input Long h = absurd h
 
-pub lacks_sums : (p : ProgramTree) (names : TextsView) (o : Options) (input : List ℕ) (why : Reason) → LacksValue p names o.skips o.depth (run_forks o) o.chunks input why → Sums p names o input None (NoValue why)
+pub lacks_sums : (p : ProgramTree) (names : TextsView) (o : Options) (input : List ℕ) (why : Reason) → LacksValue p names o (run_forks o) input why → Sums p names o input None (NoValue why)
 lacks_sums p names o input (Meant why) h = (refl, h)
 lacks_sums p names o input Full h = (refl, h)
 lacks_sums p names o input Long h = absurd h
@@ -127,7 +128,7 @@ lacks_located core p names o input is Long h = absurd h
 
 -- a trace whose chunks run out
 
-pub fills_traces : (p : ProgramTree) (names : TextsView) (o : Options) (input : List ℕ) (why : Reason) → OnlyFull (FillsUp p names o.skips o.depth o.fork o.chunks input) why → Traces p names o input None (NoValue why)
+pub fills_traces : (p : ProgramTree) (names : TextsView) (o : Options) (input : List ℕ) (why : Reason) → OnlyFull (FillsUp p names o o.fork input) why → Traces p names o input None (NoValue why)
 fills_traces p names o input (Meant why) h = absurd h
 fills_traces p names o input Full h = (refl, h)
 fills_traces p names o input Long h = absurd h

@@ -16,14 +16,13 @@ use Rattle.gib_words.specs.Plan.{Plan, Files, Contents}
 use Rattle.gib_app.specs.Writes.{AreWritten}
 use Rattle.gib_words.specs.Words.{asked}
 use Rattle.gib_app.specs.Running.{Program}
-use Rattle.gib_app.specs.Cores.{layouts_of}
 use Rattle.gib_app.specs.declared.made.End.{End as KeptEnd}
 use Rattle.gib_app.specs.declared.made.End.TheVariants as ends
 use Rattle.gib_app.specs.declared.made.Reason.{Reason}
 use Rattle.gib_app.specs.Kept.{EndsByBoth}
 use Rattle.gib_app.specs.Performing.{AreOrdered, IsDone}
 use Rattle.gib_app.specs.Jobs.{End, Prints, NoValue, Does, DoesBy, DoesPack, DoesAll, MakesImage, PacksResult, packs_of}
-use Rattle.gib_app.specs.Replaying.{IsImageFile}
+use Rattle.gib_app.specs.Replaying.{IsImageFile, layouts_for}
 use Rattle.gib_print.specs.Image.{image_of}
 use Rattle.gib_app.specs.Causes.{IsStored, IsMade}
 use Rattle.gib_app.proofs.Targets.{Fits, MakesFile, asked_fits, none_is_some}
@@ -37,7 +36,7 @@ none_replayed true laid ty memory place result on d = none_is_some (image_of mem
 made_none : (r : JobRow) (o : Options) (p : Program) (names : TextsView) (given : Contents) (text : List ℕ) → MakesFile r o → DoesBy r o p names given None (Prints text) → ⊥
 made_none (Says said) o p names given text on d = on
 made_none (Evaluates Plainly) o p names given text on d = on
-made_none (Evaluates ForFiles) o p names given text on d = subst (λ (b : Bool). MakesImage b p.tree names o.skips o.depth o.chunks given.second None) on d.0
+made_none (Evaluates ForFiles) o p names given text on d = subst (λ (b : Bool). MakesImage b p.tree names o given.second None) on d.0
 made_none (Evaluates ForSummary) o p names given text on d = on
 made_none (Evaluates ForJournal) o p names given text on d = d.0
 made_none (Evaluates ForPlaces) o p names given text on d = on
@@ -45,7 +44,7 @@ made_none PacksValue o p names given text on d = none_is_some d.0 d.1
 made_none ShowsFile o p names given text on d = on
 made_none FollowsJournal o p names given text on d =
     let end = d.holds in
-    none_replayed o.image (layouts_of d.settings.skips p.tree) (output_type p.tree) end.memory end.place end.result on end.is_file
+    none_replayed o.image (layouts_for p.tree d.settings) (output_type p.tree) end.memory end.place end.result on end.is_file
 
 stored : (r : Plan) (p : Program) (names : TextsView) (given : Contents) (text : List ℕ) → Fits r → (target file : Option (List ℕ)) → r.target ≡ target
     → Does r.job r.options p names given file (Prints text) → IsStored target file

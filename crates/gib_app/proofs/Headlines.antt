@@ -81,15 +81,15 @@ any_done tells words before now out out_now source input options front said r h 
       subst T r.front_is on.holds.2,
     )
 
-image_there : {names : TextsView} (tells : Bool) (before now : Files) (name : List ℕ) (asked_for : Bool) (p : ProgramTree) (skips : Bool) (depth chunks : ℕ) (input : List ℕ) (file : Option (List ℕ)) (ws : List Write) → (IsNamedIn ws name → ⊥)
-    → IsStored (Some name) file → AreMade tells before now (writes_of file (Some name) ++ ws) → MakesImage asked_for p names skips depth chunks input file → (bytes : List ℕ) × (now name ≡ told tells bytes) × IsRunImage p names skips depth chunks input bytes
-image_there tells before now name asked_for p skips depth chunks input None ws no' stored written made = absurd stored
-image_there tells before now name false p skips depth chunks input (Some bytes) ws no' stored written made = cc
-image_there tells before now name true p skips depth chunks input (Some bytes) ws no' stored written made = (bytes, written_first tells before now name bytes ws no' written, made)
+image_there : {names : TextsView} (tells : Bool) (before now : Files) (name : List ℕ) (asked_for : Bool) (p : ProgramTree) (options : Options) (input : List ℕ) (file : Option (List ℕ)) (ws : List Write) → (IsNamedIn ws name → ⊥)
+    → IsStored (Some name) file → AreMade tells before now (writes_of file (Some name) ++ ws) → MakesImage asked_for p names options input file → (bytes : List ℕ) × (now name ≡ told tells bytes) × IsRunImage p names options input bytes
+image_there tells before now name asked_for p options input None ws no' stored written made = absurd stored
+image_there tells before now name false p options input (Some bytes) ws no' stored written made = cc
+image_there tells before now name true p options input (Some bytes) ws no' stored written made = (bytes, written_first tells before now name bytes ws no' written, made)
 
 any_image : (tells : Bool) (words : List (List ℕ)) (before now : ShelfView) (out out_now : SinkView) (source input : List ℕ) (options : Options) (front said name : List ℕ) →
     (r : AnyRun words before out source input options front) → r.image ≡ Some name → (r.pack ≡ Some name → ⊥) → IsEnding tells words before now out out_now status.Done said →
-    (bytes : List ℕ) × (now.kept name ≡ told tells bytes) × IsResultImage source input options.skips options.depth options.chunks bytes
+    (bytes : List ℕ) × (now.kept name ≡ told tells bytes) × IsResultImage source input options bytes
 any_image tells words before now out out_now source input options front said name r named other h =
     let plan = any_plan r.program r.packed r.image r.pack options in
     let P : Plan → Type 0 = λ q. OnBoth (at_reading tells before.kept q) q (Whole tells before now out out_now q) in
@@ -97,9 +97,9 @@ any_image tells words before now out out_now source input options front said nam
     let made = on.holds.1 in
     let S : Option (List ℕ) → Type 0 = λ t. IsStored t made.ended.file in
     let W : Option (List ℕ) → Type 0 = λ t. AreMade tells before.kept now.kept (writes_of made.ended.file t ++ writes_of made.ended.packed r.pack) in
-    let there = image_there {names = on.texts} tells before.kept now.kept name options.image on.program.tree options.skips options.depth options.chunks input made.ended.file
+    let there = image_there {names = on.texts} tells before.kept now.kept name options.image on.program.tree options input made.ended.file
     (writes_of made.ended.packed r.pack) (λ i. other (one_named made.ended.packed r.pack name i)) (subst S named made.stored) (subst W named made.ended.written) made.ended.does.0 in
-    (there.0, there.1, image_result source input options.skips options.depth options.chunks there.0 (record { texts = on.texts; program = on.program; is_program = on.is_program; holds = there.2 }))
+    (there.0, there.1, image_result source input options there.0 (record { texts = on.texts; program = on.program; is_program = on.is_program; holds = there.2 }))
 
 packed_there : {names : TextsView} (tells : Bool) (before now : Files) (name : List ℕ) (asked_for : Bool) (p : ProgramTree) (depth : ℕ) (input text : List ℕ) (packed : Option (List ℕ)) (ws : List Write) → IsStored (Some name) packed
     → AreMade tells before now (ws ++ writes_of packed (Some name)) → PacksResult asked_for p names depth input packed (Prints text) → (bytes : List ℕ) × (now name ≡ told tells bytes) × IsPackedResult p names depth input bytes
@@ -144,15 +144,15 @@ any_long tells words before now out out_now source input options front said r h 
           ]),
     )
 
-asked_image : {names : TextsView} (tells : Bool) (before now : Files) (name : List ℕ) (asked_for : Bool) (p : ProgramTree) (skips : Bool) (depth chunks : ℕ) (input : List ℕ) (file : Option (List ℕ)) → asked_for ≡ true →
-    AreMade tells before now (writes_of file (Some name) ++ []) → MakesImage asked_for p names skips depth chunks input file → (bytes : List ℕ) × (now name ≡ told tells bytes) × IsRunImage p names skips depth chunks input bytes
-asked_image tells before now name false p skips depth chunks input file on written made = absurd (true≢false (sym on))
-asked_image tells before now name true p skips depth chunks input None on written made = absurd made
-asked_image tells before now name true p skips depth chunks input (Some bytes) on written made = (bytes, written_first tells before now name bytes [] (λ i. i) written, made)
+asked_image : {names : TextsView} (tells : Bool) (before now : Files) (name : List ℕ) (asked_for : Bool) (p : ProgramTree) (options : Options) (input : List ℕ) (file : Option (List ℕ)) → asked_for ≡ true →
+    AreMade tells before now (writes_of file (Some name) ++ []) → MakesImage asked_for p names options input file → (bytes : List ℕ) × (now name ≡ told tells bytes) × IsRunImage p names options input bytes
+asked_image tells before now name false p options input file on written made = absurd (true≢false (sym on))
+asked_image tells before now name true p options input None on written made = absurd made
+asked_image tells before now name true p options input (Some bytes) on written made = (bytes, written_first tells before now name bytes [] (λ i. i) written, made)
 
 any_long_image : (tells : Bool) (words : List (List ℕ)) (before now : ShelfView) (out out_now : SinkView) (source input : List ℕ) (options : Options) (front said name : List ℕ) →
     (r : AnyRun words before out source input options front) → r.image ≡ Some name → IsEnding tells words before now out out_now status.Long said →
-    (bytes : List ℕ) × (now.kept name ≡ told tells bytes) × IsResultImage source input options.skips options.depth options.chunks bytes
+    (bytes : List ℕ) × (now.kept name ≡ told tells bytes) × IsResultImage source input options bytes
 any_long_image tells words before now out out_now source input options front said name r named h =
     let plan = any_plan r.program r.packed r.image r.pack options in
     let P : Plan → Type 0 = λ q. OnBoth (at_reading tells before.kept q) q (EndsWithout tells before now Long q) in
@@ -161,8 +161,8 @@ any_long_image tells words before now out out_now source input options front sai
     let none = valueless_packs Run options on.program on.texts (record { second = input; further = [] }) ended.packed Long ended.packs in
     let W : Option (List ℕ) → Option (List ℕ) → Type 0 = λ t q. AreMade tells before.kept now.kept (writes_of ended.file t ++ writes_of q r.pack) in
     let written : W (Some name) None = subst₂ W named none ended.written in
-    let there = asked_image {names = on.texts} tells before.kept now.kept name options.image on.program.tree options.skips options.depth options.chunks input ended.file (image_asked words plan name r.asks refl named) written ended.does.0 in
-    (there.0, there.1, image_result source input options.skips options.depth options.chunks there.0 (record { texts = on.texts; program = on.program; is_program = on.is_program; holds = there.2 }))
+    let there = asked_image {names = on.texts} tells before.kept now.kept name options.image on.program.tree options input ended.file (image_asked words plan name r.asks refl named) written ended.does.0 in
+    (there.0, there.1, image_result source input options there.0 (record { texts = on.texts; program = on.program; is_program = on.is_program; holds = there.2 }))
 
 any_none : (tells : Bool) (words : List (List ℕ)) (before now : ShelfView) (out : SinkView) (source input : List ℕ) (options : Options) (front : List ℕ) (x : Why) →
     AnyRun words before out source input options front → AsksProgram tells words before.kept (EndsWithout tells before now (Meant x)) → HasNoResult source input options.depth x
@@ -177,12 +177,12 @@ any_valueless : (tells : Bool) (words : List (List ℕ)) (before now : ShelfView
 any_valueless tells words before now out out_now source input options front said x r h = any_none tells words before now out source input options front x r h.0
 
 any_full : (tells : Bool) (words : List (List ℕ)) (before now : ShelfView) (out out_now : SinkView) (source input : List ℕ) (options : Options) (front said : List ℕ) →
-    AnyRun words before out source input options front → IsEnding tells words before now out out_now status.Full said → IsTooBig source input options.skips options.depth (run_forks options) options.chunks
+    AnyRun words before out source input options front → IsEnding tells words before now out out_now status.Full said → IsTooBig source input options (run_forks options)
 any_full tells words before now out out_now source input options front said r h =
     let plan = any_plan r.program r.packed r.image r.pack options in
     let P : Plan → Type 0 = λ q. OnBoth (at_reading tells before.kept q) q (EndsWithout tells before now Full q) in
     let on = of_files words before out source input options front r (EndsWithout tells before now Full plan) (asked_is (asked words) plan P r.asks h.0) in
-    big_of source input options.skips options.depth (run_forks options) options.chunks (record { texts = on.texts; program = on.program; is_program = on.is_program; holds = on.holds.does.1 })
+    big_of source input options (run_forks options) (record { texts = on.texts; program = on.program; is_program = on.is_program; holds = on.holds.does.1 })
 
 due_of : (tells : Bool) (words : List (List ℕ)) (before now : ShelfView) (out out_now : SinkView) (source input : List ℕ) (options : Options) (front : List ℕ) (r : AnyRun words before out source input options front) →
     NoFault r.program r.packed r.image r.pack before now out out_now → (P : Program → TextsView → Contents → Type 0) → OnProgram dialect.Source source (λ p names. P p names (record { second = input; further = [] })) →
@@ -250,7 +250,7 @@ abbrev IsFitting : Options → Status → Type 0
 IsFitting options s = (s ≡ status.Done) ⊎ ((x : Why) × (s ≡ status.NoValue x)) ⊎ (s ≡ status.Memory) ⊎ ((s ≡ status.Long) × (options.packs ≡ true))
 
 any_fits : Laws → (tells : Bool) (words : List (List ℕ)) (before now : ShelfView) (out out_now : SinkView) (source input : List ℕ) (options : Options) (front said : List ℕ) (end' : Status) →
-    (r : AnyRun words before out source input options front) → NoFault r.program r.packed r.image r.pack before now out out_now → Given source input → (IsTooBig source input options.skips options.depth (run_forks options) options.chunks → ⊥) →
+    (r : AnyRun words before out source input options front) → NoFault r.program r.packed r.image r.pack before now out out_now → Given source input → (IsTooBig source input options (run_forks options) → ⊥) →
     IsEnding tells words before now out out_now end' said → IsFitting options end'
 any_fits laws tells words before now out out_now source input options front said end' r quiet g fits ends =
     let plan = any_plan r.program r.packed r.image r.pack options in
@@ -282,7 +282,7 @@ pub run_done : (tells : Bool) (words : List (List ℕ)) (before now : ShelfView)
 run_done tells words before now out out_now source input options front said r h = any_done tells words before now out out_now source input options front said (bare words before out source input options front r) h
 
 pub run_image : (tells : Bool) (words : List (List ℕ)) (before now : ShelfView) (out out_now : SinkView) (source input : List ℕ) (options : Options) (front said name : List ℕ) → (r : IsRun words before out source input options front) → r.image ≡ Some name → IsEnding tells words before now out out_now status.Done said →
-    (bytes : List ℕ) × (now.kept name ≡ told tells bytes) × IsResultImage source input options.skips options.depth options.chunks bytes
+    (bytes : List ℕ) × (now.kept name ≡ told tells bytes) × IsResultImage source input options bytes
 run_image tells words before now out out_now source input options front said name r named h = any_image tells words before now out out_now source input options front said name (bare words before out source input options front r) named (none-some name) h
 
 pub run_valueless : (tells : Bool) (words : List (List ℕ)) (before now : ShelfView) (out out_now : SinkView) (source input : List ℕ) (options : Options) (front said : List ℕ) (x : Why) →
@@ -303,7 +303,7 @@ run_tells tells words before now out out_now status.WriteFault said h source inp
 run_tells tells words before now out out_now status.Input said h source input options front r = tt
 run_tells tells words before now out out_now status.Long said h source input options front r = tt
 
-pub run_full : (tells : Bool) (words : List (List ℕ)) (before now : ShelfView) (out out_now : SinkView) (source input : List ℕ) (options : Options) (front said : List ℕ) → IsRun words before out source input options front → IsEnding tells words before now out out_now status.Full said → IsTooBig source input options.skips options.depth (run_forks options) options.chunks
+pub run_full : (tells : Bool) (words : List (List ℕ)) (before now : ShelfView) (out out_now : SinkView) (source input : List ℕ) (options : Options) (front said : List ℕ) → IsRun words before out source input options front → IsEnding tells words before now out out_now status.Full said → IsTooBig source input options (run_forks options)
 run_full tells words before now out out_now source input options front said r h = any_full tells words before now out out_now source input options front said (bare words before out source input options front r) h
 
 pub run_ends_done : Laws → (tells : Bool) (words : List (List ℕ)) (before now : ShelfView) (out out_now : SinkView) (source input : List ℕ) (options : Options) (front output said : List ℕ) (end' : Status) →
@@ -318,7 +318,7 @@ run_ends_valueless laws tells words before now out out_now source input options 
     any_ends_valueless laws tells words before now out out_now source input options front said x end' (bare words before out source input options front r) (bare_quiet words before out source input options front r now out_now quiet) h ends
 
 pub run_fits : Laws → (tells : Bool) (words : List (List ℕ)) (before now : ShelfView) (out out_now : SinkView) (source input : List ℕ) (options : Options) (front said : List ℕ) (end' : Status) →
-    (r : IsRun words before out source input options front) → NoneFailed r.program r.packed r.image before now out out_now → Given source input → (IsTooBig source input options.skips options.depth (run_forks options) options.chunks → ⊥) → IsEnding tells words before now out out_now end' said →
+    (r : IsRun words before out source input options front) → NoneFailed r.program r.packed r.image before now out out_now → Given source input → (IsTooBig source input options (run_forks options) → ⊥) → IsEnding tells words before now out out_now end' said →
     (end' ≡ status.Done) ⊎ ((x : Why) × (end' ≡ status.NoValue x)) ⊎ (end' ≡ status.Memory)
 run_fits laws tells words before now out out_now source input options front said end' r quiet g fits ends =
     elim (any_fits laws tells words before now out out_now source input options front said end' (bare words before out source input options front r) (bare_quiet words before out source input options front r now out_now quiet) g fits ends) [
@@ -356,14 +356,14 @@ pub pack_packed : (tells : Bool) (words : List (List ℕ)) (before now : ShelfVi
 pack_packed tells words before now out out_now source input options front said r h = any_packed tells words before now out out_now source input options front said r.pack (with_pack words before out source input options front r) refl h
 
 pub pack_image : (tells : Bool) (words : List (List ℕ)) (before now : ShelfView) (out out_now : SinkView) (source input : List ℕ) (options : Options) (front said name : List ℕ) → (r : IsPackingRun words before out source input options front) → r.image ≡ Some name → (r.pack ≡ name → ⊥) → IsEnding tells words before now out out_now status.Done said →
-    (bytes : List ℕ) × (now.kept name ≡ told tells bytes) × IsResultImage source input options.skips options.depth options.chunks bytes
+    (bytes : List ℕ) × (now.kept name ≡ told tells bytes) × IsResultImage source input options bytes
 pack_image tells words before now out out_now source input options front said name r named other h = any_image tells words before now out out_now source input options front said name (with_pack words before out source input options front r) named (λ e. other (same_name r.pack name e)) h
 
 pub pack_long : (tells : Bool) (words : List (List ℕ)) (before now : ShelfView) (out out_now : SinkView) (source input : List ℕ) (options : Options) (front said : List ℕ) → IsPackingRun words before out source input options front → IsEnding tells words before now out out_now status.Long said → HasLongFile source input options.depth
 pack_long tells words before now out out_now source input options front said r h = (any_long tells words before now out out_now source input options front said (with_pack words before out source input options front r) h).0
 
 pub pack_long_image : (tells : Bool) (words : List (List ℕ)) (before now : ShelfView) (out out_now : SinkView) (source input : List ℕ) (options : Options) (front said name : List ℕ) → (r : IsPackingRun words before out source input options front) → r.image ≡ Some name → IsEnding tells words before now out out_now status.Long said →
-    (bytes : List ℕ) × (now.kept name ≡ told tells bytes) × IsResultImage source input options.skips options.depth options.chunks bytes
+    (bytes : List ℕ) × (now.kept name ≡ told tells bytes) × IsResultImage source input options bytes
 pack_long_image tells words before now out out_now source input options front said name r named h = any_long_image tells words before now out out_now source input options front said name (with_pack words before out source input options front r) named h
 
 pub pack_unwritten : (tells : Bool) (words : List (List ℕ)) (before now : ShelfView) (out out_now : SinkView) (source input : List ℕ) (options : Options) (front said name : List ℕ) → (r : IsPackingRun words before out source input options front) → (r.image ≡ Some name → ⊥) → IsEnding tells words before now out out_now status.Long said → now.kept name ≡ before.kept name
@@ -373,7 +373,7 @@ pub pack_valueless : (tells : Bool) (words : List (List ℕ)) (before now : Shel
     IsPackingRun words before out source input options front → IsEnding tells words before now out out_now (status.NoValue x) said → HasNoResult source input options.depth x
 pack_valueless tells words before now out out_now source input options front said x r h = any_valueless tells words before now out out_now source input options front said x (with_pack words before out source input options front r) h
 
-pub pack_full : (tells : Bool) (words : List (List ℕ)) (before now : ShelfView) (out out_now : SinkView) (source input : List ℕ) (options : Options) (front said : List ℕ) → IsPackingRun words before out source input options front → IsEnding tells words before now out out_now status.Full said → IsTooBig source input options.skips options.depth (run_forks options) options.chunks
+pub pack_full : (tells : Bool) (words : List (List ℕ)) (before now : ShelfView) (out out_now : SinkView) (source input : List ℕ) (options : Options) (front said : List ℕ) → IsPackingRun words before out source input options front → IsEnding tells words before now out out_now status.Full said → IsTooBig source input options (run_forks options)
 pack_full tells words before now out out_now source input options front said r h = any_full tells words before now out out_now source input options front said (with_pack words before out source input options front r) h
 
 pub pack_ends_done : Laws → (tells : Bool) (words : List (List ℕ)) (before now : ShelfView) (out out_now : SinkView) (source input : List ℕ) (options : Options) (front bytes said : List ℕ) (end' : Status) →
@@ -393,7 +393,7 @@ pack_ends_valueless laws tells words before now out out_now source input options
     any_ends_valueless laws tells words before now out out_now source input options front said x end' (with_pack words before out source input options front r) (pack_quiet words before out source input options front r now out_now quiet) h ends
 
 pub pack_fits : Laws → (tells : Bool) (words : List (List ℕ)) (before now : ShelfView) (out out_now : SinkView) (source input : List ℕ) (options : Options) (front said : List ℕ) (end' : Status) →
-    (r : IsPackingRun words before out source input options front) → NoWriteFailed r.program r.packed r.image r.pack before now out out_now → Given source input → (IsTooBig source input options.skips options.depth (run_forks options) options.chunks → ⊥) → IsEnding tells words before now out out_now end' said →
+    (r : IsPackingRun words before out source input options front) → NoWriteFailed r.program r.packed r.image r.pack before now out out_now → Given source input → (IsTooBig source input options (run_forks options) → ⊥) → IsEnding tells words before now out out_now end' said →
     (end' ≡ status.Done) ⊎ ((x : Why) × (end' ≡ status.NoValue x)) ⊎ (end' ≡ status.Memory) ⊎ (end' ≡ status.Long)
 pack_fits laws tells words before now out out_now source input options front said end' r quiet g fits ends =
     elim (any_fits laws tells words before now out out_now source input options front said end' (with_pack words before out source input options front r) (pack_quiet words before out source input options front r now out_now quiet) g fits ends) [

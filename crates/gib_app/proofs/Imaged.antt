@@ -17,7 +17,7 @@ use Rattle.gib_app.specs.declared.made.End.{End as KeptEnd}
 use Rattle.gib_app.specs.declared.made.End.TheVariants as ends
 use Rattle.gib_app.specs.declared.made.Valued.{Valued}
 use Rattle.gib_words.specs.declared.plan.Options.{Options}
-use Rattle.gib_app.specs.Cores.{layouts_of}
+use Rattle.gib_app.specs.Cores.{layouts_asked}
 use Rattle.gib_app.specs.Imaging.{IsShownWith}
 use Rattle.gib_app.specs.Jobs.{RunsLocated, MakesImage, Runs}
 use Rattle.gib_app.specs.Kept.{EndsBy}
@@ -71,8 +71,8 @@ image_few laid m place bytes bounded is ty v image =
 
 -- The image of the memory that a run leaves, where one is asked for.
 pub image_made : {names : TextsView} (b : Bool) (p : ProgramTree) (o : Options) (input : List ℕ) (laid : LaidOut) (m : Memory) (place : Root) (s : StandsMeant p names o.depth input laid m.cells place)
-    → IsBounded m → laid ≡ layouts_of o.skips p → m.limit ≤ o.chunks → (file : Option (List ℕ)) → IsImageFile b laid (output_type p) m place s.result file
-    → MakesImage b p names o.skips o.depth o.chunks input file
+    → IsBounded m → laid ≡ layouts_asked o p → m.limit ≤ o.chunks → (file : Option (List ℕ)) → IsImageFile b laid (output_type p) m place s.result file
+    → MakesImage b p names o input file
 image_made false p o input laid m place s bounded same limit file h = h
 image_made true p o input laid m place s bounded same limit None h = let other : None ≡ Some (image_of m place) = h.0 in absurd cc
 image_made true p o input laid m place s bounded same limit (Some bytes) h =
@@ -89,9 +89,9 @@ image_made true p o input laid m place s bounded same limit (Some bytes) h =
 
 -- A text, and an image where one is asked for, end a run.
 pub shown_runs : (p : ProgramTree) (names : TextsView) (o : Options) (input : List ℕ) (laid : LaidOut) (m : Memory) (place : Root) (s : StandsMeant p names o.depth input laid m.cells place)
-    → IsBounded m → laid ≡ layouts_of o.skips p → m.limit ≤ o.chunks → (b : Bool) → o.image ≡ b → (file : Option (List ℕ)) (e : KeptEnd) → IsShownWith b laid m place p names s.result file e → EndsBy file e (Runs p names o input)
+    → IsBounded m → laid ≡ layouts_asked o p → m.limit ≤ o.chunks → (b : Bool) → o.image ≡ b → (file : Option (List ℕ)) (e : KeptEnd) → IsShownWith b laid m place p names s.result file e → EndsBy file e (Runs p names o input)
 shown_runs p names o input laid m place s bounded same limit b asked file (ends.Prints text) h =
-    let M : Bool → Type 0 = λ x. MakesImage x p names o.skips o.depth o.chunks input file in (
+    let M : Bool → Type 0 = λ x. MakesImage x p names o input file in (
       subst M (sym asked) (image_made b p o input laid m place s bounded same limit file h.0),
       record { value = s.value; result = s.result; is_input = s.is_input; means = s.means; is_text = h.1 },
     )
@@ -102,7 +102,7 @@ shown_runs p names o input laid m place s bounded same limit b asked file (ends.
 pub value_ends : (p : ProgramTree) (o : Options) (input : List ℕ) (value : Valued) → AreHeld value.ran.lowered.code.laid.table value.names.short → o.image ≡ false
     → IsMeantBy p value.names o.depth input value.ran → EndsBy None (ends.Value value) (Runs p value.names o input)
 value_ends p o input value held off s =
-    let M : Bool → Type 0 = λ b. MakesImage b p value.names o.skips o.depth o.chunks input None in (
+    let M : Bool → Type 0 = λ b. MakesImage b p value.names o input None in (
       refl,
       text_line p value.names s.result,
       record { program = p; depth = o.depth; input = input; stands = s; held = held; is_text = refl },

@@ -20,7 +20,7 @@ use Rattle.gib_types.specs.Layout.{LaidOut}
 use Rattle.gib_print.specs.declared.image_fault.ImageFault.{ImageFault as ReadFault}
 use Rattle.gib_print.specs.declared.image_fault.ImageFault.TheVariants as reading
 use Rattle.gib_print.specs.ImageReading.{IsRefused as IsRefusedImage}
-use Rattle.gib_app.specs.Cores.{layouts_of}
+use Rattle.gib_app.specs.Cores.{layouts_asked}
 use Rattle.gib_app.specs.declared.input_fault.InputFault.{InputFault}
 use Rattle.gib_app.specs.declared.input_fault.InputFault.TheVariants.{Long, Packed, Image, Text, Journal}
 use Rattle.gib_app.specs.declared.input_fault.ImageFault.{ImageFault}
@@ -107,21 +107,21 @@ one_file_fault : (table : Table) (names : List (List ℕ)) (ty : Ty) (bytes : Li
 one_file_fault table names ty bytes f g h k = one_stage table names ty bytes f g (stage table names ty bytes f h) (stage table names ty bytes g k)
 
 -- What a fault of a file that is shown says: it is one of a packed file, which is not too long.
-record IsShown (p : ProgramTree) (names : TextsView) (skips : Bool) (bytes : List ℕ) (fault : PackedFault) : Type 0 where
+record IsShown (p : ProgramTree) (names : TextsView) (laid : LaidOut) (bytes : List ℕ) (fault : PackedFault) : Type 0 where
   file : IsFileFault (table_of_program p) names.long (input_type p) bytes fault
   short : length bytes ≤ 268435480
   shorter : HasMagic bytes → length bytes ≤ 16777216
 
-shown : (p : ProgramTree) (names : TextsView) (skips : Bool) (bytes : List ℕ) (fault : PackedFault) → IsShowFault p names skips bytes (Packed fault) → IsShown p names skips bytes fault
-shown p names skips bytes (Header header.Magic) h = record { file = h.1; short = h.0; shorter = λ m. absurd (h.1 m) }
-shown p names skips bytes (Header (header.Version v)) h = record { file = h.1; short = let s = h.0 in omega (arith, s); shorter = λ m. h.0 }
-shown p names skips bytes (Header header.Reserved) h = record { file = h.1; short = let s = h.0 in omega (arith, s); shorter = λ m. h.0 }
-shown p names skips bytes (Header header.Length) h = record { file = h.1; short = let s = h.0 in omega (arith, s); shorter = λ m. h.0 }
-shown p names skips bytes (Types place) h = record { file = h.1; short = let s = h.0 in omega (arith, s); shorter = λ m. h.0 }
-shown p names skips bytes (Short place) h = record { file = h.1; short = let s = h.0 in omega (arith, s); shorter = λ m. h.0 }
-shown p names skips bytes (Tag place) h = record { file = h.1; short = let s = h.0 in omega (arith, s); shorter = λ m. h.0 }
-shown p names skips bytes (Truth place) h = record { file = h.1; short = let s = h.0 in omega (arith, s); shorter = λ m. h.0 }
-shown p names skips bytes (Trailing place) h = record { file = h.1; short = let s = h.0 in omega (arith, s); shorter = λ m. h.0 }
+shown : (p : ProgramTree) (names : TextsView) (laid : LaidOut) (bytes : List ℕ) (fault : PackedFault) → IsShowFault p names laid bytes (Packed fault) → IsShown p names laid bytes fault
+shown p names laid bytes (Header header.Magic) h = record { file = h.1; short = h.0; shorter = λ m. absurd (h.1 m) }
+shown p names laid bytes (Header (header.Version v)) h = record { file = h.1; short = let s = h.0 in omega (arith, s); shorter = λ m. h.0 }
+shown p names laid bytes (Header header.Reserved) h = record { file = h.1; short = let s = h.0 in omega (arith, s); shorter = λ m. h.0 }
+shown p names laid bytes (Header header.Length) h = record { file = h.1; short = let s = h.0 in omega (arith, s); shorter = λ m. h.0 }
+shown p names laid bytes (Types place) h = record { file = h.1; short = let s = h.0 in omega (arith, s); shorter = λ m. h.0 }
+shown p names laid bytes (Short place) h = record { file = h.1; short = let s = h.0 in omega (arith, s); shorter = λ m. h.0 }
+shown p names laid bytes (Tag place) h = record { file = h.1; short = let s = h.0 in omega (arith, s); shorter = λ m. h.0 }
+shown p names laid bytes (Truth place) h = record { file = h.1; short = let s = h.0 in omega (arith, s); shorter = λ m. h.0 }
+shown p names laid bytes (Trailing place) h = record { file = h.1; short = let s = h.0 in omega (arith, s); shorter = λ m. h.0 }
 
 -- The laws that these rest on, of one table and its names.
 
@@ -136,7 +136,7 @@ pub record Laws (table : Table) (names : List (List ℕ)) : Type 0 where
   pub no_image : ReadOrRefused
   pub one_place : (ty : Ty) (bytes : List ℕ) (a b : ℕ) → IsRefusedAt table names ty bytes a → IsRefusedAt table names ty bytes b → a ≡ b
 
-module _ (p : ProgramTree) (names : TextsView) (laws : Laws (table_of_program p) names.short) (skips : Bool) (bytes : List ℕ) where
+module _ (p : ProgramTree) (names : TextsView) (laws : Laws (table_of_program p) names.short) (laid : LaidOut) (bytes : List ℕ) where
   one_packed : (f g : PackedFault) → IsFileFault (table_of_program p) names.long (input_type p) bytes f → IsFileFault (table_of_program p) names.long (input_type p) bytes g → Packed f ≡ Packed g
   one_packed f g h k = ap Packed (one_file_fault (table_of_program p) names.long (input_type p) bytes f g h k)
 
@@ -155,48 +155,48 @@ module _ (p : ProgramTree) (names : TextsView) (laws : Laws (table_of_program p)
   one_input (Text place) g h k = absurd h
   one_input (Journal f) g h k = absurd h
 
-  long_or_shown : (most : ℕ) (f : PackedFault) → IsShowFault p names skips bytes (Long most) → IsShown p names skips bytes f → ⊥
+  long_or_shown : (most : ℕ) (f : PackedFault) → IsShowFault p names laid bytes (Long most) → IsShown p names laid bytes f → ⊥
   long_or_shown most f (inl h) s = let many = h.1 in let short = s.short in omega (arith, many, short)
   long_or_shown most f (inr h) s = let many = h.1 in let short = s.shorter h.3 in omega (arith, many, short)
 
-  one_long : (a b : ℕ) → IsShowFault p names skips bytes (Long a) → IsShowFault p names skips bytes (Long b) → a ≡ b
+  one_long : (a b : ℕ) → IsShowFault p names laid bytes (Long a) → IsShowFault p names laid bytes (Long b) → a ≡ b
   one_long a b (inl h) (inl k) = h.0 ∙ sym k.0
   one_long a b (inl h) (inr k) = let many = h.1 in let short = k.2 in absurd (omega (arith, many, short))
   one_long a b (inr h) (inl k) = let many = k.1 in let short = h.2 in absurd (omega (arith, many, short))
   one_long a b (inr h) (inr k) = h.0 ∙ sym k.0
 
-  long_or_image : (most : ℕ) (g : ImageFault) → IsShowFault p names skips bytes (Long most) → IsShowFault p names skips bytes (Image g) → ⊥
+  long_or_image : (most : ℕ) (g : ImageFault) → IsShowFault p names laid bytes (Long most) → IsShowFault p names laid bytes (Image g) → ⊥
   long_or_image most g (inl h) k = let many = h.1 in let short = k.0 in omega (arith, many, short)
-  long_or_image most g (inr h) k = signs_differ bytes h.3 (fault_sign p skips bytes g k.1)
+  long_or_image most g (inr h) k = signs_differ bytes h.3 (fault_sign p laid bytes g k.1)
 
-  packed_or_image : (f : PackedFault) (g : ImageFault) → IsShowFault p names skips bytes (Packed f) → IsShowFault p names skips bytes (Image g) → ⊥
-  packed_or_image (Header header.Magic) g h k = h.2 (fault_sign p skips bytes g k.1)
-  packed_or_image (Header (header.Version v)) g h k = signs_differ bytes h.1.0 (fault_sign p skips bytes g k.1)
-  packed_or_image (Header header.Reserved) g h k = signs_differ bytes h.1.0 (fault_sign p skips bytes g k.1)
-  packed_or_image (Header header.Length) g h k = signs_differ bytes h.1.0 (fault_sign p skips bytes g k.1)
-  packed_or_image (Types place) g h k = signs_differ bytes (parts h.1.content bytes h.1.framed).magic_is (fault_sign p skips bytes g k.1)
-  packed_or_image (Short place) g h k = signs_differ bytes (parts h.1.content bytes h.1.framed).magic_is (fault_sign p skips bytes g k.1)
-  packed_or_image (Tag place) g h k = signs_differ bytes (parts h.1.content bytes h.1.framed).magic_is (fault_sign p skips bytes g k.1)
-  packed_or_image (Truth place) g h k = signs_differ bytes (parts h.1.content bytes h.1.framed).magic_is (fault_sign p skips bytes g k.1)
-  packed_or_image (Trailing place) g h k = signs_differ bytes (parts h.1.content bytes h.1.framed).magic_is (fault_sign p skips bytes g k.1)
+  packed_or_image : (f : PackedFault) (g : ImageFault) → IsShowFault p names laid bytes (Packed f) → IsShowFault p names laid bytes (Image g) → ⊥
+  packed_or_image (Header header.Magic) g h k = h.2 (fault_sign p laid bytes g k.1)
+  packed_or_image (Header (header.Version v)) g h k = signs_differ bytes h.1.0 (fault_sign p laid bytes g k.1)
+  packed_or_image (Header header.Reserved) g h k = signs_differ bytes h.1.0 (fault_sign p laid bytes g k.1)
+  packed_or_image (Header header.Length) g h k = signs_differ bytes h.1.0 (fault_sign p laid bytes g k.1)
+  packed_or_image (Types place) g h k = signs_differ bytes (parts h.1.content bytes h.1.framed).magic_is (fault_sign p laid bytes g k.1)
+  packed_or_image (Short place) g h k = signs_differ bytes (parts h.1.content bytes h.1.framed).magic_is (fault_sign p laid bytes g k.1)
+  packed_or_image (Tag place) g h k = signs_differ bytes (parts h.1.content bytes h.1.framed).magic_is (fault_sign p laid bytes g k.1)
+  packed_or_image (Truth place) g h k = signs_differ bytes (parts h.1.content bytes h.1.framed).magic_is (fault_sign p laid bytes g k.1)
+  packed_or_image (Trailing place) g h k = signs_differ bytes (parts h.1.content bytes h.1.framed).magic_is (fault_sign p laid bytes g k.1)
 
-  one_image : (f g : ImageFault) → IsImageFault p skips bytes f → IsImageFault p skips bytes g → f ≡ g
+  one_image : (f g : ImageFault) → IsImageFault p laid bytes f → IsImageFault p laid bytes g → f ≡ g
   one_image image.Header image.Header h k = refl
   one_image image.Header (image.Item b) h k = absurd (h.1 k.formed)
   one_image image.Header image.Long h k = absurd (h.1 k.formed)
   one_image (image.Item a) image.Header h k = absurd (k.1 h.formed)
-  one_image (image.Item a) (image.Item b) h k = let same = laws.images (layouts_of skips p) (output_type p) bytes (reading.Bad a) (reading.Bad b) h k in cc
-  one_image (image.Item a) image.Long h k = let same = laws.images (layouts_of skips p) (output_type p) bytes (reading.Bad a) reading.Long h k in cc
+  one_image (image.Item a) (image.Item b) h k = let same = laws.images laid (output_type p) bytes (reading.Bad a) (reading.Bad b) h k in cc
+  one_image (image.Item a) image.Long h k = let same = laws.images laid (output_type p) bytes (reading.Bad a) reading.Long h k in cc
   one_image image.Long image.Header h k = absurd (k.1 h.formed)
-  one_image image.Long (image.Item b) h k = let same = laws.images (layouts_of skips p) (output_type p) bytes reading.Long (reading.Bad b) h k in cc
+  one_image image.Long (image.Item b) h k = let same = laws.images laid (output_type p) bytes reading.Long (reading.Bad b) h k in cc
   one_image image.Long image.Long h k = refl
 
-  one_show : (f g : InputFault) → IsShowFault p names skips bytes f → IsShowFault p names skips bytes g → f ≡ g
+  one_show : (f g : InputFault) → IsShowFault p names laid bytes f → IsShowFault p names laid bytes g → f ≡ g
   one_show (Long a) (Long b) h k = ap Long (one_long a b h k)
-  one_show (Long a) (Packed g) h k = absurd (long_or_shown a g h (shown p names skips bytes g k))
+  one_show (Long a) (Packed g) h k = absurd (long_or_shown a g h (shown p names laid bytes g k))
   one_show (Long a) (Text place) h k = absurd k
-  one_show (Packed f) (Long b) h k = absurd (long_or_shown b f k (shown p names skips bytes f h))
-  one_show (Packed f) (Packed g) h k = one_packed f g (shown p names skips bytes f h).file (shown p names skips bytes g k).file
+  one_show (Packed f) (Long b) h k = absurd (long_or_shown b f k (shown p names laid bytes f h))
+  one_show (Packed f) (Packed g) h k = one_packed f g (shown p names laid bytes f h).file (shown p names laid bytes g k).file
   one_show (Packed f) (Text place) h k = absurd k
   one_show (Long a) (Image g) h k = absurd (long_or_image a g h k)
   one_show (Packed f) (Image g) h k = absurd (packed_or_image f g h k)
@@ -254,26 +254,26 @@ module _ (p : ProgramTree) (names : TextsView) (laws : Laws (table_of_program p)
   not_input (Text place) v h is = h
   not_input (Journal f) v h is = h
 
-  not_long : (most : ℕ) (v : Datum) → IsShowFault p names skips bytes (Long most) → IsShownValue p names skips v bytes → ⊥
-  not_long most v (inl h) is = let many = h.1 in let short = shown_short p skips v bytes is in omega (arith, many, short)
+  not_long : (most : ℕ) (v : Datum) → IsShowFault p names laid bytes (Long most) → IsShownValue p names laid v bytes → ⊥
+  not_long most v (inl h) is = let many = h.1 in let short = shown_short p laid v bytes is in omega (arith, many, short)
   not_long most v (inr h) (inl is) = let many = h.1 in let short = is.short in omega (arith, many, short)
   not_long most v (inr h) (inr read) = signs_differ bytes h.3 (formed_sign (output_type p) bytes read.image.formed)
 
-  not_packed : (f : PackedFault) (v : Datum) → IsShowFault p names skips bytes (Packed f) → IsShownValue p names skips v bytes → ⊥
-  not_packed (Header header.Magic) v h is = no_sign_value p skips bytes h.1 h.2 (v, is)
-  not_packed (Header (header.Version n)) v h is = no_packed_value p skips bytes h.1.0 (none (Header (header.Version n)) h.1) (v, is)
-  not_packed (Header header.Reserved) v h is = no_packed_value p skips bytes h.1.0 (none (Header header.Reserved) h.1) (v, is)
-  not_packed (Header header.Length) v h is = no_packed_value p skips bytes h.1.0 (none (Header header.Length) h.1) (v, is)
-  not_packed (Types place) v h is = no_packed_value p skips bytes (parts h.1.content bytes h.1.framed).magic_is (none (Types place) h.1) (v, is)
-  not_packed (Short place) v h is = no_packed_value p skips bytes (parts h.1.content bytes h.1.framed).magic_is (none (Short place) h.1) (v, is)
-  not_packed (Tag place) v h is = no_packed_value p skips bytes (parts h.1.content bytes h.1.framed).magic_is (none (Tag place) h.1) (v, is)
-  not_packed (Truth place) v h is = no_packed_value p skips bytes (parts h.1.content bytes h.1.framed).magic_is (none (Truth place) h.1) (v, is)
-  not_packed (Trailing place) v h is = no_packed_value p skips bytes (parts h.1.content bytes h.1.framed).magic_is (none (Trailing place) h.1) (v, is)
+  not_packed : (f : PackedFault) (v : Datum) → IsShowFault p names laid bytes (Packed f) → IsShownValue p names laid v bytes → ⊥
+  not_packed (Header header.Magic) v h is = no_sign_value p laid bytes h.1 h.2 (v, is)
+  not_packed (Header (header.Version n)) v h is = no_packed_value p laid bytes h.1.0 (none (Header (header.Version n)) h.1) (v, is)
+  not_packed (Header header.Reserved) v h is = no_packed_value p laid bytes h.1.0 (none (Header header.Reserved) h.1) (v, is)
+  not_packed (Header header.Length) v h is = no_packed_value p laid bytes h.1.0 (none (Header header.Length) h.1) (v, is)
+  not_packed (Types place) v h is = no_packed_value p laid bytes (parts h.1.content bytes h.1.framed).magic_is (none (Types place) h.1) (v, is)
+  not_packed (Short place) v h is = no_packed_value p laid bytes (parts h.1.content bytes h.1.framed).magic_is (none (Short place) h.1) (v, is)
+  not_packed (Tag place) v h is = no_packed_value p laid bytes (parts h.1.content bytes h.1.framed).magic_is (none (Tag place) h.1) (v, is)
+  not_packed (Truth place) v h is = no_packed_value p laid bytes (parts h.1.content bytes h.1.framed).magic_is (none (Truth place) h.1) (v, is)
+  not_packed (Trailing place) v h is = no_packed_value p laid bytes (parts h.1.content bytes h.1.framed).magic_is (none (Trailing place) h.1) (v, is)
 
-  not_shown : (f : InputFault) (v : Datum) → IsShowFault p names skips bytes f → IsShownValue p names skips v bytes → ⊥
+  not_shown : (f : InputFault) (v : Datum) → IsShowFault p names laid bytes f → IsShownValue p names laid v bytes → ⊥
   not_shown (Long most) v h is = not_long most v h is
   not_shown (Packed f) v h is = not_packed f v h is
-  not_shown (Image f) v h is = no_image_value laws.no_image p names skips bytes f h.1 v is
+  not_shown (Image f) v h is = no_image_value laws.no_image p names laid bytes f h.1 v is
   not_shown (Text place) v h is = h
   not_shown (Journal f) v h is = h
 
@@ -290,9 +290,9 @@ module _ (p : ProgramTree) (names : TextsView) (laws : Laws (table_of_program p)
 abbrev NotEnabled : ProgramTree → ℕ → Datum → Settings → List Line → Type 0
 NotEnabled p n v settings lines = IsNotEnabled p v settings lines n
 
-module _ (p : ProgramTree) (names : TextsView) (laws : Laws (table_of_program p) names.short) (skips : Bool) (input bytes : List ℕ) where
+module _ (p : ProgramTree) (names : TextsView) (laws : Laws (table_of_program p) names.short) (laid : LaidOut) (input bytes : List ℕ) where
   no_packed : (f : InputFault) (v : Datum) → IsInputFault p names input f → IsInput p names v input → ⊥
-  no_packed f v h is = not_input p names laws skips input f v h is
+  no_packed f v h is = not_input p names laws laid input f v h is
 
   -- a journal with a fault has no more bytes than are read
   journal_short : (v : Datum) (f : JournalFault) → IsJournalFault p v bytes f → length bytes ≤ 16777216
@@ -345,7 +345,7 @@ module _ (p : ProgramTree) (names : TextsView) (laws : Laws (table_of_program p)
   one_replay (Long a) (Text place) h k = absurd k
   one_replay (Long a) (Journal g) h k = absurd (long_or_journal a g h k)
   one_replay (Packed f) (Long b) h k = absurd (long_or_packed b f k h)
-  one_replay (Packed f) (Packed g) h k = one_packed p names laws skips input f g h.1 k.1
+  one_replay (Packed f) (Packed g) h k = one_packed p names laws laid input f g h.1 k.1
   one_replay (Packed f) (Image g) h k = absurd k
   one_replay (Packed f) (Text place) h k = absurd k
   one_replay (Packed f) (Journal g) h k = absurd (no_packed (Packed f) k.0 h k.1)
@@ -388,20 +388,20 @@ module _ (p : ProgramTree) (names : TextsView) (laws : Laws (table_of_program p)
 module _ (p : ProgramTree) (names : TextsView) (laws : Laws (table_of_program p) names.short) (options : Options) (given : Contents) where
   refusal_by : (o : Option Format) (f g : InputFault) → RefusesBy o options (sourced p) names given f → RefusesBy o options (sourced p) names given g → f ≡ g
   refusal_by None f g h k = absurd h
-  refusal_by (Some format.Packed) f g h k = one_input p names laws options.skips given.second f g h k
-  refusal_by (Some format.Packable) f g h k = one_pack p names laws options.skips given.second options.repacks options.first_version f g h k
-  refusal_by (Some format.Shown) f g h k = one_show p names laws options.skips given.second f g h k
-  refusal_by (Some format.Journaled) f g h k = one_replay p names laws options.skips given.second (journal_in given) f g h k
+  refusal_by (Some format.Packed) f g h k = one_input p names laws (layouts_asked options p) given.second f g h k
+  refusal_by (Some format.Packable) f g h k = one_pack p names laws (layouts_asked options p) given.second options.repacks options.first_version f g h k
+  refusal_by (Some format.Shown) f g h k = one_show p names laws (layouts_asked options p) given.second f g h k
+  refusal_by (Some format.Journaled) f g h k = one_replay p names laws (layouts_asked options p) given.second (journal_in given) f g h k
 
   pub one_refusal : (job : Job) (f g : InputFault) → Refuses job options (sourced p) names given f → Refuses job options (sourced p) names given g → f ≡ g
   one_refusal job f g h k = refusal_by (format_of job) f g h k
 
   accepted_by : (o : Option Format) (f : InputFault) → RefusesBy o options (sourced p) names given f → AcceptsBy o options (sourced p) names given → ⊥
   accepted_by None f h a = h
-  accepted_by (Some format.Packed) f h a = not_input p names laws options.skips given.second f a.0 h a.1
-  accepted_by (Some format.Packable) f h a = not_packable p names laws options.skips given.second options.repacks options.first_version f a.0 h a.1
-  accepted_by (Some format.Shown) f h a = not_shown p names laws options.skips given.second f a.0 h a.1
-  accepted_by (Some format.Journaled) f h a = not_replayed p names laws options.skips given.second (journal_in given) f h a
+  accepted_by (Some format.Packed) f h a = not_input p names laws (layouts_asked options p) given.second f a.0 h a.1
+  accepted_by (Some format.Packable) f h a = not_packable p names laws (layouts_asked options p) given.second options.repacks options.first_version f a.0 h a.1
+  accepted_by (Some format.Shown) f h a = not_shown p names laws (layouts_asked options p) given.second f a.0 h a.1
+  accepted_by (Some format.Journaled) f h a = not_replayed p names laws (layouts_asked options p) given.second (journal_in given) f h a
 
   pub not_accepted : (job : Job) (f : InputFault) → Refuses job options (sourced p) names given f → Accepts job options (sourced p) names given → ⊥
   not_accepted job f h a = accepted_by (format_of job) f h a

@@ -31,13 +31,12 @@ use Rattle.gib_app.specs.declared.made.End.TheVariants as ends
 use Rattle.gib_app.specs.declared.made.Reason.{Reason}
 use Rattle.gib_app.specs.declared.made.Reason.TheVariants as reason
 use Rattle.gib_app.specs.declared.stop.Stop.{Stop}
-use Rattle.gib_app.specs.Cores.{layouts_of}
 use Rattle.gib_app.specs.Imaging.{IsShownWith}
 use Rattle.gib_app.specs.InputFaults.{IsInputFault, IsReplayFault}
 use Rattle.gib_app.specs.Jobs.{NoValue, Replays}
 use Rattle.gib_app.specs.Kept.{EndsBy}
 use Rattle.gib_app.specs.MachineRun.{StandsMeant}
-use Rattle.gib_app.specs.Replaying.{Happens, IsEndOf, IsImageFile, IsJournal, IsNotEnabled, IsNotEnded, LacksChunks, OnJournal, code_for, root_in, start_for}
+use Rattle.gib_app.specs.Replaying.{Happens, IsEndOf, IsImageFile, IsJournal, IsNotEnabled, IsNotEnded, LacksChunks, OnJournal, code_for, core_for, layouts_for, root_in, start_for}
 use Rattle.gib_app.specs.Running.{IsInput}
 use Rattle.gib_app.specs.Stops.{IsRunStop}
 use Rattle.gib_app.specs.Workers.{Engine, engine_for, engine_of, loaded_by, start_by, GoesInto, IsBadLine, IsEndBy, IsFaultBy, IsLoaded, IsNoJournal, LeavesOpen, IsNotReplayed, IsReplayed, LacksBy, OnlyFull, StopsTo}
@@ -48,7 +47,7 @@ use Rattle.gib_app.proofs.Roots.{input_of}
 use Rattle.gib_app.proofs.Stopped.{stops_with}
 
 -- What the events leave.
-pub replayed_run : {names : TextsView} (p : ProgramTree) (input bytes : List ℕ) (s : Surveyed) (l : LoweredParts) (settings : Settings) (lines : List Line) (m : Memory) (a : Answer) → IsEngineOf p settings.skips l
+pub replayed_run : {names : TextsView} (p : ProgramTree) (input bytes : List ℕ) (s : Surveyed) (l : LoweredParts) (settings : Settings) (lines : List Line) (m : Memory) (a : Answer) → IsEngineOf p (core_for p settings) l
     → length input ≤ 16777216 → IsPacked s.table s.ty s.bytes s.count → ((v : Datum) → Packed s.table s.ty v s.bytes → File (table_of_program p) names.long (input_type p) v input)
     → IsJournal settings lines bytes → ((v : Datum) → Packed s.table s.ty v s.bytes → IsEndBy (engine_of l) v settings lines m a) → IsReplayed p names input bytes l.code.laid m a
 replayed_run p input bytes s l settings lines m a of short packed file is ends = record {
@@ -65,7 +64,7 @@ replayed_run p input bytes s l settings lines m a of short packed file is ends =
 abbrev pub replayed_stands : {names : TextsView} (p : ProgramTree) (input bytes : List ℕ) (laid : LaidOut) (m : Memory) (a : Answer) (place : Root) (r : IsReplayed p names input bytes laid m a) → root_in a ≡ Ok place
     → StandsMeant p names r.settings.depth input laid m.cells place
 replayed_stands p input bytes laid m a place r there =
-    stands_again p r.settings.depth input (layouts_of r.settings.skips p) laid m m place place r.laid_is refl refl (end_stands p input r.value r.settings r.lines m a place r.is_input r.ended there)
+    stands_again p r.settings.depth input (layouts_for p r.settings) laid m m place place r.laid_is refl refl (end_stands p input r.value r.settings r.lines m a place r.is_input r.ended there)
 
 -- So it is where the code and the memory were handed on.
 pub replayed_on : {names : TextsView} (p : ProgramTree) (input bytes : List ℕ) (laid other : LaidOut) (m n : Memory) (a : Answer) → other ≡ laid → n ≡ m → IsReplayed p names input bytes laid m a → IsReplayed p names input bytes other n a
@@ -185,7 +184,7 @@ module _ {names : TextsView} (one : OneValue) (p : ProgramTree) (input bytes : L
   on : (P : Datum → Settings → List Line → Type 0) → P v settings lines → OnJournal p names input bytes P
   on P h = record { value = v; settings = settings; lines = lines; is_input = is; is_journal = is_journal; holds = h }
 
-  never : (fault : InputFault) → IsFaultBy (engine_for p settings.skips) v settings lines fault → IsReplayFault p names input bytes fault × (OnJournal p names input bytes (Happens p) → ⊥)
+  never : (fault : InputFault) → IsFaultBy (engine_for (core_for p settings)) v settings lines fault → IsReplayFault p names input bytes fault × (OnJournal p names input bytes (Happens p) → ⊥)
   never (refusal.Long most) h = absurd h.1
   never (refusal.Packed fault) h = absurd h.1
   never (refusal.Image fault) h = absurd h.1
@@ -205,18 +204,18 @@ module _ {names : TextsView} (one : OneValue) (p : ProgramTree) (input bytes : L
         happens_or_open p both.0 both.1 both.2 both.3 both.4,
   )
 
-  full : (why : Reason) → OnlyFull (LacksBy (engine_for p settings.skips) v settings lines) why → OnlyFull (OnJournal p names input bytes (LacksChunks p)) why
+  full : (why : Reason) → OnlyFull (LacksBy (engine_for (core_for p settings)) v settings lines) why → OnlyFull (OnJournal p names input bytes (LacksChunks p)) why
   full (reason.Meant why) h = h
   full reason.Full h = on (LacksChunks p) h
   full reason.Long h = h
 
-  ends_nowhere : (stop : Stop) → StopsTo (engine_for p settings.skips) v settings lines stop → IsNotReplayed p names input bytes stop
+  ends_nowhere : (stop : Stop) → StopsTo (engine_for (core_for p settings)) v settings lines stop → IsNotReplayed p names input bytes stop
   ends_nowhere stop h = stops_with _ _ _ _ never full stop h
 
-pub replay_stops : (names : TextsView) → OneValue → (p : ProgramTree) (input bytes : List ℕ) (s : Surveyed) (l : LoweredParts) (settings : Settings) (lines : List Line) → IsEngineOf p settings.skips l → length input ≤ 16777216
+pub replay_stops : (names : TextsView) → OneValue → (p : ProgramTree) (input bytes : List ℕ) (s : Surveyed) (l : LoweredParts) (settings : Settings) (lines : List Line) → IsEngineOf p (core_for p settings) l → length input ≤ 16777216
     → IsPacked s.table s.ty s.bytes s.count → ((v : Datum) → Packed s.table s.ty v s.bytes → File (table_of_program p) names.long (input_type p) v input) → IsJournal settings lines bytes → (stop : Stop)
     → ((v : Datum) → Packed s.table s.ty v s.bytes → StopsTo (engine_of l) v settings lines stop) → IsNotReplayed p names input bytes stop
 replay_stops names one p input bytes s l settings lines of short packed file is_journal stop ends =
     let is = input_of {names = names} p input s short file packed.0 packed.1 in
     ends_nowhere one p input bytes packed.0 is settings lines is_journal stop
-    (subst (λ (e : Engine). StopsTo e packed.0 settings lines stop) (same_engine p settings.skips l of) (ends packed.0 packed.1))
+    (subst (λ (e : Engine). StopsTo e packed.0 settings lines stop) (same_engine p (core_for p settings) l of) (ends packed.0 packed.1))

@@ -12,6 +12,7 @@ use Rattle.gib_file.specs.Packed.{Packed as IsPackedIn}
 use Rattle.gib_syntax.specs.Declarations.{table_of_program, input_type}
 use Rattle.gib_base.specs.declared.token.Dialect.{Dialect}
 use Rattle.gib_base.specs.declared.token.Dialect.TheVariants as dialect
+use Rattle.gib_app.specs.Cores.{layouts_asked}
 use Rattle.gib_app.specs.declared.input_fault.InputFault.{InputFault}
 use Rattle.gib_app.specs.declared.input_fault.InputFault.TheVariants as input
 use Rattle.gib_app.specs.declared.source_fault.SourceFault.TheVariants as source
@@ -280,7 +281,7 @@ module _ (kept : Files) (options : Options) (documents : List Document) (p : Pro
   long_first (Some Shown) h many = record {
     reached = long_reached kept p names 268435480 [] documents given (omega arith) many h;
     refused = inl (refl, many);
-    not_accepted = λ a. let short = shown_short p.tree options.skips a.0 given.second a.1 in absurd (omega (arith, many, short));
+    not_accepted = λ a. let short = shown_short p.tree (layouts_asked options p.tree) a.0 given.second a.1 in absurd (omega (arith, many, short));
   }
   long_first (Some Journaled) h many = record {
     reached = long_reached kept p names 16777216 (16777216 ∷ []) documents given (omega arith) many h;

@@ -22,7 +22,7 @@ use Rattle.gib_app.specs.declared.made.Reason.TheVariants.{Long}
 use Rattle.gib_app.specs.declared.made.Valued.{Valued}
 use Rattle.gib_words.specs.declared.plan.Options.{Options}
 use Rattle.gib_app.specs.declared.stop.Stop.{Stop}
-use Rattle.gib_app.specs.Cores.{layouts_of}
+use Rattle.gib_app.specs.Cores.{layouts_asked}
 use Rattle.gib_app.specs.Imaging.{IsShownWith}
 use Rattle.gib_words.specs.declared.plan.Job.{Job}
 use Rattle.gib_app.specs.Rows.{row}
@@ -75,9 +75,9 @@ held_again old new again held = subst₂ (λ (t : Table) (ns : TextsView). AreHe
 
 -- ---- How a run ends whose result is packed
 
-module _ (p : ProgramTree) (o : Options) (input : List ℕ) (old new : Valued) (again : StandsAgain old new) (laid : old.ran.lowered.code.laid ≡ layouts_of o.skips p) (limit : (sole_memory old.ran.memory).limit ≤ o.chunks) (packs : o.packs ≡ true)
+module _ (p : ProgramTree) (o : Options) (input : List ℕ) (old new : Valued) (again : StandsAgain old new) (laid : old.ran.lowered.code.laid ≡ layouts_asked o p) (limit : (sole_memory old.ran.memory).limit ≤ o.chunks) (packs : o.packs ≡ true)
     (s : IsMeantBy p old.names o.depth input old.ran) where
-  laid_again : new.ran.lowered.code.laid ≡ layouts_of o.skips p
+  laid_again : new.ran.lowered.code.laid ≡ layouts_asked o p
   laid_again = ap (λ (l : LoweredParts). l.code.laid) again.lowered ∙ laid
 
   limit_again : (sole_memory new.ran.memory).limit ≤ o.chunks

@@ -1,6 +1,6 @@
 -- A file with a fault is the packed file of no value, and a call stops at it.
 use Rattle.gib_base.specs.Texts.{TextsView}
-use Rattle.std.proofs.Common.{◌≡◌, Bool, ℕ, ◌≤◌, List, length, Err}
+use Rattle.std.proofs.Common.{◌≡◌, ℕ, ◌≤◌, List, length, Err}
 use Rattle.gib_types.specs.declared.table.Ty.{Ty}
 use Rattle.gib_types.specs.Table.{Table}
 use Rattle.gib_types.specs.Tree.{Datum}
@@ -26,6 +26,7 @@ use Rattle.gib_app.specs.PassFaults.{packed_stop, payload_stop, schema_stop}
 use Rattle.gib_app.specs.Stops.{IsPackedStop, IsRunStop, IsShowStop}
 use Rattle.gib_app.proofs.Signs.{no_packed_value}
 use Rattle.gib_app.proofs.StopMaps.{never, only_packed, stops_map}
+use Rattle.gib_types.specs.Layout.{LaidOut}
 
 abbrev pub HeaderRefuses : Type 0
 HeaderRefuses = (table : Table) (names : List (List ℕ)) (ty : Ty) (v : Datum) (bytes : List ℕ) (fault : HeadFault) → IsFirstFault bytes fault → File table names ty v bytes → ⊥
@@ -72,18 +73,18 @@ module _ (p : ProgramTree) (names : TextsView) (bytes : List ℕ) (short : lengt
   run_stop stop h = stops_map _ _ _ _ _ _ _ _ _ _ stop h (never _) (never _) (only_packed _ _ (λ fault c. ((short, c.0), λ a. c.1 a.0 a.1.file))) (never _) (never _)
 
 -- The same where a file that begins as a packed one is shown.
-module _ (p : ProgramTree) (names : TextsView) (skips : Bool) (bytes : List ℕ) (short : length bytes ≤ 16777216) (magic : HasMagic bytes) where
-  pub show_stop : (stop : Stop) → IsPackedStop (table_of_program p) names.long (input_type p) bytes stop → IsShowStop p names skips bytes stop
+module _ (p : ProgramTree) (names : TextsView) (laid : LaidOut) (bytes : List ℕ) (short : length bytes ≤ 16777216) (magic : HasMagic bytes) where
+  pub show_stop : (stop : Stop) → IsPackedStop (table_of_program p) names.long (input_type p) bytes stop → IsShowStop p names laid bytes stop
   show_stop stop h = stops_map _ _ _ _ _ _ _ _ _ _ stop h (never _) (never _) (only_packed _ _ refused) (never _) (never _)
     where
       refused : (fault : PackedFault) → IsFileFault (table_of_program p) names.long (input_type p) bytes fault × ((v : Datum) → File (table_of_program p) names.long (input_type p) v bytes → ⊥)
-          → IsShowFault p names skips bytes (input.Packed fault) × (((v : Datum) × IsShownValue p names skips v bytes) → ⊥)
+          → IsShowFault p names laid bytes (input.Packed fault) × (((v : Datum) × IsShownValue p names laid v bytes) → ⊥)
       refused (Header header.Magic) c = absurd (c.0 magic)
-      refused (Header (header.Version v)) c = ((short, c.0), no_packed_value p skips bytes magic c.1)
-      refused (Header header.Reserved) c = ((short, c.0), no_packed_value p skips bytes magic c.1)
-      refused (Header header.Length) c = ((short, c.0), no_packed_value p skips bytes magic c.1)
-      refused (Types place) c = ((short, c.0), no_packed_value p skips bytes magic c.1)
-      refused (Short place) c = ((short, c.0), no_packed_value p skips bytes magic c.1)
-      refused (Tag place) c = ((short, c.0), no_packed_value p skips bytes magic c.1)
-      refused (Truth place) c = ((short, c.0), no_packed_value p skips bytes magic c.1)
-      refused (Trailing place) c = ((short, c.0), no_packed_value p skips bytes magic c.1)
+      refused (Header (header.Version v)) c = ((short, c.0), no_packed_value p laid bytes magic c.1)
+      refused (Header header.Reserved) c = ((short, c.0), no_packed_value p laid bytes magic c.1)
+      refused (Header header.Length) c = ((short, c.0), no_packed_value p laid bytes magic c.1)
+      refused (Types place) c = ((short, c.0), no_packed_value p laid bytes magic c.1)
+      refused (Short place) c = ((short, c.0), no_packed_value p laid bytes magic c.1)
+      refused (Tag place) c = ((short, c.0), no_packed_value p laid bytes magic c.1)
+      refused (Truth place) c = ((short, c.0), no_packed_value p laid bytes magic c.1)
+      refused (Trailing place) c = ((short, c.0), no_packed_value p laid bytes magic c.1)

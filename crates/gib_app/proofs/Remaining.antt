@@ -19,7 +19,7 @@ use Rattle.gib_words.specs.declared.plan.Job.{Job}
 use Rattle.gib_words.specs.declared.plan.Job.TheVariants.{Run, Plain, Check, Core, Code, Pack, Show, Gen, Trace, Replay, Local}
 use Rattle.gib_words.specs.declared.plan.Options.{Options}
 use Rattle.gib_app.specs.declared.stop.Stop.{Stop}
-use Rattle.gib_app.specs.Cores.{core_after, layouts_of}
+use Rattle.gib_app.specs.Cores.{core_asked, layouts_asked}
 use Rattle.gib_app.specs.Imaging.{IsShownWith}
 use Rattle.gib_app.specs.Jobs.{run_forks}
 use Rattle.gib_app.specs.Kept.{StandsAgain, file_of, packed_of}
@@ -33,17 +33,17 @@ use Rattle.gib_app.proofs.PackedRuns.{stands_named}
 
 -- ---- What stands by the layouts of the code stands by those of the program, and the other way round
 
-abbrev pub laid_left : (p : ProgramTree) (names : TextsView) (o : Options) (input : List ℕ) (value : Valued) → IsLeft p names o input value → value.ran.lowered.code.laid ≡ layouts_of o.skips p
+abbrev pub laid_left : (p : ProgramTree) (names : TextsView) (o : Options) (input : List ℕ) (value : Valued) → IsLeft p names o input value → value.ran.lowered.code.laid ≡ layouts_asked o p
 laid_left p names o input value left = ap (λ (c : CodeTree). c.laid) left.code
 
 abbrev pub stands_left : (p : ProgramTree) (names : TextsView) (o : Options) (input : List ℕ) (value : Valued) → IsLeft p names o input value
     → IsMeantBy p names o.depth input value.ran
 stands_left p names o input value left =
     let m = sole_memory value.ran.memory in
-    stands_again {names = names} p o.depth input (layouts_of o.skips p) value.ran.lowered.code.laid m m value.ran.root value.ran.root (laid_left p names o input value left) refl refl left.remains.stands
+    stands_again {names = names} p o.depth input (layouts_asked o p) value.ran.lowered.code.laid m m value.ran.root value.ran.root (laid_left p names o input value left) refl refl left.remains.stands
 
 -- What a run leaves that stands by the layouts of its code.
-pub is_left : (p : ProgramTree) (names : TextsView) (o : Options) (input : List ℕ) (value : Valued) → value.ran.lowered.code ≡ lower_program (core_after o.skips 4 p)
+pub is_left : (p : ProgramTree) (names : TextsView) (o : Options) (input : List ℕ) (value : Valued) → value.ran.lowered.code ≡ lower_program (core_asked o p)
     → (sole_memory value.ran.memory).limit ≤ o.chunks → IsMeantBy p names o.depth input value.ran → IsLeft p names o input value
 is_left p names o input value code limit s =
     let m = sole_memory value.ran.memory in
@@ -51,7 +51,7 @@ is_left p names o input value code limit s =
     record {
       code = code;
       remains = record {
-        stands = stands_again {names = names} p o.depth input laid (layouts_of o.skips p) m m value.ran.root value.ran.root (sym (ap (λ (c : CodeTree). c.laid) code)) refl refl s;
+        stands = stands_again {names = names} p o.depth input laid (layouts_asked o p) m m value.ran.root value.ran.root (sym (ap (λ (c : CodeTree). c.laid) code)) refl refl s;
         bounded = sole_bounded value.ran.memory;
         limit = limit;
       };
@@ -67,7 +67,7 @@ left_again p o input old new again left =
 
 module _ (p : ProgramTree) (names : TextsView) (o : Options) (input : List ℕ) (value : Valued) (left : IsLeft p names o input value) where
   imaged_here : (b : Bool) → o.image ≡ b → (file : Option (List ℕ)) → IsImageFile b value.ran.lowered.code.laid (output_type p) (sole_memory value.ran.memory) value.ran.root left.remains.stands.result file
-      → IsImageFile o.image (layouts_of o.skips p) (output_type p) (sole_memory value.ran.memory) value.ran.root left.remains.stands.result file
+      → IsImageFile o.image (layouts_asked o p) (output_type p) (sole_memory value.ran.memory) value.ran.root left.remains.stands.result file
   imaged_here b asked file h =
       let P : Bool → LaidOut → Type 0 = λ x l. IsImageFile x l (output_type p) (sole_memory value.ran.memory) value.ran.root left.remains.stands.result file in
       subst₂ P (sym asked) (laid_left p names o input value left) h
@@ -138,7 +138,7 @@ comes_beside Replay p names o input r other here h = of_none r
 comes_beside Local p names o input r other here h = absurd (here refl)
 
 -- Without a value nothing comes from there, where not for the length of its packed file.
-pub lacks_comes : (p : ProgramTree) (names : TextsView) (o : Options) (input : List ℕ) (file : Option (List ℕ)) (why : Reason) → LacksValue p names o.skips o.depth (run_forks o) o.chunks input why
+pub lacks_comes : (p : ProgramTree) (names : TextsView) (o : Options) (input : List ℕ) (file : Option (List ℕ)) (why : Reason) → LacksValue p names o (run_forks o) input why
     → ComesOfMemory p names o input file (ends.NoValue why)
 lacks_comes p names o input file (reason.Meant why) h = tt {0}
 lacks_comes p names o input file reason.Full h = tt {0}

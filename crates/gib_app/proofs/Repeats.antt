@@ -10,10 +10,9 @@ use Rattle.gib_syntax.specs.Meaning.{Outcome, Gives, Stops, run}
 use Rattle.gib_app.specs.declared.made.Reason.TheVariants.{Meant, Full, Long}
 use Rattle.gib_words.specs.declared.plan.Job.TheVariants.{Replay, Trace}
 use Rattle.gib_words.specs.declared.plan.Options.{Options}
-use Rattle.gib_app.specs.Cores.{layouts_of}
 use Rattle.gib_app.specs.Jobs.{End, Prints, NoValue, Does, without_image}
 use Rattle.gib_words.specs.Plan.{Contents}
-use Rattle.gib_app.specs.Replaying.{IsEndOf, IsShownEnd, IsTrace, IsValueless, OnJournal, journal_in}
+use Rattle.gib_app.specs.Replaying.{IsEndOf, IsShownEnd, IsTrace, IsValueless, OnJournal, journal_in, layouts_for}
 use Rattle.gib_app.specs.Running.{IsOutput, MeansNone, sourced, text_line}
 use Rattle.gib_app.proofs.Replays.{OneValue, is_stopped, root_there, both_on, one_given, some_or_none, shown_or_valueless, shown_or_full, one_valueless, valueless_or_full}
 
@@ -29,7 +28,7 @@ module _ (one : OneValue) (p : ProgramTree) (names : TextsView) (options : Optio
   shown_again text h =
       let same = one (table_of_program p) _ (input_type p) h.value t.value input h.is_input.file t.is_input.file in
       let means = means_there h.value (Gives h.result) same h.means in
-      let root = root_there (layouts_of t.settings.skips p) t.memory.cells (output_type p) (run p t.settings.depth t.value) t.ends_with t.ended.means h.result means in
+      let root = root_there (layouts_for p t.settings) t.memory.cells (output_type p) (run p t.settings.depth t.value) t.ends_with t.ended.means h.result means in
       record {
         value = t.value;
         settings = t.settings;
@@ -53,7 +52,7 @@ module _ (one : OneValue) (p : ProgramTree) (names : TextsView) (options : Optio
   stopped_again why h =
       let same = one (table_of_program p) _ (input_type p) h.value t.value input h.is_input.file t.is_input.file in
       let means = means_there h.value (Stops why) same h.means in
-      let is = is_stopped (layouts_of t.settings.skips p) t.memory.cells (output_type p) (run p t.settings.depth t.value) t.ends_with t.ended.means why means in
+      let is = is_stopped (layouts_for p t.settings) t.memory.cells (output_type p) (run p t.settings.depth t.value) t.ends_with t.ended.means why means in
       let E : Answer → Type 0 = IsEndOf p t.value t.settings t.lines t.memory in
       record {
         value = t.value;

@@ -31,8 +31,7 @@ use Rattle.gib_syntax.specs.Declarations.{table_of_program, input_type}
 use Rattle.gib_syntax.specs.Meaning.{Outcome, Gives, Stops, run}
 use Rattle.gib_weave.specs.Sound.{IsAnswer}
 use Rattle.gib_weave.proofs.Roots.{no_parts}
-use Rattle.gib_app.specs.Cores.{layouts_of}
-use Rattle.gib_app.specs.Replaying.{IsEndOf, IsShownEnd, IsValueless, LacksChunks, OnJournal, code_for, root_in, start_for}
+use Rattle.gib_app.specs.Replaying.{IsEndOf, IsShownEnd, IsValueless, LacksChunks, OnJournal, code_for, layouts_for, root_in, start_for}
 
 -- A file is that of one value.
 abbrev pub OneValue : Type 0
@@ -69,7 +68,7 @@ placed_alone laid m (truth b) = refl
 placed_alone laid m (con k vs) = heads_alone laid (begun m) (heads (con k vs))
 
 pub start_alone : (p : ProgramTree) (settings : Settings) (v : Datum) → (start_for p settings v).memory.alone ≡ true
-start_alone p settings v = placed_alone (layouts_of settings.skips p) (nothing settings.chunks) v
+start_alone p settings v = placed_alone (layouts_for p settings) (nothing settings.chunks) v
 
 -- Where all events happen, none of them lacks chunks.
 pub ends_or_lacks : (p : ProgramTree) (v : Datum) (settings : Settings) (lines : List Line) (m : Memory) (a : Answer) → IsEndOf p v settings lines m a → LacksChunks p v settings lines → ⊥

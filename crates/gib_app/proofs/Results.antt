@@ -1,7 +1,7 @@
 -- What a source gives on an input, by what its copy gives.
 use Rattle.gib_base.specs.Texts.{TextsView}
 use Rattle.gib_base.specs.declared.token.Dialect.TheVariants as dialect
-use Rattle.std.proofs.Common.{◌≡◌, ◌∙◌, refl, ℕ, List, [], ◌∷◌, ◌++◌, subst, sym, ap, Bool}
+use Rattle.std.proofs.Common.{◌≡◌, ◌∙◌, refl, ℕ, List, [], ◌∷◌, ◌++◌, subst, sym, ap}
 use Rattle.gib_types.specs.Tree.{Datum}
 use Rattle.gib_syntax.specs.Tree.{ProgramTree}
 use Rattle.gib_types.specs.Table.{Table}
@@ -26,6 +26,7 @@ use Rattle.gib_app.specs.Headline.{copy_with, copy_in, read_in, meant_in, Given,
 use Rattle.gib_app.proofs.Replays.{one_given}
 use Rattle.gib_app.proofs.OneEnd.{one_meaning, packed_or_long, runs_well}
 use Rattle.gib_app.proofs.OneProgram.{Laws, joined, together}
+use Rattle.gib_words.specs.declared.plan.Options.{Options}
 
 -- a source's program and an input for its copy
 abbrev given_of : (source input : List ℕ) (l : Lexed) (g : GenericProgramTree) (found : List Copy) (v : Datum) → IsSpelled source l g found → IsInput (copy_with g l found) (texts_with l found) v input → Given source input
@@ -173,11 +174,11 @@ long_result source input depth h =
       long = h.long;
     })
 
-pub image_result : (source input : List ℕ) (skips : Bool) (depth chunks : ℕ) (bytes : List ℕ) → OnTree source (λ p names. IsRunImage p names skips depth chunks input bytes) → IsResultImage source input skips depth chunks bytes
-image_result source input skips depth chunks bytes on =
-    let c = to_copy source (λ p names. IsRunImage p names skips depth chunks input bytes) on in
+pub image_result : (source input : List ℕ) (options : Options) (bytes : List ℕ) → OnTree source (λ p names. IsRunImage p names options input bytes) → IsResultImage source input options bytes
+image_result source input options bytes on =
+    let c = to_copy source (λ p names. IsRunImage p names options input bytes) on in
     let given = given_of source input c.lexed c.generic c.found c.holds.value c.is_spelled c.holds.is_input in
-    record { given = given; result = c.holds.result; means = means_in given depth (Gives c.holds.result) c.holds.means; image = c.holds.image; few = c.holds.few }
+    record { given = given; result = c.holds.result; means = means_in given options.depth (Gives c.holds.result) c.holds.means; image = c.holds.image; few = c.holds.few }
 
 pub long_of : (source input : List ℕ) (depth : ℕ) → OnTree source (λ p names. IsLongResult p names depth input) → HasLongFile source input depth
 long_of source input depth on =
@@ -191,9 +192,9 @@ long_of source input depth on =
       long = c.holds.long;
     }
 
-pub big_of : (source input : List ℕ) (skips : Bool) (depth forks chunks : ℕ) → OnTree source (λ p names. FillsUp p names skips depth forks chunks input) → IsTooBig source input skips depth forks chunks
-big_of source input skips depth forks chunks on =
-    let c = to_copy source (λ p names. FillsUp p names skips depth forks chunks input) on in
+pub big_of : (source input : List ℕ) (options : Options) (forks : ℕ) → OnTree source (λ p names. FillsUp p names options forks input) → IsTooBig source input options forks
+big_of source input options forks on =
+    let c = to_copy source (λ p names. FillsUp p names options forks input) on in
     record { given = given_of source input c.lexed c.generic c.found c.holds.value c.is_spelled c.holds.is_input; tight = c.holds.tight }
 
 -- The packed file is one too, or is too long

@@ -50,11 +50,12 @@ use Rattle.gib_app.specs.declared.made.Reason.TheVariants as reason
 use Rattle.gib_app.specs.declared.stop.Stop.{Stop}
 use Rattle.gib_app.specs.declared.stop.Stop.TheVariants.{Usage, Source, Unread, Input, NoValue, Unwritten, Unput}
 use Rattle.gib_app.specs.declared.stop.Stop.TheVariants.{Memory as NoMemory}
-use Rattle.gib_app.specs.Cores.{core_after, layouts_of}
+use Rattle.gib_app.specs.Cores.{core_asked, layouts_asked}
 use Rattle.gib_app.specs.Replaying.{root_in}
 use Rattle.gib_app.specs.Running.{IsInput}
 use Rattle.gib_app.specs.Stops.{IsPackedStop, IsRunStop}
 use Rattle.gib_app.specs.MachineRun.{IsRunEnd, cells_of, StandsMeant, RunsFor, LacksValueBy, IsRootOf, Lacks, Halts, EndsWith, OnEnd, OnRan, ended, program_cost}
+use Rattle.gib_words.specs.declared.plan.Options.{Options}
 
 -- A value that was loaded is where a run may start.
 pub start_of : (l : LoweredParts) (laid : LaidOut) (ty : Ty) (v : Datum) (m : Memory) (place : Root) (tails : List ℕ) → laid ≡ l.code.laid → ty ≡ (core_of l.core).main.parameter
@@ -154,30 +155,23 @@ load_stops l laid s depth forks m0 m1 same table refused spent v p =
     load_halts (core_of l.core) laid depth forks v m0 m1 (refused v q) (spent v q)
 
 -- A core and layouts that are a program's.
-pub record IsOfProgram (p : ProgramTree) (skips : Bool) (l : LoweredParts) : Type 0 where
-  pub core : core_of l.core ≡ core_after skips 4 p
+pub record IsOfProgram (p : ProgramTree) (o : Options) (l : LoweredParts) : Type 0 where
+  pub core : core_of l.core ≡ core_asked o p
   pub means : (depth : ℕ) (v : Datum) → core_run (core_of l.core) depth v ≡ run p depth v
-  pub laid : l.code.laid ≡ layouts_of skips p
+  pub laid : l.code.laid ≡ layouts_asked o p
 
 -- The layouts of a program's code.
-pub laid_after : (p : ProgramTree) (skips : Bool) (core : CoreTree) (laid : LaidOut) → core ≡ core_after skips 4 p → laid ≡ laid_of core → laid ≡ layouts_of skips p
-laid_after p skips core laid e h = h ∙ ap laid_of e
+pub table_laid : (p : ProgramTree) (core : CoreTree) (laid : LaidOut) → core.table ≡ table_of_program p → laid ≡ laid_of core → laid.table ≡ table_of_program p
+table_laid p core laid same e = ap (λ (x : LaidOut). x.table) e ∙ same
 
-pub table_laid : (p : ProgramTree) (skips : Bool) (laid : LaidOut) → laid ≡ layouts_of skips p → laid.table ≡ table_of_program p
-table_laid p skips laid e = ap (λ (x : LaidOut). x.table) e
-
-pub parameter_of : (p : ProgramTree) (skips : Bool) (l : LoweredParts) → core_of l.core ≡ core_after skips 4 p → (core_of l.core).main.parameter ≡ input_type p
-parameter_of p skips l e = ap (λ (c : CoreTree). c.main.parameter) e
-
--- What was lowered is a core that runs in a program's place.
 pub record IsOfCore (core : CoreTree) (p : ProgramTree) (l : LoweredParts) : Type 0 where
   pub core_is : core_of l.core ≡ core
   pub means : (depth : ℕ) (v : Datum) → core_run (core_of l.core) depth v ≡ run p depth v
   pub table : l.code.laid.table ≡ table_of_program p
   pub result : core.main.result ≡ output_type p
 
-pub of_program : (p : ProgramTree) (skips : Bool) (l : LoweredParts) → IsOfProgram p skips l → IsOfCore (core_after skips 4 p) p l
-of_program p skips l of = record { core_is = of.core; means = of.means; table = table_laid p skips l.code.laid of.laid; result = refl }
+pub of_program : (p : ProgramTree) (o : Options) (l : LoweredParts) → IsOfProgram p o l → IsOfCore (core_asked o p) p l
+of_program p o l of = record { core_is = of.core; means = of.means; table = table_laid p (core_asked o p) l.code.laid refl of.laid; result = refl }
 
 pub root_meant : {names : TextsView} (core : CoreTree) (p : ProgramTree) (depth : ℕ) (input : List ℕ) (v : Datum) (l : LoweredParts) (s : Store) (place : Root) → IsOfCore core p l → IsInput p names v input
     → IsRootOf l.code.laid s (core_of l.core).main.result (core_run (core_of l.core) depth v) place → StandsMeant p names depth input l.code.laid s place
@@ -256,19 +250,19 @@ module _ (core : CoreTree) (p : ProgramTree) (names : TextsView) (runs : RunsFor
   located_refused table ty input why e f h = subst₂ (λ (t : Table) (y : Ty). IsPackedStop t names.long y input why) (e ∙ runs.table) (f ∙ runs.parameter) h
 
 -- Any value that is the input is the survey's.
-module _ {names : TextsView} (p : ProgramTree) (skips : Bool) (depth forks chunks : ℕ) (input : List ℕ) (s : Surveyed) (l : LoweredParts) (of : IsOfProgram p skips l) (packed : IsPacked s.table s.ty s.bytes s.count)
+module _ {names : TextsView} (p : ProgramTree) (o : Options) (forks : ℕ) (input : List ℕ) (s : Surveyed) (l : LoweredParts) (of : IsOfProgram p o l) (packed : IsPacked s.table s.ty s.bytes s.count)
     (file : (v : Datum) → Packed s.table s.ty v s.bytes → File (table_of_program p) names.long (input_type p) v input)
     (one : (table : Table) (names : List (List ℕ)) (ty : Ty) (v w : Datum) (bytes : List ℕ) → File table names ty v bytes → File table names ty w bytes → v ≡ w) (v : Datum) (is : IsInput p names v input) where
   only_value : packed.0 ≡ v
   only_value = one (table_of_program p) _ (input_type p) packed.0 v input (file packed.0 packed.1) is.file
 
-  only_owed : core_run (core_of l.core) depth packed.0 ≡ run p depth v
-  only_owed = of.means depth packed.0 ∙ ap (run p depth) only_value
+  only_owed : core_run (core_of l.core) o.depth packed.0 ≡ run p o.depth v
+  only_owed = of.means o.depth packed.0 ∙ ap (run p o.depth) only_value
 
   pub ended_only : (left : Result Rooted RunStop)
-      → IfOk left (λ x. (v : Datum) → Packed s.table s.ty v s.bytes → IsRootOf l.code.laid (cells_of x.memory) (core_of l.core).main.result (core_run (core_of l.core) depth v) x.root)
-      → IfErr left (λ why. (v : Datum) → Packed s.table s.ty v s.bytes → Halts (core_run (core_of l.core) depth v) chunks (run_cost (core_of l.core) depth forks v) why)
-      → MatchResult (ended l left) (OnEnd (λ ran. IsRootOf ran.lowered.code.laid (cells_of ran.memory) (output_type p) (run p depth v) ran.root) (Lacks (run p depth v) chunks (program_cost p skips depth forks v))) (λ why. why ≡ NoMemory)
+      → IfOk left (λ x. (v : Datum) → Packed s.table s.ty v s.bytes → IsRootOf l.code.laid (cells_of x.memory) (core_of l.core).main.result (core_run (core_of l.core) o.depth v) x.root)
+      → IfErr left (λ why. (v : Datum) → Packed s.table s.ty v s.bytes → Halts (core_run (core_of l.core) o.depth v) o.chunks (run_cost (core_of l.core) o.depth forks v) why)
+      → MatchResult (ended l left) (OnEnd (λ ran. IsRootOf ran.lowered.code.laid (cells_of ran.memory) (output_type p) (run p o.depth v) ran.root) (Lacks (run p o.depth v) o.chunks (program_cost p o forks v))) (λ why. why ≡ NoMemory)
   ended_only (Ok x) root halts =
       let there = root packed.0 packed.1 in
       record {
@@ -277,8 +271,8 @@ module _ {names : TextsView} (p : ProgramTree) (skips : Bool) (depth forks chunk
         stands = subst (λ (t : Ty). Stands l.code.laid (cells_of x.memory) x.root t there.result) (ap (λ (c : CoreTree). c.main.result) of.core) there.stands;
       }
   ended_only (Err (run_stop.NoValue why)) root halts =
-      let most : run_cost (core_of l.core) depth forks packed.0 ≡ program_cost p skips depth forks v = ap (λ (c : CoreTree). run_cost c depth forks packed.0) of.core ∙ ap (program_cost p skips depth forks) only_value in
-      subst₂ (λ (o : Outcome) (k : Cost). Lacks o chunks k why) only_owed most (halts packed.0 packed.1)
+      let most : run_cost (core_of l.core) o.depth forks packed.0 ≡ program_cost p o forks v = ap (λ (c : CoreTree). run_cost c o.depth forks packed.0) of.core ∙ ap (program_cost p o forks) only_value in
+      subst₂ (λ (x : Outcome) (k : Cost). Lacks x o.chunks k why) only_owed most (halts packed.0 packed.1)
   ended_only (Err run_stop.Memory) root halts = refl
 
 -- Where the file is refused, there is no value of which it is the input.

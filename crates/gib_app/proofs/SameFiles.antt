@@ -5,6 +5,7 @@ use Rattle.gib_types.specs.Tree.{Datum}
 use Rattle.gib_edge.specs.Causes.{Rose, IsAllOf}
 use Rattle.gib_edge.specs.Views.{Held, Has, ShelfView}
 use Rattle.gib_words.specs.declared.plan.Job.{Job}
+use Rattle.gib_app.specs.Cores.{layouts_asked}
 use Rattle.gib_app.specs.declared.inputs.Format.{Format}
 use Rattle.gib_app.specs.declared.inputs.Format.TheVariants.{Packed, Packable, Shown, Journaled}
 use Rattle.gib_words.specs.declared.plan.Options.{Options}
@@ -66,7 +67,7 @@ module _ (options : Options) (p : Program) (names : TextsView) (a b : Contents) 
   accepted_by None h = h
   accepted_by (Some Packed) h = packed_again h
   accepted_by (Some Packable) h = let P : List ℕ → Type 0 = λ bytes. (packed : List ℕ) × IsPackedBy options.repacks options.first_version p.tree names bytes packed in subst P (sym second) h
-  accepted_by (Some Shown) h = let P : List ℕ → Type 0 = λ bytes. (v : Datum) × IsShownValue p.tree names options.skips v bytes in subst P (sym second) h
+  accepted_by (Some Shown) h = let P : List ℕ → Type 0 = λ bytes. (v : Datum) × IsShownValue p.tree names (layouts_asked options p.tree) v bytes in subst P (sym second) h
   accepted_by (Some Journaled) h =
       let same : b ≡ a = same_parts a b second (behind (packed_again (h.value, h.is_input))) in
       let P : Contents → Type 0 = AcceptsBy (Some Journaled) options p names in

@@ -1,10 +1,11 @@
 -- What the inputs of each job are, which are accepted as that, and why others are refused.
 use Rattle.gib_base.specs.Texts.{TextsView}
-use Rattle.std.specs.Prelude.{Bool, ℕ, List, [], ◌∷◌, Option, None, Some, MatchOption, ⊤}
+use Rattle.std.specs.Prelude.{ℕ, List, [], ◌∷◌, Option, None, Some, MatchOption, ⊤}
 use Rattle.std.specs.Option.{option_map_or}
 use Rattle.gib_types.specs.Tree.{Datum}
 use Rattle.gib_base.specs.declared.token.Dialect.{Dialect}
 use Rattle.gib_base.specs.declared.token.Dialect.TheVariants as dialect
+use Rattle.gib_app.specs.Cores.{layouts_asked}
 use Rattle.gib_app.specs.declared.input_fault.InputFault.{InputFault}
 use Rattle.gib_app.specs.declared.inputs.Format.{Format}
 use Rattle.gib_app.specs.declared.inputs.Format.TheVariants.{Packed, Packable, Shown, Journaled}
@@ -77,18 +78,18 @@ abbrev pub inputs_of : Plan → List Input
 inputs_of plan = with_limits (option_map_or limits_of (format_of plan.job) []) plan.inputs
 
 -- The inputs are accepted as that.
--- An image is read by the layouts that the flag `--skips` chooses; what is packed, and how, the flags `--from` and `--v1` tell.
+-- An image is read by the layouts of the core that the options ask for; what is packed, and how, the flags `--from` and `--v1` tell.
 abbrev pub IsAccepted : Format → Options → Program → TextsView → Contents → Type 0
 IsAccepted Packed options p names given = (v : Datum) × IsInput p.tree names v given.second
 IsAccepted Packable options p names given = (packed : List ℕ) × IsPackedBy options.repacks options.first_version p.tree names given.second packed
-IsAccepted Shown options p names given = (v : Datum) × IsShownValue p.tree names options.skips v given.second
+IsAccepted Shown options p names given = (v : Datum) × IsShownValue p.tree names (layouts_asked options p.tree) v given.second
 IsAccepted Journaled options p names given = OnJournal p.tree names given.second (journal_in given) (Happens p.tree)
 
 -- The inputs are refused as that, for this fault.
 abbrev pub IsRefused : Format → Options → Program → TextsView → Contents → InputFault → Type 0
 IsRefused Packed options p names given fault = IsInputFault p.tree names given.second fault
 IsRefused Packable options p names given fault = IsPackFault options.repacks options.first_version p.tree names given.second fault
-IsRefused Shown options p names given fault = IsShowFault p.tree names options.skips given.second fault
+IsRefused Shown options p names given fault = IsShowFault p.tree names (layouts_asked options p.tree) given.second fault
 IsRefused Journaled options p names given fault = IsReplayFault p.tree names given.second (journal_in given) fault
 
 -- A job accepts its inputs, if it has some.

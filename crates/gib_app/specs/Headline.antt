@@ -1,5 +1,5 @@
 -- What a call of `run` promises, in the fewest words: a reader may begin here.
-use Rattle.std.specs.Prelude.{◌≡◌, ◌⊎◌, ⊤, ◌+◌, ◌≤◌, ◌<◌, Bool, ℕ, List, [], ◌∷◌, ◌++◌, length, Option, None, Some, Ok}
+use Rattle.std.specs.Prelude.{◌≡◌, ◌⊎◌, ⊤, ◌+◌, ◌≤◌, ◌<◌, ℕ, List, [], ◌∷◌, ◌++◌, length, Option, None, Some, Ok}
 use Rattle.gib_base.specs.Lexed.{Lexed}
 use Rattle.gib_types.specs.Tree.{Datum, HasType}
 use Rattle.gib_file.specs.Framed.{File, File2}
@@ -27,7 +27,7 @@ use Rattle.gib_app.specs.declared.status.Status.TheVariants as status
 use Rattle.gib_words.specs.Plan.{Document, Plan, bytes_in}
 use Rattle.gib_words.specs.Words.{asked}
 use Rattle.gib_print.specs.Image.{IsImageOf, chunk_count}
-use Rattle.gib_app.specs.Cores.{core_after, layouts_of}
+use Rattle.gib_app.specs.Cores.{core_asked, layouts_asked}
 use Rattle.gib_app.specs.Causes.{IsUnread}
 use Rattle.gib_app.specs.GenericText.{generic_text}
 
@@ -87,12 +87,12 @@ pub record IsResult (source input : List ℕ) (depth : ℕ) (output : List ℕ) 
 
 -- The bytes are an image of at most so many chunks, in which a value of the copy stands that is read as the one that the program
 -- means on the input within the depth.
-pub record IsResultImage (source input : List ℕ) (skips : Bool) (depth chunks : ℕ) (bytes : List ℕ) : Type 0 where
+pub record IsResultImage (source input : List ℕ) (options : Options) (bytes : List ℕ) : Type 0 where
   pub given : Given source input
   pub result : Datum
-  pub means : meant_in given depth ≡ Gives (read_in given result)
-  pub image : IsImageOf (layouts_of skips (copy_in given)) (output_type (copy_in given)) bytes result
-  pub few : chunk_count bytes ≤ chunks
+  pub means : meant_in given options.depth ≡ Gives (read_in given result)
+  pub image : IsImageOf (layouts_asked options (copy_in given)) (output_type (copy_in given)) bytes result
+  pub few : chunk_count bytes ≤ options.chunks
 
 -- The program means no value on the input within the depth, for this reason.
 pub record HasNoResult (source input : List ℕ) (depth : ℕ) (why : Reason) : Type 0 where
@@ -104,9 +104,9 @@ abbrev pub IsTooDeep : (source input : List ℕ) → (depth : ℕ) → Type 0
 IsTooDeep source input depth = HasNoResult source input depth Deep
 
 -- So many chunks may not be enough for what the run costs, where so many calls and forks may be nested.
-pub record IsTooBig (source input : List ℕ) (skips : Bool) (depth forks chunks : ℕ) : Type 0 where
+pub record IsTooBig (source input : List ℕ) (options : Options) (forks : ℕ) : Type 0 where
   pub given : Given source input
-  pub tight : Tight chunks (run_cost (core_after skips 4 (copy_in given)) depth forks given.value)
+  pub tight : Tight options.chunks (run_cost (core_asked options (copy_in given)) options.depth forks given.value)
 
 -- What the status of such a call tells. At 0 exactly the text of the value that the program means within the depth, with a line feed, was
 -- put behind what `out` had taken. It is 3 only where the meaning runs out of depth, and 9 only where that is a division by 0.

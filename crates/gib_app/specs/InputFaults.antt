@@ -24,13 +24,13 @@ use Rattle.gib_print.specs.Image.{IsFormed}
 use Rattle.gib_print.specs.ImageReading.{IsRefused}
 use Rattle.gib_app.specs.declared.input_fault.ImageFault.{ImageFault}
 use Rattle.gib_app.specs.declared.input_fault.ImageFault.TheVariants as image
-use Rattle.gib_app.specs.Cores.{layouts_of}
 use Rattle.gib_app.specs.Packing.{without_feed, IsPackable, IsFileOf}
 use Rattle.gib_app.specs.Running.{IsInput}
 use Rattle.gib_app.specs.Replaying.{IsJournal, IsNotEnabled, IsNotEnded}
 use Rattle.gib_locked.specs.declared.journal.Line.{Line}
 use Rattle.gib_locked.specs.declared.settings.Settings.{Settings}
 use Rattle.gib_locked.specs.JournalReading.{IsRefusedAt as IsRefusedLine}
+use Rattle.gib_types.specs.Layout.{LaidOut}
 
 -- The header has no fault, and what the file says of its types differs from the type's description first at this place.
 pub record IsTypesFault (table : Table) (names : List (List ℕ)) (ty : Ty) (bytes : List ℕ) (at : ℕ) : Type 0 where
@@ -79,20 +79,20 @@ abbrev pub HasImageSign : List ℕ → Type 0
 HasImageSign bytes = take 4 bytes ≡ 71 ∷ 73 ∷ 66 ∷ 73 ∷ []
 
 -- The first fault, in reading order, of bytes that are to be an image of a value of the type of main's result.
-abbrev pub IsImageFault : ProgramTree → (skips : Bool) → List ℕ → ImageFault → Type 0
-IsImageFault p skips bytes image.Header = HasImageSign bytes × (IsFormed (output_type p) bytes → ⊥)
-IsImageFault p skips bytes (image.Item at) = IsRefused (layouts_of skips p) (output_type p) bytes (reading.Bad at)
-IsImageFault p skips bytes image.Long = IsRefused (layouts_of skips p) (output_type p) bytes reading.Long
+abbrev pub IsImageFault : ProgramTree → (laid : LaidOut) → List ℕ → ImageFault → Type 0
+IsImageFault p laid bytes image.Header = HasImageSign bytes × (IsFormed (output_type p) bytes → ⊥)
+IsImageFault p laid bytes (image.Item at) = IsRefused laid (output_type p) bytes (reading.Bad at)
+IsImageFault p laid bytes image.Long = IsRefused laid (output_type p) bytes reading.Long
 
 -- The file that is to be shown is refused for this fault: it is too long, begins neither as a packed file nor as an image, or
 -- is none.
-abbrev pub IsShowFault : ProgramTree → TextsView → (skips : Bool) → List ℕ → InputFault → Type 0
-IsShowFault p names skips bytes (Long most) = IsTooLong bytes most
-IsShowFault p names skips bytes (Packed (Header header.Magic)) = (length bytes ≤ 268435480) × IsFirstFault bytes header.Magic × (HasImageSign bytes → ⊥)
-IsShowFault p names skips bytes (Packed fault) = IsPackedFault p names bytes fault
-IsShowFault p names skips bytes (Image fault) = (length bytes ≤ 268435480) × IsImageFault p skips bytes fault
-IsShowFault p names skips bytes (Text place) = ⊥
-IsShowFault p names skips bytes (Journal fault) = ⊥
+abbrev pub IsShowFault : ProgramTree → TextsView → (laid : LaidOut) → List ℕ → InputFault → Type 0
+IsShowFault p names laid bytes (Long most) = IsTooLong bytes most
+IsShowFault p names laid bytes (Packed (Header header.Magic)) = (length bytes ≤ 268435480) × IsFirstFault bytes header.Magic × (HasImageSign bytes → ⊥)
+IsShowFault p names laid bytes (Packed fault) = IsPackedFault p names bytes fault
+IsShowFault p names laid bytes (Image fault) = (length bytes ≤ 268435480) × IsImageFault p laid bytes fault
+IsShowFault p names laid bytes (Text place) = ⊥
+IsShowFault p names laid bytes (Journal fault) = ⊥
 
 -- The bytes are what is packed of a value, and the file that is made of it has more than 16,777,216 bytes.
 pub record HasLongFile (repacks first : Bool) (p : ProgramTree) (names : TextsView) (bytes : List ℕ) : Type 0 where

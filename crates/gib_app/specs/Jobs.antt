@@ -11,7 +11,7 @@ use Rattle.gib_words.specs.Plan.{Contents}
 use Rattle.gib_app.specs.Running.{Program, IsOutput, IsSummary, IsRunImage, IsPackedResult, IsLongResult, MeansNone, FillsUpBy, IsShown}
 use Rattle.gib_app.specs.Rows.{Way, Plainly, ForFiles, ForSummary, ForJournal, ForPlaces, Row, Says, Evaluates, PacksValue, ShowsFile, FollowsJournal, row, ok_line}
 use Rattle.gib_app.specs.Packing.{IsPackedBy}
-use Rattle.gib_app.specs.Cores.{core_after}
+use Rattle.gib_app.specs.Cores.{core_asked, layouts_asked}
 use Rattle.gib_app.specs.Replaying.{journal_in, IsTrace, OnJournal, IsShownEnd, IsValueless, LacksChunks}
 
 -- How a job ends: with a text that is printed, or with no value to print.
@@ -25,10 +25,10 @@ OnlyPrints P file (Prints text) = (file ≡ None) × P text
 OnlyPrints P file (NoValue reason) = ⊥
 
 -- Where an image is asked for, it is the file that a run makes; else there is none.
-abbrev pub MakesImage : Bool → ProgramTree → TextsView → (skips : Bool) → (depth chunks : ℕ) → List ℕ → Option (List ℕ) → Type 0
-MakesImage false p names skips depth chunks input file = file ≡ None
-MakesImage true p names skips depth chunks input None = ⊥
-MakesImage true p names skips depth chunks input (Some bytes) = IsRunImage p names skips depth chunks input bytes
+abbrev pub MakesImage : Bool → ProgramTree → TextsView → Options → List ℕ → Option (List ℕ) → Type 0
+MakesImage false p names options input file = file ≡ None
+MakesImage true p names options input None = ⊥
+MakesImage true p names options input (Some bytes) = IsRunImage p names options input bytes
 
 -- `pack`: the packed file of the value whose text, or whose packed file, this is.
 abbrev pub Packs : ProgramTree → TextsView → Options → List ℕ → Option (List ℕ) → End → Type 0
@@ -43,7 +43,7 @@ MakesTrace p names options input (Some bytes) = IsTrace p names options input by
 
 -- The file that an evaluation makes, where it has a value or not: an image goes with a value alone, a journal with either.
 abbrev pub MakesOf : Way → (valued : Bool) → ProgramTree → TextsView → Options → List ℕ → Option (List ℕ) → Type 0
-MakesOf ForFiles true p names options input file = MakesImage options.image p names options.skips options.depth options.chunks input file
+MakesOf ForFiles true p names options input file = MakesImage options.image p names options input file
 MakesOf ForJournal valued p names options input file = MakesTrace p names options input file
 MakesOf way valued p names options input file = file ≡ None
 
@@ -56,7 +56,7 @@ IsSaid way p names options input text = IsOutput p names options.depth input tex
 abbrev pub core_of : Way → Options → Program → Option CoreTree
 core_of Plainly options p = None
 core_of ForPlaces options p = p.located
-core_of way options p = Some (core_after options.skips 4 p.tree)
+core_of way options p = Some (core_asked options p.tree)
 
 -- How many forks a run may nest: with one worker each `par` runs in place, but where its journal is kept.
 abbrev pub forks_of : Way → Options → ℕ
@@ -91,7 +91,7 @@ abbrev pub DoesBy : Row → Options → Program → TextsView → Contents → O
 DoesBy (Says said) options p names given = OnlyPrints (λ text. text ≡ said options p.tree names)
 DoesBy (Evaluates way) options p names given = Ran way (core_of way options p) p.tree names options given.second
 DoesBy PacksValue options p names given = Packs p.tree names options given.second
-DoesBy ShowsFile options p names given = OnlyPrints (IsShown p.tree names options.skips given.second)
+DoesBy ShowsFile options p names given = OnlyPrints (IsShown p.tree names (layouts_asked options p.tree) given.second)
 DoesBy FollowsJournal options p names given = Replays p.tree names options.image given
 
 -- The same of a job.
@@ -128,7 +128,7 @@ Means p names options input = Ran Plainly None p names options input
 
 -- `run`.
 abbrev pub Runs : ProgramTree → TextsView → Options → List ℕ → Option (List ℕ) → End → Type 0
-Runs p names options input = Ran ForFiles (Some (core_after options.skips 4 p)) p names options input
+Runs p names options input = Ran ForFiles (Some (core_asked options p)) p names options input
 
 -- Both files of a run and its end.
 abbrev pub RunsBoth : ProgramTree → TextsView → Options → List ℕ → (file packed : Option (List ℕ)) → End → Type 0
@@ -136,11 +136,11 @@ RunsBoth p names options input file packed end = Runs p names options input file
 
 -- `gen`.
 abbrev pub Sums : ProgramTree → TextsView → Options → List ℕ → Option (List ℕ) → End → Type 0
-Sums p names options input = Ran ForSummary (Some (core_after options.skips 4 p)) p names options input
+Sums p names options input = Ran ForSummary (Some (core_asked options p)) p names options input
 
 -- `trace`.
 abbrev pub Traces : ProgramTree → TextsView → Options → List ℕ → Option (List ℕ) → End → Type 0
-Traces p names options input = Ran ForJournal (Some (core_after options.skips 4 p)) p names options input
+Traces p names options input = Ran ForJournal (Some (core_asked options p)) p names options input
 
 -- `local`.
 abbrev pub RunsLocated : Program → TextsView → Options → List ℕ → Option (List ℕ) → End → Type 0

@@ -1,6 +1,6 @@
 -- What a run of the machine on a packed file leaves: a root in region memory, or why there is none.
 use Rattle.gib_base.specs.Texts.{TextsView}
-use Rattle.std.specs.Prelude.{◌≡◌, Bool, ℕ, List, Result, Ok, Err, MatchResult, ⊤}
+use Rattle.std.specs.Prelude.{◌≡◌, ℕ, List, Result, Ok, Err, MatchResult, ⊤}
 use Rattle.gib_types.specs.declared.table.Ty.{Ty}
 use Rattle.gib_types.specs.Layout.{LaidOut}
 use Rattle.gib_types.specs.Tree.{Datum}
@@ -30,8 +30,9 @@ use Rattle.gib_app.specs.declared.machine_run.RunStop.TheVariants as stop
 use Rattle.gib_app.specs.declared.made.Valued.{Valued}
 use Rattle.gib_app.specs.declared.stop.Stop.{Stop}
 use Rattle.gib_app.specs.declared.stop.Stop.TheVariants.{Memory as Wanted}
-use Rattle.gib_app.specs.Cores.{core_after}
+use Rattle.gib_app.specs.Cores.{core_asked}
 use Rattle.gib_app.specs.Running.{IsInput, MeansNone, FillsUpBy}
+use Rattle.gib_words.specs.declared.plan.Options.{Options}
 
 -- The bytes of a memory.
 abbrev pub cells_of : SoleMem → Store
@@ -70,8 +71,8 @@ abbrev pub IsMeantAs : Ty → Valued → Type 0
 IsMeantAs ty value = (m : IsMeant value) × (ty ≡ output_type m.program)
 
 -- What a run of a program on a value costs at most, where so many calls and forks may be nested: that of the core that the passes make.
-abbrev pub program_cost : ProgramTree → (skips : Bool) → (depth forks : ℕ) → Datum → Cost
-program_cost p skips depth forks v = run_cost (core_after skips 4 p) depth forks v
+abbrev pub program_cost : ProgramTree → Options → (forks : ℕ) → Datum → Cost
+program_cost p options forks v = run_cost (core_asked options p) options.depth forks v
 
 -- Why a program has no value on an input by a run of this core: it means none, for a reason, or so many chunks may not be enough.
 abbrev pub LacksValueBy : CoreTree → ProgramTree → TextsView → (depth forks chunks : ℕ) → (input : List ℕ) → Reason → Type 0
@@ -80,8 +81,8 @@ LacksValueBy core p names depth forks chunks input reason.Full = FillsUpBy core 
 LacksValueBy core p names depth forks chunks input reason.Long = ⊥
 
 -- The same by the core that the passes make.
-abbrev pub LacksValue : ProgramTree → TextsView → (skips : Bool) → (depth forks chunks : ℕ) → (input : List ℕ) → Reason → Type 0
-LacksValue p names skips depth forks chunks input = LacksValueBy (core_after skips 4 p) p names depth forks chunks input
+abbrev pub LacksValue : ProgramTree → TextsView → Options → (forks : ℕ) → (input : List ℕ) → Reason → Type 0
+LacksValue p names options forks input = LacksValueBy (core_asked options p) p names options.depth forks options.chunks input
 
 -- This core can run in a program's place: its values are of the program's types, and it means what the program means. The names of the
 -- program's constructors are there.

@@ -14,7 +14,7 @@ use Rattle.gib_app.specs.declared.made.End.TheVariants as ends
 use Rattle.gib_app.specs.declared.made.Reason.TheVariants.{Meant, Full, Long}
 use Rattle.gib_app.specs.declared.made.Valued.{Valued}
 use Rattle.gib_words.specs.declared.plan.Options.{Options}
-use Rattle.gib_app.specs.Cores.{core_after, layouts_of}
+use Rattle.gib_app.specs.Cores.{core_asked, layouts_asked}
 use Rattle.gib_app.specs.MachineRun.{IsMeantBy, StandsMeant}
 use Rattle.gib_app.specs.Replaying.{IsImageFile}
 use Rattle.gib_app.specs.Rows.{Row, Evaluates, ForFiles, ForSummary, ForPlaces}
@@ -23,13 +23,13 @@ use Rattle.gib_app.specs.Running.{Program, text_line}
 -- In a memory of no more chunks than are asked for, the value that the program means on the input stands for the root, with heads that lie as
 -- those of the program's core.
 pub record Remains (p : ProgramTree) (names : TextsView) (options : Options) (input : List ℕ) (memory : Memory) (place : Root) : Type 0 where
-  pub stands : StandsMeant p names options.depth input (layouts_of options.skips p) memory.cells place
+  pub stands : StandsMeant p names options.depth input (layouts_asked options p) memory.cells place
   pub bounded : IsBounded memory
   pub limit : memory.limit ≤ options.chunks
 
 -- That memory as the code of the program's core left it, with its root.
 pub record IsLeft (p : ProgramTree) (names : TextsView) (options : Options) (input : List ℕ) (value : Valued) : Type 0 where
-  pub code : value.ran.lowered.code ≡ lower_program (core_after options.skips 4 p)
+  pub code : value.ran.lowered.code ≡ lower_program (core_asked options p)
   pub remains : Remains p names options input (sole_memory value.ran.memory) value.ran.root
 
 -- The text is that of the value in such a memory; where an image is asked for, the file is that of this very memory.
@@ -38,14 +38,14 @@ pub record IsShownOf (p : ProgramTree) (names : TextsView) (options : Options) (
   pub place : Root
   pub remains : Remains p names options input memory place
   pub is_text : text ≡ text_line p names remains.stands.result
-  pub is_file : IsImageFile options.image (layouts_of options.skips p) (output_type p) memory place remains.stands.result file
+  pub is_file : IsImageFile options.image (layouts_asked options p) (output_type p) memory place remains.stands.result file
 
 -- Where an image is asked for, the file is that of such a memory.
 pub record IsImagedOf (p : ProgramTree) (names : TextsView) (options : Options) (input : List ℕ) (file : Option (List ℕ)) : Type 0 where
   pub memory : Memory
   pub place : Root
   pub remains : Remains p names options input memory place
-  pub is_file : IsImageFile options.image (layouts_of options.skips p) (output_type p) memory place remains.stands.result file
+  pub is_file : IsImageFile options.image (layouts_asked options p) (output_type p) memory place remains.stands.result file
 
 -- What a run makes comes from the region memory that it left: the value is printed from there; or its text was made before a file is
 -- written, and then an image is of that memory, as it is where the packed file of the value would be too long.

@@ -33,6 +33,7 @@ use Rattle.gib_words.specs.declared.plan.Options.{Options}
 use Rattle.gib_app.specs.Cores.{core_after, layouts_of}
 use Rattle.gib_words.specs.Plan.{Contents}
 use Rattle.gib_app.specs.Running.{IsInput, text_line}
+use Rattle.gib_core.specs.Tree.{CoreTree}
 
 -- The first of the further inputs, or no bytes where there is none.
 abbrev pub first_further : List (List ℕ) → List ℕ
@@ -49,13 +50,21 @@ pub record IsJournal (settings : Settings) (lines : List Line) (bytes : List ℕ
   pub are : are_lines lines ≡ true
   pub text_is : bytes ≡ journal_text settings lines
 
--- The code that runs.
+-- The core that runs.
+abbrev pub core_for : ProgramTree → Settings → CoreTree
+core_for p settings = core_after settings.access 4 p
+
+-- Its layouts.
+abbrev pub layouts_for : ProgramTree → Settings → LaidOut
+layouts_for p settings = layouts_of settings.access p
+
+-- Its code.
 abbrev pub code_for : ProgramTree → Settings → CodeTree
-code_for p settings = lower_program (core_after settings.skips 4 p)
+code_for p settings = lower_program (core_for p settings)
 
 -- What loading makes of a memory in which no chunk is drawn.
 abbrev pub loaded_for : ProgramTree → Settings → Datum → Placement
-loaded_for p settings v = placed_in (layouts_of settings.skips p) (nothing settings.chunks) v
+loaded_for p settings v = placed_in (layouts_for p settings) (nothing settings.chunks) v
 
 -- The value can be loaded: it needs no more chunks than there are.
 abbrev pub GoesIn : ProgramTree → Settings → Datum → Type 0
@@ -64,7 +73,7 @@ GoesIn p settings v = (loaded_for p settings v).memory.drawn ≤ settings.chunks
 -- The weave of the root alone, on what loading leaves.
 abbrev pub start_on : ProgramTree → Settings → Placement → Weave
 start_on p settings loaded =
-    weave_start (core_after settings.skips 4 p) (code_for p settings) loaded.memory (word_of loaded.root) settings.depth settings.fork loaded.tails
+    weave_start (core_for p settings) (code_for p settings) loaded.memory (word_of loaded.root) settings.depth settings.fork loaded.tails
 
 -- The same on a value.
 abbrev pub start_for : ProgramTree → Settings → Datum → Weave
@@ -75,7 +84,7 @@ start_for p settings v = start_on p settings (loaded_for p settings v)
 pub record IsEndOf (p : ProgramTree) (v : Datum) (settings : Settings) (lines : List Line) (memory : Memory) (a : Answer) : Type 0 where
   pub goes_in : GoesIn p settings v
   pub answered : IsAnswered (code_for p settings) (start_for p settings v) lines memory a
-  pub means : IsAnswer (layouts_of settings.skips p) memory.cells (results.One (output_type p)) (run p settings.depth v) a
+  pub means : IsAnswer (layouts_for p settings) memory.cells (results.One (output_type p)) (run p settings.depth v) a
 
 -- The value cannot be loaded, or an event draws where all chunks are drawn.
 abbrev pub LacksChunks : ProgramTree → Datum → Settings → List Line → Type 0
@@ -117,7 +126,7 @@ pub record IsSetBy (options : Options) (settings : Settings) : Type 0 where
   pub depth : settings.depth ≡ options.depth
   pub chunks : settings.chunks ≡ options.chunks
   pub fork : settings.fork ≡ options.fork
-  pub skips : settings.skips ≡ options.skips
+  pub access : settings.access ≡ options.access
 
 -- The bytes are the text of a journal, of whatever length, with the settings of these options: on the input its events lead to an
 -- end.
@@ -150,7 +159,7 @@ pub record IsShownEnd (p : ProgramTree) (names : TextsView) (image : Bool) (file
   pub is_place : root_in ends_with ≡ Ok place
   pub means : run p settings.depth v ≡ Gives result
   pub is_text : text ≡ text_line p names result
-  pub is_file : IsImageFile image (layouts_of settings.skips p) (output_type p) memory place result file
+  pub is_file : IsImageFile image (layouts_for p settings) (output_type p) memory place result file
 
 -- They lead to a root that ended without a value, for this reason.
 pub record IsValueless (p : ProgramTree) (why : Reason) (v : Datum) (settings : Settings) (lines : List Line) : Type 0 where

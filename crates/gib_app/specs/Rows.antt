@@ -8,7 +8,7 @@ use Rattle.gib_lower.specs.Lowering.{lower_program}
 use Rattle.gib_words.specs.declared.plan.Job.{Job}
 use Rattle.gib_words.specs.declared.plan.Job.TheVariants.{Run, Plain, Check, Core, Code, Pack, Show, Gen, Trace, Replay, Local}
 use Rattle.gib_words.specs.declared.plan.Options.{Options}
-use Rattle.gib_app.specs.Cores.{core_after}
+use Rattle.gib_app.specs.Cores.{core_after, core_asked}
 
 -- What is printed where all is well and nothing else is to be said.
 abbrev pub ok_line : List ℕ
@@ -37,8 +37,8 @@ abbrev pub row : Job → Row
 row Run = Evaluates ForFiles
 row Plain = Evaluates Plainly
 row Check = Says (λ options p names. ok_line)
-row Core = Says (λ options p names. core_text names.long (core_after options.skips options.pass p))
-row Code = Says (λ options p names. listing_text names.long (lower_program (core_after options.skips 4 p)))
+row Core = Says (λ options p names. core_text names.long (core_after options.access options.pass p))
+row Code = Says (λ options p names. listing_text names.long (lower_program (core_asked options p)))
 row Pack = PacksValue
 row Show = ShowsFile
 row Gen = Evaluates ForSummary

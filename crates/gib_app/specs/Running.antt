@@ -1,6 +1,6 @@
 -- What a source and a packed file are, and what a program means on a file.
 use Rattle.gib_base.specs.Texts.{TextsView, plain_texts}
-use Rattle.std.specs.Prelude.{◌≡◌, ◌⊎◌, Bool, ℕ, ◌+◌, ◌≤◌, ◌<◌, List, [], ◌∷◌, ◌++◌, length, Ok, Option, None, Some}
+use Rattle.std.specs.Prelude.{◌≡◌, ◌⊎◌, ℕ, ◌+◌, ◌≤◌, ◌<◌, List, [], ◌∷◌, ◌++◌, length, Ok, Option, None, Some}
 use Rattle.gib_base.specs.Lexed.{Lexed}
 use Rattle.gib_base.specs.declared.token.Dialect.{Dialect}
 use Rattle.gib_base.specs.declared.token.Dialect.TheVariants.{Source, Located}
@@ -28,7 +28,9 @@ use Rattle.gib_core.specs.Tight.{Tight}
 use Rattle.gib_core.specs.Tree.{CoreTree}
 use Rattle.gib_local.specs.Counting.{broken_text}
 use Rattle.gib_local.specs.Local.{Local}
-use Rattle.gib_app.specs.Cores.{core_after, layouts_of}
+use Rattle.gib_app.specs.Cores.{core_asked, layouts_asked}
+use Rattle.gib_types.specs.Layout.{LaidOut}
+use Rattle.gib_words.specs.declared.plan.Options.{Options}
 
 -- This is the copy of a program with these names, for the types with which its declarations are used: all uses are within the
 -- limits. Values have the short texts of its names; cores, code and descriptions the long ones.
@@ -110,13 +112,13 @@ pub record IsSummary (p : ProgramTree) (names : TextsView) (number levels depth 
 
 -- The bytes are an image in which the value stands that the program means on the input within the depth, and have at most so many
 -- chunks.
-pub record IsRunImage (p : ProgramTree) (names : TextsView) (skips : Bool) (depth chunks : ℕ) (input bytes : List ℕ) : Type 0 where
+pub record IsRunImage (p : ProgramTree) (names : TextsView) (options : Options) (input bytes : List ℕ) : Type 0 where
   pub value : Datum
   pub result : Datum
   pub is_input : IsInput p names value input
-  pub means : run p depth value ≡ Gives result
-  pub image : IsImageOf (layouts_of skips p) (output_type p) bytes result
-  pub few : chunk_count bytes ≤ chunks
+  pub means : run p options.depth value ≡ Gives result
+  pub image : IsImageOf (layouts_asked options p) (output_type p) bytes result
+  pub few : chunk_count bytes ≤ options.chunks
 
 -- The bytes are the packed file of version 2 of the value that the program means on the input within the depth, and are no more than
 -- 16,777,216.
@@ -151,16 +153,16 @@ pub record FillsUpBy (core : CoreTree) (p : ProgramTree) (names : TextsView) (de
   pub tight : Tight chunks (run_cost core depth forks value)
 
 -- The same of the core that the passes make of the program.
-abbrev pub FillsUp : ProgramTree → TextsView → (skips : Bool) → (depth forks chunks : ℕ) → List ℕ → Type 0
-FillsUp p names skips depth forks chunks input = FillsUpBy (core_after skips 4 p) p names depth forks chunks input
+abbrev pub FillsUp : ProgramTree → TextsView → Options → (forks : ℕ) → List ℕ → Type 0
+FillsUp p names options forks input = FillsUpBy (core_asked options p) p names options.depth forks options.chunks input
 
 -- A file whose value is shown: the packed file of a value of the type of main's parameter; or an image of one of the type of
 -- main's result, in which it is read in at most 16,777,216 items.
-abbrev pub IsShownValue : ProgramTree → TextsView → (skips : Bool) → Datum → List ℕ → Type 0
-IsShownValue p names skips v file = IsInput p names v file ⊎ IsRead (layouts_of skips p) (output_type p) file v
+abbrev pub IsShownValue : ProgramTree → TextsView → (laid : LaidOut) → Datum → List ℕ → Type 0
+IsShownValue p names laid v file = IsInput p names v file ⊎ IsRead laid (output_type p) file v
 
 -- The text of the value of such a file, with a line feed.
-pub record IsShown (p : ProgramTree) (names : TextsView) (skips : Bool) (file output : List ℕ) : Type 0 where
+pub record IsShown (p : ProgramTree) (names : TextsView) (laid : LaidOut) (file output : List ℕ) : Type 0 where
   pub value : Datum
-  pub is_value : IsShownValue p names skips value file
+  pub is_value : IsShownValue p names laid value file
   pub is_text : output ≡ text_line p names value

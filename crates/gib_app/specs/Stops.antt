@@ -36,6 +36,7 @@ use Rattle.gib_app.specs.InputFaults.{IsFileFault, IsInputFault, IsReplayFault, 
 use Rattle.gib_app.specs.Formats.{inputs_of, dialect_of, most_of, Accepts, Refuses}
 use Rattle.gib_app.specs.Causes.{AreFurther, AreGiven, AreReached, OnSource, OnReached, IsUnread, AreUnread, first_of, further_of, FailsToRead, FailsToWrite}
 use Rattle.gib_app.specs.Replaying.{journal_in, OnJournal, Happens}
+use Rattle.gib_types.specs.Layout.{LaidOut}
 
 -- What a program is run with, and its values are read and written with: its bodies are of the grammar, the names of its
 -- constructors are held, and are words, and those of one type are different.
@@ -143,8 +144,8 @@ abbrev pub IsRunStop : ProgramTree → TextsView → List ℕ → Stop → Type 
 IsRunStop p names input = IsRefusal (λ fault. IsInputFault p names input fault × (((v : Datum) × IsInput p names v input) → ⊥))
 
 -- Why a file is not shown.
-abbrev pub IsShowStop : ProgramTree → TextsView → (skips : Bool) → List ℕ → Stop → Type 0
-IsShowStop p names skips file = IsRefusal (λ fault. IsShowFault p names skips file fault × (((v : Datum) × IsShownValue p names skips v file) → ⊥))
+abbrev pub IsShowStop : ProgramTree → TextsView → (laid : LaidOut) → List ℕ → Stop → Type 0
+IsShowStop p names laid file = IsRefusal (λ fault. IsShowFault p names laid file fault × (((v : Datum) × IsShownValue p names laid v file) → ⊥))
 
 -- Why no packed file is made.
 abbrev pub IsPackStop : (repacks first : Bool) → ProgramTree → TextsView → List ℕ → Stop → Type 0

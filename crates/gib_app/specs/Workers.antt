@@ -1,6 +1,6 @@
 -- What a run by workers leaves, and what the events of a journal leave.
 use Rattle.gib_base.specs.Texts.{TextsView}
-use Rattle.std.specs.Prelude.{◌≡◌, ◌≤◌, ◌⊎◌, ℕ, List, Bool, true}
+use Rattle.std.specs.Prelude.{◌≡◌, ◌≤◌, ◌⊎◌, ℕ, List, true}
 use Rattle.gib_types.specs.Layout.{LaidOut}
 use Rattle.gib_types.specs.Loaded.{Loaded}
 use Rattle.gib_types.specs.Tree.{Datum}
@@ -35,11 +35,11 @@ use Rattle.gib_app.specs.declared.made.Reason.TheVariants as reason
 use Rattle.gib_app.specs.declared.made.Reason.TheVariants.{Meant, Full}
 use Rattle.gib_words.specs.declared.plan.Options.{Options}
 use Rattle.gib_app.specs.declared.stop.Stop.{Stop}
-use Rattle.gib_app.specs.Cores.{core_after, layouts_of}
 use Rattle.gib_app.specs.InputFaults.{IsInputFault, IsReplayFault}
-use Rattle.gib_app.specs.Replaying.{Happens, IsEndOf, IsJournal, IsSetBy, LacksChunks, OnJournal}
+use Rattle.gib_app.specs.Replaying.{Happens, IsEndOf, IsJournal, IsSetBy, LacksChunks, OnJournal, layouts_for}
 use Rattle.gib_app.specs.Running.{FillsUp, IsInput}
 use Rattle.gib_app.specs.Stops.{IsRefusal, StopsBy}
+use Rattle.gib_core.specs.Low.{laid_of}
 
 -- A value was loaded into so many chunks, none of which was drawn. A run may start there.
 pub record IsLoaded (l : LoweredParts) (chunks : ℕ) (v : Datum) (memory : Memory) (place : Root) (tails : List ℕ) : Type 0 where
@@ -62,9 +62,9 @@ pub record Engine : Type 0 where
 abbrev pub engine_of : LoweredParts → Engine
 engine_of l = record { core = core_of l.core; code = l.code; laid = l.code.laid }
 
--- What runs for a program.
-abbrev pub engine_for : ProgramTree → (skips : Bool) → Engine
-engine_for p skips = record { core = core_after skips 4 p; code = lower_program (core_after skips 4 p); laid = layouts_of skips p }
+-- What runs for a core.
+abbrev pub engine_for : CoreTree → Engine
+engine_for core = record { core = core; code = lower_program core; laid = laid_of core }
 
 -- What loading a value leaves, in a memory of so many chunks.
 abbrev pub loaded_by : Engine → Settings → Datum → Placement
@@ -135,7 +135,7 @@ pub record IsTraced (p : ProgramTree) (names : TextsView) (options : Options) (i
 abbrev pub IsTraceStop : ProgramTree → TextsView → Options → List ℕ → Stop → Type 0
 IsTraceStop p names options input =
     StopsBy (λ fault. ⊥) (λ name. ⊥) (λ fault. IsInputFault p names input fault × (((v : Datum) × IsInput p names v input) → ⊥))
-    (OnlyFull (FillsUp p names options.skips options.depth options.fork options.chunks input)) (λ name. ⊥)
+    (OnlyFull (FillsUp p names options options.fork input)) (λ name. ⊥)
 
 -- The fault is that of a text that is no journal, at its first line that cannot stand in one.
 abbrev pub IsBadLine : List ℕ → InputFault → Type 0
@@ -158,7 +158,7 @@ pub record IsReplayed (p : ProgramTree) (names : TextsView) (input bytes : List 
   pub lines : List Line
   pub is_input : IsInput p names value input
   pub is_journal : IsJournal settings lines bytes
-  pub laid_is : laid ≡ layouts_of settings.skips p
+  pub laid_is : laid ≡ layouts_for p settings
   pub ended : IsEndOf p value settings lines memory a
 
 -- Why a replay leaves no answer.

@@ -30,7 +30,7 @@ pub fn run_prints_what_is_meant()
     ensures image { (tells : Bool) (words : List (List ℕ)) (before now : ShelfView) (out out_now : SinkView) (source input : List ℕ) (options : OptionValues)
         (front said name : List ℕ)
         → (r : IsRun words before out source input options front) → r.image ≡ Some name → IsEnding tells words before now out out_now Status.Done said
-        → (bytes : List ℕ) × (now.kept name ≡ told tells bytes) × IsResultImage source input options.skips options.depth options.chunks bytes }
+        → (bytes : List ℕ) × (now.kept name ≡ told tells bytes) × IsResultImage source input options bytes }
     // Status 3 or 9: the program means no value, for the reason that the status tells: its meaning runs out of depth, or is a division by 0.
     ensures valueless { (tells : Bool) (words : List (List ℕ)) (before now : ShelfView) (out out_now : SinkView) (source input : List ℕ)
         (options : OptionValues) (front said : List ℕ) (why : Why)
@@ -40,7 +40,7 @@ pub fn run_prints_what_is_meant()
     ensures full { (tells : Bool) (words : List (List ℕ)) (before now : ShelfView) (out out_now : SinkView) (source input : List ℕ) (options : OptionValues)
         (front said : List ℕ)
         → IsRun words before out source input options front → IsEnding tells words before now out out_now Status.Full said
-        → IsTooBig source input options.skips options.depth (run_forks options) options.chunks }
+        → IsTooBig source input options (run_forks options) }
 
     // The other way round: where the program means a value, the status is 0 and no other; where it means none, the status tells the
     // reason; unless memory or its chunks run out, or a file or `out` failed.
@@ -58,7 +58,7 @@ pub fn run_prints_what_is_meant()
     ensures fits { (tells : Bool) (words : List (List ℕ)) (before now : ShelfView) (out out_now : SinkView) (source input : List ℕ) (options : OptionValues)
         (front said : List ℕ) (status : Statuses)
         → (r : IsRun words before out source input options front) → NoneFailed r.program r.packed r.image before now out out_now → Given source input
-        → (IsTooBig source input options.skips options.depth (run_forks options) options.chunks → ⊥)
+        → (IsTooBig source input options (run_forks options) → ⊥)
         → IsEnding tells words before now out out_now status said
         → (status ≡ Status.Done) ⊎ ((why : Why) × (status ≡ Status.NoValue why)) ⊎ (status ≡ Status.Memory) }
 
@@ -95,7 +95,7 @@ pub fn run_packs_what_is_meant()
         (front said name : List ℕ)
         → (r : IsPackingRun words before out source input options front) → r.image ≡ Some name → (r.pack ≡ name → ⊥)
         → IsEnding tells words before now out out_now Status.Done said
-        → (bytes : List ℕ) × (now.kept name ≡ told tells bytes) × IsResultImage source input options.skips options.depth options.chunks bytes }
+        → (bytes : List ℕ) × (now.kept name ≡ told tells bytes) × IsResultImage source input options bytes }
     // Status 10: the packed file would be too long. The image was written, where one is asked for, and nothing under another name.
     ensures long { (tells : Bool) (words : List (List ℕ)) (before now : ShelfView) (out out_now : SinkView) (source input : List ℕ) (options : OptionValues)
         (front said : List ℕ)
@@ -104,7 +104,7 @@ pub fn run_packs_what_is_meant()
     ensures long_image { (tells : Bool) (words : List (List ℕ)) (before now : ShelfView) (out out_now : SinkView) (source input : List ℕ)
         (options : OptionValues) (front said name : List ℕ)
         → (r : IsPackingRun words before out source input options front) → r.image ≡ Some name → IsEnding tells words before now out out_now Status.Long said
-        → (bytes : List ℕ) × (now.kept name ≡ told tells bytes) × IsResultImage source input options.skips options.depth options.chunks bytes }
+        → (bytes : List ℕ) × (now.kept name ≡ told tells bytes) × IsResultImage source input options bytes }
     ensures unwritten { (tells : Bool) (words : List (List ℕ)) (before now : ShelfView) (out out_now : SinkView) (source input : List ℕ)
         (options : OptionValues) (front said name : List ℕ)
         → (r : IsPackingRun words before out source input options front) → (r.image ≡ Some name → ⊥)
@@ -117,7 +117,7 @@ pub fn run_packs_what_is_meant()
     ensures full { (tells : Bool) (words : List (List ℕ)) (before now : ShelfView) (out out_now : SinkView) (source input : List ℕ) (options : OptionValues)
         (front said : List ℕ)
         → IsPackingRun words before out source input options front → IsEnding tells words before now out out_now Status.Full said
-        → IsTooBig source input options.skips options.depth (run_forks options) options.chunks }
+        → IsTooBig source input options (run_forks options) }
 
     // The other way round: where the program means a value the status is 0 where its packed file is not too long, and 10 where it is; where
     // it means none, the status tells the reason; unless memory or its chunks run out, or a file or `out` failed.
@@ -141,7 +141,7 @@ pub fn run_packs_what_is_meant()
         (front said : List ℕ) (status : Statuses)
         → (r : IsPackingRun words before out source input options front) → NoWriteFailed r.program r.packed r.image r.pack before now out out_now
         → Given source input
-        → (IsTooBig source input options.skips options.depth (run_forks options) options.chunks → ⊥)
+        → (IsTooBig source input options (run_forks options) → ⊥)
         → IsEnding tells words before now out out_now status said
         → (status ≡ Status.Done) ⊎ ((why : Why) × (status ≡ Status.NoValue why)) ⊎ (status ≡ Status.Memory) ⊎ (status ≡ Status.Long) }
 

@@ -5,7 +5,7 @@ ghost use Rattle.std.specs.Prelude.{◌≡◌, ◌≤◌, ◌↔◌, IsTrue, len
 ghost use Rattle.gib_print.specs.ImageReading.{IsRead};
 ghost use Rattle.gib_syntax.specs.Parts.{program_of};
 ghost use Rattle.gib_syntax.specs.Declarations.{output_type};
-ghost use Rattle.gib_app.specs.Cores.{layouts_of};
+ghost use Rattle.gib_app.specs.Cores.{layouts_asked};
 ghost use Rattle.gib_app.specs.InputFaults.{HasImageSign};
 ghost use Rattle.gib_app.specs.PassFaults.{image_stop};
 ghost use Rattle.gib_app.specs.Stops.{IsShowStop};
@@ -17,6 +17,7 @@ use gib_check::Typed;
 use gib_print::law::a_value_is_not_refused;
 use gib_print::{ImageFault as ReadFault, read_image};
 use gib_value::Value;
+use gib_words::plan::Options;
 use std::alloc::Global;
 
 /// Whether the bytes begin with `GIBI`, as each image does.
@@ -38,7 +39,7 @@ fn of_image(fault: ReadFault) -> Stop<'static>
     }
 }
 
-/// The value of the type of main's result of which the bytes are an image, written where fields are reached by ends and offsets, or by skips.
+/// The value of the type of main's result of which the bytes are an image, written by a run that reaches fields so.
 ///
 /// # Errors
 ///
@@ -46,16 +47,16 @@ fn of_image(fault: ReadFault) -> Stop<'static>
 pub fn read_image_of(
     alloc: Global,
     typed: &Typed,
-    skips: bool,
+    options: Options,
     bytes: &[u8],
 ) -> Result<Value, Stop<'static>>
     requires sign { HasImageSign bytes.now }
     requires short { length bytes.now ≤ 268435480 }
-    ensures read { IfOk result (λ v. IsRead (layouts_of skips (program_of typed.now)) (output_type (program_of typed.now)) bytes.now v) }
-    ensures stop { (names : TextsView) → IfErr result (IsShowStop (program_of typed.now) names skips bytes.now) }
+    ensures read { IfOk result (λ v. IsRead (layouts_asked options (program_of typed.now)) (output_type (program_of typed.now)) bytes.now v) }
+    ensures stop { (names : TextsView) → IfErr result (IsShowStop (program_of typed.now) names (layouts_asked options (program_of typed.now)) bytes.now) }
 {
     a_value_is_not_refused();
-    let lowered = match lowered(alloc, typed, skips) {
+    let lowered = match lowered(alloc, typed, options.access) {
         Ok(lowered) => lowered,
         Err(_) => return Err(Stop::Memory),
     };

@@ -20,6 +20,7 @@ use gib_forks::forks;
 use gib_infer::infer;
 use gib_lower::lower;
 use gib_place::place;
+use gib_types::FieldAccess;
 use std::alloc::Global;
 
 /// The core of a program whose values are built where they belong. It breaks no build rule but that its fields are not reached yet.
@@ -40,14 +41,13 @@ pub fn placed_core(alloc: Global, typed: &Typed) -> Result<Core, Memory>
     }
 }
 
-/// How fields are reached, by whether the flag `--skips` is given.
-fn mode_of(skips: bool) -> AccessMode
-    ensures { result ≡ spec.mode_of skips }
+/// How fields are reached outside each `par`.
+fn mode_of(access: FieldAccess) -> AccessMode
+    ensures { result ≡ spec.mode_of access }
 {
-    if skips {
-        AccessMode::Skips
-    } else {
-        AccessMode::Ends
+    match access {
+        FieldAccess::Ends => AccessMode::Ends,
+        FieldAccess::Skips => AccessMode::Skips,
     }
 }
 
@@ -56,13 +56,13 @@ fn mode_of(skips: bool) -> AccessMode
 /// # Errors
 ///
 /// Want of memory.
-pub fn checked_core(alloc: Global, typed: &Typed, skips: bool) -> Result<Checked, Memory>
-    ensures core { IfOk result (λ core. core_of core ≡ core_after skips 3 (program_of typed.now)) }
+pub fn checked_core(alloc: Global, typed: &Typed, access: FieldAccess) -> Result<Checked, Memory>
+    ensures core { IfOk result (λ core. core_of core ≡ core_after access 3 (program_of typed.now)) }
     ensures numbered { IfOk result (λ core. AreNumbered (core_of core)) }
     ensures means { IfOk result (λ core. (depth : ℕ) (v : Datum) → core_run (core_of core) depth v ≡ run (program_of typed.now) depth v) }
 {
     let core = placed_core(alloc, typed)?;
-    match reach(alloc, core, mode_of(skips)) {
+    match reach(alloc, core, mode_of(access)) {
         Ok(reached) => Ok(Checked::make(reached)),
         Err(memory) => Err(memory),
     }
@@ -73,12 +73,12 @@ pub fn checked_core(alloc: Global, typed: &Typed, skips: bool) -> Result<Checked
 /// # Errors
 ///
 /// Want of memory.
-pub fn marked_core(alloc: Global, typed: &Typed, skips: bool) -> Result<Checked, Memory>
-    ensures core { IfOk result (λ core. core_of core ≡ core_after skips 4 (program_of typed.now)) }
+pub fn marked_core(alloc: Global, typed: &Typed, access: FieldAccess) -> Result<Checked, Memory>
+    ensures core { IfOk result (λ core. core_of core ≡ core_after access 4 (program_of typed.now)) }
     ensures numbered { IfOk result (λ core. AreNumbered (core_of core)) }
     ensures means { IfOk result (λ core. (depth : ℕ) (v : Datum) → core_run (core_of core) depth v ≡ run (program_of typed.now) depth v) }
 {
-    match checked_core(alloc, typed, skips) {
+    match checked_core(alloc, typed, access) {
         Ok(checked) => Ok(forks(checked)),
         Err(memory) => Err(memory),
     }
@@ -89,13 +89,13 @@ pub fn marked_core(alloc: Global, typed: &Typed, skips: bool) -> Result<Checked,
 /// # Errors
 ///
 /// Want of memory.
-pub fn lowered(alloc: Global, typed: &Typed, skips: bool) -> Result<Lowered, Memory>
-    ensures core { IfOk result (λ made. core_of made.core ≡ core_after skips 4 (program_of typed.now)) }
+pub fn lowered(alloc: Global, typed: &Typed, access: FieldAccess) -> Result<Lowered, Memory>
+    ensures core { IfOk result (λ made. core_of made.core ≡ core_after access 4 (program_of typed.now)) }
     ensures means { IfOk result (λ made. (depth : ℕ) (v : Datum) → core_run (core_of made.core) depth v ≡ run (program_of typed.now) depth v) }
-    ensures code { IfOk result (λ made. made.code ≡ lower_program (core_after skips 4 (program_of typed.now))) }
-    ensures laid { IfOk result (λ made. made.code.laid ≡ layouts_of skips (program_of typed.now)) }
+    ensures code { IfOk result (λ made. made.code ≡ lower_program (core_after access 4 (program_of typed.now))) }
+    ensures laid { IfOk result (λ made. made.code.laid ≡ layouts_of access (program_of typed.now)) }
 {
-    let marked = marked_core(alloc, typed, skips)?;
+    let marked = marked_core(alloc, typed, access)?;
     match lower(alloc, marked) {
         Ok(made) => {
             let _code = made.code();

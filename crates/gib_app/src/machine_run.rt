@@ -18,7 +18,7 @@ ghost use Rattle.gib_core.specs.Parts.{core_of};
 ghost use Rattle.gib_lower.specs.Lowering.{lower_program};
 ghost use Rattle.gib_weave.specs.Running.{IsStart, Kept};
 ghost use Rattle.gib_pool.specs.Runs.{IsRun};
-ghost use Rattle.gib_app.specs.Cores.{core_after, layouts_of};
+ghost use Rattle.gib_app.specs.Cores.{core_asked, layouts_asked};
 ghost use Rattle.gib_app.specs.Jobs.{run_forks};
 ghost use Rattle.gib_app.specs.Running.{IsInput, text_line};
 ghost use Rattle.gib_app.specs.Replaying.{root_in};
@@ -311,7 +311,7 @@ fn ended(lowered: Lowered, left: Result<Rooted, RunStop>) -> Result<RunEnd, Stop
 }
 
 /// Runs a program on the bytes of a packed file with the depth, the chunks of 4,096 bytes, the workers and the forks of the options; fields are
-/// reached by ends and offsets, or by skips. What the program means stands for the root, in the memory that is handed back, whatever the workers do; or
+/// reached as the options say. What the program means stands for the root, in the memory that is handed back, whatever the workers do; or
 /// there is no value: `Meant` where the program means none, with the reason, and `Full` where so many chunks may not be enough.
 ///
 /// # Errors
@@ -326,20 +326,20 @@ pub fn run_packed<R: Threads + Wait + Sync, G: Gate + Sync>(
     options: Options,
 ) -> Result<RunEnd, Stop<'static>>
     requires short { length file.now ≤ FILE_BYTES }
-    ensures stands { IfOk result (IsRunEnd (core_after options.skips 4 (program_of typed.now)) (program_of typed.now) names.now options.depth
+    ensures stands { IfOk result (IsRunEnd (core_asked options (program_of typed.now)) (program_of typed.now) names.now options.depth
         (run_forks options) options.chunks file.now) }
     // It is the code of the program's core that ran, in a memory of no more chunks.
-    ensures code { IfOk result (OnRan (λ ran. ran.lowered.code ≡ lower_program (core_after options.skips 4 (program_of typed.now)))) }
+    ensures code { IfOk result (OnRan (λ ran. ran.lowered.code ≡ lower_program (core_asked options (program_of typed.now)))) }
     ensures limit { IfOk result (OnRan (λ ran. (⟦<SoleMem as Mem>⟧.view ran.memory).limit ≤ options.chunks)) }
     // The heads lie as those of the program's core.
-    ensures laid { IfOk result (OnRan (λ ran. ran.lowered.code.laid ≡ layouts_of options.skips (program_of typed.now))) }
+    ensures laid { IfOk result (OnRan (λ ran. ran.lowered.code.laid ≡ layouts_asked options (program_of typed.now))) }
     ensures stop { IfErr result (IsRunStop (program_of typed.now) names.now file.now) }
     // The other way round: of which value the file is, and what the program means on it, tells how the run ends.
     ensures only { (v : Datum) → IsInput (program_of typed.now) names.now v file.now
         → MatchResult result (OnEnd (λ ran. IsRootOf ran.lowered.code.laid (⟦<SoleMem as Mem>⟧.view ran.memory).cells (output_type (program_of typed.now))
         (run (program_of typed.now) options.depth v) ran.root)
         (Lacks (run (program_of typed.now) options.depth v) options.chunks
-        (program_cost (program_of typed.now) options.skips options.depth (run_forks options) v))) (λ stop. stop ≡ Stop.Memory) }
+        (program_cost (program_of typed.now) options (run_forks options) v))) (λ stop. stop ≡ Stop.Memory) }
 {
     one_file();
     let survey = match survey_input(alloc, typed, names, file) {
@@ -347,7 +347,7 @@ pub fn run_packed<R: Threads + Wait + Sync, G: Gate + Sync>(
         Err(stop) => return Err(stop),
     };
     let _packed = survey.payload();
-    match lowered(alloc, typed, options.skips) {
+    match lowered(alloc, typed, options.access) {
         Ok(lowered) => {
             let left = run_on(alloc, runtime, &lowered, survey, options);
             ended(lowered, left)

@@ -130,7 +130,7 @@ pub fn replay_packed(
         Ok(journal) => journal,
         Err(stop) => return Err(stop),
     };
-    let lowered = match lowered(alloc, typed, journal.settings.skips) {
+    let lowered = match lowered(alloc, typed, journal.settings.access) {
         Ok(lowered) => lowered,
         Err(_) => return Err(Stop::Memory),
     };

@@ -4,7 +4,7 @@ ghost use Rattle.std.specs.Prelude.{◌≡◌, ◌≤◌, ℕ, List, None, false
 ghost use Rattle.gib_value.specs.Text.{AreHeld};
 ghost use Rattle.gib_syntax.specs.Tree.{ProgramTree};
 ghost use Rattle.gib_words.specs.declared.plan.Options.{Options as OptionValues};
-ghost use Rattle.gib_app.specs.Cores.{layouts_of};
+ghost use Rattle.gib_app.specs.Cores.{layouts_asked};
 ghost use Rattle.gib_app.specs.Jobs.{Runs};
 ghost use Rattle.gib_app.specs.Kept.{EndsBy, StandsAgain, file_of};
 ghost use Rattle.gib_app.specs.MachineRun.{IsMeant, IsMeantBy};
@@ -69,7 +69,7 @@ pub fn printed_by<R: Threads + Sync>(
 ) -> Made
     requires names { AreHeld value.ran.lowered.code.laid.table value.names.short }
     requires stands { IsMeant value }
-    ensures made { (p : ProgramTree) (options : OptionValues) (input : List ℕ) → value.ran.lowered.code.laid ≡ layouts_of options.skips p
+    ensures made { (p : ProgramTree) (options : OptionValues) (input : List ℕ) → value.ran.lowered.code.laid ≡ layouts_asked options p
         → options.image ≡ false → (⟦<SoleMem as Mem>⟧.view value.ran.memory).limit ≤ options.chunks
         → (s : IsMeantBy p value.names options.depth input value.ran)
         → EndsBy (file_of result) result.end (Runs p value.names options input) }

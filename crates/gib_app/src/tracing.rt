@@ -9,7 +9,7 @@ ghost use Rattle.gib_core.specs.Tight.{Tight};
 ghost use Rattle.gib_locked.specs.Limits.{are_settings};
 ghost use Rattle.gib_lower.specs.Lowering.{lower_program};
 ghost use Rattle.gib_syntax.specs.Parts.{program_of};
-ghost use Rattle.gib_app.specs.Cores.{core_after, layouts_of};
+ghost use Rattle.gib_app.specs.Cores.{core_asked, layouts_asked};
 ghost use Rattle.gib_words.specs.Ranges.{AreOfRun};
 ghost use Rattle.gib_app.specs.Replaying.{IsSetBy};
 ghost use Rattle.gib_app.specs.Workers.{IsEndBy, IsTraced, IsTraceStop, IsWorkersStop, engine_of};
@@ -46,7 +46,7 @@ pub struct TracedRun {
 fn settings_of(options: Options) -> Option<Settings>
     ensures { MatchOption result (are_settings options.depth options.chunks options.fork ≡ false) (IsSetBy options) }
 {
-    Settings::make(options.depth, options.chunks, options.fork, options.skips)
+    Settings::make(options.depth, options.chunks, options.fork, options.access)
 }
 
 /// Runs the code on the value of a survey by workers, in a memory of its own.
@@ -111,10 +111,10 @@ pub fn trace_packed<R: Threads + Wait + Sync, G: Gate + Sync>(
     ensures ends { IfOk result (λ run. IsTraced (program_of typed.now) names.now options file.now run.traced.journal.settings run.traced.journal.lines.all.items
         (⟦<PlainMem as Mem>⟧.view run.traced.memory) run.traced.answer) }
     // It is the code of the program's core that ran, in a memory of so many chunks.
-    ensures code { IfOk result (λ run. run.lowered.code ≡ lower_program (core_after options.skips 4 (program_of typed.now))) }
+    ensures code { IfOk result (λ run. run.lowered.code ≡ lower_program (core_asked options (program_of typed.now))) }
     ensures limit { IfOk result (λ run. (⟦<PlainMem as Mem>⟧.view run.traced.memory).limit ≡ options.chunks) }
     // The heads lie as those of the program's core.
-    ensures laid { IfOk result (λ run. run.lowered.code.laid ≡ layouts_of options.skips (program_of typed.now)) }
+    ensures laid { IfOk result (λ run. run.lowered.code.laid ≡ layouts_asked options (program_of typed.now)) }
     ensures stop { IfErr result (IsTraceStop (program_of typed.now) names.now options file.now) }
 {
     let survey = match survey_input(alloc, typed, names, file) {
@@ -122,7 +122,7 @@ pub fn trace_packed<R: Threads + Wait + Sync, G: Gate + Sync>(
         Err(stop) => return Err(stop),
     };
     let _packed = survey.payload();
-    let lowered = match lowered(alloc, typed, options.skips) {
+    let lowered = match lowered(alloc, typed, options.access) {
         Ok(lowered) => lowered,
         Err(_) => return Err(Stop::Memory),
     };

@@ -1,5 +1,5 @@
 -- What reading a journal finds.
-use Rattle.std.proofs.Common.{◌≡◌, ◌⊎◌, inl, inr, ℕ, ◌+◌, List, [], ◌∷◌, ◌++◌, true, false, ◌&&◌, length, map, sym, refl, ap, ◌∙◌, subst, append_assoc, arith, Result, Ok, Err}
+use Rattle.std.proofs.Common.{◌≡◌, ◌⊎◌, inl, inr, ℕ, ◌+◌, List, [], ◌∷◌, ◌++◌, true, ◌&&◌, length, map, sym, refl, ap, ◌∙◌, subst, append_assoc, arith, Result, Ok, Err}
 use Rattle.std.specs.Prelude.{codes, MatchResult}
 use Rattle.std.specs.List.{flat_map}
 use Rattle.std.proofs.lemmas.List.{length-map, append-nil}

@@ -17,22 +17,23 @@ use gib_base::Memory;
 use gib_check::Typed;
 use gib_core::{Core, print_core};
 use gib_infer::infer;
+use gib_words::plan::Options;
 use std::alloc::Global;
 
 /// The core of a program after a pass.
-fn core_after(alloc: Global, typed: &Typed, skips: bool, pass: u32) -> Result<Core, Memory>
-    ensures { IfOk result (λ core. core_of core ≡ core_after skips pass (program_of typed.now)) }
+fn core_after(alloc: Global, typed: &Typed, options: Options) -> Result<Core, Memory>
+    ensures { IfOk result (λ core. core_of core ≡ core_after options.access options.pass (program_of typed.now)) }
 {
-    if pass < 2 {
+    if options.pass < 2 {
         return infer(alloc, typed);
     }
-    if pass < 3 {
+    if options.pass < 3 {
         return placed_core(alloc, typed);
     }
-    let made = if pass < 4 {
-        checked_core(alloc, typed, skips)
+    let made = if options.pass < 4 {
+        checked_core(alloc, typed, options.access)
     } else {
-        marked_core(alloc, typed, skips)
+        marked_core(alloc, typed, options.access)
     };
     match made {
         Ok(checked) => Ok(checked.into_core()),
@@ -41,15 +42,10 @@ fn core_after(alloc: Global, typed: &Typed, skips: bool, pass: u32) -> Result<Co
 }
 
 /// The text of the core of a program after a pass.
-fn print_after(
-    alloc: Global,
-    compiled: &Compiled,
-    skips: bool,
-    pass: u32,
-) -> Result<Vec<u8>, Memory>
-    ensures { IfOk result (λ text. text.items ≡ text_of_core compiled.now.names.long (core_after skips pass (program_of compiled.now.typed))) }
+fn print_after(alloc: Global, compiled: &Compiled, options: Options) -> Result<Vec<u8>, Memory>
+    ensures { IfOk result (λ text. text.items ≡ text_of_core compiled.now.names.long (core_after options.access options.pass (program_of compiled.now.typed))) }
 {
-    let core = core_after(alloc, &compiled.typed, skips, pass)?;
+    let core = core_after(alloc, &compiled.typed, options)?;
     print_core(alloc, &core, &compiled.names)
 }
 
@@ -61,15 +57,14 @@ fn print_after(
 pub fn core_text(
     alloc: Global,
     compiled: &Compiled,
-    skips: bool,
-    pass: u32,
+    options: Options,
 ) -> Result<Made, Stop<'static>>
     ensures made { IfOk result (λ made. EndsBy (file_of made) made.end
-        (OnlyPrints (λ text. text ≡ text_of_core compiled.now.names.long (core_after skips pass (program_of compiled.now.typed))))) }
+        (OnlyPrints (λ text. text ≡ text_of_core compiled.now.names.long (core_after options.access options.pass (program_of compiled.now.typed))))) }
     ensures memory { IfErr result (λ e. e ≡ Stop.Memory) }
     ensures alone { IfOk result (λ made. made.packed ≡ None) }
 {
-    match print_after(alloc, compiled, skips, pass) {
+    match print_after(alloc, compiled, options) {
         Ok(text) => Ok(only_prints(text)),
         Err(_) => Err(Stop::Memory),
     }

@@ -6,7 +6,7 @@ ghost use Rattle.gib_syntax.specs.Declarations.{output_type};
 ghost use Rattle.gib_syntax.specs.Tree.{ProgramTree};
 ghost use Rattle.gib_syntax.specs.Parts.{program_of};
 ghost use Rattle.gib_words.specs.declared.plan.Options.{Options as OptionValues};
-ghost use Rattle.gib_app.specs.Cores.{layouts_of};
+ghost use Rattle.gib_app.specs.Cores.{layouts_asked};
 ghost use Rattle.gib_app.specs.Imaging.{IsShownWith};
 ghost use Rattle.gib_app.specs.Jobs.{Runs, RunsBoth};
 ghost use Rattle.gib_app.specs.Kept.{EndsBy, EndsByBoth, file_of, packed_of};
@@ -47,7 +47,7 @@ fn finish<R: Threads + Sync>(
     requires names { AreHeld value.ran.lowered.code.laid.table value.names.short }
     requires stands { IsMeant value }
     requires few { (⟦<SoleMem as Mem>⟧.view value.ran.memory).limit ≤ 65536 }
-    ensures made { (p : ProgramTree) (options : OptionValues) (input : List ℕ) → value.ran.lowered.code.laid ≡ layouts_of options.skips p
+    ensures made { (p : ProgramTree) (options : OptionValues) (input : List ℕ) → value.ran.lowered.code.laid ≡ layouts_asked options p
         → options.image ≡ image → (⟦<SoleMem as Mem>⟧.view value.ran.memory).limit ≤ options.chunks
         → (s : IsMeantBy p value.names options.depth input value.ran)
         → IfOk result (λ made. EndsBy (file_of made) made.end (Runs p value.names options input)) }
@@ -124,7 +124,7 @@ fn finish_packed<R: Threads + Sync>(
     requires stands { IsMeantAs ty value }
     requires packs { options.packs ≡ true }
     requires few { (⟦<SoleMem as Mem>⟧.view value.ran.memory).limit ≤ 65536 }
-    ensures made { (p : ProgramTree) (input : List ℕ) → ty ≡ output_type p → value.ran.lowered.code.laid ≡ layouts_of options.skips p
+    ensures made { (p : ProgramTree) (input : List ℕ) → ty ≡ output_type p → value.ran.lowered.code.laid ≡ layouts_asked options p
         → (⟦<SoleMem as Mem>⟧.view value.ran.memory).limit ≤ options.chunks
         → (s : IsMeantBy p value.names options.depth input value.ran)
         → IfOk result (λ made. EndsByBoth (file_of made) (packed_of made) made.end (RunsBoth p value.names options input)) }
@@ -154,7 +154,7 @@ fn finish_run<R: Threads + Sync>(
     requires names { AreHeld value.ran.lowered.code.laid.table value.names.short }
     requires stands { IsMeantAs ty value }
     requires few { (⟦<SoleMem as Mem>⟧.view value.ran.memory).limit ≤ 65536 }
-    ensures made { (p : ProgramTree) (input : List ℕ) → ty ≡ output_type p → value.ran.lowered.code.laid ≡ layouts_of options.skips p
+    ensures made { (p : ProgramTree) (input : List ℕ) → ty ≡ output_type p → value.ran.lowered.code.laid ≡ layouts_asked options p
         → (⟦<SoleMem as Mem>⟧.view value.ran.memory).limit ≤ options.chunks
         → (s : IsMeantBy p value.names options.depth input value.ran)
         → IfOk result (λ made. EndsByBoth (file_of made) (packed_of made) made.end (RunsBoth p value.names options input)) }

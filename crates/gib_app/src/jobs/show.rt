@@ -4,6 +4,7 @@ ghost use Rattle.std.specs.Prelude.{◌≡◌, ◌≤◌, length, IfOk, IfErr, N
 ghost use Rattle.gib_types.specs.Tree.{Datum};
 ghost use Rattle.gib_syntax.specs.Declarations.{table_of_program, input_type};
 ghost use Rattle.gib_syntax.specs.Parts.{program_of};
+ghost use Rattle.gib_app.specs.Cores.{layouts_asked};
 ghost use Rattle.gib_app.specs.InputFaults.{HasImageSign};
 ghost use Rattle.gib_app.specs.Jobs.{OnlyPrints};
 ghost use Rattle.gib_app.specs.Kept.{EndsBy, file_of};
@@ -20,22 +21,25 @@ use crate::stop::Stop;
 use gib_base::limits::FILE_BYTES;
 use gib_file::{HeadFault, has_magic, refused_header};
 use gib_print::packed_text;
+use gib_words::plan::Options;
 use std::alloc::Global;
 
 /// The text of the value of an image, with a line feed.
 fn image_line(
     alloc: Global,
     compiled: &Compiled,
-    skips: bool,
+    options: Options,
     file: &[u8],
 ) -> Result<Vec<u8>, Stop<'static>>
     requires ready { IsReady (program_of compiled.now.typed) compiled.now.names }
     requires sign { HasImageSign file.now }
     requires short { length file.now ≤ 268435480 }
-    ensures output { IfOk result (λ output. IsShown (program_of compiled.now.typed) compiled.now.names skips file.now output.items) }
-    ensures stop { IfErr result (IsShowStop (program_of compiled.now.typed) compiled.now.names skips file.now) }
+    ensures output { IfOk result (λ output.
+        IsShown (program_of compiled.now.typed) compiled.now.names (layouts_asked options (program_of compiled.now.typed)) file.now output.items) }
+    ensures stop { IfErr result
+        (IsShowStop (program_of compiled.now.typed) compiled.now.names (layouts_asked options (program_of compiled.now.typed)) file.now) }
 {
-    let value = match read_image_of(alloc, &compiled.typed, skips, file) {
+    let value = match read_image_of(alloc, &compiled.typed, options, file) {
         Ok(value) => value,
         Err(stop) => return Err(stop),
     };
@@ -74,16 +78,18 @@ fn packed_line(alloc: Global, compiled: &Compiled, file: &[u8]) -> Result<Vec<u8
 fn show_file(
     alloc: Global,
     compiled: &Compiled,
-    skips: bool,
+    options: Options,
     file: &[u8],
 ) -> Result<Vec<u8>, Stop<'static>>
     requires ready { IsReady (program_of compiled.now.typed) compiled.now.names }
     requires short { length file.now ≤ 268435480 }
-    ensures output { IfOk result (λ output. IsShown (program_of compiled.now.typed) compiled.now.names skips file.now output.items) }
-    ensures stop { IfErr result (IsShowStop (program_of compiled.now.typed) compiled.now.names skips file.now) }
+    ensures output { IfOk result (λ output.
+        IsShown (program_of compiled.now.typed) compiled.now.names (layouts_asked options (program_of compiled.now.typed)) file.now output.items) }
+    ensures stop { IfErr result
+        (IsShowStop (program_of compiled.now.typed) compiled.now.names (layouts_asked options (program_of compiled.now.typed)) file.now) }
 {
     if has_image_sign(file) {
-        return image_line(alloc, compiled, skips, file);
+        return image_line(alloc, compiled, options, file);
     }
     refused_header();
     if !has_magic(file) {
@@ -107,17 +113,18 @@ fn show_file(
 pub fn show(
     alloc: Global,
     compiled: &Compiled,
-    skips: bool,
+    options: Options,
     file: &[u8],
 ) -> Result<Made, Stop<'static>>
     requires ready { IsReady (program_of compiled.now.typed) compiled.now.names }
     requires short { length file.now ≤ 268435480 }
     ensures made { IfOk result (λ made. EndsBy (file_of made) made.end
-        (OnlyPrints (IsShown (program_of compiled.now.typed) compiled.now.names skips file.now))) }
-    ensures stop { IfErr result (IsShowStop (program_of compiled.now.typed) compiled.now.names skips file.now) }
+        (OnlyPrints (IsShown (program_of compiled.now.typed) compiled.now.names (layouts_asked options (program_of compiled.now.typed)) file.now))) }
+    ensures stop { IfErr result
+        (IsShowStop (program_of compiled.now.typed) compiled.now.names (layouts_asked options (program_of compiled.now.typed)) file.now) }
     ensures alone { IfOk result (λ made. made.packed ≡ None) }
 {
-    match show_file(alloc, compiled, skips, file) {
+    match show_file(alloc, compiled, options, file) {
         Ok(text) => Ok(only_prints(text)),
         Err(stop) => Err(stop),
     }

@@ -5,7 +5,7 @@ ghost use Rattle.gib_value.specs.Text.{AreHeld};
 ghost use Rattle.gib_syntax.specs.Tree.{ProgramTree};
 ghost use Rattle.gib_syntax.specs.Parts.{program_of};
 ghost use Rattle.gib_words.specs.declared.plan.Options.{Options as OptionValues};
-ghost use Rattle.gib_app.specs.Cores.{layouts_of};
+ghost use Rattle.gib_app.specs.Cores.{layouts_asked};
 ghost use Rattle.gib_app.specs.Jobs.{Traces};
 ghost use Rattle.gib_app.specs.Kept.{EndsBy, file_of};
 ghost use Rattle.gib_words.specs.Ranges.{AreOfRun};
@@ -36,11 +36,11 @@ fn left_of(alloc: Global, run: TracedRun, names: &Texts) -> Result<Made, Stop<'s
     requires traced { (p : ProgramTree) × (options : OptionValues) × (input : List ℕ)
         × IsTraced p names.now options input run.traced.journal.settings run.traced.journal.lines.all.items
         (⟦<PlainMem as Mem>⟧.view run.traced.memory) run.traced.answer
-        × (run.lowered.code.laid ≡ layouts_of options.skips p) }
+        × (run.lowered.code.laid ≡ layouts_asked options p) }
     ensures made { (p : ProgramTree) (options : OptionValues) (input : List ℕ)
         → IsTraced p names.now options input run.traced.journal.settings run.traced.journal.lines.all.items
         (⟦<PlainMem as Mem>⟧.view run.traced.memory) run.traced.answer
-        → run.lowered.code.laid ≡ layouts_of options.skips p → IfOk result (λ made. EndsBy (file_of made) made.end (Traces p names.now options input)) }
+        → run.lowered.code.laid ≡ layouts_asked options p → IfOk result (λ made. EndsBy (file_of made) made.end (Traces p names.now options input)) }
     ensures memory { IfErr result (λ stop. stop ≡ Stop.Memory) }
     ensures alone { IfOk result (λ made. made.packed ≡ None) }
 {

@@ -9,7 +9,7 @@ use Rattle.gib_arena.specs.declared.sole_mem.SoleMem.{SoleMem}
 use Rattle.gib_app.specs.declared.machine_run.RunEnd.{RunEnd}
 use Rattle.gib_app.specs.declared.stop.Stop.{Stop}
 use Rattle.gib_app.specs.declared.stop.Stop.TheVariants.{Memory}
-use Rattle.gib_app.specs.Cores.{core_after, layouts_of}
+use Rattle.gib_app.specs.Cores.{core_asked, layouts_asked}
 use Rattle.gib_app.specs.Jobs.{run_forks}
 use Rattle.gib_app.specs.MachineRun.{IsRunEnd, IsRootOf, Lacks, OnEnd, OnRan, cells_of, program_cost}
 use Rattle.gib_app.specs.Stops.{IsRunStop}
@@ -37,14 +37,14 @@ returns-in-Ok-lowered-clause-stands g c =
     let file = c.args.file.now in
     let made = c.in-Ok-lowered.ensures in
     let l = c.in-Ok-lowered.lowered in
-    let P : Result RunEnd Stop → Type 0 = λ r. IfOk r (IsRunEnd (core_after o.skips 4 p) p names o.depth (run_forks o) o.chunks file) in
+    let P : Result RunEnd Stop → Type 0 = λ r. IfOk r (IsRunEnd (core_asked o p) p names o.depth (run_forks o) o.chunks file) in
     subst P (sym c.ended.ensures)
-    (ended_meant names (core_after o.skips 4 p) p o.depth (run_forks o) o.chunks file c.in-Ok.survey l (of_program p o.skips l (record { core = made.core; means = made.means; laid = made.laid })) c.requires.short
+    (ended_meant names (core_asked o p) p o.depth (run_forks o) o.chunks file c.in-Ok.survey l (of_program p o l (record { core = made.core; means = made.means; laid = made.laid })) c.requires.short
     c.payload-packed.ensures.packed c.in-Ok.ensures.file c.run_on-left.result c.run_on-left.ensures.root c.run_on-left.ensures.halts)
 
 pub returns-in-Ok-lowered-clause-code : goal.returns-in-Ok-lowered-clause-code
 returns-in-Ok-lowered-clause-code g c =
-    let code = lower_program (core_after c.args.options.skips 4 (program_of c.args.typed.now)) in
+    let code = lower_program (core_asked c.args.options (program_of c.args.typed.now)) in
     let C : LoweredParts → Type 0 = λ l. l.code ≡ code in
     let P : Result RunEnd Stop → Type 0 = λ r. IfOk r (OnRan (λ ran. C ran.lowered)) in
     subst P (sym c.ended.ensures) (ended_code c.in-Ok-lowered.lowered c.run_on-left.result C c.in-Ok-lowered.ensures.code)
@@ -57,7 +57,7 @@ returns-in-Ok-lowered-clause-limit g c =
 
 pub returns-in-Ok-lowered-clause-laid : goal.returns-in-Ok-lowered-clause-laid
 returns-in-Ok-lowered-clause-laid g c =
-    let laid = layouts_of c.args.options.skips (program_of c.args.typed.now) in
+    let laid = layouts_asked c.args.options (program_of c.args.typed.now) in
     let C : LoweredParts → Type 0 = λ l. l.code.laid ≡ laid in
     let P : Result RunEnd Stop → Type 0 = λ r. IfOk r (OnRan (λ ran. C ran.lowered)) in
     subst P (sym c.ended.ensures) (ended_code c.in-Ok-lowered.lowered c.run_on-left.result C c.in-Ok-lowered.ensures.laid)
@@ -75,7 +75,7 @@ returns-in-Ok-lowered-clause-only g c = λ v is.
     let made = c.in-Ok-lowered.ensures in
     let l = c.in-Ok-lowered.lowered in
     let P : Result RunEnd Stop → Type 0 = λ r.
-    MatchResult r (OnEnd (λ ran. IsRootOf ran.lowered.code.laid (cells_of ran.memory) (output_type p) (run p o.depth v) ran.root) (Lacks (run p o.depth v) o.chunks (program_cost p o.skips o.depth (run_forks o) v))) (λ why. why ≡ Memory) in
+    MatchResult r (OnEnd (λ ran. IsRootOf ran.lowered.code.laid (cells_of ran.memory) (output_type p) (run p o.depth v) ran.root) (Lacks (run p o.depth v) o.chunks (program_cost p o (run_forks o) v))) (λ why. why ≡ Memory) in
     subst P (sym c.ended.ensures)
-    (ended_only {names = c.args.names.now} p o.skips o.depth (run_forks o) o.chunks c.args.file.now c.in-Ok.survey l (record { core = made.core; means = made.means; laid = made.laid })
+    (ended_only {names = c.args.names.now} p o (run_forks o) c.args.file.now c.in-Ok.survey l (record { core = made.core; means = made.means; laid = made.laid })
     c.payload-packed.ensures.packed c.in-Ok.ensures.file c.one_file.ensures.value v is c.run_on-left.result c.run_on-left.ensures.root c.run_on-left.ensures.halts)

@@ -4,7 +4,7 @@ use Rattle.gib_arena.specs.Sole.{sole_memory}
 use Rattle.gib_syntax.specs.Parts.{program_of}
 use Rattle.gib_app.specs.declared.machine_run.RunEnd.{RunEnd}
 use Rattle.gib_app.specs.declared.made.End.{End}
-use Rattle.gib_app.specs.Cores.{core_after}
+use Rattle.gib_app.specs.Cores.{core_asked}
 use Rattle.gib_app.specs.Jobs.{Sums, run_forks}
 use Rattle.gib_app.specs.MachineRun.{IsRunEnd, OnRan}
 use Rattle.gib_app.specs.Remains.{SumsMemory}
@@ -21,7 +21,7 @@ line_made-requires g c =
     let names = c.args.compiled.now.names in
     let o = c.args.options in
     let input = c.args.input.now in
-    let S : RunEnd → Type 0 = IsRunEnd (core_after o.skips 4 p) p names o.depth (run_forks o) o.chunks input in
+    let S : RunEnd → Type 0 = IsRunEnd (core_asked o p) p names o.depth (run_forks o) o.chunks input in
     record { stands = (names, record { program = p; depth = o.depth; input = input; meant = subst S c.in-Value.is c.in-Ok.ensures.stands }) }
 
 pub returns-in-Value-clause-made : goal.returns-in-Value-clause-made
@@ -30,7 +30,7 @@ returns-in-Value-clause-made g c =
     let names = c.args.compiled.now.names in
     let o = c.args.options in
     let input = c.args.input.now in
-    let S : RunEnd → Type 0 = IsRunEnd (core_after o.skips 4 p) p names o.depth (run_forks o) o.chunks input in
+    let S : RunEnd → Type 0 = IsRunEnd (core_asked o p) p names o.depth (run_forks o) o.chunks input in
     c.line_made.ensures.made p names input (subst S c.in-Value.is c.in-Ok.ensures.stands)
 
 pub returns-in-Value-clause-region : goal.returns-in-Value-clause-region
@@ -39,8 +39,8 @@ returns-in-Value-clause-region g c =
     let names = c.args.compiled.now.names in
     let o = c.args.options in
     let input = c.args.input.now in
-    let S : RunEnd → Type 0 = IsRunEnd (core_after o.skips 4 p) p names o.depth (run_forks o) o.chunks input in
-    let C : RunEnd → Type 0 = OnRan (λ ran. ran.lowered.code ≡ lower_program (core_after o.skips 4 p)) in
+    let S : RunEnd → Type 0 = IsRunEnd (core_asked o p) p names o.depth (run_forks o) o.chunks input in
+    let C : RunEnd → Type 0 = OnRan (λ ran. ran.lowered.code ≡ lower_program (core_asked o p)) in
     let M : RunEnd → Type 0 = OnRan (λ ran. (sole_memory ran.memory).limit ≤ o.chunks) in
     c.line_made.ensures.region p names input
     (is_left p names o input (record { ran = c.in-Value.ran; names = names }) (subst C c.in-Value.is c.in-Ok.ensures.code) (subst M c.in-Value.is c.in-Ok.ensures.limit) (subst S c.in-Value.is c.in-Ok.ensures.stands))
@@ -56,7 +56,7 @@ returns-in-NoValue-clause-made g c =
     let names = c.args.compiled.now.names in
     let o = c.args.options in
     let input = c.args.input.now in
-    let S : RunEnd → Type 0 = IsRunEnd (core_after o.skips 4 p) p names o.depth (run_forks o) o.chunks input in
+    let S : RunEnd → Type 0 = IsRunEnd (core_asked o p) p names o.depth (run_forks o) o.chunks input in
     let why = c.in-NoValue.reason in
     ends_without c.no_value.result why (Sums p names o input) c.no_value.ensures.file c.no_value.ensures.end (lacks_sums p names o input why (subst S c.in-NoValue.is c.in-Ok.ensures.stands))
 

@@ -6,7 +6,7 @@ use Rattle.gib_arena.specs.Sole.{sole_memory}
 use Rattle.gib_syntax.specs.Parts.{program_of}
 use Rattle.gib_app.specs.declared.machine_run.RunEnd.{RunEnd}
 use Rattle.gib_app.specs.declared.made.End.{End}
-use Rattle.gib_app.specs.Cores.{core_after, layouts_of}
+use Rattle.gib_app.specs.Cores.{core_asked, layouts_asked}
 use Rattle.gib_app.specs.Jobs.{RunsBoth, run_forks}
 use Rattle.gib_app.specs.Kept.{file_of}
 use Rattle.gib_app.specs.MachineRun.{IsRunEnd, OnRan}
@@ -25,7 +25,7 @@ finish_run-requires-clause-names g c κs within =
     let names = c.args.compiled.names in
     let o = c.args.options in
     let input = c.args.input.now in
-    let S : RunEnd → Type 0 = IsRunEnd (core_after o.skips 4 p) p names o.depth (run_forks o) o.chunks input in
+    let S : RunEnd → Type 0 = IsRunEnd (core_asked o p) p names o.depth (run_forks o) o.chunks input in
     let stands = subst S c.in-Value.is c.in-Ok.ensures.stands in
     let H : Table → Type 0 = λ t. AreHeld t names.short in
     subst H (sym stands.table) c.requires.ready.held
@@ -36,7 +36,7 @@ finish_run-requires-clause-stands g c κs within =
     let names = c.args.compiled.names in
     let o = c.args.options in
     let input = c.args.input.now in
-    let S : RunEnd → Type 0 = IsRunEnd (core_after o.skips 4 p) p names o.depth (run_forks o) o.chunks input in
+    let S : RunEnd → Type 0 = IsRunEnd (core_asked o p) p names o.depth (run_forks o) o.chunks input in
     (record { program = p; depth = o.depth; input = input; meant = subst S c.in-Value.is c.in-Ok.ensures.stands }, c.output_type-ty.ensures)
 
 pub finish_run-requires-clause-few : goal.finish_run-requires-clause-few
@@ -52,8 +52,8 @@ returns-in-Value-clause-made g c =
     let names = c.args.compiled.names in
     let o = c.args.options in
     let input = c.args.input.now in
-    let S : RunEnd → Type 0 = IsRunEnd (core_after o.skips 4 p) p names o.depth (run_forks o) o.chunks input in
-    let L : RunEnd → Type 0 = OnRan (λ ran. ran.lowered.code.laid ≡ layouts_of o.skips p) in
+    let S : RunEnd → Type 0 = IsRunEnd (core_asked o p) p names o.depth (run_forks o) o.chunks input in
+    let L : RunEnd → Type 0 = OnRan (λ ran. ran.lowered.code.laid ≡ layouts_asked o p) in
     let M : RunEnd → Type 0 = OnRan (λ ran. (sole_memory ran.memory).limit ≤ o.chunks) in
     c.finish_run.ensures.made p input c.output_type-ty.ensures (subst L c.in-Value.is c.in-Ok.ensures.laid) (subst M c.in-Value.is c.in-Ok.ensures.limit) (subst S c.in-Value.is c.in-Ok.ensures.stands)
 
@@ -63,8 +63,8 @@ returns-in-Value-clause-region g c =
     let names = c.args.compiled.names in
     let o = c.args.options in
     let input = c.args.input.now in
-    let S : RunEnd → Type 0 = IsRunEnd (core_after o.skips 4 p) p names o.depth (run_forks o) o.chunks input in
-    let C : RunEnd → Type 0 = OnRan (λ ran. ran.lowered.code ≡ lower_program (core_after o.skips 4 p)) in
+    let S : RunEnd → Type 0 = IsRunEnd (core_asked o p) p names o.depth (run_forks o) o.chunks input in
+    let C : RunEnd → Type 0 = OnRan (λ ran. ran.lowered.code ≡ lower_program (core_asked o p)) in
     let M : RunEnd → Type 0 = OnRan (λ ran. (sole_memory ran.memory).limit ≤ o.chunks) in
     c.finish_run.ensures.region p input
     (is_left p names o input (record { ran = c.in-Value.ran; names = names }) (subst C c.in-Value.is c.in-Ok.ensures.code) (subst M c.in-Value.is c.in-Ok.ensures.limit) (subst S c.in-Value.is c.in-Ok.ensures.stands))
@@ -80,7 +80,7 @@ returns-clause-made g c =
     let names = c.args.compiled.names in
     let o = c.args.options in
     let input = c.args.input.now in
-    let S : RunEnd → Type 0 = IsRunEnd (core_after o.skips 4 p) p names o.depth (run_forks o) o.chunks input in
+    let S : RunEnd → Type 0 = IsRunEnd (core_asked o p) p names o.depth (run_forks o) o.chunks input in
     let why = c.in-NoValue.reason in
     both_without c.no_value.result why (RunsBoth p names o input) c.no_value.ensures.file c.no_value.ensures.packed c.no_value.ensures.end (runs_valueless p names o input why (lacks_runs p names o input why (subst S c.in-NoValue.is c.in-Ok.ensures.stands)))
 
@@ -90,7 +90,7 @@ returns-clause-region g c =
     let names = c.args.compiled.names in
     let o = c.args.options in
     let input = c.args.input.now in
-    let S : RunEnd → Type 0 = IsRunEnd (core_after o.skips 4 p) p names o.depth (run_forks o) o.chunks input in
+    let S : RunEnd → Type 0 = IsRunEnd (core_asked o p) p names o.depth (run_forks o) o.chunks input in
     let file = file_of c.no_value.result in
     let Q : End → Type 0 = ComesOfMemory p names o input file in
     subst Q (sym c.no_value.ensures.end) (lacks_comes p names o input file c.in-NoValue.reason (subst S c.in-NoValue.is c.in-Ok.ensures.stands))

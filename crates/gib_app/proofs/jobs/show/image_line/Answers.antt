@@ -4,7 +4,7 @@ use Rattle.gib_app.proofs.Signs.{shown_typed}
 use Rattle.gib_app.proofs.jobs.show.image_line.Goals as goal
 
 pub value_line-requires-clause-typed : goal.value_line-requires-clause-typed
-value_line-requires-clause-typed c = shown_typed {names = c.args.compiled.now.names} (program_of c.args.compiled.now.typed) c.args.skips c.in-Ok.value c.args.file.now (inr c.in-Ok.ensures.read)
+value_line-requires-clause-typed c = shown_typed {names = c.args.compiled.now.names} (program_of c.args.compiled.now.typed) c.args.options c.in-Ok.value c.args.file.now (inr c.in-Ok.ensures.read)
 
 pub returns-in-Err-clause-stop : goal.returns-in-Err-clause-stop
 returns-in-Err-clause-stop c = c.in-Err.ensures.stop c.args.compiled.now.names
