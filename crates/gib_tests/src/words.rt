@@ -1,6 +1,7 @@
 //! Words of command lines with what they ask for.
 
 use crate::harness::words_of;
+use gib_types::FieldAccess;
 use gib_words::matches::usual;
 use gib_words::plan::{Document, Job, Options, Plan};
 use gib_words::sample::{SAMPLE_INPUT, SAMPLE_SOURCE};
@@ -52,7 +53,7 @@ fn push_options(line: &mut String, alloc: Global, options: &Options) -> Result<(
     let set = [
         (" image", options.image),
         (" packs", options.packs),
-        (" skips", options.skips),
+        (" skips", options.access == FieldAccess::Skips),
     ];
     for (option, set) in set {
         if set {
