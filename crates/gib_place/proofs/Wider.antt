@@ -220,7 +220,7 @@ module _ (tb : Table) where
     gains_bind (One side) s b = gains_side side s b
     gains_bind (Both fork l r) s b =
         let ls = met_side tb (left_of s r) l in gains_both b ls (met_side tb (right_of s l) r) (side_binders l) (side_binders r) (gains_side l (left_of s r) b) (gains_side r (right_of s l) (next_all tb b ls))
-    gains_bind (Prim x f v w) s b = gains_one x (Rattle.gib_syntax.specs.Typing.operator_type f) b
+    gains_bind (Prim x f v w) s b = gains_one x (Rattle.gib_types.specs.Operators.operator_type f) b
     gains_bind (Reach x by) s b = gains_none b
 
     pub gains_side : (side : Side) (s : Setting) (b : Before) → Gains b (next_all tb b (met_side tb s side)) (side_binders side)
