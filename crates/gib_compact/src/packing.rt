@@ -24,6 +24,27 @@ pub(crate) struct Packing<'a> {
     pub(crate) most: u64,
 }
 
+impl<'a> Packing<'a> {
+    /// What parts share that have this.
+    pub(crate) fn of(
+        alloc: Global,
+        arena: &'a Arena,
+        layouts: &'a Layouts,
+        most: u64,
+    ) -> Packing<'a>
+        ensures arena { result.arena.now ≡ arena.now }
+        ensures layouts { result.layouts.now ≡ layouts.now }
+        ensures most { result.most ≡ most }
+    {
+        Packing {
+            alloc,
+            arena,
+            layouts,
+            most,
+        }
+    }
+}
+
 /// The file's header and its description, in front of a payload of so many bytes, for which there is room.
 pub(crate) fn head(alloc: Global, description: &[u8], payload: u64) -> Result<Vec<u8>, Memory>
     requires { length description.now + payload ≤ MOST_BYTES }

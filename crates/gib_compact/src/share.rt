@@ -161,18 +161,7 @@ pub(crate) fn count_by<R: Threads + Sync>(
             requires cut { (bytes : List ℕ) × Cut layouts.now (cells mine) first.now bytes }
             ensures count { (bytes : List ℕ) → Cut layouts.entry.now (cells mine) first.entry.now bytes → IfOk result.0 (λ n. IsCount (length bytes) most n) }
             ensures back { IsBack arena.entry.now mine result.1 }
-        {
-            count_alone(
-                Packing {
-                    alloc,
-                    arena,
-                    layouts,
-                    most,
-                },
-                mine,
-                first,
-            )
-        },
+        { count_alone(Packing::of(alloc, arena, layouts, most), mine, first) },
         move || -> (Result<Option<u64>, Memory>, Pass)
             requires some { 0 < workers }
             requires own { IsOf arena.now other }
@@ -182,18 +171,8 @@ pub(crate) fn count_by<R: Threads + Sync>(
             ensures count { (bytes : List ℕ) → Cut layouts.entry.now (cells other) rest.entry.now bytes → IfOk result.0 (λ n. IsCount (length bytes) most n) }
             ensures back { IsBack arena.entry.now other result.1 }
         {
-            count_by(
-                rt,
-                Packing {
-                    alloc,
-                    arena,
-                    layouts,
-                    most,
-                },
-                other,
-                rest,
-                workers - 1,
-            )
+            let packing = Packing::of(alloc, arena, layouts, most);
+            count_by(rt, packing, other, rest, workers - 1)
         },
     );
     last.join(packing.arena, other);
@@ -235,17 +214,8 @@ pub(crate) fn write_by<R: Threads + Sync>(
             ensures out { (bytes : List ℕ) → Cut layouts.entry.now (cells mine) first.entry.now bytes → IfOk result.0 (λ all. all.items ≡ out.items ++ bytes) }
             ensures back { IsBack arena.entry.now mine result.1 }
         {
-            write_alone(
-                Packing {
-                    alloc,
-                    arena,
-                    layouts,
-                    most,
-                },
-                mine,
-                first,
-                out,
-            )
+            let packing = Packing::of(alloc, arena, layouts, most);
+            write_alone(packing, mine, first, out)
         },
         move || -> (Result<Vec<Vec<u8>>, Memory>, Pass)
             requires some { 0 < workers }
@@ -255,19 +225,8 @@ pub(crate) fn write_by<R: Threads + Sync>(
             ensures out { (bytes : List ℕ) → Cut layouts.entry.now (cells other) rest.entry.now bytes → IfOk result.0 (λ parts. gathered parts.items ≡ bytes) }
             ensures back { IsBack arena.entry.now other result.1 }
         {
-            write_by(
-                rt,
-                Packing {
-                    alloc,
-                    arena,
-                    layouts,
-                    most,
-                },
-                other,
-                rest,
-                Vec::new(alloc),
-                workers - 1,
-            )
+            let packing = Packing::of(alloc, arena, layouts, most);
+            write_by(rt, packing, other, rest, Vec::new(alloc), workers - 1)
         },
     );
     last.join(packing.arena, other);
