@@ -15,15 +15,16 @@ use gib_mem::Mem;
 use itoa::Buffer;
 use std::alloc::{AllocError, Global};
 
-/// The text of items, one behind another.
+/// The text of items, one behind another, by one of so many workers.
 ///
 /// # Errors
 ///
-/// Want of memory; a text that is longer than what is kept in memory is told so too.
+/// Want of memory; a text that is longer than what one of them keeps in memory is told so too.
 pub fn items_text<M: Mem>(
     mem: &mut M,
     printing: Printing<'_>,
     items: &[Item],
+    workers: u32,
 ) -> Result<Vec<u8>, Memory>
     requires names { AreHeld printing.layouts.now.table printing.names.now.short }
     requires cut { (bytes : List ℕ) × Cut printing.layouts.now printing.names.now.short (M.view mem.old).cells items.now bytes }
@@ -31,7 +32,7 @@ pub fn items_text<M: Mem>(
         → IfOk result (λ text. text.items ≡ bytes) }
     ensures same { M.view mem.new ≡ M.view mem.old }
 {
-    let mut kept = Kept::new(printing.alloc);
+    let mut kept = Kept::one_of(printing.alloc, workers);
     let mut waiting = Waiting::new();
     let mut i = 0;
     'items: while i < items.len() {

@@ -31,7 +31,7 @@ fn text_alone(sharing: Sharing<'_>, pass: Pass, items: &[Item]) -> (Result<Vec<u
         layouts: sharing.layouts,
         names: sharing.names,
     };
-    let text = items_text(&mut mem, printing, items);
+    let text = items_text(&mut mem, printing, items, sharing.workers);
     let (_arena, pass) = mem.into_pass();
     names_tell();
     (text, pass)
@@ -87,6 +87,7 @@ pub(crate) fn texts_by<R: Threads + Sync>(
         arena,
         layouts,
         names,
+        workers: all,
     } = sharing;
     let (mine, other, first, rest) = deal(sharing, pass, items, items.len() / workers as usize);
     let ((a, mut last), (b, other)) = join(
@@ -98,7 +99,7 @@ pub(crate) fn texts_by<R: Threads + Sync>(
             ensures text { (bytes : List ℕ) → Cut layouts.entry.now names.entry.now.short (cells mine) first.entry.now bytes
                 → IfOk result.0 (λ text. text.items ≡ bytes) }
             ensures back { IsBack arena.entry.now mine result.1 }
-        { text_alone(Sharing::of(alloc, arena, layouts, names), mine, first) },
+        { text_alone(Sharing::of(alloc, arena, layouts, names, all), mine, first) },
         move || -> (Result<Vec<Vec<u8>>, Memory>, Pass)
             requires some { 0 < workers }
             requires own { IsOf arena.now other }
@@ -109,7 +110,7 @@ pub(crate) fn texts_by<R: Threads + Sync>(
                 → IfOk result.0 (λ texts. gathered texts.items ≡ bytes) }
             ensures back { IsBack arena.entry.now other result.1 }
         {
-            let sharing = Sharing::of(alloc, arena, layouts, names);
+            let sharing = Sharing::of(alloc, arena, layouts, names, all);
             texts_by(rt, sharing, other, rest, workers - 1)
         },
     );

@@ -14,6 +14,8 @@ pub(crate) struct Sharing<'a> {
     pub(crate) arena: &'a Arena,
     pub(crate) layouts: &'a Layouts,
     pub(crate) names: &'a Texts,
+    /// How many workers make it.
+    pub(crate) workers: u32,
 }
 
 impl<'a> Sharing<'a> {
@@ -23,6 +25,7 @@ impl<'a> Sharing<'a> {
         arena: &'a Arena,
         layouts: &'a Layouts,
         names: &'a Texts,
+        workers: u32,
     ) -> Sharing<'a>
         ensures arena { result.arena.now ≡ arena.now }
         ensures layouts { result.layouts.now ≡ layouts.now }
@@ -33,6 +36,7 @@ impl<'a> Sharing<'a> {
             arena,
             layouts,
             names,
+            workers,
         }
     }
 }

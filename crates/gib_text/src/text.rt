@@ -127,8 +127,8 @@ fn root_by<R: Threads + Sync>(
 ///
 /// # Errors
 ///
-/// Want of memory: all of the text is made in memory, and is there twice while the parts are put together. A part that is longer than
-/// what is kept of a text is told so too.
+/// Want of memory: all of the text is made in memory, and is there twice while the parts are put together. The part of a worker that is
+/// longer than its share of 32 MiB is told so too.
 pub fn text_by<R: Threads + Sync>(
     rt: &R,
     printing: Printing<'_>,
@@ -151,6 +151,7 @@ pub fn text_by<R: Threads + Sync>(
         arena: &arena,
         layouts: printing.layouts,
         names: printing.names,
+        workers,
     };
     let (text, last) = root_by(rt, sharing, first, root, workers);
     (text, SoleMem::of_parts(arena, last))
