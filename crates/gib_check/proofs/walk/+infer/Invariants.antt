@@ -51,13 +51,13 @@ abbrev pub decreases-arm_result : goal.decreases-arm_result
 decreases-arm_result l = 6 * l.at.id.0 + 1
 
 abbrev pub invariant-arguments-arguments : goal.invariant-arguments-arguments
-invariant-arguments-arguments l = ArgumentsSoFar l.around.now.named.now l.around.now.variables.now l.fn.id.0 l.fn.state l.state l.ids l.rest l.parts.items
+invariant-arguments-arguments l = ArgumentsSoFar l.around.named.now l.around.variables.now l.fn.id.0 l.fn.state l.state l.ids l.rest l.parts.items
 
 abbrev pub decreases-arguments-arguments : goal.decreases-arguments-arguments
 decreases-arguments-arguments l = length l.rest
 
 abbrev pub invariant-arm_results-arms : goal.invariant-arm_results-arms
-invariant-arm_results-arms l = ArmsSoFar l.around.now.named.now l.around.now.variables.now l.at.standing l.at.id.0 l.fn.state l.state l.types l.arms l.rest l.parts.items
+invariant-arm_results-arms l = ArmsSoFar l.around.named.now l.around.variables.now l.at.standing l.at.id.0 l.fn.state l.state l.types l.arms l.rest l.parts.items
 
 abbrev pub decreases-arm_results-arms : goal.decreases-arm_results-arms
 decreases-arm_results-arms l = length l.rest
