@@ -22,8 +22,8 @@ ghost use Rattle.gib_local_print.specs.LocatedText.{given, located_text, located
 use crate::located_text::bytes_of;
 use crate::print_fault::PrintFault;
 use crate::put::{
-    merged, put_before, put_call_mark, put_constructor, put_mark, put_name, put_no_name,
-    put_operand, put_operands, put_result, put_results_mark, put_side_mark, put_type,
+    merged, put_before, put_call_mark, put_constructor, put_give, put_mark, put_name, put_no_name,
+    put_operand, put_operands, put_point, put_result, put_results_mark, put_side_mark, put_type,
     put_variables, side_number,
 };
 use crate::put_binding::{
@@ -96,20 +96,13 @@ fn put_end(from: &Printed, target: &Target, id: TermId, out: &mut Spelled) -> Re
             packed,
             ..
         } => put_write(from, target.at, *constructor, scalars, packed, out),
-        Node::Point(atom) => {
-            put_mark(target.at, out)?;
-            put_name(*atom, out)?;
-            out.put_sign(Sign::Point)
-        }
+        Node::Point(atom) => put_point(*atom, target.at, out),
         Node::Call(name, arguments) => {
             put_call_mark(&target.destination, target.at, out)?;
             put_operands(arguments, out)?;
             out.put(Token::Variable(*name))
         }
-        Node::Give(atom) => {
-            put_operand(*atom, out)?;
-            out.put_sign(Sign::Give)
-        }
+        Node::Give(atom) => put_give(*atom, out),
         Node::Case { subject, branches } => {
             out.put_sign(Sign::CloseBrace)?;
             put_branches(from, target, id, branches, out)?;

@@ -58,6 +58,14 @@ pub(crate) fn put_operand(atom: Atom, out: &mut Spelled) -> Result<(), Memory>
     }
 }
 
+/// A variable or a literal that is given.
+pub(crate) fn put_give(atom: Atom, out: &mut Spelled) -> Result<(), Memory>
+    ensures { OnOk result (out.new ≡ Token.Sign Sign.Give ∷ operand_word (operand given atom) ∷ out.old) }
+{
+    put_operand(atom, out)?;
+    out.put_sign(Sign::Give)
+}
+
 /// Variables and literals.
 pub(crate) fn put_operands(atoms: &[Atom], out: &mut Spelled) -> Result<(), Memory>
     ensures { OnOk result (out.new ≡ spell_operands (map (operand given) atoms.now) out.old) }
@@ -68,6 +76,15 @@ pub(crate) fn put_operands(atoms: &[Atom], out: &mut Spelled) -> Result<(), Memo
         put_operand(atoms[i], out)?;
     }
     Ok(())
+}
+
+/// What points to a variable at a mark.
+pub(crate) fn put_point(atom: Atom, at: u32, out: &mut Spelled) -> Result<(), Memory>
+    ensures { OnOk result (out.new ≡ Token.Sign Sign.Point ∷ lower (atom_name given atom) ∷ spell_mark (mark given at) out.old) }
+{
+    put_mark(at, out)?;
+    put_name(atom, out)?;
+    out.put_sign(Sign::Point)
 }
 
 /// The variable that an atom is; of a literal, which no packed value is, the first name.

@@ -240,16 +240,12 @@ fn lower_end(source: &Source, id: TermId, at: At, out: &mut Lowering) -> Result<
             put_value(out.alloc, &out.overs, at.ending, instr, &mut out.code)
         }
         Node::Call(name, arguments) => lower_call(source, at, *name, arguments, out),
-        Node::Give(atom) => give(
-            out.alloc,
-            &out.overs,
-            at.ending,
-            operand(*atom),
-            &mut out.code,
-        ),
+        Node::Give(atom) => {
+            let given = operand(*atom);
+            give(out.alloc, &out.overs, at.ending, given, &mut out.code)
+        }
         Node::Case { subject, branches } => {
-            let tree = slot_of(*subject);
-            lower_case(source, id, tree, branches, at, out)
+            lower_case(source, id, slot_of(*subject), branches, at, out)
         }
         Node::If {
             condition,
@@ -259,10 +255,8 @@ fn lower_end(source: &Source, id: TermId, at: At, out: &mut Lowering) -> Result<
             lower_term(source, *else_part, at, out)?;
             let label = out.code.label();
             lower_term(source, *then_part, at, out)?;
-            out.code.put(Instr::Unless {
-                test: operand(*condition),
-                label,
-            })
+            let test = operand(*condition);
+            out.code.put(Instr::Unless { test, label })
         }
         Node::Tuple { scalars, parts, .. } => {
             give_parts(out.alloc, &out.overs, at.ending, scalars, &mut out.code)?;
