@@ -435,7 +435,9 @@ fn let_par(
     requires left { left.value.0 < length typed.now.exprs }
     requires right { right.value.0 < length typed.now.exprs }
     requires body { body.0 < length typed.now.exprs }
-    ensures { IfOk result (λ r. MakesLine work.old work.new r.0 r.1 (par_line left.name (code_at typed.now typed.now.exprs left.value.0).side right.name (code_at typed.now typed.now.exprs right.value.0).side (code_at typed.now typed.now.exprs body.0).line (scope_of work.old.scope.items) work.old.fresh)) }
+    ensures { IfOk result (λ r. MakesLine work.old work.new r.0 r.1 (par_line left.name
+        (code_at typed.now typed.now.exprs left.value.0).side right.name (code_at typed.now typed.now.exprs right.value.0).side
+        (code_at typed.now typed.now.exprs body.0).line (scope_of work.old.scope.items) work.old.fresh)) }
 {
     let first = bound_side(typed, work, left.value)?;
     let second = bound_side(typed, work, right.value)?;
@@ -530,7 +532,9 @@ fn let_several(
 ) -> Result<(TermId, Ty), Memory>
     requires bound { bound.now.value.0 < length typed.now.exprs }
     requires body { body.0 < length typed.now.exprs }
-    ensures { IfOk result (λ r. MakesLine work.old work.new r.0 r.1 (several_line (names_of bound.now.names.now) (types_of (globals_in typed.now).table.types bound.now.names.now) (code_at typed.now typed.now.exprs bound.now.value.0) (code_at typed.now typed.now.exprs body.0).line (scope_of work.old.scope.items) work.old.fresh)) }
+    ensures { IfOk result (λ r. MakesLine work.old work.new r.0 r.1 (several_line (names_of bound.now.names.now) (types_of
+        (globals_in typed.now).table.types bound.now.names.now) (code_at typed.now typed.now.exprs bound.now.value.0)
+        (code_at typed.now typed.now.exprs body.0).line (scope_of work.old.scope.items) work.old.fresh)) }
 {
     let bound = bound_names(typed, work, bound)?;
     let outer = work.scope.len();
@@ -554,7 +558,10 @@ fn par_several(
     requires left { left.now.value.0 < length typed.now.exprs }
     requires right { right.now.value.0 < length typed.now.exprs }
     requires body { body.0 < length typed.now.exprs }
-    ensures { IfOk result (λ r. MakesLine work.old work.new r.0 r.1 (sides_line (names_of left.now.names.now) (types_of (globals_in typed.now).table.types left.now.names.now) (code_at typed.now typed.now.exprs left.now.value.0) (names_of right.now.names.now) (types_of (globals_in typed.now).table.types right.now.names.now) (code_at typed.now typed.now.exprs right.now.value.0) (code_at typed.now typed.now.exprs body.0).line (scope_of work.old.scope.items) work.old.fresh)) }
+    ensures { IfOk result (λ r. MakesLine work.old work.new r.0 r.1 (sides_line (names_of left.now.names.now) (types_of
+        (globals_in typed.now).table.types left.now.names.now) (code_at typed.now typed.now.exprs left.now.value.0) (names_of right.now.names.now)
+        (types_of (globals_in typed.now).table.types right.now.names.now) (code_at typed.now typed.now.exprs right.now.value.0)
+        (code_at typed.now typed.now.exprs body.0).line (scope_of work.old.scope.items) work.old.fresh)) }
 {
     let first = bound_names(typed, work, left)?;
     let second = bound_names(typed, work, right)?;
@@ -677,7 +684,9 @@ fn put_branch(
 ) -> Result<Option<Ty>, Memory>
     requires inside { id.0 < length typed.now.exprs }
     requires below { ArmsBelow arms.now id.0 }
-    ensures { (start : Work) (of : Option Ty) (ks : List ℕ) (all : Branched) → BranchesSoFar typed.now typed.now.exprs arms.now start work.old branches.old.items of (constructor.0 ∷ ks) all → IfOk result (λ ty. BranchesSoFar typed.now typed.now.exprs arms.now start work.new branches.new.items (option_or of ty) ks all) }
+    ensures { (start : Work) (of : Option Ty) (ks : List ℕ) (all : Branched)
+        → BranchesSoFar typed.now typed.now.exprs arms.now start work.old branches.old.items of (constructor.0 ∷ ks) all → IfOk result
+        (λ ty. BranchesSoFar typed.now typed.now.exprs arms.now start work.new branches.new.items (option_or of ty) ks all) }
 {
     match arm_of(typed, arms, constructor) {
         None => Ok(None),

@@ -204,7 +204,10 @@ fn put_par(
 ) -> Result<(), Memory>
     requires inside { parent.0 < length from.now.terms.now }
     requires below { (left.term.0 < parent.0) × (right.term.0 < parent.0) }
-    ensures { OnOk result (out.new ≡ put_sides (are_fields left.kind right.kind) given (destination_of before.now) left.kind left.variable.0 right.kind right.variable.0 (side_text given from.now.types.now (side_from (term_of from.now.terms.now) (side_of.One left))) (side_text given from.now.types.now (side_from (term_of from.now.terms.now) (side_of.One right))) out.old) }
+    ensures { OnOk result (out.new ≡ put_sides (are_fields left.kind right.kind) given
+        (destination_of before.now) left.kind left.variable.0 right.kind right.variable.0 (side_text given from.now.types.now (side_from
+        (term_of from.now.terms.now) (side_of.One left))) (side_text given from.now.types.now (side_from (term_of from.now.terms.now)
+        (side_of.One right))) out.old) }
 {
     if are_fields(left.kind, right.kind) {
         put_fields(from, before, parent, left, right, out)
@@ -225,7 +228,9 @@ fn put_fields(
 ) -> Result<(), Memory>
     requires inside { parent.0 < length from.now.terms.now }
     requires below { (left.term.0 < parent.0) × (right.term.0 < parent.0) }
-    ensures { OnOk result (out.new ≡ put_sides true given (destination_of before.now) left.kind left.variable.0 right.kind right.variable.0 (side_text given from.now.types.now (side_from (term_of from.now.terms.now) (side_of.One left))) (side_text given from.now.types.now (side_from (term_of from.now.terms.now) (side_of.One right))) out.old) }
+    ensures { OnOk result (out.new ≡ put_sides true given (destination_of before.now) left.kind left.variable.0 right.kind right.variable.0
+        (side_text given from.now.types.now (side_from (term_of from.now.terms.now) (side_of.One left))) (side_text given from.now.types.now
+        (side_from (term_of from.now.terms.now) (side_of.One right))) out.old) }
 {
     out.put_sign(Sign::In)?;
     put_side(from, right, right.variable.0, out)?;
@@ -254,7 +259,9 @@ fn put_sides(
 ) -> Result<(), Memory>
     requires inside { parent.0 < length from.now.terms.now }
     requires below { (left.term.0 < parent.0) × (right.term.0 < parent.0) }
-    ensures { OnOk result (out.new ≡ put_sides false given (destination_of before.now) left.kind left.variable.0 right.kind right.variable.0 (side_text given from.now.types.now (side_from (term_of from.now.terms.now) (side_of.One left))) (side_text given from.now.types.now (side_from (term_of from.now.terms.now) (side_of.One right))) out.old) }
+    ensures { OnOk result (out.new ≡ put_sides false given (destination_of before.now) left.kind left.variable.0 right.kind right.variable.0
+        (side_text given from.now.types.now (side_from (term_of from.now.terms.now) (side_of.One left))) (side_text given from.now.types.now
+        (side_from (term_of from.now.terms.now) (side_of.One right))) out.old) }
 {
     out.put_sign(Sign::In)?;
     put_side(

@@ -145,7 +145,14 @@ pub fn ask_make(
     k: Ident,
     words: &[Word],
 ) -> Result<(), Memory>
-    ensures { IfOk result (λ _. Asks (globals_in source.now) search.old search.new (λ m. record { function = false; name = owner_named (globals_in source.now).rows (place_named (globals_in source.now).rows (number_of k)); types = formed_all m (all_types (stack_of words.now)); span = k.span } ∷ writtens_asks m (all_types (stack_of words.now)))) }
+    ensures { IfOk result (λ _. Asks (globals_in source.now) search.old search.new (λ m. record {
+      function = false;
+      name = owner_named
+          (globals_in source.now).rows (place_named (globals_in source.now).rows (number_of k));
+      types = formed_all m (all_types
+          (stack_of words.now));
+      span = k.span;
+    } ∷ writtens_asks m (all_types (stack_of words.now)))) }
 {
     let reading = search.context.read(search.alloc, words)?;
     let types = reading.types.into_vec();
