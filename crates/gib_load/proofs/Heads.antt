@@ -9,6 +9,7 @@ use Rattle.gib_file.specs.Packed.{tree, trees, scalar as scalar_in_file, scalars
 use Rattle.gib_packed.specs.Scalars.{scalar, scalars}
 use Rattle.gib_load.specs.Preorder.{Head, heads, all_heads}
 use Rattle.gib_load.specs.Placement.{Open, place_head, place_heads}
+pub use Rattle.gib_load.specs.Rest.{bytes_of, IsHead, AreHeads, no_heads, one_head}
 
 -- the scalars of a head are those of the file
 scalar-same : (v : Datum) → scalar_in_file v ≡ scalar v
@@ -20,11 +21,6 @@ scalar-same (con k vs) = refl
 scalars-same : (vs : Data) → scalars_in_file vs ≡ scalars vs
 scalars-same none = refl
 scalars-same (more v vs) = ap (λ (l : List ℕ). l ++ scalars_in_file vs) (scalar-same v) ∙ ap (λ (l : List ℕ). scalar v ++ l) (scalars-same vs)
-
--- the bytes of heads without offsets
-abbrev pub bytes_of : List Head → List ℕ
-bytes_of [] = []
-bytes_of (h ∷ hs) = (h.tag ∷ scalars h.fields) ++ bytes_of hs
 
 bytes-append : (hs gs : List Head) → bytes_of (hs ++ gs) ≡ bytes_of hs ++ bytes_of gs
 bytes-append [] gs = refl
@@ -40,16 +36,6 @@ mutual
   trees-bytes : (vs : Data) → trees vs ≡ bytes_of (all_heads vs)
   trees-bytes none = refl
   trees-bytes (more v vs) = ap (λ (l : List ℕ). l ++ trees vs) (tree-bytes v) ∙ ap (λ (l : List ℕ). bytes_of (heads v) ++ l) (trees-bytes vs) ∙ sym (bytes-append (heads v) (all_heads vs))
-
--- a head of a constructor of the table, with fields of its types
-pub record IsHead (table : Table) (h : Head) : Type 0 where
-  pub owner : ℕ
-  pub owned : con_at table owner h.tag ≡ Some h.tag
-  pub typed : HaveTypes table h.fields (fields_at table h.tag)
-
-pub data AreHeads (table : Table) : List Head → Type 0 where
-  no_heads : AreHeads table []
-  one_head : {h : Head} {hs : List Head} → IsHead table h → AreHeads table hs → AreHeads table (h ∷ hs)
 
 heads-append : {table : Table} {hs gs : List Head} → AreHeads table hs → AreHeads table gs → AreHeads table (hs ++ gs)
 heads-append no_heads b = b

@@ -2,8 +2,12 @@
 pub mod Heads
 pub mod Spots
 pub mod Rooms
-pub mod Planning
+-- Bytes that are put in parts, and what is noted in gaps.
+pub mod Parts
+pub mod Apart
+pub mod Noting
 -- The loop that places them.
+pub mod Resting
 pub mod Steps
 pub mod Going
 pub mod Ends

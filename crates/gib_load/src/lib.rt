@@ -1,8 +1,8 @@
 //! Loads a checked payload into region memory.
 #![tactic(auto)]
 
+pub(crate) mod due;
 pub mod law;
 mod loading;
-pub(crate) mod plan;
 
 pub use loading::{LoadFault, load};

@@ -1,8 +1,6 @@
 use Rattle.std.proofs.Common.{ℕ, ◌+◌, ◌*◌, ap, sym, ◌∙◌}
 use Rattle.gib_load.specs.Preorder.{heads}
-use Rattle.gib_load.specs.Spot.{Spot}
-use Rattle.gib_load.specs.Plan.{planned}
-use Rattle.gib_load.specs.Placement.{Open, spot_of, place_heads}
+use Rattle.gib_load.specs.Placement.{Open, place_heads}
 use Rattle.gib_load.proofs.Ends.{begun_by, tree_placement, finished_placement, refused_start, refused_head}
 use Rattle.gib_load.proofs.loading.place_tree.Goals as goal
 
@@ -26,12 +24,6 @@ pub returns-in-Err-place_heads-clause-full : goal.returns-in-Err-place_heads-cla
 returns-in-Err-place_heads-clause-full g c = λ t v p.
     let b = begun_by _ _ _ _ _ c.requires.tails c.requires.alone c.in-Ok.ensures.begins in
     refused_head c.args.layouts.now (g.M.Mem.view c.args.mem.now) v _ _ _ _ b (c.in-Err-place_heads.ensures.full t v p)
-
-pub place_heads-requires-clause-plan : goal.place_heads-requires-clause-plan
-place_heads-requires-clause-plan g c = λ t v p.
-    let b = begun_by _ _ _ _ _ c.requires.tails c.requires.alone c.in-Ok.ensures.begins in
-    let first = ap spot_of b.is ∙ ap (λ (d : ℕ). record { at = 4096 * d; drawn = d + 1 }) c.requires.undrawn in
-    c.requires.plan t v p ∙ sym (ap (λ (s : Spot). planned c.args.layouts.now s (heads v)) first)
 
 pub returns-in-Err-place_heads-clause-none : goal.returns-in-Err-place_heads-clause-none
 returns-in-Err-place_heads-clause-none g c = (begun_by _ _ _ _ _ c.requires.tails c.requires.alone c.in-Ok.ensures.begins).none

@@ -1,6 +1,6 @@
 use Rattle.std.proofs.Common.{◌≡◌, ◌<◌, ◌≤◌, ◌-◌, ℕ, length, false}
 use Rattle.gib_types.specs.Layout.{has_offsets}
-use Rattle.gib_load.proofs.plan.any_stores.Given as goal
+use Rattle.gib_load.proofs.due.any_stores.Given as goal
 
 abbrev pub invariant-constructors : goal.invariant-constructors
 invariant-constructors l = record {
