@@ -1,6 +1,6 @@
 //! Calls and their ends: they have no memory action.
 
-ghost use Rattle.std.specs.Prelude.{◌≡◌, ◌<◌, ◌+◌, ◌^◌, ℕ, List};
+ghost use Rattle.std.specs.Prelude.{◌≡◌, ◌<◌, ◌+◌, ◌^◌, ℕ, List, IfSome};
 ghost use Rattle.gib_machine.specs.State.{Over, doing, word, words, widest};
 ghost use Rattle.gib_machine.specs.Machine.{word_answer, called, returned, gives, unwound, slots_at};
 ghost use Rattle.gib_machine.specs.Machine as m;
@@ -37,6 +37,30 @@ pub(crate) fn slots_of(code: &Code, function: u32) -> u32
         functions[place].slots
     } else {
         0
+    }
+}
+
+/// Where a function starts, and how many slots a frame of it has.
+#[derive(Clone, Copy)]
+pub(crate) struct Callee {
+    pub start: u32,
+    pub slots: u32,
+}
+
+/// What a call of a function goes to; none for no function.
+#[tactic(auto, using(crate::proofs::Steps::start_here, crate::proofs::Steps::slots_here))]
+pub(crate) fn callee_of(code: &Code, function: u32) -> Option<Callee>
+    ensures { IfSome result (λ callee. (callee.start ≡ m.start_at code.now.functions function) × (callee.slots ≡ slots_at code.now.functions function)) }
+{
+    let functions = code.functions();
+    let place = function as usize;
+    if place < functions.len() {
+        Some(Callee {
+            start: functions[place].start,
+            slots: functions[place].slots,
+        })
+    } else {
+        None
     }
 }
 
