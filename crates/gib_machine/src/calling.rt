@@ -94,7 +94,7 @@ impl Machine {
     /// A call. `M` is the memory and `A` the word that is answered, or nothing. Neither is used: by their names each instruction has a call of its own,
     /// which is compiled into the step.
     #[tactic(auto, using(crate::proofs::Steps::slots_widest))]
-    pub(crate) fn calls<M, A>(
+    pub(crate) fn exec_call<M, A>(
         &mut self,
         code: &Code,
         function: u32,
@@ -116,7 +116,7 @@ impl Machine {
         }
     }
 
-    pub(crate) fn returns(&mut self) -> Turn
+    pub(crate) fn exec_return(&mut self) -> Turn
         ensures state { self.new ≡ returned self.old self.old.frames }
         ensures turn { result ≡ turns.Went }
     {
@@ -129,7 +129,7 @@ impl Machine {
         Turn::Went
     }
 
-    pub(crate) fn gives(&mut self, from: Operand) -> Turn
+    pub(crate) fn exec_give(&mut self, from: Operand) -> Turn
         ensures state { self.new ≡ gives self.old self.old.frames (word self.old.words from) }
         ensures turn { result ≡ turns.Went }
     {

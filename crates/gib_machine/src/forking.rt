@@ -43,7 +43,7 @@ impl Machine {
     }
 
     /// Stands at a fork where a level is left; else the `par` is in place.
-    pub(crate) fn forks(&mut self, fork: &Fork) -> Turn
+    pub(crate) fn exec_fork(&mut self, fork: &Fork) -> Turn
         requires next { self.old.ip + 1 < 2 ^ 32 }
         ensures { (v : Memory) → Makes (λ s. forks_at s fork.now.right fork.now.joint fork.now.kind (target_slots fork.now.targets) s.level) self.old self.new v v result }
     {
@@ -55,7 +55,7 @@ impl Machine {
     }
 
     /// Stands at the join of a `par` whose left side runs here; in place the right side follows.
-    pub(crate) fn joins(&mut self) -> Turn
+    pub(crate) fn exec_join(&mut self) -> Turn
         requires next { self.old.ip + 1 < 2 ^ 32 }
         ensures { (v : Memory) → Makes (λ s. joins_at s s.pars) self.old self.new v v result }
     {
@@ -69,7 +69,7 @@ impl Machine {
     }
 
     /// Leaves the newest `par`, whose right side ran here; a right side that is a task of its own ends.
-    pub(crate) fn goes_back(&mut self) -> Turn
+    pub(crate) fn exec_back(&mut self) -> Turn
         requires next { self.old.ip + 1 < 2 ^ 32 }
         ensures { (v : Memory) → Makes (λ s. backs_at s s.pars) self.old self.new v v result }
     {

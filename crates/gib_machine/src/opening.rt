@@ -15,7 +15,7 @@ use gib_types::Reason;
 impl Machine {
     /// Opens a region, and sets the slot to its start.
     #[tactic(auto, using(crate::proofs::Latest::begun, crate::proofs::Latest::full, crate::proofs::Latest::deep))]
-    pub(crate) fn begins<M: Mem>(&mut self, to: u32, mem: &mut M, tails: &mut Tails) -> Turn
+    pub(crate) fn exec_begin<M: Mem>(&mut self, to: u32, mem: &mut M, tails: &mut Tails) -> Turn
         requires next { self.old.ip + 1 < 2 ^ 32 }
         ensures { Made (opens (with_tails self.old tails.old) self.old.room (λ t a. sets t to a)) (with_tails self.old tails.old) (with_tails self.new tails.new) (M.view mem.old) (M.view mem.new) result }
     {
@@ -54,7 +54,7 @@ impl Machine {
     }
 
     /// Finishes the innermost region: the rest of its chunk is kept where it is long enough.
-    pub(crate) fn finishes(&mut self, tails: &mut Tails) -> Turn
+    pub(crate) fn exec_done(&mut self, tails: &mut Tails) -> Turn
         requires next { self.old.ip + 1 < 2 ^ 32 }
         ensures state { with_tails self.new tails.new ≡ closed (with_tails self.old tails.old) self.old.regions }
         ensures turn { result ≡ turns.Went }

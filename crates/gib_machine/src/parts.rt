@@ -23,7 +23,7 @@ pub(crate) fn newer(part: u8, count: u8) -> u8
 
 impl Machine {
     /// The region of a packed part becomes the innermost one.
-    pub(crate) fn goes_into(&mut self, part: u8, count: u8) -> Turn
+    pub(crate) fn exec_into(&mut self, part: u8, count: u8) -> Turn
         requires next { self.old.ip + 1 < 2 ^ 32 }
         ensures state { self.new ≡ ordered self.old (pull (count - 1 - part) self.old.regions) }
         ensures turn { result ≡ turns.Went }
@@ -34,7 +34,7 @@ impl Machine {
     }
 
     /// The region of a packed part goes back to its place.
-    pub(crate) fn goes_out(&mut self, part: u8, count: u8) -> Turn
+    pub(crate) fn exec_out(&mut self, part: u8, count: u8) -> Turn
         requires next { self.old.ip + 1 < 2 ^ 32 }
         ensures state { self.new ≡ ordered self.old (sink (count - 1 - part) self.old.regions) }
         ensures turn { result ≡ turns.Went }
@@ -45,17 +45,17 @@ impl Machine {
     }
 
     /// A call with a result of several parts ends, and its scalar parts are the part words.
-    pub(crate) fn gives_parts(&mut self, scalars: &[Operand])
+    pub(crate) fn exec_give_parts(&mut self, scalars: &[Operand])
         ensures { (ts : List ℕ) → with_tails self.new ts ≡ m.gives_parts (with_tails self.old ts) (words self.old.words scalars.now) }
     {
         let parts = self.frames.parts(scalars);
         self.parts = parts;
-        self.returns();
+        self.exec_return();
     }
 
     /// A slot is set to a scalar part of the call just returned.
     #[tactic(auto, using(crate::proofs::Windows::no_word))]
-    pub(crate) fn takes_part(&mut self, to: u32, part: u8) -> Turn
+    pub(crate) fn exec_part(&mut self, to: u32, part: u8) -> Turn
         requires next { self.old.ip + 1 < 2 ^ 32 }
         ensures state { self.new ≡ sets self.old to (get_or self.old.parts part 0) }
         ensures turn { result ≡ turns.Went }

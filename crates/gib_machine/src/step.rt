@@ -37,9 +37,9 @@ impl Machine {
             (M.view mem.old) (M.view mem.new) result }
     {
         if self.is_at_rest() {
-            self.begins_here(code, mem, tails)
+            self.dispatch(code, mem, tails)
         } else {
-            self.continues(code, mem, tails)
+            self.resume(code, mem, tails)
         }
     }
 
@@ -55,7 +55,7 @@ impl Machine {
     }
 
     /// An instruction that is begun goes on. Most steps begin one, so this stands apart: what an instruction is at is long, and is copied here alone.
-    fn continues<M: Mem>(&mut self, code: &Code, mem: &mut M, tails: &mut Tails) -> Turn
+    fn resume<M: Mem>(&mut self, code: &Code, mem: &mut M, tails: &mut Tails) -> Turn
         requires begun { at_rest self.old.doing ≡ false }
         requires small { IsSmallAsk (next code.now (with_tails self.old tails.old)) }
         requires can { Can (next code.now (with_tails self.old tails.old)) (M.view mem.old) }
@@ -92,7 +92,7 @@ impl Machine {
     }
 
     /// The instruction at hand begins. Behind the code there is none.
-    fn begins_here<M: Mem>(&mut self, code: &Code, mem: &mut M, tails: &mut Tails) -> Turn
+    fn dispatch<M: Mem>(&mut self, code: &Code, mem: &mut M, tails: &mut Tails) -> Turn
         requires runs { Runs code.now }
         requires made { self.old.width ≡ widest code.now.functions }
         requires small { IsSmallAsk (begin code.now (with_tails self.old tails.old) (slice_get code.now.instructions self.old.ip)) }
@@ -105,17 +105,11 @@ impl Machine {
         if place >= instructions.len() {
             return Turn::Ended;
         }
-        self.begins_with(code, &instructions[place], mem, tails)
+        self.exec(code, &instructions[place], mem, tails)
     }
 
     /// An instruction begins.
-    fn begins_with<M: Mem>(
-        &mut self,
-        code: &Code,
-        instr: &Instr,
-        mem: &mut M,
-        tails: &mut Tails,
-    ) -> Turn
+    fn exec<M: Mem>(&mut self, code: &Code, instr: &Instr, mem: &mut M, tails: &mut Tails) -> Turn
         requires next { self.old.ip + 1 < 2 ^ 32 }
         requires fine { IsFine (instruction_of instr.now) }
         requires made { self.old.width ≡ widest code.now.functions }
@@ -125,28 +119,28 @@ impl Machine {
             (with_tails self.new tails.new) (M.view mem.old) (M.view mem.new) result }
     {
         match instr {
-            Instr::Switch { tree, arms } => self.switches(*tree, arms, mem),
-            Instr::Whole { to, tree, place } => self.reads(*to, *tree, *place, mem),
-            Instr::Truth { to, tree, place } => self.reads_truth(*to, *tree, *place, mem),
-            Instr::Offset { to, tree, place } => self.reads(*to, *tree, *place, mem),
-            Instr::Skip { to, from } => self.skips(code, *to, *from, mem),
-            Instr::Begin(to) => self.begins(*to, mem, tails),
-            Instr::Past { head, constructor } => self.passes(code, *head, *constructor, mem),
+            Instr::Switch { tree, arms } => self.exec_switch(*tree, arms, mem),
+            Instr::Whole { to, tree, place } => self.exec_read(*to, *tree, *place, mem),
+            Instr::Truth { to, tree, place } => self.exec_truth(*to, *tree, *place, mem),
+            Instr::Offset { to, tree, place } => self.exec_read(*to, *tree, *place, mem),
+            Instr::Skip { to, from } => self.exec_skip(code, *to, *from, mem),
+            Instr::Begin(to) => self.exec_begin(*to, mem, tails),
+            Instr::Past { head, constructor } => self.exec_past(code, *head, *constructor, mem),
             Instr::Fill {
                 head,
                 constructor,
                 scalars,
                 packed,
-            } => self.fills(code, *head, *constructor, scalars, packed, mem),
+            } => self.exec_fill(code, *head, *constructor, scalars, packed, mem),
             Instr::Point(from) => {
                 let target = self.frames.slot(*from);
-                self.points(target, mem)
+                self.exec_point(target, mem)
             }
-            Instr::Done => self.finishes(tails),
-            Instr::Fork(fork) => self.forks(fork),
-            Instr::Join => self.joins(),
-            Instr::Back => self.goes_back(),
-            Instr::Move { to, from } => self.moves(*to, *from),
+            Instr::Done => self.exec_done(tails),
+            Instr::Fork(fork) => self.exec_fork(fork),
+            Instr::Join => self.exec_join(),
+            Instr::Back => self.exec_back(),
+            Instr::Move { to, from } => self.exec_move(*to, *from),
             Instr::Operate {
                 to,
                 operator,
@@ -155,22 +149,22 @@ impl Machine {
             } => {
                 let first = self.frames.word(*left);
                 let second = self.frames.word(*right);
-                self.operates(*to, *operator, first, second);
+                self.exec_operate(*to, *operator, first, second);
                 Turn::Went
             }
-            Instr::Jump(label) => self.jumps(*label),
-            Instr::Unless { test, label } => self.jumps_unless(*test, *label),
-            Instr::First { to, tree, place } => self.reaches_first(*to, *tree, *place),
-            Instr::Here(to) => self.stands_here(*to),
-            Instr::Got { to, parameter } => self.tells_given(*to, *parameter),
-            Instr::OverEnd { to, from } => self.tells_over(*to, *from),
-            Instr::LeafEnd { to, size } => self.tells_head(*to, *size),
-            Instr::EndOf { to, from } => self.stands_behind(*to, *from),
+            Instr::Jump(label) => self.exec_jump(*label),
+            Instr::Unless { test, label } => self.exec_unless(*test, *label),
+            Instr::First { to, tree, place } => self.exec_first(*to, *tree, *place),
+            Instr::Here(to) => self.exec_here(*to),
+            Instr::Got { to, parameter } => self.exec_got(*to, *parameter),
+            Instr::OverEnd { to, from } => self.exec_over_end(*to, *from),
+            Instr::LeafEnd { to, size } => self.exec_leaf_end(*to, *size),
+            Instr::EndOf { to, from } => self.exec_end_of(*to, *from),
             Instr::Call {
                 function,
                 arguments,
             } => {
-                self.calls::<M, ()>(code, *function, arguments, None);
+                self.exec_call::<M, ()>(code, *function, arguments, None);
                 Turn::Went
             }
             Instr::CallScalar {
@@ -178,18 +172,18 @@ impl Machine {
                 function,
                 arguments,
             } => {
-                self.calls::<M, u64>(code, *function, arguments, Some(*to));
+                self.exec_call::<M, u64>(code, *function, arguments, Some(*to));
                 Turn::Went
             }
-            Instr::Return => self.returns(),
-            Instr::Give(from) => self.gives(*from),
-            Instr::Into { part, count } => self.goes_into(*part, *count),
-            Instr::Out { part, count } => self.goes_out(*part, *count),
+            Instr::Return => self.exec_return(),
+            Instr::Give(from) => self.exec_give(*from),
+            Instr::Into { part, count } => self.exec_into(*part, *count),
+            Instr::Out { part, count } => self.exec_out(*part, *count),
             Instr::GiveParts(scalars) => {
-                self.gives_parts(scalars);
+                self.exec_give_parts(scalars);
                 Turn::Went
             }
-            Instr::Part { to, part } => self.takes_part(*to, *part),
+            Instr::Part { to, part } => self.exec_part(*to, *part),
         }
     }
 }

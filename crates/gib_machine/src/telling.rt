@@ -9,7 +9,7 @@ use crate::turn::Turn;
 
 impl Machine {
     /// The end that the call just returned gave for a parameter is told to a variable.
-    pub(crate) fn tells_given(&mut self, to: u32, parameter: u32) -> Turn
+    pub(crate) fn exec_got(&mut self, to: u32, parameter: u32) -> Turn
         requires next { self.old.ip + 1 < 2 ^ 32 }
         ensures state { self.new ≡ tells self.old to (get_or self.old.gave parameter 0) }
         ensures turn { result ≡ turns.Went }
@@ -20,7 +20,7 @@ impl Machine {
     }
 
     /// The end of a variable is told to another one.
-    pub(crate) fn tells_over(&mut self, to: u32, from: u32) -> Turn
+    pub(crate) fn exec_over_end(&mut self, to: u32, from: u32) -> Turn
         requires next { self.old.ip + 1 < 2 ^ 32 }
         ensures state { self.new ≡ tells self.old to (end_at self.old.words from) }
         ensures turn { result ≡ turns.Went }
@@ -31,7 +31,7 @@ impl Machine {
     }
 
     /// The end of a head of so many bytes is told to the variable in whose slot it stands.
-    pub(crate) fn tells_head(&mut self, to: u32, size: u8) -> Turn
+    pub(crate) fn exec_leaf_end(&mut self, to: u32, size: u8) -> Turn
         requires next { self.old.ip + 1 < 2 ^ 32 }
         ensures state { self.new ≡ tells self.old to ((slot self.old.words to + size) % 2 ^ 64) }
         ensures turn { result ≡ turns.Went }
@@ -42,7 +42,7 @@ impl Machine {
     }
 
     /// A slot is set to the end of a variable.
-    pub(crate) fn stands_behind(&mut self, to: u32, from: u32) -> Turn
+    pub(crate) fn exec_end_of(&mut self, to: u32, from: u32) -> Turn
         requires next { self.old.ip + 1 < 2 ^ 32 }
         ensures state { self.new ≡ sets self.old to (end_at self.old.words from) }
         ensures turn { result ≡ turns.Went }

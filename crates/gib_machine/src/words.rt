@@ -41,7 +41,7 @@ pub(crate) fn traps(operator: Operator, right: u64) -> bool
 }
 
 impl Machine {
-    pub(crate) fn moves(&mut self, to: u32, from: Operand) -> Turn
+    pub(crate) fn exec_move(&mut self, to: u32, from: Operand) -> Turn
         requires next { self.old.ip + 1 < 2 ^ 32 }
         ensures state { self.new ≡ sets self.old to (word self.old.words from) }
         ensures turn { result ≡ turns.Went }
@@ -52,7 +52,7 @@ impl Machine {
     }
 
     /// The slot is set; at a division by 0 the task unwinds.
-    pub(crate) fn operates(&mut self, to: u32, operator: Operator, left: u64, right: u64)
+    pub(crate) fn exec_operate(&mut self, to: u32, operator: Operator, left: u64, right: u64)
         requires next { self.old.ip + 1 < 2 ^ 32 }
         ensures { (ts : List ℕ) → with_tails self.new ts ≡ m.operates (with_tails self.old ts) to operator left right }
     {
@@ -64,7 +64,7 @@ impl Machine {
         }
     }
 
-    pub(crate) fn jumps(&mut self, label: u32) -> Turn
+    pub(crate) fn exec_jump(&mut self, label: u32) -> Turn
         ensures state { self.new ≡ went_to self.old label }
         ensures turn { result ≡ turns.Went }
     {
@@ -72,7 +72,7 @@ impl Machine {
         Turn::Went
     }
 
-    pub(crate) fn jumps_unless(&mut self, test: Operand, label: u32) -> Turn
+    pub(crate) fn exec_unless(&mut self, test: Operand, label: u32) -> Turn
         requires next { self.old.ip + 1 < 2 ^ 32 }
         ensures state { self.new ≡ (if word self.old.words test == 0 then went_to self.old label else went self.old) }
         ensures turn { result ≡ turns.Went }
@@ -85,7 +85,7 @@ impl Machine {
         Turn::Went
     }
 
-    pub(crate) fn reaches_first(&mut self, to: u32, tree: u32, place: u8) -> Turn
+    pub(crate) fn exec_first(&mut self, to: u32, tree: u32, place: u8) -> Turn
         requires next { self.old.ip + 1 < 2 ^ 32 }
         ensures state { self.new ≡ sets self.old to ((slot self.old.words tree + place) % 2 ^ 64) }
         ensures turn { result ≡ turns.Went }
@@ -95,7 +95,7 @@ impl Machine {
         Turn::Went
     }
 
-    pub(crate) fn stands_here(&mut self, to: u32) -> Turn
+    pub(crate) fn exec_here(&mut self, to: u32) -> Turn
         requires next { self.old.ip + 1 < 2 ^ 32 }
         ensures state { self.new ≡ sets self.old to (st.cursor self.old.regions) }
         ensures turn { result ≡ turns.Went }

@@ -2,7 +2,7 @@ use Rattle.std.proofs.Common.{rules, ◌≡◌, Bool, false, sym, subst}
 use Rattle.gib_machine.specs.State as st
 use Rattle.gib_machine.specs.Machine as m
 use Rattle.gib_machine.specs.Stepping.{Made, with_tails}
-use Rattle.gib_machine.proofs.state.Machine.points.Goals as goal
+use Rattle.gib_machine.proofs.state.Machine.exec_point.Goals as goal
 
 pub returns : goal.returns
 returns g c = λ laid ts.

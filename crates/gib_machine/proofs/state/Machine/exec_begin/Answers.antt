@@ -4,7 +4,7 @@ use Rattle.gib_machine.specs.State.{sets}
 use Rattle.gib_machine.specs.Machine.{opened}
 use Rattle.gib_machine.specs.Stepping.{with_tails}
 use Rattle.gib_machine.proofs.Latest.{begun}
-use Rattle.gib_machine.proofs.state.Machine.begins.Goals as goal
+use Rattle.gib_machine.proofs.state.Machine.exec_begin.Goals as goal
 
 pub returns-in-Ok : goal.returns-in-Ok
 returns-in-Ok g c =
