@@ -10,74 +10,69 @@ use Rattle.gib_types.specs.Tree.{Datum}
 use Rattle.gib_value.specs.Reading.{IsTextOf}
 use Rattle.gib_file.specs.Packed.{packed}
 use Rattle.gib_transcode.specs.Fronts.{Reads, Enters}
-use Rattle.gib_transcode.specs.Going.{due_of, Goes, Walks}
+use Rattle.gib_transcode.specs.Going.{Left, left_of, due_of, Goes, Walks}
 use Rattle.gib_transcode.specs.declared.opened.Open.{Open}
-use Rattle.gib_transcode.proofs.Goings.{reads_goes, enters_goes, enters_first, shuts_goes, goes_end}
+use Rattle.gib_transcode.proofs.Goings.{left, reads_goes, enters_goes, enters_first, shuts_goes, goes_end}
 
--- So many fields of a constructor are over.
-abbrev pub open_at : ConId → ℕ → Open
-open_at con next = record { con = con; next = next }
+-- So many fields of a constructor are over, and this is the place of the next scalar.
+abbrev pub open_at : ConId → ℕ → ℕ → Open
+open_at con next place = record { con = con; next = next; place = place }
 
 -- what is there is so
 pub if_some : {A : Type 0} (o : Option A) (x : A) (P : A → Type 0) → IfSome o P → o ≡ Some x → P x
 if_some {A} o x P h e = let k : IfSome (Some x) P = subst (λ (p : Option A). IfSome p P) e h in k
 
--- what is so, if it is there, leads on
-pub some_so : {A : Type 0} (o : Option A) (P Q : A → Type 0) → IfSome o P → ((x : A) → P x → Q x) → IfSome o Q
-some_so None P Q h f = tt
-some_so (Some x) P Q h f = f x h
+as_due : {table : Table} {names : List (List ℕ)} {ty : Ty} {all : List ℕ} {due later : List Left} {rest out : List ℕ} → due ≡ later → Goes table names ty all due rest out → Goes table names ty all later rest out
+as_due {table} {names} {ty} {all} {rest = rest} {out = out} e go = subst (λ (d : List Left). Goes table names ty all d rest out) e go
 
-one_more : (con : ConId) (n : ℕ) → open_at con (n + 1) ≡ open_at con (suc n)
-one_more con n = ap (open_at con) (let e : n + 1 ≡ suc n = omega arith in e)
-
-as_due : {table : Table} {names : List (List ℕ)} {ty : Ty} {all : List ℕ} {due later : List (List Ty)} {rest out : List ℕ} → due ≡ later → Goes table names ty all due rest out → Goes table names ty all later rest out
-as_due {table} {names} {ty} {all} {rest = rest} {out = out} e go = subst (λ (d : List (List Ty)). Goes table names ty all d rest out) e go
-
-as_rest : {table : Table} {names : List (List ℕ)} {ty : Ty} {all : List ℕ} {due : List (List Ty)} {rest same out : List ℕ} → rest ≡ same → Goes table names ty all due rest out → Goes table names ty all due same out
+as_rest : {table : Table} {names : List (List ℕ)} {ty : Ty} {all : List ℕ} {due : List Left} {rest same out : List ℕ} → rest ≡ same → Goes table names ty all due rest out → Goes table names ty all due same out
 as_rest {table} {names} {ty} {all} {due} {out = out} e go = subst (λ (r : List ℕ). Goes table names ty all due r out) e go
 
 -- what is due where a field is next
 next_due : (table : Table) (top : Open) (outer : List Open) (fields : List Ty) (t : Ty) → fields ≡ fields_at table top.con.0 → top.next < length fields → get_or fields top.next Whole ≡ t
-    → due_of table (top ∷ outer) ≡ (t ∷ drop (suc top.next) (fields_at table top.con.0)) ∷ due_of table outer
+    → due_of table (top ∷ outer) ≡ left (t ∷ drop (top.next + 1) (fields_at table top.con.0)) top.place ∷ due_of table outer
 next_due table top outer fields t same lt is =
-    ap (λ (ts : List Ty). ts ∷ due_of table outer)
-    (subst (λ (l : List Ty). drop top.next l ≡ t ∷ drop (suc top.next) l) same (drop-cons fields top.next Whole lt ∙ ap (λ (x : Ty). x ∷ drop (suc top.next) fields) is))
+    let one : suc top.next ≡ top.next + 1 = omega arith in
+    ap (λ (ts : List Ty). left ts top.place ∷ due_of table outer)
+    (subst (λ (l : List Ty). drop top.next l ≡ t ∷ drop (suc top.next) l) same (drop-cons fields top.next Whole lt ∙ ap (λ (x : Ty). x ∷ drop (suc top.next) fields) is)
+    ∙ ap (λ (n : ℕ). t ∷ drop n (fields_at table top.con.0)) one)
 
 none_due : (table : Table) (top : Open) (outer : List Open) (fields : List Ty) → fields ≡ fields_at table top.con.0 → length fields ≤ top.next
-    → due_of table (top ∷ outer) ≡ [] ∷ due_of table outer
-none_due table top outer fields same le = ap (λ (ts : List Ty). ts ∷ due_of table outer) (subst (λ (l : List Ty). drop top.next l ≡ []) same (drop_of_length-le fields {i = top.next} le))
+    → due_of table (top ∷ outer) ≡ left [] top.place ∷ due_of table outer
+none_due table top outer fields same le =
+    ap (λ (ts : List Ty). left ts top.place ∷ due_of table outer) (subst (λ (l : List Ty). drop top.next l ≡ []) same (drop_of_length-le fields {i = top.next} le))
 
 -- over one text that is read as of one type
 module _ {table : Table} {names : List (List ℕ)} {ty : Ty} {all : List ℕ} where
   -- the first constructor is entered
-  pub walks_first : {k : ℕ} {bytes later old new : List ℕ} (top : Open) (outer : List Open)
-      → all ≡ 40 ∷ bytes → Enters table names ty k bytes later old new → old ≡ [] → top.con.0 ≡ k → top.next ≡ 0 → outer ≡ [] → Walks table names ty all top outer later new
-  walks_first {k} {later = later} {new = new} top outer opens e nil con next none =
-      let due : due_of table (top ∷ reverse outer) ≡ fields_at table k ∷ [] =
-      ap (λ (os : List Open). due_of table (top ∷ reverse os)) none ∙ ap (λ (n : ℕ). drop n (fields_at table top.con.0) ∷ []) next ∙ ap (λ (c : ℕ). fields_at table c ∷ []) con in
+  pub walks_first : {k : ℕ} {bytes later old new : List ℕ} (outer : List Open)
+      → all ≡ 40 ∷ bytes → Enters table names ty k bytes later old new → old ≡ [] → outer ≡ [] → (con : ConId) → con.0 ≡ k
+      → Walks table names ty all (open_at con 0 1) outer later new
+  walks_first {k} {later = later} {old = old} {new = new} outer opens e nil none con is =
+      let due : due_of table (open_at con 0 1 ∷ reverse outer) ≡ left (fields_at table k) (length old + 1) ∷ [] =
+      ap (λ (os : List Open). due_of table (open_at con 0 1 ∷ reverse os)) none ∙ ap (λ (c : ℕ). left (fields_at table c) 1 ∷ []) is
+      ∙ ap (λ (l : List ℕ). left (fields_at table k) (length l + 1) ∷ []) (sym nil) in
       record { goes = as_due (sym due) (enters_first opens e nil) }
 
 -- over a constructor that is open besides
-module _ {table : Table} {names : List (List ℕ)} {ty : Ty} {all : List ℕ} {top behind : Open} {outer : List Open} {fields : List Ty} where
+module _ {table : Table} {names : List (List ℕ)} {ty : Ty} {all : List ℕ} {top : Open} {outer : List Open} {fields : List Ty} where
   -- a value that is one token was read
-  pub walks_reads : {t : Ty} {rest bytes later old new : List ℕ}
-      → Walks table names ty all top outer rest old → rest ≡ 32 ∷ bytes → fields ≡ fields_at table top.con.0 → top.next < length fields → get_or fields top.next Whole ≡ t
-      → Reads table names t bytes later old new → behind ≡ open_at top.con (top.next + 1) → Walks table names ty all behind outer later new
-  walks_reads {t} {later = later} {new = new} w space same lt is r passed =
-      let go = reads_goes (as_due (next_due table top (reverse outer) fields t same lt is) (as_rest space w.goes)) r in
-      record { goes = as_due (ap (λ (o : Open). due_of table (o ∷ reverse outer)) (sym (passed ∙ one_more top.con top.next))) go }
+  pub walks_reads : {t : Ty} {bytes later old new : List ℕ} {place : ℕ}
+      → Walks table names ty all top outer (32 ∷ bytes) old → fields ≡ fields_at table top.con.0 → top.next < length fields → get_or fields top.next Whole ≡ t
+      → Reads table names t top.place bytes later old new place → Walks table names ty all (open_at top.con (top.next + 1) place) outer later new
+  walks_reads {t} w same lt is r = record { goes = reads_goes (as_due (next_due table top (reverse outer) fields t same lt is) w.goes) r }
 
   -- a constructor was entered
-  pub walks_enters : {inner : Open} {more : List Open} {t : Ty} {k : ℕ} {rest bytes later old new : List ℕ}
-      → Walks table names ty all top outer rest old → rest ≡ 32 ∷ 40 ∷ bytes → fields ≡ fields_at table top.con.0 → top.next < length fields → get_or fields top.next Whole ≡ t
-      → Enters table names t k bytes later old new → behind ≡ open_at top.con (top.next + 1) → more ≡ outer ++ behind ∷ [] → inner.con.0 ≡ k → inner.next ≡ 0
-      → Walks table names ty all inner more later new
-  walks_enters {inner} {more} {t} {k} w space same lt is e passed pushed con next =
-      let go = enters_goes (as_due (next_due table top (reverse outer) fields t same lt is) (as_rest space w.goes)) e in
-      let inside : drop inner.next (fields_at table inner.con.0) ≡ fields_at table k = ap (λ (n : ℕ). drop n (fields_at table inner.con.0)) next ∙ ap (fields_at table) con in
-      let others : due_of table (reverse more) ≡ due_of table (open_at top.con (suc top.next) ∷ reverse outer) =
-      ap (due_of table) (ap reverse pushed ∙ reverse-append outer (behind ∷ []) ∙ ap (λ (o : Open). o ∷ reverse outer) (passed ∙ one_more top.con top.next)) in
-      record { goes = as_due (sym (ap (λ (ts : List Ty). ts ∷ due_of table (reverse more)) inside ∙ ap (λ (ds : List (List Ty)). fields_at table k ∷ ds) others)) go }
+  pub walks_enters : {inner : ConId} {place : ℕ} {more : List Open} {t : Ty} {rest bytes later old new : List ℕ}
+      → Walks table names ty all top outer (32 ∷ rest) old → rest ≡ 40 ∷ bytes → fields ≡ fields_at table top.con.0 → top.next < length fields → get_or fields top.next Whole ≡ t
+      → Enters table names t inner.0 bytes later old new → more ≡ outer ++ open_at top.con (top.next + 1) top.place ∷ [] → place ≡ length old + 1
+      → Walks table names ty all (open_at inner 0 place) more later new
+  walks_enters {inner} {place} {more} {t} {old = old} w opens same lt is e pushed at =
+      let go = enters_goes (as_due (next_due table top (reverse outer) fields t same lt is) (as_rest (ap (λ (l : List ℕ). 32 ∷ l) opens) w.goes)) e in
+      let behind = open_at top.con (top.next + 1) top.place in
+      let others : due_of table (reverse more) ≡ due_of table (behind ∷ reverse outer) = ap (due_of table) (ap reverse pushed ∙ reverse-append outer (behind ∷ [])) in
+      let inside : left (fields_at table inner.0) place ≡ left (fields_at table inner.0) (length old + 1) = ap (left (fields_at table inner.0)) at in
+      record { goes = as_due (sym (ap (λ (l : Left). l ∷ due_of table (reverse more)) inside ∙ ap (λ (ds : List Left). left (fields_at table inner.0) (length old + 1) ∷ ds) others)) go }
 
 -- and where one is closed
 module _ {table : Table} {names : List (List ℕ)} {ty : Ty} {all : List ℕ} where

@@ -3,3 +3,4 @@
 -- What stands at the front of a text, and what is left of a value behind it.
 pub mod Fronts
 pub mod Going
+pub mod Rooms

@@ -2,9 +2,10 @@
 
 use gib_types::ConId;
 
-/// A constructor that is open, and the number of its next field.
+/// A constructor that is open, the number of its next field, and the place of its next scalar's bytes.
 #[derive(Clone, Copy)]
 pub(crate) struct Open {
     pub(crate) con: ConId,
     pub(crate) next: usize,
+    pub(crate) place: usize,
 }

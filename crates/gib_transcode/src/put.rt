@@ -1,82 +1,94 @@
 //! Values at the front of a text, whose bytes are put.
 
-ghost use Rattle.std.specs.Prelude.{◌≡◌, ◌++◌, ◌∷◌, [], length, IfOk, IfSome, IsTrue, OnOk};
+ghost use Rattle.std.specs.Prelude.{◌≡◌, ◌≤◌, ◌<◌, ◌+◌, ◌++◌, ◌∷◌, [], ℕ, List, length, IfOk, IfSome, IsTrue, OnOk};
 ghost use Rattle.gib_file.specs.Packed.{number as number_bytes, bit};
+ghost use Rattle.gib_types.specs.Table.{Table, fields_at};
 ghost use Rattle.gib_types.specs.declared.table.Ty.TheVariants.{Whole, Truth, Tree};
-ghost use Rattle.gib_types.specs.Table.{fields_at};
 ghost use Rattle.gib_value.specs.Text.{AreHeld};
-ghost use Rattle.gib_transcode.specs.Fronts.{Reads, Enters, Leads};
+ghost use Rattle.gib_transcode.specs.Fronts.{Reads, Enters};
+ghost use Rattle.gib_transcode.specs.Rooms.{room, over};
 
 use crate::front::{named, number, truth};
 use gib_base::{Memory, Texts};
 use gib_types::{ConId, Ty, TyId, TypeTable};
 
-/// Whether scalars stand before packed fields alone.
-fn leads(fields: &[Ty]) -> bool
-    ensures { IsTrue result → Leads fields.now }
+/// Puts zeros where the scalars among fields of these types come later.
+#[inline(always)]
+fn leave_room(out: &mut Vec<u8>, fields: &[Ty]) -> Result<(), Memory>
+    ensures { OnOk result (out.new.items ≡ out.old.items ++ room fields.now) }
 {
-    let mut scalars = false;
-    let mut i = fields.len();
-    'fields: while i > 0 {
-        i -= 1;
-        match fields[i] {
-            Ty::Tree(_) => {
-                if scalars {
-                    return false;
-                }
-            }
-            _ => scalars = true,
+    let mut rest = fields;
+    'fields: while let [field, behind @ ..] = rest {
+        match *field {
+            Ty::Whole => out.extend_from_slice(&[0; 8])?,
+            Ty::Truth => out.push(0)?,
+            Ty::Tree(_) => {}
         }
+        rest = behind;
     }
-    true
-}
-
-/// Puts a number.
-fn put_number(out: &mut Vec<u8>, z: i64) -> Result<(), Memory>
-    ensures { OnOk result (out.new.items ≡ out.old.items ++ number_bytes z) }
-{
-    out.extend_from_slice(&z.cast_unsigned().to_le_bytes())?;
     Ok(())
 }
 
-/// Puts a truth value.
-fn put_bit(out: &mut Vec<u8>, b: bool) -> Result<(), Memory>
-    ensures { OnOk result (out.new.items ≡ out.old.items ++ bit b ∷ []) }
+/// Writes bytes over those from a place on.
+fn write_over(out: &mut [u8], place: usize, bytes: &[u8])
+    requires { place + length bytes.now ≤ length out.old }
+    ensures { out.new ≡ over place bytes.now out.old }
 {
-    out.push(if b { 1 } else { 0 })?;
-    Ok(())
+    out[place..place + bytes.len()].copy_from_slice(bytes);
 }
 
-/// Reads a number, and puts its bytes; answers what stands behind it.
-fn take_whole<'a>(
-    types: &TypeTable,
-    names: &Texts,
-    out: &mut Vec<u8>,
-    text: &'a [u8],
-) -> Result<Option<&'a [u8]>, Memory>
-    ensures { IfOk result (λ took. IfSome took (λ later. Reads types.now names.now.short Whole text.entry.now later.now out.old.items out.new.items)) }
+/// Puts bytes over those from a place on.
+fn put_over(out: &mut Vec<u8>, place: usize, bytes: &[u8])
+    requires { place + length bytes.now ≤ length out.old.items }
+    ensures { out.new.items ≡ over place bytes.now out.old.items }
+{
+    write_over(out, place, bytes);
+}
+
+/// Puts a number's bytes over those from a place on.
+fn put_number(out: &mut Vec<u8>, place: usize, z: i64)
+    requires { place + 8 ≤ length out.old.items }
+    ensures { out.new.items ≡ over place (number_bytes z) out.old.items }
+{
+    put_over(out, place, &z.cast_unsigned().to_le_bytes());
+}
+
+/// Puts a truth value's byte over that at a place.
+fn put_bit(out: &mut Vec<u8>, place: usize, b: bool)
+    requires { place + 1 ≤ length out.old.items }
+    ensures { out.new.items ≡ over place (bit b ∷ []) out.old.items }
+{
+    put_over(out, place, if b { &[1] } else { &[0] });
+}
+
+/// Reads a number, and puts its bytes at a place; answers the place behind them, and what stands behind the number.
+fn take_whole<'a>(out: &mut Vec<u8>, place: usize, text: &'a [u8]) -> Option<(usize, &'a [u8])>
+    ensures { (table : Table) (names : List (List ℕ))
+        → IfSome result (λ took. Reads table names Whole place text.entry.now took.1.now out.old.items out.new.items took.0) }
 {
     let Some((z, later)) = number(text) else {
-        return Ok(None);
+        return None;
     };
-    put_number(out, z)?;
-    Ok(Some(later))
+    if out.len() < 8 || place > out.len() - 8 {
+        return None;
+    }
+    put_number(out, place, z);
+    Some((place + 8, later))
 }
 
-/// Reads a truth value, and puts its byte; answers what stands behind it.
-fn take_truth<'a>(
-    types: &TypeTable,
-    names: &Texts,
-    out: &mut Vec<u8>,
-    text: &'a [u8],
-) -> Result<Option<&'a [u8]>, Memory>
-    ensures { IfOk result (λ took. IfSome took (λ later. Reads types.now names.now.short Truth text.entry.now later.now out.old.items out.new.items)) }
+/// Reads a truth value, and puts its byte at a place; answers the place behind it, and what stands behind the value.
+fn take_truth<'a>(out: &mut Vec<u8>, place: usize, text: &'a [u8]) -> Option<(usize, &'a [u8])>
+    ensures { (table : Table) (names : List (List ℕ))
+        → IfSome result (λ took. Reads table names Truth place text.entry.now took.1.now out.old.items out.new.items took.0) }
 {
     let Some((b, later)) = truth(text) else {
-        return Ok(None);
+        return None;
     };
-    put_bit(out, b)?;
-    Ok(Some(later))
+    if out.is_empty() || place > out.len() - 1 {
+        return None;
+    }
+    put_bit(out, place, b);
+    Some((place + 1, later))
 }
 
 /// Whether a constructor has no fields.
@@ -95,7 +107,8 @@ fn take_bare<'a>(
     text: &'a [u8],
 ) -> Result<Option<&'a [u8]>, Memory>
     requires { AreHeld types.now names.now.short }
-    ensures { IfOk result (λ took. IfSome took (λ later. Reads types.now names.now.short (Tree of) text.entry.now later.now out.old.items out.new.items)) }
+    ensures { (place : ℕ) → IfOk result (λ took. IfSome took (λ later.
+        Reads types.now names.now.short (Tree of) place text.entry.now later.now out.old.items out.new.items place)) }
 {
     let Some((con, later)) = named(types, names, of, text) else {
         return Ok(None);
@@ -107,26 +120,36 @@ fn take_bare<'a>(
     Ok(Some(later))
 }
 
-/// Reads a value that is one token, and puts its bytes; answers what stands behind it.
+/// Reads a value that is one token, and puts its bytes, a scalar's at a place; answers the place of the next scalar, and what stands
+/// behind the value.
 pub(crate) fn take_token<'a>(
     types: &TypeTable,
     names: &Texts,
     ty: Ty,
     out: &mut Vec<u8>,
+    place: usize,
     text: &'a [u8],
-) -> Result<Option<&'a [u8]>, Memory>
+) -> Result<Option<(usize, &'a [u8])>, Memory>
     requires { AreHeld types.now names.now.short }
-    ensures { IfOk result (λ took. IfSome took (λ later. Reads types.now names.now.short ty text.entry.now later.now out.old.items out.new.items)) }
+    ensures { IfOk result (λ took. IfSome took (λ t.
+        Reads types.now names.now.short ty place text.entry.now t.1.now out.old.items out.new.items t.0)) }
 {
     match ty {
-        Ty::Whole => take_whole(types, names, out, text),
-        Ty::Truth => take_truth(types, names, out, text),
-        Ty::Tree(of) => take_bare(types, names, of, out, text),
+        Ty::Whole => Ok(take_whole(out, place, text)),
+        Ty::Truth => Ok(take_truth(out, place, text)),
+        Ty::Tree(of) => {
+            let took = take_bare(types, names, of, out, text)?;
+            let Some(later) = took else {
+                return Ok(None);
+            };
+            Ok(Some((place, later)))
+        }
     }
 }
 
-/// Reads the name of a constructor whose scalars come first, behind the parenthesis that opens it, and puts its tag; answers it,
-/// and what stands behind its name.
+/// Reads the name of a constructor with fields, behind the parenthesis that opens it, and puts its tag and room for its scalars;
+/// answers it, and what stands behind its name.
+#[inline(always)]
 pub(crate) fn enter<'a>(
     types: &TypeTable,
     names: &Texts,
@@ -148,9 +171,7 @@ pub(crate) fn enter<'a>(
     if fields.is_empty() {
         return Ok(None);
     }
-    if !leads(fields) {
-        return Ok(None);
-    }
     out.push(types.tag_of(con))?;
+    leave_room(out, fields)?;
     Ok(Some((con, later)))
 }

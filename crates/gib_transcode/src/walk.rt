@@ -16,61 +16,73 @@ use gib_base::{Memory, Texts};
 use gib_types::{Ty, TypeTable};
 use std::alloc::Global;
 
-/// What is made of a text: the bytes, and the constructors that are open, the innermost one apart from the others.
+/// What is made of a text: the bytes, and the constructors that are open round the innermost one.
 #[derive(Drop)]
 struct Making {
     out: Vec<u8>,
     outer: Vec<Open>,
-    top: Open,
 }
 
 impl Making {
     /// Reads the next field of the innermost constructor, behind its space, up to its end, or up to its name where it has fields
-    /// itself; answers what stands behind that.
+    /// itself; answers what is the innermost one then, and what stands behind that.
     fn field<'a>(
         &mut self,
         types: &TypeTable,
         names: &Texts,
+        top: Open,
         later: &'a [u8],
-    ) -> Result<Option<&'a [u8]>, Memory>
+    ) -> Result<Option<(Open, &'a [u8])>, Memory>
         requires names { AreHeld types.now names.now.short }
-        requires next { self.old.top.next < length (fields_at types.now self.old.top.con.0) }
+        requires next { top.next < length (fields_at types.now top.con.0) }
         ensures goes { (ty : Types) (all : List ℕ)
-            → Walks types.now names.now.short ty all self.old.top self.old.outer.items (32 ∷ later.entry.now) self.old.out.items
-            → IfOk result (λ took. IfSome took (λ rest. Walks types.now names.now.short ty all self.new.top self.new.outer.items rest.now self.new.out.items)) }
-        ensures shorter { IfOk result (λ took. IfSome took (λ rest. length rest.now ≤ length later.entry.now)) }
+            → Walks types.now names.now.short ty all top self.old.outer.items (32 ∷ later.entry.now) self.old.out.items
+            → IfOk result (λ took. IfSome took (λ t. Walks types.now names.now.short ty all t.0 self.new.outer.items t.1.now self.new.out.items)) }
+        ensures shorter { IfOk result (λ took. IfSome took (λ t. length t.1.now ≤ length later.entry.now)) }
     {
-        let fields = types.fields(self.top.con);
-        let due = fields[self.top.next];
-        let behind = Open {
-            con: self.top.con,
-            next: self.top.next + 1,
-        };
+        let due = types.fields(top.con)[top.next];
+        let next = top.next + 1;
         let Some(inner) = behind_byte(later, b'(') else {
-            let took = take_token(types, names, due, &mut self.out, later)?;
-            self.top = behind;
-            return Ok(took);
+            let took = take_token(types, names, due, &mut self.out, top.place, later)?;
+            let Some((place, rest)) = took else {
+                return Ok(None);
+            };
+            let behind = Open {
+                con: top.con,
+                next,
+                place,
+            };
+            return Ok(Some((behind, rest)));
         };
+        let place = self.out.len() + 1;
         let entered = enter(types, names, due, &mut self.out, inner)?;
         let Some((con, rest)) = entered else {
             return Ok(None);
         };
-        self.outer.push(behind)?;
-        self.top = Open { con, next: 0 };
-        Ok(Some(rest))
+        self.outer.push(Open {
+            con: top.con,
+            next,
+            place: top.place,
+        })?;
+        let inside = Open {
+            con,
+            next: 0,
+            place,
+        };
+        Ok(Some((inside, rest)))
     }
 }
 
-/// Begins with the constructor that a text opens; answers what stands behind its name.
+/// Begins with the constructor that a text opens; answers it, and what stands behind its name.
 fn begin<'a>(
     alloc: Global,
     types: &TypeTable,
     names: &Texts,
     ty: Ty,
     text: &'a [u8],
-) -> Result<Option<(Making, &'a [u8])>, Memory>
+) -> Result<Option<(Making, Open, &'a [u8])>, Memory>
     requires { AreHeld types.now names.now.short }
-    ensures { IfOk result (λ begun. IfSome begun (λ b. Walks types.now names.now.short ty text.entry.now b.0.top b.0.outer.items b.1.now b.0.out.items)) }
+    ensures { IfOk result (λ begun. IfSome begun (λ b. Walks types.now names.now.short ty text.entry.now b.1 b.0.outer.items b.2.now b.0.out.items)) }
 {
     let Some(inner) = behind_byte(text, b'(') else {
         return Ok(None);
@@ -83,13 +95,17 @@ fn begin<'a>(
     let making = Making {
         out,
         outer: Vec::new(alloc),
-        top: Open { con, next: 0 },
     };
-    Ok(Some((making, rest)))
+    let top = Open {
+        con,
+        next: 0,
+        place: 1,
+    };
+    Ok(Some((making, top, rest)))
 }
 
 /// The bytes of the value whose text this is. None, where this finds no value, which says nothing of the text: it is not found
-/// where the value has no field, and where a constructor has a scalar behind a packed field.
+/// where the value has no field.
 ///
 /// # Errors
 ///
@@ -106,18 +122,19 @@ pub(crate) fn payload_of(
         × (payload.items ≡ packed v))) }
 {
     let begun = begin(alloc, types, names, ty, text)?;
-    let Some((mut making, mut rest)) = begun else {
+    let Some((mut making, mut top, mut rest)) = begun else {
         return Ok(None);
     };
     'bytes: while !rest.is_empty() {
-        if making.top.next < types.fields(making.top.con).len() {
+        if top.next < types.fields(top.con).len() {
             let Some(later) = behind_byte(rest, b' ') else {
                 return Ok(None);
             };
-            let took = making.field(types, names, later)?;
-            let Some(behind) = took else {
+            let took = making.field(types, names, top, later)?;
+            let Some((inside, behind)) = took else {
                 return Ok(None);
             };
+            top = inside;
             rest = behind;
         } else {
             let Some(later) = behind_byte(rest, b')') else {
@@ -129,7 +146,7 @@ pub(crate) fn payload_of(
                 }
                 return Ok(Some(making.out));
             };
-            making.top = below;
+            top = below;
             rest = later;
         }
     }
