@@ -14,7 +14,6 @@ ghost use Rattle.gib_core.specs.declared.atom.Kind.TheVariants as kind;
 ghost use Rattle.gib_core.specs.declared.atom.Variable.{Variable as X};
 ghost use Rattle.gib_core.specs.Tree.{Term, Then, Write, Point, CallTerm, Give, CaseTerm, Tuple, NoPart, PartThen, Past, One, Both, Prim, Reach, On, Several, NoBranch, BranchThen, var, CoreTree};
 ghost use Rattle.gib_code.specs.declared.instruction.Operand.TheVariants.{Slot, Number};
-ghost use Rattle.gib_types.specs.declared.operator.Operator.TheVariants as f;
 ghost use Rattle.gib_code.specs.declared.instruction.AnswerType.TheVariants as of;
 ghost use Rattle.gib_code.specs.declared.instruction.Kind.TheVariants as side;
 ghost use Rattle.gib_code.specs.Instruction as i;
@@ -48,7 +47,7 @@ pub fn examples()
           instructions =
               i.Switch 0 (record { constructor = 0; label = 1 } ∷ record { constructor = 1; label = 6 } ∷ [])
               ∷ i.Whole 1 0 1
-              ∷ i.Operate 2 f.Add (Slot 1) (Number 1)
+              ∷ i.Operate 2 o.Add (Slot 1) (Number 1)
               ∷ i.Past 3 0
               ∷ i.Fill 3 0 (Slot 2 ∷ []) []
               ∷ i.Return
@@ -107,7 +106,7 @@ pub fn examples_by_ends()
               ∷ i.EndOf 3 2
               ∷ i.CallScalar 5 0 (Slot 3 ∷ [])
               ∷ i.Got 3 0
-              ∷ i.Operate 6 f.Add (Slot 4) (Slot 5)
+              ∷ i.Operate 6 o.Add (Slot 4) (Slot 5)
               ∷ i.OverEnd 0 3
               ∷ i.Give (Slot 6)
               ∷ i.CallScalar 1 0 (Slot 0 ∷ [])
