@@ -26,7 +26,7 @@ LOAD_AND_RUN, RUN = "gib_app::machine_run::run_within", "gib_app::machine_run::r
 
 
 class Shape(NamedTuple):
-    """A kind of value: the program that gives it back, one that puts it together anew, its file and its text of a size, and the text that `run` prints."""
+    """A kind of value: its name, the program that gives it back, its packed file and its text of a size."""
 
     name: str
     same: str
@@ -57,7 +57,7 @@ class Missed(Exception):
 
 class Ends:
     def __init__(self, gib, folder):
-        self.gib, self.folder, self.missed = gib, folder, 0
+        self.gib, self.folder = gib, folder
 
     def at(self, name):
         return os.path.join(self.folder, name)

@@ -39,7 +39,7 @@ fn of_image(fault: ReadFault) -> Stop<'static>
     }
 }
 
-/// The value of the type of main's result of which the bytes are an image, written by a run that reaches fields so.
+/// The value of the type of main's result of which the bytes are an image, written by a run with these options.
 ///
 /// # Errors
 ///

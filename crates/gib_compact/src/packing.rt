@@ -25,7 +25,7 @@ pub(crate) struct Packing<'a> {
 }
 
 impl<'a> Packing<'a> {
-    /// What parts share that have this.
+    /// What the parts of a value share.
     pub(crate) fn of(
         alloc: Global,
         arena: &'a Arena,
