@@ -40,7 +40,7 @@ struct At {
 }
 
 impl At {
-    // An expression's number, and where it stands.
+    // The expression of a number.
     fn new(id: ExprId, span: Span, standing: Standing) -> At
         ensures { result ≡ record { id = id; span = span; standing = standing } }
     {

@@ -15,7 +15,7 @@ pub enum Answer {
     At(u64),
     /// Several parts in declared order: the words of scalars and the addresses at which packed values begin; 0 behind them.
     Parts([u64; 8]),
-    /// No value, for this reason.
+    /// None.
     NoValue(Reason),
 }
 

@@ -25,7 +25,7 @@ pub(crate) struct Packing<'a> {
 }
 
 impl<'a> Packing<'a> {
-    /// What the parts of a value share.
+    /// What parts share that have this.
     pub(crate) fn of(
         alloc: Global,
         arena: &'a Arena,

@@ -12,7 +12,7 @@ use gib_types::{ConId, TyId, TypeTable};
 /// A number behind which a digit may follow: ten times as much and nine is below 2 ^ 64.
 const MOST_FRONT: u64 = 1_844_674_407_370_955_160;
 
-/// The greatest number of type `Int`.
+/// The greatest number that is no negative one's.
 const MOST_WHOLE: u64 = 9_223_372_036_854_775_807;
 
 /// Whether the text is over.
