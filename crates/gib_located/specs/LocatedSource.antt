@@ -1,5 +1,5 @@
 -- What is printed of a source, and how a call ends.
-use Rattle.std.specs.Prelude.{◌≡◌, ◌⊎◌, ℕ, false, List, [], ◌∷◌, Option, Some, None, Ok, codes}
+use Rattle.std.specs.Prelude.{◌≡◌, ◌⊎◌, ℕ, List, [], ◌∷◌, Option, Some, None, Ok, codes}
 use Rattle.gib_base.specs.Texts.{TextsView}
 use Rattle.gib_syntax.specs.Tree.{ProgramTree}
 use Rattle.gib_edge.specs.Views.{Call, ReadOf, Held, ShelfView, SinkView}
@@ -10,6 +10,7 @@ use Rattle.gib_local_print.specs.HasText.{with_ends}
 use Rattle.gib_local_print.specs.LocatedText.{located_text, located_tree}
 use Rattle.gib_app.specs.Running.{IsProgram}
 use Rattle.gib_app.specs.Cores.{core_after}
+use Rattle.gib_types.specs.declared.access.FieldAccess.TheVariants as access
 use Rattle.gib_app.specs.Lines.{line}
 use Rattle.gib_app.specs.Stops.{IsCompileStop}
 use Rattle.gib_app.specs.Stopping.{Answer, answer_for}
@@ -29,8 +30,8 @@ pub record HasCoreText (source : List ℕ) (text : Option (List ℕ)) : Type 0 w
   pub names : TextsView
   pub program : ProgramTree
   pub is_program : IsProgram source names program
-  pub is_text : located_text names.long (core_after false 3 program) ≡ text
-  pub again : IsMadeAgain (core_after false 3 program) text
+  pub is_text : located_text names.long (core_after access.Ends 3 program) ≡ text
+  pub again : IsMadeAgain (core_after access.Ends 3 program) text
 
 -- Why there is no text.
 abbrev pub IsFault : List ℕ → Fault → Type 0

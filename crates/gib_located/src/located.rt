@@ -1,6 +1,6 @@
 //! From the words of a command line to the LoCal text of a source's core.
 
-ghost use Rattle.std.specs.Prelude.{◌≡◌, ◌≤◌, ◌∷◌, [], ℕ, false, List, None, Some, OnOk, IfOk, IfErr, MatchOption};
+ghost use Rattle.std.specs.Prelude.{◌≡◌, ◌≤◌, ◌∷◌, [], ℕ, List, None, Some, OnOk, IfOk, IfErr, MatchOption};
 ghost use Rattle.std.specs.Result.{IsErrOf};
 ghost use Rattle.gib_edge.specs.Causes.{AppendsPart, IsFrontOf};
 ghost use Rattle.gib_app.specs.Ending.{ReadsStay, OutStays};
@@ -10,6 +10,7 @@ ghost use Rattle.gib_words.specs.Words.{bytes_of};
 ghost use Rattle.gib_syntax.specs.Fine.{IsFineProgram};
 ghost use Rattle.gib_syntax.specs.Parts.{program_of};
 ghost use Rattle.gib_app.specs.Cores.{core_after};
+ghost use Rattle.gib_types.specs.declared.access.FieldAccess.TheVariants as access;
 ghost use Rattle.gib_local_print.specs.LocatedText.{located_text};
 ghost use Rattle.gib_located.specs.LocatedSource.{IsMadeAgain, HasCoreText, IsFault, IsUnreadSource, IsPrinted};
 ghost use Rattle.gib_located.specs.LocatedSource.{IsCallFault, IsEnd, answer_for_fault, located_calls};
@@ -30,6 +31,7 @@ use gib_infer::law::infer_numbers_variables;
 use gib_local_print::law::printed_text_makes_its_core;
 use gib_local_print::{PrintFault, print_located};
 use gib_script::calls::{put_bytes, read_file};
+use gib_types::FieldAccess;
 use std::alloc::Global;
 
 /// One byte more than a source may have.
@@ -47,15 +49,15 @@ pub enum Fault<'a> {
 /// The text of the core of a program that the grammar has. The tree whose tokens it has makes that core again, in which ends of values are told.
 fn text_of_program(alloc: Global, typed: &Typed, names: &Texts) -> Result<Vec<u8>, PrintFault>
     requires fine { IsFineProgram (program_of typed.now) }
-    ensures text { IfOk result (λ text. located_text names.now.long (core_after false 3 (program_of typed.now)) ≡ Some text.items) }
-    ensures again { IfOk result (λ text. IsMadeAgain (core_after false 3 (program_of typed.now)) (Some text.items)) }
-    ensures none { IsErrOf result PrintFault.NoText → located_text names.now.long (core_after false 3 (program_of typed.now)) ≡ None }
+    ensures text { IfOk result (λ text. located_text names.now.long (core_after access.Ends 3 (program_of typed.now)) ≡ Some text.items) }
+    ensures again { IfOk result (λ text. IsMadeAgain (core_after access.Ends 3 (program_of typed.now)) (Some text.items)) }
+    ensures none { IsErrOf result PrintFault.NoText → located_text names.now.long (core_after access.Ends 3 (program_of typed.now)) ≡ None }
 {
     let _typed = typed.program();
     typed.types().rules();
     infer_numbers_variables();
     printed_text_makes_its_core();
-    let Ok(checked) = checked_core(alloc, typed, false) else {
+    let Ok(checked) = checked_core(alloc, typed, FieldAccess::Ends) else {
         return Err(PrintFault::Memory);
     };
     let core = checked.into_core();

@@ -1,4 +1,4 @@
-use Rattle.std.proofs.Common.{◌≡◌, ◌∙◌, Ok, false, sym, ap, subst}
+use Rattle.std.proofs.Common.{◌≡◌, ◌∙◌, Ok, sym, ap, subst}
 use Rattle.gib_types.specs.Table.{IsTable}
 use Rattle.gib_syntax.specs.Parts.{program_of}
 use Rattle.gib_core.specs.declared.atom.AccessMode.TheVariants.{Ends}
@@ -7,6 +7,7 @@ use Rattle.gib_core.specs.Parts.{Parts, core_of}
 use Rattle.gib_core.specs.Rules.{AreBuilt}
 use Rattle.gib_core.specs.Tree.{CoreTree}
 use Rattle.gib_app.specs.Cores.{core_after}
+use Rattle.gib_types.specs.declared.access.FieldAccess.TheVariants as access
 use Rattle.gib_local.specs.Building.{build_core}
 use Rattle.gib_local_print.specs.HasText.{with_ends}
 use Rattle.gib_local_print.specs.LocatedText.{located_tree}
@@ -16,7 +17,7 @@ pub returns-in-Ok-print_located-clause-again : goal.returns-in-Ok-print_located-
 returns-in-Ok-print_located-clause-again c =
     let p = program_of c.args.typed.now in
     let core : CoreTree = core_of c.into_core-core.result in
-    let same : core ≡ core_after false 3 p = ap (λ (x : Parts). core_of x) c.into_core-core.ensures.value ∙ c.in-Ok.ensures.core in
+    let same : core ≡ core_after access.Ends 3 p = ap (λ (x : Parts). core_of x) c.into_core-core.ensures.value ∙ c.in-Ok.ensures.core in
     let table : IsTable c.types.result.now = c.rules.ensures in
     let numbered : AreNumbered core = subst (λ (x : Parts). AreNumbered (core_of x)) (sym c.into_core-core.ensures.value) c.in-Ok.ensures.numbered in
     let built : AreBuilt core = subst (λ (x : Parts). AreBuilt (core_of x)) (sym c.into_core-core.ensures.value) c.into_core-core.ensures.built in
