@@ -9,7 +9,7 @@ use Rattle.gib_types.specs.declared.operator.Operator.{Operator}
 use Rattle.gib_types.specs.declared.operator.Operator.TheVariants as o
 use Rattle.gib_syntax.specs.Results.{Results, One, Several, AreResults}
 use Rattle.gib_syntax.specs.Forms.{WrittenType, WrittenTypes, WholeAt, TruthAt, VariableAt, DataAt, NoType, MoreTypes}
-use Rattle.gib_syntax.specs.GenericTree.{GenericExpression, GenericArguments, GenericArms, GenericVar, GenericNum, GenericBit, GenericParen, GenericOp, GenericCall, GenericMake, GenericLet, GenericPar, GenericIf, GenericCase, GenericTuple, GenericLetSeveral, GenericParSeveral, GenericNoArgument, GenericArgument, GenericLastArm, GenericNextArm, GenericConstructorTree, GenericDataTree, GenericParameterTree, GenericFunctionTree, GenericProgramTree}
+use Rattle.gib_syntax.specs.GenericTree.{GenericExpression, GenericArguments, GenericArms, GenericVar, GenericNum, GenericBit, GenericParen, GenericOp, GenericCall, GenericMake, GenericLet, GenericPar, GenericIf, GenericCase, GenericTuple, GenericNoArgument, GenericArgument, GenericLastArm, GenericNextArm, GenericConstructorTree, GenericDataTree, GenericParameterTree, GenericFunctionTree, GenericProgramTree}
 use Rattle.gib_syntax.specs.GenericFine.{IsGenericFine, AreGenericFine, HasGenericFine, IsGenericFineFunction, IsGenericFineProgram}
 use Rattle.gib_syntax.specs.Single.{IsSingle, AreSingle, HasSingle, IsSingleFunction, IsSingleProgram, HasNoComma}
 use Rattle.gib_syntax.specs.Spelling.{spell, spell_arguments, spell_arms, spell_variables, spell_names, spell_further_parts, spell_operator, spell_bit, spell_type, spell_written, spell_types, spell_type_arguments, spell_type_parameters, spell_more, spell_constructors, spell_datas, spell_parameter, spell_parameters, spell_further_types, spell_results, spell_body, spell_function, spell_functions, spell_main, spell_program}
@@ -68,15 +68,21 @@ mutual
   single (GenericCall g ws GenericNoArgument) rest f h = absurd f
   single (GenericCall g ws (GenericArgument a xs)) rest f h = all_single (GenericArgument a xs) rest f (after_type_arguments ws (spell a (spell_arguments xs rest)) h)
   single (GenericMake k ws xs) rest f h = all_single xs rest f (after_type_arguments ws (spell_arguments xs rest) h)
-  single (GenericLet p x a b) rest f h =
-      let bound = single a (t.Sign s.In ∷ spell b rest) f.0 h in
-      let body = single b rest f.1 bound.1 in
-      ((bound.0, body.0), body.1)
-  single (GenericPar p x a y b c) rest f h =
-      let left = single a (t.Sign s.And ∷ t.Variable y.name ∷ t.Sign s.Equals ∷ spell b (t.Sign s.In ∷ spell c rest)) f.0 h in
-      let right = single b (t.Sign s.In ∷ spell c rest) f.1 left.1 in
-      let body = single c rest f.2 right.1 in
-      ((left.0, right.0, body.0), body.1)
+  single (GenericLet p [] a b) rest f h = absurd (f.0 refl)
+  single (GenericLet p (x ∷ []) a b) rest f h =
+      let bound = single a (t.Sign s.In ∷ spell b rest) f.1 h in
+      let body = single b rest f.2 bound.1 in
+      (((x, refl), bound.0, body.0), body.1)
+  single (GenericLet p (x ∷ y ∷ ys) a b) rest f h = absurd h
+  single (GenericPar p [] a ys b c) rest f h = absurd (f.0 refl)
+  single (GenericPar p (x ∷ xs) a [] b c) rest f h = absurd (f.1 refl)
+  single (GenericPar p (x ∷ []) a (y ∷ []) b c) rest f h =
+      let left = single a (t.Sign s.And ∷ t.Variable y.name ∷ t.Sign s.Equals ∷ spell b (t.Sign s.In ∷ spell c rest)) f.2 h in
+      let right = single b (t.Sign s.In ∷ spell c rest) f.3 left.1 in
+      let body = single c rest f.4 right.1 in
+      (((x, refl), (y, refl), left.0, right.0, body.0), body.1)
+  single (GenericPar p (x ∷ []) a (y ∷ z ∷ zs) b c) rest f h = absurd (single a (t.Sign s.And ∷ spell_names (y ∷ z ∷ zs) (t.Sign s.Equals ∷ spell b (t.Sign s.In ∷ spell c rest))) f.2 h).1
+  single (GenericPar p (x ∷ w ∷ ws) a (y ∷ ys) b c) rest f h = absurd h
   single (GenericIf p a b c) rest f h =
       let first = single a (t.Sign s.Then ∷ spell b (t.Sign s.Else ∷ spell c rest)) f.0 h in
       let second = single b (t.Sign s.Else ∷ spell c rest) f.1 first.1 in
@@ -86,14 +92,6 @@ mutual
   single (GenericTuple p GenericNoArgument) rest f h = absurd f
   single (GenericTuple p (GenericArgument a GenericNoArgument)) rest f h = absurd f
   single (GenericTuple p (GenericArgument a (GenericArgument b xs))) rest f h = absurd (single a (spell_further_parts (GenericArgument b xs) (t.Sign s.Close ∷ rest)) f.0 h).1
-  single (GenericLetSeveral p [] a b) rest f h = absurd f.0
-  single (GenericLetSeveral p (x ∷ []) a b) rest f h = absurd f.0
-  single (GenericLetSeveral p (x ∷ y ∷ ys) a b) rest f h = absurd h
-  single (GenericParSeveral p [] a ys b c) rest f h = absurd f.0
-  single (GenericParSeveral p (x ∷ xs) a [] b c) rest f h = absurd f.0
-  single (GenericParSeveral p (x ∷ []) a (y ∷ []) b c) rest f h = absurd f.0
-  single (GenericParSeveral p (x ∷ []) a (y ∷ z ∷ zs) b c) rest f h = absurd (single a (t.Sign s.And ∷ spell_names (y ∷ z ∷ zs) (t.Sign s.Equals ∷ spell b (t.Sign s.In ∷ spell c rest))) f.1 h).1
-  single (GenericParSeveral p (x ∷ w ∷ ws) a (y ∷ ys) b c) rest f h = absurd h
 
   all_single : (xs : GenericArguments) (rest : List Token) → AreGenericFine xs → HasNoComma (spell_arguments xs rest) → AreSingle xs × HasNoComma rest
   all_single GenericNoArgument rest f h = (tt, h)

@@ -26,13 +26,11 @@ layer_words old new f (n.Paren p a) runs h = refl
 layer_words old new f (n.Operation p o a b) runs h = refl
 layer_words old new f (n.Call x ws v) runs h = ap (λ ys. GenericCall x (all_types (stack_of ys)) (arguments_from f v.items)) (runs ws h.0)
 layer_words old new f (n.Make x ws v) runs h = ap (λ ys. GenericMake x (all_types (stack_of ys)) (arguments_from f v.items)) (runs ws h.0)
-layer_words old new f (n.Let p x a b) runs h = refl
-layer_words old new f (n.LetPar p x a y b c) runs h = refl
+layer_words old new f (n.Let p xs a b) runs h = refl
+layer_words old new f (n.LetPar p xs a ys b c) runs h = refl
 layer_words old new f (n.If p a b c) runs h = refl
 layer_words old new f (n.Case p x arms) runs h = refl
 layer_words old new f (n.Tuple p xs) runs h = refl
-layer_words old new f (n.LetSeveral p xs a b) runs h = refl
-layer_words old new f (n.ParSeveral p xs a ys b c) runs h = refl
 
 -- The node of a number tells its tree.
 pub tree_of-node : (a : Arena) (id : ℕ) (node : Node) → IsArena a → slice_get a.nodes id ≡ Some node → tree_of a id ≡ layer a.words (tree_of a) (Some node)
@@ -78,13 +76,11 @@ within_longer words more (n.Paren p a) h = h
 within_longer words more (n.Operation p o a b) h = h
 within_longer words more (n.Call x ws v) h = (run_longer words more ws h.0, h.1, run_front words more ws h.0 ∙ h.2)
 within_longer words more (n.Make x ws v) h = (run_longer words more ws h.0, h.1, run_front words more ws h.0 ∙ h.2)
-within_longer words more (n.Let p x a b) h = h
-within_longer words more (n.LetPar p x a y b c) h = h
+within_longer words more (n.Let p xs a b) h = h
+within_longer words more (n.LetPar p xs a ys b c) h = h
 within_longer words more (n.If p a b c) h = h
 within_longer words more (n.Case p x arms) h = h
 within_longer words more (n.Tuple p xs) h = h
-within_longer words more (n.LetSeveral p xs a b) h = h
-within_longer words more (n.ParSeveral p xs a ys b c) h = h
 
 pub words_arena : (a : Arena) (more : List Word) → IsArena a → IsArena (with_words a more)
 words_arena a more all = record { below = all.below; within = λ id node e. within_longer a.words more node (all.within id node e) }

@@ -8,7 +8,7 @@ use Rattle.gib_syntax.specs.declared.generic.GenericNode.{GenericNode as Node}
 use Rattle.gib_syntax.specs.declared.generic.GenericNode.TheVariants as n
 use Rattle.gib_syntax.specs.declared.written.Word.{Word}
 use Rattle.gib_syntax.specs.declared.written.Run.{Run}
-use Rattle.gib_syntax.specs.GenericTree.{GenericExpression, GenericArguments, GenericArms, GenericVar, GenericNum, GenericBit, GenericParen, GenericOp, GenericCall, GenericMake, GenericLet, GenericPar, GenericIf, GenericCase, GenericTuple, GenericLetSeveral, GenericParSeveral, GenericNoArgument, GenericArgument, GenericLastArm, GenericNextArm}
+use Rattle.gib_syntax.specs.GenericTree.{GenericExpression, GenericArguments, GenericArms, GenericVar, GenericNum, GenericBit, GenericParen, GenericOp, GenericCall, GenericMake, GenericLet, GenericPar, GenericIf, GenericCase, GenericTuple, GenericNoArgument, GenericArgument, GenericLastArm, GenericNextArm}
 use Rattle.gib_syntax.specs.Words.{run_words, types_in, IsRunIn, IsTypesRun}
 
 -- Words and nodes.
@@ -38,13 +38,11 @@ PartsBelow (n.Paren p a) id = a.0 < id
 PartsBelow (n.Operation p f a b) id = (a.0 < id) × (b.0 < id)
 PartsBelow (n.Call f ws xs) id = AllByRecursion (λ (a : ExprId). a.0 < id) xs.items
 PartsBelow (n.Make k ws xs) id = AllByRecursion (λ (a : ExprId). a.0 < id) xs.items
-PartsBelow (n.Let p x a b) id = (a.0 < id) × (b.0 < id)
-PartsBelow (n.LetPar p x a y b c) id = (a.0 < id) × (b.0 < id) × (c.0 < id)
+PartsBelow (n.Let p xs a b) id = (a.0 < id) × (b.0 < id)
+PartsBelow (n.LetPar p xs a ys b c) id = (a.0 < id) × (b.0 < id) × (c.0 < id)
 PartsBelow (n.If p a b c) id = (a.0 < id) × (b.0 < id) × (c.0 < id)
 PartsBelow (n.Case p x arms) id = ArmsBelow arms.items id
 PartsBelow (n.Tuple p xs) id = AllByRecursion (λ (a : ExprId). a.0 < id) xs.items
-PartsBelow (n.LetSeveral p xs a b) id = (a.0 < id) × (b.0 < id)
-PartsBelow (n.ParSeveral p xs a ys b c) id = (a.0 < id) × (b.0 < id) × (c.0 < id)
 
 -- The type arguments of a node are types among these words.
 abbrev pub IsRunWithin : Node → List Word → Type 0
@@ -55,13 +53,11 @@ IsRunWithin (n.Paren p a) words = Unit {0}
 IsRunWithin (n.Operation p f a b) words = Unit {0}
 IsRunWithin (n.Call f ws xs) words = IsTypesRun words ws
 IsRunWithin (n.Make k ws xs) words = IsTypesRun words ws
-IsRunWithin (n.Let p x a b) words = Unit {0}
-IsRunWithin (n.LetPar p x a y b c) words = Unit {0}
+IsRunWithin (n.Let p xs a b) words = Unit {0}
+IsRunWithin (n.LetPar p xs a ys b c) words = Unit {0}
 IsRunWithin (n.If p a b c) words = Unit {0}
 IsRunWithin (n.Case p x arms) words = Unit {0}
 IsRunWithin (n.Tuple p xs) words = Unit {0}
-IsRunWithin (n.LetSeveral p xs a b) words = Unit {0}
-IsRunWithin (n.ParSeveral p xs a ys b c) words = Unit {0}
 
 -- Each node stands behind its parts, and its type arguments are types among the words.
 pub record IsArena (a : Arena) : Type 0 where
@@ -97,13 +93,11 @@ layer words f (Some (n.Paren p a)) = GenericParen p (f a.0)
 layer words f (Some (n.Operation p g a b)) = GenericOp p g (f a.0) (f b.0)
 layer words f (Some (n.Call g ws xs)) = GenericCall g (types_in words ws) (arguments_from f xs.items)
 layer words f (Some (n.Make k ws xs)) = GenericMake k (types_in words ws) (arguments_from f xs.items)
-layer words f (Some (n.Let p x a b)) = GenericLet p x (f a.0) (f b.0)
-layer words f (Some (n.LetPar p x a y b c)) = GenericPar p x (f a.0) y (f b.0) (f c.0)
+layer words f (Some (n.Let p xs a b)) = GenericLet p xs (f a.0) (f b.0)
+layer words f (Some (n.LetPar p xs a ys b c)) = GenericPar p xs (f a.0) ys (f b.0) (f c.0)
 layer words f (Some (n.If p a b c)) = GenericIf p (f a.0) (f b.0) (f c.0)
 layer words f (Some (n.Case p x arms)) = case_from f arms.items (GenericCase p x)
 layer words f (Some (n.Tuple p xs)) = GenericTuple p (arguments_from f xs.items)
-layer words f (Some (n.LetSeveral p xs a b)) = GenericLetSeveral p xs.items (f a.0) (f b.0)
-layer words f (Some (n.ParSeveral p xs a ys b c)) = GenericParSeveral p xs.items (f a.0) ys.items (f b.0) (f c.0)
 
 -- A node as what it is over any words, where its parts are so.
 abbrev pub layer_of : (ℕ → List Word → GenericExpression) → Option Node → List Word → GenericExpression

@@ -1,8 +1,8 @@
 -- Which trees the grammar has.
 use Rattle.std.specs.Prelude.{◌≡◌, ◌≢◌, ◌<◌, ◌^◌, Bool, true, false, []}
 use Rattle.std.specs.List.{AllByRecursion}
-use Rattle.gib_syntax.specs.Results.{AreSeveral, AreSides, AreResults}
-use Rattle.gib_syntax.specs.GenericTree.{GenericExpression, GenericArguments, GenericArms, GenericVar, GenericNum, GenericBit, GenericParen, GenericOp, GenericCall, GenericMake, GenericLet, GenericPar, GenericIf, GenericCase, GenericTuple, GenericLetSeveral, GenericParSeveral, GenericNoArgument, GenericArgument, GenericLastArm, GenericNextArm, GenericDataTree, GenericFunctionTree, GenericProgramTree}
+use Rattle.gib_syntax.specs.Results.{AreResults}
+use Rattle.gib_syntax.specs.GenericTree.{GenericExpression, GenericArguments, GenericArms, GenericVar, GenericNum, GenericBit, GenericParen, GenericOp, GenericCall, GenericMake, GenericLet, GenericPar, GenericIf, GenericCase, GenericTuple, GenericNoArgument, GenericArgument, GenericLastArm, GenericNextArm, GenericDataTree, GenericFunctionTree, GenericProgramTree}
 
 -- What may stand as an argument.
 abbrev pub is_generic_atom : GenericExpression → Bool
@@ -14,13 +14,11 @@ is_generic_atom (GenericOp p f a b) = true
 is_generic_atom (GenericCall f ws xs) = false
 is_generic_atom (GenericMake k ws GenericNoArgument) = true
 is_generic_atom (GenericMake k ws (GenericArgument a xs)) = false
-is_generic_atom (GenericLet p x a b) = false
-is_generic_atom (GenericPar p x a y b c) = false
+is_generic_atom (GenericLet p xs a b) = false
+is_generic_atom (GenericPar p xs a ys b c) = false
 is_generic_atom (GenericIf p a b c) = false
 is_generic_atom (GenericCase p x arms) = false
 is_generic_atom (GenericTuple p xs) = false
-is_generic_atom (GenericLetSeveral p xs a b) = false
-is_generic_atom (GenericParSeveral p xs a ys b c) = false
 
 -- What may stand as a side of an operation.
 abbrev pub is_generic_application : GenericExpression → Bool
@@ -31,16 +29,14 @@ is_generic_application (GenericParen p e) = true
 is_generic_application (GenericOp p f a b) = true
 is_generic_application (GenericCall f ws xs) = true
 is_generic_application (GenericMake k ws xs) = true
-is_generic_application (GenericLet p x a b) = false
-is_generic_application (GenericPar p x a y b c) = false
+is_generic_application (GenericLet p xs a b) = false
+is_generic_application (GenericPar p xs a ys b c) = false
 is_generic_application (GenericIf p a b c) = false
 is_generic_application (GenericCase p x arms) = false
 is_generic_application (GenericTuple p xs) = false
-is_generic_application (GenericLetSeveral p xs a b) = false
-is_generic_application (GenericParSeveral p xs a ys b c) = false
 
 -- The trees that the grammar has: literals run to 2^63 - 1, arguments are atoms, a call has an argument at least, the
--- sides of an operation are applications, a tuple has two parts at least, and parts have two names at least.
+-- sides of an operation are applications, a tuple has two parts at least, and a binding has a name at least.
 abbrev mutual
   pub IsGenericFine : GenericExpression → Type 0
   IsGenericFine (GenericVar x) = Unit {0}
@@ -51,15 +47,13 @@ abbrev mutual
   IsGenericFine (GenericCall f ws GenericNoArgument) = ⊥
   IsGenericFine (GenericCall f ws (GenericArgument a xs)) = IsGenericFine a × (is_generic_atom a ≡ true) × AreGenericFine xs
   IsGenericFine (GenericMake k ws xs) = AreGenericFine xs
-  IsGenericFine (GenericLet p x a b) = IsGenericFine a × IsGenericFine b
-  IsGenericFine (GenericPar p x a y b c) = IsGenericFine a × IsGenericFine b × IsGenericFine c
+  IsGenericFine (GenericLet p xs a b) = (xs ≢ []) × IsGenericFine a × IsGenericFine b
+  IsGenericFine (GenericPar p xs a ys b c) = (xs ≢ []) × (ys ≢ []) × IsGenericFine a × IsGenericFine b × IsGenericFine c
   IsGenericFine (GenericIf p a b c) = IsGenericFine a × IsGenericFine b × IsGenericFine c
   IsGenericFine (GenericCase p x arms) = HasGenericFine arms
   IsGenericFine (GenericTuple p GenericNoArgument) = ⊥
   IsGenericFine (GenericTuple p (GenericArgument a GenericNoArgument)) = ⊥
   IsGenericFine (GenericTuple p (GenericArgument a (GenericArgument b xs))) = IsGenericFine a × AreGenericParts (GenericArgument b xs)
-  IsGenericFine (GenericLetSeveral p xs a b) = AreSeveral xs × IsGenericFine a × IsGenericFine b
-  IsGenericFine (GenericParSeveral p xs a ys b c) = AreSides xs ys × IsGenericFine a × IsGenericFine b × IsGenericFine c
 
   -- Further parts of a tuple.
   pub AreGenericParts : GenericArguments → Type 0

@@ -7,7 +7,7 @@ use Rattle.gib_syntax.specs.declared.exprs.Arm.{Arm}
 use Rattle.gib_syntax.specs.declared.generic.GenericNode.TheVariants as n
 use Rattle.gib_syntax.specs.declared.written.Word.{Word}
 use Rattle.gib_syntax.specs.GenericTree.{GenericExpression as Expression, GenericArms as Arms, GenericParen, GenericOp, GenericCall, GenericMake, GenericLet, GenericPar}
-use Rattle.gib_syntax.specs.GenericTree.{GenericIf, GenericCase, GenericTuple, GenericLetSeveral, GenericParSeveral, GenericArgument, GenericLastArm, GenericNextArm}
+use Rattle.gib_syntax.specs.GenericTree.{GenericIf, GenericCase, GenericTuple, GenericArgument, GenericLastArm, GenericNextArm}
 use Rattle.gib_syntax.specs.Words.{types_in}
 use Rattle.gib_syntax.specs.GenericArena.{IsArmBelow, ArmsBelow, PartsBelow, arguments_from, arms_from, case_from, layer, layer_of}
 
@@ -42,17 +42,14 @@ layer_same_if words f g id (Some (n.Call x ws v)) below e =
     ap (GenericCall x (types_in words ws)) (arguments_same f g id v.items (below (n.Call x ws v) refl) e)
 layer_same_if words f g id (Some (n.Make x ws v)) below e =
     ap (GenericMake x (types_in words ws)) (arguments_same f g id v.items (below (n.Make x ws v) refl) e)
-layer_same_if words f g id (Some (n.Let p x a b)) below e = let h = below (n.Let p x a b) refl in (λ k. GenericLet p x (e a.0 h.0 k) (e b.0 h.1 k))
-layer_same_if words f g id (Some (n.LetPar p x a y b c)) below e =
-    let h = below (n.LetPar p x a y b c) refl in (λ k. GenericPar p x (e a.0 h.0 k) y (e b.0 h.1 k) (e c.0 h.2 k))
+layer_same_if words f g id (Some (n.Let p xs a b)) below e =
+    let h = below (n.Let p xs a b) refl in (λ k. GenericLet p xs (e a.0 h.0 k) (e b.0 h.1 k))
+layer_same_if words f g id (Some (n.LetPar p xs a ys b c)) below e =
+    let h = below (n.LetPar p xs a ys b c) refl in (λ k. GenericPar p xs (e a.0 h.0 k) ys (e b.0 h.1 k) (e c.0 h.2 k))
 layer_same_if words f g id (Some (n.If p a b c)) below e =
     let h = below (n.If p a b c) refl in (λ k. GenericIf p (e a.0 h.0 k) (e b.0 h.1 k) (e c.0 h.2 k))
 layer_same_if words f g id (Some (n.Case p x arms)) below e = case_same f g id arms.items (GenericCase p x) (below (n.Case p x arms) refl) e
 layer_same_if words f g id (Some (n.Tuple p xs)) below e = ap (GenericTuple p) (arguments_same f g id xs.items (below (n.Tuple p xs) refl) e)
-layer_same_if words f g id (Some (n.LetSeveral p xs a b)) below e =
-    let h = below (n.LetSeveral p xs a b) refl in (λ k. GenericLetSeveral p xs.items (e a.0 h.0 k) (e b.0 h.1 k))
-layer_same_if words f g id (Some (n.ParSeveral p xs a ys b c)) below e =
-    let h = below (n.ParSeveral p xs a ys b c) refl in (λ k. GenericParSeveral p xs.items (e a.0 h.0 k) ys.items (e b.0 h.1 k) (e c.0 h.2 k))
 
 -- So it is over any words.
 pub layer_of_same_if : IsOfParts PartsBelow layer_of

@@ -9,7 +9,7 @@ use Rattle.gib_syntax.specs.Declarations.{number_of}
 use Rattle.gib_syntax.specs.Meaning.{Outcome, Gives, Stops, Deep, Environment, value_in, bind, bind_results, tuple, with_value, with_values, with_fields, number_in, is_true, is_made_by, parts, outcome, choose}
 use Rattle.gib_types.specs.Form.{form_or}
 use Rattle.gib_syntax.specs.Forms.{Form, Forms, WholeForm, TruthForm, VariableForm, DataForm, NoForm, Meant, formed, formed_all, assign}
-use Rattle.gib_syntax.specs.GenericTree.{GenericExpression, GenericArguments, GenericArms, GenericVar, GenericNum, GenericBit, GenericParen, GenericOp, GenericCall, GenericMake, GenericLet, GenericPar, GenericIf, GenericCase, GenericTuple, GenericLetSeveral, GenericParSeveral, GenericNoArgument, GenericArgument, GenericLastArm, GenericNextArm, GenericParameterTree, GenericFunctionTree, GenericProgramTree, GenericRow, GenericGlobals, globals_of_generic, place_named, generic_named}
+use Rattle.gib_syntax.specs.GenericTree.{GenericExpression, GenericArguments, GenericArms, GenericVar, GenericNum, GenericBit, GenericParen, GenericOp, GenericCall, GenericMake, GenericLet, GenericPar, GenericIf, GenericCase, GenericTuple, GenericNoArgument, GenericArgument, GenericLastArm, GenericNextArm, GenericParameterTree, GenericFunctionTree, GenericProgramTree, GenericRow, GenericGlobals, globals_of_generic, place_named, generic_named}
 use Rattle.gib_syntax.specs.GenericTyping.{FormScope, form_in, form_bound, field_forms}
 use Rattle.gib_syntax.specs.Inferred.{arguments_of, forms_named, bind_forms, form_of, forms_of_all, bound_forms}
 
@@ -42,23 +42,18 @@ abbrev mutual
       with_value (meant g call m scope a env) (λ x. with_value (meant g call m scope b env) (λ y. outcome f (number_in x) (number_in y)))
   meant g call m scope (GenericCall f ws xs) env = with_values (meant_all g call m scope xs env) (call (number_of f) (formed_all m ws))
   meant g call m scope (GenericMake k ws xs) env = made_at g.rows (place_named g.rows (number_of k)) (formed_all m ws) (meant_all g call m scope xs env)
-  meant g call m scope (GenericLet p x a b) env =
-      with_value (meant g call m scope a env) (λ v. meant g call m (form_bound x (form_of g m scope a) scope) b ((number_of x, v) ∷ env))
-  meant g call m scope (GenericPar p x a y b c) env =
+  meant g call m scope (GenericLet p xs a b) env =
+      with_value (meant g call m scope a env) (λ v. meant g call m (bind_forms xs (bound_forms g m scope a) scope) b (bind_results xs v env))
+  meant g call m scope (GenericPar p xs a ys b c) env =
       with_value (meant g call m scope a env) (λ v. with_value (meant g call m scope b env)
-      (λ w. meant g call m (form_bound y (form_of g m scope b) (form_bound x (form_of g m scope a) scope)) c ((number_of y, w) ∷ (number_of x, v) ∷ env)))
+      (λ w. meant g call m (bind_forms ys (bound_forms g m scope b) (bind_forms xs (bound_forms g m scope a) scope)) c
+      (bind_results ys w (bind_results xs v env))))
   meant g call m scope (GenericIf p a b c) env =
       with_value (meant g call m scope a env) (λ v. choose (is_true v) (meant g call m scope b env) (meant g call m scope c env))
   meant g call m scope (GenericCase p x arms) env =
       meant_arms g call m scope (arguments_of (form_or (form_in scope (number_of x)))) arms (value_in env (number_of x)) env
   meant g call m scope (GenericTuple p xs) env =
       with_fields (map kind_of (forms_of_all g m scope xs)) (meant_all g call m scope xs env) (λ vs. Gives (tuple vs))
-  meant g call m scope (GenericLetSeveral p xs a b) env =
-      with_value (meant g call m scope a env) (λ v. meant g call m (bind_forms xs (bound_forms g m scope a) scope) b (bind_results xs v env))
-  meant g call m scope (GenericParSeveral p xs a ys b c) env =
-      with_value (meant g call m scope a env) (λ v. with_value (meant g call m scope b env)
-      (λ w. meant g call m (bind_forms ys (bound_forms g m scope b) (bind_forms xs (bound_forms g m scope a) scope)) c
-      (bind_results ys w (bind_results xs v env))))
 
   -- What arguments or parts mean, each by itself, in their order.
   pub meant_all : GenericGlobals → (ℕ → Forms → List Datum → Outcome) → Meant → FormScope → GenericArguments → Environment → List Outcome

@@ -7,8 +7,8 @@ use Rattle.gib_syntax.specs.Declarations.{number_of, place_of}
 use Rattle.gib_syntax.specs.Forms.{WrittenType, WrittenTypes}
 use Rattle.gib_syntax.specs.Results.{Results}
 
--- An expression, as one without type parameters; a called function and a constructor have type arguments. Neither the parts
--- of a tuple nor the variables for parts have written types.
+-- An expression, as one without type parameters; a called function and a constructor have type arguments. A binding has a name,
+-- or several for the parts of what is bound. Neither these nor the parts of a tuple have written types.
 mutual
   pub data GenericExpression : Type 0 where
     GenericVar : Ident → GenericExpression
@@ -18,13 +18,13 @@ mutual
     GenericOp : Span → Operator → GenericExpression → GenericExpression → GenericExpression
     GenericCall : Ident → WrittenTypes → GenericArguments → GenericExpression
     GenericMake : Ident → WrittenTypes → GenericArguments → GenericExpression
-    GenericLet : Span → Ident → GenericExpression → GenericExpression → GenericExpression
-    GenericPar : Span → Ident → GenericExpression → Ident → GenericExpression → GenericExpression → GenericExpression
+    -- names, what they are bound to, and the body
+    GenericLet : Span → List Ident → GenericExpression → GenericExpression → GenericExpression
+    -- two sides with their names, and the body
+    GenericPar : Span → List Ident → GenericExpression → List Ident → GenericExpression → GenericExpression → GenericExpression
     GenericIf : Span → GenericExpression → GenericExpression → GenericExpression → GenericExpression
     GenericCase : Span → Ident → GenericArms → GenericExpression
     GenericTuple : Span → GenericArguments → GenericExpression
-    GenericLetSeveral : Span → List Ident → GenericExpression → GenericExpression → GenericExpression
-    GenericParSeveral : Span → List Ident → GenericExpression → List Ident → GenericExpression → GenericExpression → GenericExpression
 
   pub data GenericArguments : Type 0 where
     GenericNoArgument : GenericArguments

@@ -7,7 +7,7 @@ use Rattle.gib_types.specs.declared.operator.Operator.TheVariants as o
 use Rattle.gib_syntax.specs.Results.{Results, One, Several, map_results, as_results}
 use Rattle.gib_syntax.specs.Declarations.{number_of, place_of, AreDifferent}
 use Rattle.gib_syntax.specs.Forms.{WrittenType, WrittenTypes, WholeAt, TruthAt, VariableAt, DataAt, NoType, MoreTypes, Form, Forms, WholeForm, TruthForm, VariableForm, DataForm, Meant, formed, formed_all, assign, count_written}
-use Rattle.gib_syntax.specs.GenericTree.{GenericExpression, GenericArguments, GenericArms, GenericVar, GenericNum, GenericBit, GenericParen, GenericOp, GenericCall, GenericMake, GenericLet, GenericPar, GenericIf, GenericCase, GenericTuple, GenericLetSeveral, GenericParSeveral, GenericNoArgument, GenericArgument, GenericLastArm, GenericNextArm, GenericConstructorTree, GenericDataTree, GenericParameterTree, GenericFunctionTree, GenericProgramTree, GenericRow, GenericGlobals, globals_of_generic, rows_of, place_named, generic_named, data_named}
+use Rattle.gib_syntax.specs.GenericTree.{GenericExpression, GenericArguments, GenericArms, GenericVar, GenericNum, GenericBit, GenericParen, GenericOp, GenericCall, GenericMake, GenericLet, GenericPar, GenericIf, GenericCase, GenericTuple, GenericNoArgument, GenericArgument, GenericLastArm, GenericNextArm, GenericConstructorTree, GenericDataTree, GenericParameterTree, GenericFunctionTree, GenericProgramTree, GenericRow, GenericGlobals, globals_of_generic, rows_of, place_named, generic_named, data_named}
 
 -- The variables in scope with their types, the newest first.
 abbrev pub FormScope : Type 0
@@ -105,24 +105,18 @@ abbrev mutual
   HasForm g vars m scope (GenericMake k ws xs) r =
       (c : ℕ) × (row : GenericRow) × (place_named g.rows (number_of k) ≡ Some c) × (slice_get g.rows c ≡ Some row) × (count_written ws ≡ length row.variables)
       × AreKnownTypes g.datas vars ws × (r ≡ One (DataForm row.owner (formed_all m ws))) × HaveForms g vars m scope xs (field_forms row (formed_all m ws))
-  HasForm g vars m scope (GenericLet p x a b) r =
-      (s : Form) × HasForm g vars m scope a (One s) × (form_in scope (number_of x) ≡ None) × HasForm g vars m (form_bound x s scope) b r
-  HasForm g vars m scope (GenericPar p x a y b c) r =
-      (s t : Form) × HasForm g vars m scope a (One s) × HasForm g vars m scope b (One t)
-      × (form_in scope (number_of x) ≡ None) × (form_in (form_bound x s scope) (number_of y) ≡ None)
-      × HasForm g vars m (form_bound y t (form_bound x s scope)) c r
+  HasForm g vars m scope (GenericLet p xs a b) r =
+      (ss : List Form) × (inner : FormScope) × AreNames xs × HasForm g vars m scope a (as_results ss)
+      × BindsForms scope xs ss inner × HasForm g vars m inner b r
+  HasForm g vars m scope (GenericPar p xs a ys b c) r =
+      (ss ts : List Form) × (middle inner : FormScope) × AreNames xs × AreNames ys
+      × HasForm g vars m scope a (as_results ss) × HasForm g vars m scope b (as_results ts)
+      × BindsForms scope xs ss middle × BindsForms middle ys ts inner × HasForm g vars m inner c r
   HasForm g vars m scope (GenericIf p a b c) r = HasForm g vars m scope a (One TruthForm) × HasForm g vars m scope b r × HasForm g vars m scope c r
   HasForm g vars m scope (GenericCase p x arms) r =
       (t : ℕ) × (ts : Forms) × (form_in scope (number_of x) ≡ Some (DataForm t ts)) × CoversType g.rows t (generic_arm_names arms)
       × ArmsHaveForm g vars m scope t ts arms r
   HasForm g vars m scope (GenericTuple p xs) r = (ts : List Form) × (r ≡ Several ts) × HaveForms g vars m scope xs ts
-  HasForm g vars m scope (GenericLetSeveral p xs a b) r =
-      (ss : List Form) × (inner : FormScope) × AreNames xs × HasForm g vars m scope a (as_results ss)
-      × BindsForms scope xs ss inner × HasForm g vars m inner b r
-  HasForm g vars m scope (GenericParSeveral p xs a ys b c) r =
-      (ss ts : List Form) × (middle inner : FormScope) × AreNames xs × AreNames ys
-      × HasForm g vars m scope a (as_results ss) × HasForm g vars m scope b (as_results ts)
-      × BindsForms scope xs ss middle × BindsForms middle ys ts inner × HasForm g vars m inner c r
 
   -- Arguments have these types, as many as there are.
   pub HaveForms : GenericGlobals → List ℕ → Meant → FormScope → GenericArguments → List Form → Type 0
@@ -150,13 +144,11 @@ abbrev mutual
   generic_expressions (GenericOp p f a b) = generic_expressions a + generic_expressions b + 1
   generic_expressions (GenericCall f ws xs) = all_generic_expressions xs + 1
   generic_expressions (GenericMake k ws xs) = all_generic_expressions xs + 1
-  generic_expressions (GenericLet p x a b) = generic_expressions a + generic_expressions b + 1
-  generic_expressions (GenericPar p x a y b c) = generic_expressions a + generic_expressions b + generic_expressions c + 1
+  generic_expressions (GenericLet p xs a b) = generic_expressions a + generic_expressions b + 1
+  generic_expressions (GenericPar p xs a ys b c) = generic_expressions a + generic_expressions b + generic_expressions c + 1
   generic_expressions (GenericIf p a b c) = generic_expressions a + generic_expressions b + generic_expressions c + 1
   generic_expressions (GenericCase p x arms) = arm_generic_expressions arms + 1
   generic_expressions (GenericTuple p xs) = all_generic_expressions xs + 1
-  generic_expressions (GenericLetSeveral p xs a b) = generic_expressions a + generic_expressions b + 1
-  generic_expressions (GenericParSeveral p xs a ys b c) = generic_expressions a + generic_expressions b + generic_expressions c + 1
 
   pub all_generic_expressions : GenericArguments → ℕ
   all_generic_expressions GenericNoArgument = 0
@@ -176,13 +168,11 @@ abbrev mutual
   generic_bindings (GenericOp p f a b) = generic_bindings a + generic_bindings b
   generic_bindings (GenericCall f ws xs) = all_generic_bindings xs
   generic_bindings (GenericMake k ws xs) = all_generic_bindings xs
-  generic_bindings (GenericLet p x a b) = generic_bindings a + generic_bindings b + 1
-  generic_bindings (GenericPar p x a y b c) = generic_bindings a + generic_bindings b + generic_bindings c + 2
+  generic_bindings (GenericLet p xs a b) = generic_bindings a + generic_bindings b + length xs
+  generic_bindings (GenericPar p xs a ys b c) = generic_bindings a + generic_bindings b + generic_bindings c + (length xs + length ys)
   generic_bindings (GenericIf p a b c) = generic_bindings a + generic_bindings b + generic_bindings c
   generic_bindings (GenericCase p x arms) = arm_generic_bindings arms
   generic_bindings (GenericTuple p xs) = all_generic_bindings xs
-  generic_bindings (GenericLetSeveral p xs a b) = generic_bindings a + generic_bindings b + length xs
-  generic_bindings (GenericParSeveral p xs a ys b c) = generic_bindings a + generic_bindings b + generic_bindings c + (length xs + length ys)
 
   pub all_generic_bindings : GenericArguments → ℕ
   all_generic_bindings GenericNoArgument = 0

@@ -6,7 +6,7 @@ use Rattle.gib_syntax.specs.declared.tree.Ident.{Ident}
 use Rattle.gib_syntax.specs.Results.{Results, One, Several, list_results}
 use Rattle.gib_syntax.specs.Declarations.{number_of}
 use Rattle.gib_syntax.specs.Forms.{Form, Forms, WholeForm, TruthForm, VariableForm, DataForm, NoForm, Meant, formed_all}
-use Rattle.gib_syntax.specs.GenericTree.{GenericExpression, GenericArguments, GenericArms, GenericVar, GenericNum, GenericBit, GenericParen, GenericOp, GenericCall, GenericMake, GenericLet, GenericPar, GenericIf, GenericCase, GenericTuple, GenericLetSeveral, GenericParSeveral, GenericNoArgument, GenericArgument, GenericLastArm, GenericNextArm, GenericFunctionTree, GenericRow, GenericGlobals, place_named, generic_named}
+use Rattle.gib_syntax.specs.GenericTree.{GenericExpression, GenericArguments, GenericArms, GenericVar, GenericNum, GenericBit, GenericParen, GenericOp, GenericCall, GenericMake, GenericLet, GenericPar, GenericIf, GenericCase, GenericTuple, GenericNoArgument, GenericArgument, GenericLastArm, GenericNextArm, GenericFunctionTree, GenericRow, GenericGlobals, place_named, generic_named}
 pub use Rattle.gib_syntax.specs.GenericTyping.{one_form}
 use Rattle.gib_syntax.specs.GenericTyping.{FormScope, form_in, form_bound, operator_form, field_forms, result_forms}
 
@@ -58,15 +58,12 @@ abbrev mutual
   results_of g m scope (GenericOp p f a b) = One (operator_form f)
   results_of g m scope (GenericCall f ws xs) = results_at (generic_named g.functions (number_of f)) (formed_all m ws)
   results_of g m scope (GenericMake k ws xs) = One (DataForm (owner_named g.rows (place_named g.rows (number_of k))) (formed_all m ws))
-  results_of g m scope (GenericLet p x a b) = results_of g m (form_bound x (one_form (results_of g m scope a)) scope) b
-  results_of g m scope (GenericPar p x a y b c) =
-      results_of g m (form_bound y (one_form (results_of g m scope b)) (form_bound x (one_form (results_of g m scope a)) scope)) c
+  results_of g m scope (GenericLet p xs a b) = results_of g m (bind_forms xs (list_results (results_of g m scope a)) scope) b
+  results_of g m scope (GenericPar p xs a ys b c) =
+      results_of g m (bind_forms ys (list_results (results_of g m scope b)) (bind_forms xs (list_results (results_of g m scope a)) scope)) c
   results_of g m scope (GenericIf p a b c) = results_of g m scope b
   results_of g m scope (GenericCase p x arms) = results_of_arms g m scope (arguments_of (form_or (form_in scope (number_of x)))) arms
   results_of g m scope (GenericTuple p xs) = Several (forms_of_all g m scope xs)
-  results_of g m scope (GenericLetSeveral p xs a b) = results_of g m (bind_forms xs (list_results (results_of g m scope a)) scope) b
-  results_of g m scope (GenericParSeveral p xs a ys b c) =
-      results_of g m (bind_forms ys (list_results (results_of g m scope b)) (bind_forms xs (list_results (results_of g m scope a)) scope)) c
 
   -- The types of parts or arguments.
   pub forms_of_all : GenericGlobals → Meant → FormScope → GenericArguments → List Form

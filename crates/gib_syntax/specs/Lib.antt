@@ -3,6 +3,7 @@
 -- Programs as trees: what they are, how they are spelled, which of them are typed, and what they mean.
 pub mod Results
 pub mod Tree
+pub mod Naming
 pub mod Spelling
 pub mod Fine
 pub mod Declarations

@@ -1,5 +1,5 @@
 -- A program without type parameters as one that may have some.
-use Rattle.std.specs.Prelude.{[], map}
+use Rattle.std.specs.Prelude.{[], ◌∷◌, map}
 use Rattle.gib_syntax.specs.declared.tree.TypeName.{TypeName}
 use Rattle.gib_syntax.specs.declared.tree.TypeName.TheVariants as ty
 use Rattle.gib_syntax.specs.declared.tree.Parameter.{Parameter}
@@ -7,7 +7,7 @@ use Rattle.gib_syntax.specs.Tree.{Expression, Arguments, Arms, Var, Num, Bit, Pa
 use Rattle.gib_syntax.specs.Results.{map_results}
 use Rattle.gib_syntax.specs.Typing.{names_of}
 use Rattle.gib_syntax.specs.Forms.{WrittenType, WholeAt, TruthAt, DataAt, NoType}
-use Rattle.gib_syntax.specs.GenericTree.{GenericExpression, GenericArguments, GenericArms, GenericVar, GenericNum, GenericBit, GenericParen, GenericOp, GenericCall, GenericMake, GenericLet, GenericPar, GenericIf, GenericCase, GenericTuple, GenericLetSeveral, GenericParSeveral, GenericNoArgument, GenericArgument, GenericLastArm, GenericNextArm, GenericConstructorTree, GenericDataTree, GenericParameterTree, GenericFunctionTree, GenericMainTree, GenericProgramTree}
+use Rattle.gib_syntax.specs.GenericTree.{GenericExpression, GenericArguments, GenericArms, GenericVar, GenericNum, GenericBit, GenericParen, GenericOp, GenericCall, GenericMake, GenericLet, GenericPar, GenericIf, GenericCase, GenericTuple, GenericNoArgument, GenericArgument, GenericLastArm, GenericNextArm, GenericConstructorTree, GenericDataTree, GenericParameterTree, GenericFunctionTree, GenericMainTree, GenericProgramTree}
 
 -- A type as it may be written; one without type parameters has no arguments.
 abbrev pub written_of : TypeName → WrittenType
@@ -24,13 +24,13 @@ abbrev mutual
   as_generic (Op p f a b) = GenericOp p f (as_generic a) (as_generic b)
   as_generic (Call f xs) = GenericCall f NoType (all_as_generic xs)
   as_generic (Make k xs) = GenericMake k NoType (all_as_generic xs)
-  as_generic (Let p x a b) = GenericLet p x (as_generic a) (as_generic b)
-  as_generic (Par p x a y b c) = GenericPar p x (as_generic a) y (as_generic b) (as_generic c)
+  as_generic (Let p x a b) = GenericLet p (x ∷ []) (as_generic a) (as_generic b)
+  as_generic (Par p x a y b c) = GenericPar p (x ∷ []) (as_generic a) (y ∷ []) (as_generic b) (as_generic c)
   as_generic (If p a b c) = GenericIf p (as_generic a) (as_generic b) (as_generic c)
   as_generic (Case p x arms) = GenericCase p x (arms_as_generic arms)
   as_generic (Tuple p as' xs) = GenericTuple p (all_as_generic xs)
-  as_generic (LetSeveral p qs a b) = GenericLetSeveral p (names_of qs) (as_generic a) (as_generic b)
-  as_generic (ParSeveral p qs a rs b c) = GenericParSeveral p (names_of qs) (as_generic a) (names_of rs) (as_generic b) (as_generic c)
+  as_generic (LetSeveral p qs a b) = GenericLet p (names_of qs) (as_generic a) (as_generic b)
+  as_generic (ParSeveral p qs a rs b c) = GenericPar p (names_of qs) (as_generic a) (names_of rs) (as_generic b) (as_generic c)
 
   pub all_as_generic : Arguments → GenericArguments
   all_as_generic NoArgument = GenericNoArgument

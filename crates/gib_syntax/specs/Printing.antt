@@ -29,17 +29,11 @@ spell_all_arms f (arm ∷ arms) rest = spell_arms (arms_from f arm arms) rest
 abbrev pub spell_case : (ℕ → GenericExpression) → Ident → List Arm → List Token → List Token
 spell_case f x arms rest = t.Sign s.Case ∷ t.Variable x.name ∷ t.Sign s.Of ∷ t.Sign s.OpenBrace ∷ spell_all_arms f arms (t.Sign s.CloseBrace ∷ rest)
 
--- The expression binds a variable, or two in parallel.
-abbrev pub BindsOne : Node → Type 0
-BindsOne (n.Let p x a b) = Unit {0}
-BindsOne (n.LetPar p x a y b c) = Unit {0}
-BindsOne node = ⊥
-
--- The expression binds several results, alone or in parallel.
-abbrev pub BindsSeveral : Node → Type 0
-BindsSeveral (n.LetSeveral p xs a b) = Unit {0}
-BindsSeveral (n.ParSeveral p xs a ys b c) = Unit {0}
-BindsSeveral node = ⊥
+-- The expression binds names, alone or in parallel.
+abbrev pub Binds : Node → Type 0
+Binds (n.Let p xs a b) = Unit {0}
+Binds (n.LetPar p xs a ys b c) = Unit {0}
+Binds node = ⊥
 
 -- The expression goes on by what a value is.
 abbrev pub Chooses : Node → Type 0

@@ -4,11 +4,16 @@ use Rattle.std.specs.List.{AllByRecursion}
 use Rattle.gib_base.specs.declared.token.Sign.TheVariants as s
 use Rattle.gib_base.specs.declared.token.Token.{Token}
 use Rattle.gib_base.specs.declared.token.Token.TheVariants as t
+use Rattle.gib_syntax.specs.declared.tree.Ident.{Ident}
 use Rattle.gib_syntax.specs.Results.{One}
 use Rattle.gib_syntax.specs.Forms.{WrittenType}
-use Rattle.gib_syntax.specs.GenericTree.{GenericExpression, GenericArguments, GenericArms, GenericVar, GenericNum, GenericBit, GenericParen, GenericOp, GenericCall, GenericMake, GenericLet, GenericPar, GenericIf, GenericCase, GenericTuple, GenericLetSeveral, GenericParSeveral, GenericNoArgument, GenericArgument, GenericLastArm, GenericNextArm, GenericFunctionTree, GenericProgramTree}
+use Rattle.gib_syntax.specs.GenericTree.{GenericExpression, GenericArguments, GenericArms, GenericVar, GenericNum, GenericBit, GenericParen, GenericOp, GenericCall, GenericMake, GenericLet, GenericPar, GenericIf, GenericCase, GenericTuple, GenericNoArgument, GenericArgument, GenericLastArm, GenericNextArm, GenericFunctionTree, GenericProgramTree}
 
--- The expression has no tuples, and no binding of several variables.
+-- There is one name.
+abbrev pub IsOne : List Ident → Type 0
+IsOne xs = (x : Ident) × (xs ≡ x ∷ [])
+
+-- The expression has no tuples, and no binding of several names.
 abbrev mutual
   pub IsSingle : GenericExpression → Type 0
   IsSingle (GenericVar x) = Unit {0}
@@ -18,13 +23,11 @@ abbrev mutual
   IsSingle (GenericOp p f a b) = IsSingle a × IsSingle b
   IsSingle (GenericCall f ws xs) = AreSingle xs
   IsSingle (GenericMake k ws xs) = AreSingle xs
-  IsSingle (GenericLet p x a b) = IsSingle a × IsSingle b
-  IsSingle (GenericPar p x a y b c) = IsSingle a × IsSingle b × IsSingle c
+  IsSingle (GenericLet p xs a b) = IsOne xs × IsSingle a × IsSingle b
+  IsSingle (GenericPar p xs a ys b c) = IsOne xs × IsOne ys × IsSingle a × IsSingle b × IsSingle c
   IsSingle (GenericIf p a b c) = IsSingle a × IsSingle b × IsSingle c
   IsSingle (GenericCase p x arms) = HasSingle arms
   IsSingle (GenericTuple p xs) = ⊥
-  IsSingle (GenericLetSeveral p xs a b) = ⊥
-  IsSingle (GenericParSeveral p xs a ys b c) = ⊥
 
   -- Arguments or parts have none.
   pub AreSingle : GenericArguments → Type 0

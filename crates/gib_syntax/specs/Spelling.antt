@@ -8,7 +8,7 @@ use Rattle.gib_base.specs.declared.token.Token.TheVariants as t
 use Rattle.gib_syntax.specs.declared.tree.Ident.{Ident}
 use Rattle.gib_types.specs.declared.operator.Operator.{Operator}
 use Rattle.gib_types.specs.declared.operator.Operator.TheVariants as o
-use Rattle.gib_syntax.specs.GenericTree.{GenericExpression, GenericArguments, GenericArms, GenericVar, GenericNum, GenericBit, GenericParen, GenericOp, GenericCall, GenericMake, GenericLet, GenericPar, GenericIf, GenericCase, GenericTuple, GenericLetSeveral, GenericParSeveral, GenericNoArgument, GenericArgument, GenericLastArm, GenericNextArm, GenericConstructorTree, GenericDataTree, GenericParameterTree, GenericFunctionTree, GenericMainTree, GenericProgramTree}
+use Rattle.gib_syntax.specs.GenericTree.{GenericExpression, GenericArguments, GenericArms, GenericVar, GenericNum, GenericBit, GenericParen, GenericOp, GenericCall, GenericMake, GenericLet, GenericPar, GenericIf, GenericCase, GenericTuple, GenericNoArgument, GenericArgument, GenericLastArm, GenericNextArm, GenericConstructorTree, GenericDataTree, GenericParameterTree, GenericFunctionTree, GenericMainTree, GenericProgramTree}
 use Rattle.gib_syntax.specs.GenericFine.{IsGenericFineProgram}
 use Rattle.gib_syntax.specs.Results.{Results, One, Several}
 use Rattle.gib_syntax.specs.Forms.{WrittenType, WrittenTypes, WholeAt, TruthAt, VariableAt, DataAt, NoType, MoreTypes}
@@ -77,15 +77,13 @@ abbrev mutual
   spell (GenericOp p f a b) rest = t.Sign s.Open ∷ spell a (spell_operator f (spell b (t.Sign s.Close ∷ rest)))
   spell (GenericCall f ws xs) rest = t.Variable f.name ∷ spell_type_arguments ws (spell_arguments xs rest)
   spell (GenericMake k ws xs) rest = t.Constructor k.name ∷ spell_type_arguments ws (spell_arguments xs rest)
-  spell (GenericLet p x a b) rest = t.Sign s.Let ∷ t.Variable x.name ∷ t.Sign s.Equals ∷ spell a (t.Sign s.In ∷ spell b rest)
-  spell (GenericPar p x a y b c) rest = t.Sign s.Let ∷ t.Sign s.Par ∷ t.Variable x.name ∷ t.Sign s.Equals ∷ spell a (t.Sign s.And ∷ t.Variable y.name ∷ t.Sign s.Equals ∷ spell b (t.Sign s.In ∷ spell c rest))
+  spell (GenericLet p xs a b) rest = t.Sign s.Let ∷ spell_names xs (t.Sign s.Equals ∷ spell a (t.Sign s.In ∷ spell b rest))
+  spell (GenericPar p xs a ys b c) rest =
+      t.Sign s.Let ∷ t.Sign s.Par ∷ spell_names xs (t.Sign s.Equals ∷ spell a (t.Sign s.And ∷
+      spell_names ys (t.Sign s.Equals ∷ spell b (t.Sign s.In ∷ spell c rest))))
   spell (GenericIf p a b c) rest = t.Sign s.If ∷ spell a (t.Sign s.Then ∷ spell b (t.Sign s.Else ∷ spell c rest))
   spell (GenericCase p x arms) rest = t.Sign s.Case ∷ t.Variable x.name ∷ t.Sign s.Of ∷ t.Sign s.OpenBrace ∷ spell_arms arms (t.Sign s.CloseBrace ∷ rest)
   spell (GenericTuple p xs) rest = t.Sign s.Open ∷ spell_parts xs (t.Sign s.Close ∷ rest)
-  spell (GenericLetSeveral p xs a b) rest = t.Sign s.Let ∷ spell_names xs (t.Sign s.Equals ∷ spell a (t.Sign s.In ∷ spell b rest))
-  spell (GenericParSeveral p xs a ys b c) rest =
-      t.Sign s.Let ∷ t.Sign s.Par ∷ spell_names xs (t.Sign s.Equals ∷ spell a (t.Sign s.And ∷
-      spell_names ys (t.Sign s.Equals ∷ spell b (t.Sign s.In ∷ spell c rest))))
 
   -- The tokens of parts, a comma between two, and then the rest.
   pub spell_parts : GenericArguments → List Token → List Token
@@ -191,13 +189,11 @@ abbrev mutual
   levels (GenericOp p f a b) = suc (max (levels a) (levels b))
   levels (GenericCall f ws xs) = suc (levels_arguments xs)
   levels (GenericMake k ws xs) = suc (levels_arguments xs)
-  levels (GenericLet p x a b) = suc (max (levels a) (levels b))
-  levels (GenericPar p x a y b c) = suc (max (levels a) (max (levels b) (levels c)))
+  levels (GenericLet p xs a b) = suc (max (levels a) (levels b))
+  levels (GenericPar p xs a ys b c) = suc (max (levels a) (max (levels b) (levels c)))
   levels (GenericIf p a b c) = suc (max (levels a) (max (levels b) (levels c)))
   levels (GenericCase p x arms) = suc (levels_arms arms)
   levels (GenericTuple p xs) = suc (levels_arguments xs)
-  levels (GenericLetSeveral p xs a b) = suc (max (levels a) (levels b))
-  levels (GenericParSeveral p xs a ys b c) = suc (max (levels a) (max (levels b) (levels c)))
 
   -- The most levels that one of the arguments has.
   pub levels_arguments : GenericArguments → ℕ
@@ -270,14 +266,14 @@ abbrev mutual
       × IsPlaced at b (t.Sign s.Close ∷ rest)
   IsPlaced at (GenericCall f ws xs) rest = IsAt at f (spell_type_arguments ws (spell_arguments xs rest)) × AreWrittenAt at ws (t.Sign s.CloseBracket ∷ spell_arguments xs rest) × ArePlaced at xs rest
   IsPlaced at (GenericMake k ws xs) rest = IsAt at k (spell_type_arguments ws (spell_arguments xs rest)) × AreWrittenAt at ws (t.Sign s.CloseBracket ∷ spell_arguments xs rest) × ArePlaced at xs rest
-  IsPlaced at (GenericLet p x a b) rest =
-      (p ≡ at (length (spell (GenericLet p x a b) rest))) × IsAt at x (t.Sign s.Equals ∷ spell a (t.Sign s.In ∷ spell b rest))
+  IsPlaced at (GenericLet p xs a b) rest =
+      (p ≡ at (length (spell (GenericLet p xs a b) rest))) × AreNamesAt at xs (t.Sign s.Equals ∷ spell a (t.Sign s.In ∷ spell b rest))
       × IsPlaced at a (t.Sign s.In ∷ spell b rest) × IsPlaced at b rest
-  IsPlaced at (GenericPar p x a y b c) rest =
-      (p ≡ at (length (spell (GenericPar p x a y b c) rest)))
-      × IsAt at x (t.Sign s.Equals ∷ spell a (t.Sign s.And ∷ t.Variable y.name ∷ t.Sign s.Equals ∷ spell b (t.Sign s.In ∷ spell c rest)))
-      × IsPlaced at a (t.Sign s.And ∷ t.Variable y.name ∷ t.Sign s.Equals ∷ spell b (t.Sign s.In ∷ spell c rest))
-      × IsAt at y (t.Sign s.Equals ∷ spell b (t.Sign s.In ∷ spell c rest))
+  IsPlaced at (GenericPar p xs a ys b c) rest =
+      (p ≡ at (length (spell (GenericPar p xs a ys b c) rest)))
+      × AreNamesAt at xs (t.Sign s.Equals ∷ spell a (t.Sign s.And ∷ spell_names ys (t.Sign s.Equals ∷ spell b (t.Sign s.In ∷ spell c rest))))
+      × IsPlaced at a (t.Sign s.And ∷ spell_names ys (t.Sign s.Equals ∷ spell b (t.Sign s.In ∷ spell c rest)))
+      × AreNamesAt at ys (t.Sign s.Equals ∷ spell b (t.Sign s.In ∷ spell c rest))
       × IsPlaced at b (t.Sign s.In ∷ spell c rest) × IsPlaced at c rest
   IsPlaced at (GenericIf p a b c) rest =
       (p ≡ at (length (spell (GenericIf p a b c) rest))) × IsPlaced at a (t.Sign s.Then ∷ spell b (t.Sign s.Else ∷ spell c rest))
@@ -288,15 +284,6 @@ abbrev mutual
       × HavePlaces at arms (t.Sign s.CloseBrace ∷ rest)
   IsPlaced at (GenericTuple p xs) rest =
       (p ≡ at (length (spell (GenericTuple p xs) rest))) × ArePartsPlaced at xs (t.Sign s.Close ∷ rest)
-  IsPlaced at (GenericLetSeveral p xs a b) rest =
-      (p ≡ at (length (spell (GenericLetSeveral p xs a b) rest))) × AreNamesAt at xs (t.Sign s.Equals ∷ spell a (t.Sign s.In ∷ spell b rest))
-      × IsPlaced at a (t.Sign s.In ∷ spell b rest) × IsPlaced at b rest
-  IsPlaced at (GenericParSeveral p xs a ys b c) rest =
-      (p ≡ at (length (spell (GenericParSeveral p xs a ys b c) rest)))
-      × AreNamesAt at xs (t.Sign s.Equals ∷ spell a (t.Sign s.And ∷ spell_names ys (t.Sign s.Equals ∷ spell b (t.Sign s.In ∷ spell c rest))))
-      × IsPlaced at a (t.Sign s.And ∷ spell_names ys (t.Sign s.Equals ∷ spell b (t.Sign s.In ∷ spell c rest)))
-      × AreNamesAt at ys (t.Sign s.Equals ∷ spell b (t.Sign s.In ∷ spell c rest))
-      × IsPlaced at b (t.Sign s.In ∷ spell c rest) × IsPlaced at c rest
 
   -- The parts of a tuple carry the spans of their tokens.
   pub ArePartsPlaced : Places → GenericArguments → List Token → Type 0

@@ -13,7 +13,7 @@ ghost use Rattle.gib_types.specs.declared.operator.Operator.TheVariants as o;
 ghost use Rattle.gib_syntax.specs.Tree.{Expression, Var, Num, Op, Call, Make, Par, If, Tuple, LetSeveral, NoArgument, Argument, ProgramTree};
 ghost use Rattle.gib_syntax.specs.Results.{One, Several};
 ghost use Rattle.gib_syntax.specs.Forms.{WholeAt, VariableAt, DataAt, NoType, MoreTypes};
-ghost use Rattle.gib_syntax.specs.GenericTree.{GenericVar, GenericNum, GenericParen, GenericOp, GenericCall, GenericLet, GenericTuple, GenericLetSeveral, GenericNoArgument, GenericArgument};
+ghost use Rattle.gib_syntax.specs.GenericTree.{GenericVar, GenericNum, GenericParen, GenericOp, GenericCall, GenericLet, GenericTuple, GenericNoArgument, GenericArgument};
 ghost use Rattle.gib_syntax.specs.Spelling.{levels, spell};
 ghost use Rattle.gib_syntax.specs.Meaning.{Gives, Stops, Deep, Trap, run};
 
@@ -21,7 +21,7 @@ ghost use Rattle.gib_syntax.specs.Meaning.{Gives, Stops, Deep, Trap, run};
 /// `fun down (n : Int) : Int = if (n < 1) then 0 else down (n - 1) ; main (n : Int) : Int = down n ;`.
 pub fn examples()
     // In `let m = ((n + 1)) in down m` the deeper part has three levels: parentheses, sum, and `n`.
-    ensures levels { (p : Span) (down m n : Ident) → levels (GenericLet p m (GenericParen p (GenericOp p o.Add (GenericVar n) (GenericNum p 1)))
+    ensures levels { (p : Span) (down m n : Ident) → levels (GenericLet p (m ∷ []) (GenericParen p (GenericOp p o.Add (GenericVar n) (GenericNum p 1)))
         (GenericCall down NoType (GenericArgument (GenericVar m) GenericNoArgument))) ≡ 4 }
     // `(n + 1)` is five tokens.
     ensures spelling { (p : Span) (n : Ident) → spell (GenericOp p o.Add (GenericVar n) (GenericNum p 1)) []
@@ -107,7 +107,7 @@ pub fn parts()
         let both = GenericTuple p (GenericArgument (GenericVar a) (GenericArgument (GenericVar b) GenericNoArgument)) in
         (spell both [] ≡ t.Sign s.Open ∷ t.Variable a.name ∷ t.Sign s.Comma ∷ t.Variable b.name ∷ t.Sign s.Close ∷ []) × (levels both ≡ 2) }
     // `let (a, b) = f n in a` is eleven tokens.
-    ensures binding { (p : Span) (a b f n : Ident) → spell (GenericLetSeveral p (a ∷ b ∷ []) (GenericCall f NoType (GenericArgument (GenericVar n) GenericNoArgument)) (GenericVar a)) []
+    ensures binding { (p : Span) (a b f n : Ident) → spell (GenericLet p (a ∷ b ∷ []) (GenericCall f NoType (GenericArgument (GenericVar n) GenericNoArgument)) (GenericVar a)) []
         ≡ t.Sign s.Let ∷ t.Sign s.Open ∷ t.Variable a.name ∷ t.Sign s.Comma ∷ t.Variable b.name ∷ t.Sign s.Close ∷ t.Sign s.Equals ∷ t.Variable f.name ∷ t.Variable n.name ∷ t.Sign s.In ∷ t.Variable a.name ∷ [] }
     // `fun split (n : Int) : (Tree, Int) = (Leaf n, (n + 1)) ; main (n : Int) : Tree = let (t, m) = split n in Node t (Leaf m) ;` on 5.
     ensures split { (p : Span) →

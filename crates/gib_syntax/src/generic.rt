@@ -3,6 +3,7 @@
 ghost use Rattle.std.specs.Prelude.{◌≡◌};
 
 use crate::exprs::{Arm, ExprId};
+use crate::names::Names;
 use crate::tree::Ident;
 use crate::written::{Run, Word};
 use gib_base::{Memory, Span};
@@ -29,17 +30,19 @@ pub enum GenericNode {
     Call(Ident, Run, Vec<ExprId>),
     /// A constructor with its type arguments and its arguments.
     Make(Ident, Run, Vec<ExprId>),
+    /// Names, with what they are bound to.
     Let {
         span: Span,
-        name: Ident,
+        names: Names,
         bound: ExprId,
         body: ExprId,
     },
+    /// Two sides, each with its names.
     LetPar {
         span: Span,
-        left_name: Ident,
+        left_names: Names,
         left: ExprId,
-        right_name: Ident,
+        right_names: Names,
         right: ExprId,
         body: ExprId,
     },
@@ -56,22 +59,6 @@ pub enum GenericNode {
     },
     /// Several parts.
     Tuple(Span, Vec<ExprId>),
-    /// Variables for the parts of an expression.
-    LetSeveral {
-        span: Span,
-        names: Vec<Ident>,
-        bound: ExprId,
-        body: ExprId,
-    },
-    /// Two sides, of which one at least has several variables.
-    ParSeveral {
-        span: Span,
-        left_names: Vec<Ident>,
-        left: ExprId,
-        right_names: Vec<Ident>,
-        right: ExprId,
-        body: ExprId,
-    },
 }
 
 impl Layered for GenericNode {

@@ -6,7 +6,7 @@ ghost use Rattle.std.specs.Prelude.{◌≡◌, ◌<◌, ◌≤◌, [], ◌∷◌
 ghost use Rattle.std.specs.List.{AllByRecursion};
 ghost use Rattle.gib_base.specs.Spelling.{tokens_text};
 ghost use Rattle.gib_syntax.specs.Spelling.{spell, sign_of, spell_operator, spell_bit, spell_variables, spell_further_names, spell_names, spell_arguments, spell_parts, spell_further_parts, spell_type, spell_written, spell_types, spell_type_arguments, spell_type_parameters, spell_constructor, spell_constructors, spell_more, spell_data, spell_datas, spell_parameter, spell_parameters, spell_further_types, spell_results, spell_function, spell_functions, spell_main, spell_program, levels_program};
-ghost use Rattle.gib_syntax.specs.Printing.{spell_arm, spell_further, spell_all_arms, spell_case, BindsOne, BindsSeveral, Chooses};
+ghost use Rattle.gib_syntax.specs.Printing.{spell_arm, spell_further, spell_all_arms, spell_case, Binds, Chooses};
 ghost use Rattle.gib_syntax.specs.GenericArena.{IsArmBelow, ArmsBelow, Opens, tree_of, arguments_from};
 ghost use Rattle.gib_syntax.specs.Words.{run_words, stack_of, types_in, type_in, words_in, IsTypeRun, IsTypesRun};
 ghost use Rattle.gib_syntax.specs.Forms.{WrittenTypes};
@@ -219,9 +219,6 @@ fn put_expression(exprs: &GenericExprs, id: ExprId, out: &mut Spelled) -> Result
         }
         GenericNode::Tuple(_, parts) => put_tuple(exprs, id, parts, out),
         GenericNode::Let { .. } | GenericNode::LetPar { .. } => put_let(exprs, id, node, out),
-        GenericNode::LetSeveral { .. } | GenericNode::ParSeveral { .. } => {
-            put_let_several(exprs, id, node, out)
-        }
         GenericNode::If { .. } | GenericNode::Case { .. } => put_choice(exprs, id, node, out),
     }
 }
@@ -245,7 +242,7 @@ fn put_operation(
     put_behind(exprs, Sign::Open, left, out)
 }
 
-/// An expression that binds a variable, or two in parallel.
+/// An expression that binds names, alone or in parallel.
 #[cycle(expressions)]
 fn put_let(
     exprs: &GenericExprs,
@@ -255,64 +252,21 @@ fn put_let(
 ) -> Result<(), Memory>
     requires inside { id.0 < length exprs.now.nodes }
     requires opens { Opens exprs.now id.0 node.now }
-    requires binds { BindsOne node.now }
+    requires binds { Binds node.now }
     ensures { OnOk result (out.new ≡ spell (tree_of exprs.now id.0) out.old) }
 {
     match node {
         GenericNode::Let {
-            name,
-            bound,
-            body,
-            ..
-        } => {
-            put_behind(exprs, Sign::In, *body, out)?;
-            put_binding(exprs, *name, *bound, out)?;
-            out.put_sign(Sign::Let)
-        }
-        GenericNode::LetPar {
-            left_name,
-            left,
-            right_name,
-            right,
-            body,
-            ..
-        } => {
-            put_behind(exprs, Sign::In, *body, out)?;
-            put_binding(exprs, *right_name, *right, out)?;
-            out.put_sign(Sign::And)?;
-            put_binding(exprs, *left_name, *left, out)?;
-            out.put_sign(Sign::Par)?;
-            out.put_sign(Sign::Let)
-        }
-        _ => unreachable!(),
-    }
-}
-
-/// An expression that binds several results, alone or in parallel.
-#[cycle(expressions)]
-fn put_let_several(
-    exprs: &GenericExprs,
-    id: ExprId,
-    node: &GenericNode,
-    out: &mut Spelled,
-) -> Result<(), Memory>
-    requires inside { id.0 < length exprs.now.nodes }
-    requires opens { Opens exprs.now id.0 node.now }
-    requires binds { BindsSeveral node.now }
-    ensures { OnOk result (out.new ≡ spell (tree_of exprs.now id.0) out.old) }
-{
-    match node {
-        GenericNode::LetSeveral {
             names,
             bound,
             body,
             ..
         } => {
             put_behind(exprs, Sign::In, *body, out)?;
-            put_several(exprs, names, *bound, out)?;
+            put_binding(exprs, names.as_slice(), *bound, out)?;
             out.put_sign(Sign::Let)
         }
-        GenericNode::ParSeveral {
+        GenericNode::LetPar {
             left_names,
             left,
             right_names,
@@ -321,9 +275,9 @@ fn put_let_several(
             ..
         } => {
             put_behind(exprs, Sign::In, *body, out)?;
-            put_several(exprs, right_names, *right, out)?;
+            put_binding(exprs, right_names.as_slice(), *right, out)?;
             out.put_sign(Sign::And)?;
-            put_several(exprs, left_names, *left, out)?;
+            put_binding(exprs, left_names.as_slice(), *left, out)?;
             out.put_sign(Sign::Par)?;
             out.put_sign(Sign::Let)
         }
@@ -391,24 +345,9 @@ fn put_behind(exprs: &GenericExprs, sign: Sign, id: ExprId, out: &mut Spelled) -
     out.put_sign(sign)
 }
 
-/// A variable with what it is bound to.
+/// Names with what they are bound to.
 #[cycle(expressions)]
 fn put_binding(
-    exprs: &GenericExprs,
-    name: Ident,
-    id: ExprId,
-    out: &mut Spelled,
-) -> Result<(), Memory>
-    requires { id.0 < length exprs.now.nodes }
-    ensures { OnOk result (out.new ≡ Token.Variable name.name ∷ Token.Sign Sign.Equals ∷ spell (tree_of exprs.now id.0) out.old) }
-{
-    put_behind(exprs, Sign::Equals, id, out)?;
-    out.put(Token::Variable(name.name))
-}
-
-/// Variables with what they are bound to.
-#[cycle(expressions)]
-fn put_several(
     exprs: &GenericExprs,
     names: &[Ident],
     id: ExprId,

@@ -13,9 +13,6 @@ decreases-put_operation l = 6 * max l.left.0 l.right.0 + 7
 abbrev pub decreases-put_let : goal.decreases-put_let
 decreases-put_let l = 6 * l.id.0 + 4
 
-abbrev pub decreases-put_let_several : goal.decreases-put_let_several
-decreases-put_let_several l = 6 * l.id.0 + 4
-
 abbrev pub decreases-put_choice : goal.decreases-put_choice
 decreases-put_choice l = 6 * l.id.0 + 4
 
@@ -27,9 +24,6 @@ decreases-put_behind l = 6 * l.id.0 + 6
 
 abbrev pub decreases-put_binding : goal.decreases-put_binding
 decreases-put_binding l = 6 * l.id.0 + 7
-
-abbrev pub decreases-put_several : goal.decreases-put_several
-decreases-put_several l = 6 * l.id.0 + 7
 
 abbrev pub decreases-put_tuple : goal.decreases-put_tuple
 decreases-put_tuple l = 6 * l.whole.0 + 3
