@@ -33,6 +33,10 @@ bytes_of words = map string_bytes words
 abbrev pub positional : Text → Rule
 positional id = record (new_rule id) { required = true }
 
+-- `--name WORD` or `--name=WORD`. It may be left out.
+abbrev pub word : Text → Rule
+word name = record (new_rule name) { long = Some name }
+
 -- `--name N` or `--name=N`, where N is a number from `least` to `most`. It may be left out.
 abbrev pub number : Text → ℕ → ℕ → Rule
 number name least most = record (new_rule name) { long = Some name; parser = Some (Unsigned least most) }
@@ -59,11 +63,11 @@ pass = number (codes "pass") 1 4
 
 -- Under which name the image of region memory is written.
 abbrev pub image : Rule
-image = record (new_rule (codes "image")) { long = Some (codes "image") }
+image = word (codes "image")
 
 -- Under which name the packed file of the result is written.
 abbrev pub pack : Rule
-pack = record (new_rule (codes "pack")) { long = Some (codes "pack") }
+pack = word (codes "pack")
 
 -- A number from `least` to `most` by its place, which has to be there.
 abbrev pub numeral : Text → ℕ → ℕ → Rule
@@ -256,85 +260,64 @@ planned job second third target pack rows =
     (file_of (codes "source") rows))
     (file_in second rows)) (file_in third rows)) (target_in target rows)
 
+-- A command on a source alone, without options.
+abbrev pub on_source : Text → Job → Form
+on_source name job = record { name = name; second = None; third = None; target = NoTarget; pack = None; options = []; job = job }
+
+-- A command on a source and a second file, which is named so.
+abbrev pub on_both : Text → Text → Job → Form
+on_both name second job = record (on_source name job) { second = Some second }
+
 -- `run SOURCE INPUT [--workers N] [--depth N] [--chunks N] [--fork N] [--skips] [--image FILE] [--pack FILE]`.
 abbrev pub run_form : Form
-run_form = record {
-  name = codes "run";
-  second = Some (codes "input");
-  third = None;
+run_form = record (on_both (codes "run") (codes "input") Run) {
   target = ByOption (codes "image");
   pack = Some (codes "pack");
   options = workers ∷ depth ∷ chunks ∷ fork ∷ skips ∷ image ∷ pack ∷ [];
-  job = Run;
 }
 
 -- `plain SOURCE INPUT [--depth N]`.
 abbrev pub plain_form : Form
-plain_form = record { name = codes "plain"; second = Some (codes "input"); third = None; target = NoTarget; pack = None; options = depth ∷ []; job = Plain }
+plain_form = record (on_both (codes "plain") (codes "input") Plain) { options = depth ∷ [] }
 
 -- `check SOURCE`.
 abbrev pub check_form : Form
-check_form = record { name = codes "check"; second = None; third = None; target = NoTarget; pack = None; options = []; job = Check }
+check_form = on_source (codes "check") Check
 
 -- `core SOURCE [--pass P] [--skips]`.
 abbrev pub core_form : Form
-core_form = record { name = codes "core"; second = None; third = None; target = NoTarget; pack = None; options = pass ∷ skips ∷ []; job = Core }
+core_form = record (on_source (codes "core") Core) { options = pass ∷ skips ∷ [] }
 
 -- `code SOURCE [--skips]`.
 abbrev pub code_form : Form
-code_form = record { name = codes "code"; second = None; third = None; target = NoTarget; pack = None; options = skips ∷ []; job = Code }
+code_form = record (on_source (codes "code") Code) { options = skips ∷ [] }
 
 -- `pack SOURCE TEXT TARGET [--from] [--v1]`: with `--from` TEXT is a packed file.
 abbrev pub pack_form : Form
-pack_form = record {
-  name = codes "pack";
-  second = Some (codes "text");
-  third = None;
-  target = AtPlace (codes "target");
-  pack = None;
-  options = from ∷ v1 ∷ [];
-  job = Pack;
-}
+pack_form = record (on_both (codes "pack") (codes "text") Pack) { target = AtPlace (codes "target"); options = from ∷ v1 ∷ [] }
 
 -- `show SOURCE FILE [--skips]`.
 abbrev pub show_form : Form
-show_form = record { name = codes "show"; second = Some (codes "file"); third = None; target = NoTarget; pack = None; options = skips ∷ []; job = Show }
+show_form = record (on_both (codes "show") (codes "file") Show) { options = skips ∷ [] }
 
 -- `trace SOURCE INPUT JOURNAL [--workers N] [--depth N] [--chunks N] [--fork N] [--skips]`: the journal is written.
 abbrev pub trace_form : Form
-trace_form = record {
-  name = codes "trace";
-  second = Some (codes "input");
-  third = None;
+trace_form = record (on_both (codes "trace") (codes "input") Trace) {
   target = AtPlace (codes "journal");
-  pack = None;
   options = workers ∷ depth ∷ chunks ∷ fork ∷ skips ∷ [];
-  job = Trace;
 }
 
 -- `replay SOURCE INPUT JOURNAL [--image FILE]`.
 abbrev pub replay_form : Form
-replay_form = record {
-  name = codes "replay";
-  second = Some (codes "input");
+replay_form = record (on_both (codes "replay") (codes "input") Replay) {
   third = Some (codes "journal");
   target = ByOption (codes "image");
-  pack = None;
   options = image ∷ [];
-  job = Replay;
 }
 
 -- `local SOURCE INPUT [--workers N] [--depth N] [--chunks N] [--fork N]`: the source writes its places out.
 abbrev pub local_form : Form
-local_form = record {
-  name = codes "local";
-  second = Some (codes "input");
-  third = None;
-  target = NoTarget;
-  pack = None;
-  options = workers ∷ depth ∷ chunks ∷ fork ∷ [];
-  job = Local;
-}
+local_form = record (on_both (codes "local") (codes "input") Local) { options = workers ∷ depth ∷ chunks ∷ fork ∷ [] }
 
 -- `gen NUMBER LEVELS SOURCE INPUT [--workers N] [--depth N] [--chunks N] [--fork N] [--skips]`: both files are made.
 abbrev pub gen_arguments : List Rule

@@ -3,7 +3,7 @@
 ghost use Rattle.std.specs.Prelude.{◌≡◌, [], ◌∷◌, IfOk, codes, false, true, fold};
 ghost use Rattle.clap.specs.Walk.{rule_of};
 ghost use Rattle.clap.specs.Simple.{App, app_of, new_app, with_rule, with_subcommand};
-ghost use Rattle.gib_words.specs.Words.{app_for, bare_program, chunks, command_set, depth, fork, from, gen_app, image, numeral, pack, pass, positional, skips, v1, workers};
+ghost use Rattle.gib_words.specs.Words.{app_for, bare_program, chunks, command_set, depth, flag, fork, gen_app, number, numeral, positional, skips, word, workers};
 ghost use Rattle.gib_words.specs.Words.{check_form, code_form, core_form, local_form, pack_form, plain_form, replay_form, run_form, show_form, trace_form};
 
 use clap::builder::ValueParser;
@@ -26,107 +26,50 @@ fn numeral<'a>(alloc: Global, id: &'a str, least: u64, most: u64) -> Arg<'a>
     positional(alloc, id).value_parser(ValueParser::unsigned(least, most))
 }
 
+/// `--name WORD`, which may be left out.
+fn word<'a>(alloc: Global, name: &'a str) -> Arg<'a>
+    ensures rule { rule_of result ≡ word name.entry.now }
+    ensures local { result.global ≡ false }
+{
+    Arg::new(alloc, name).long(name)
+}
+
+/// `--name N`, a number from `least` to `most`, which may be left out.
+fn number<'a>(alloc: Global, name: &'a str, least: u64, most: u64) -> Arg<'a>
+    ensures rule { rule_of result ≡ number name.entry.now least most }
+    ensures local { result.global ≡ false }
+{
+    word(alloc, name).value_parser(ValueParser::unsigned(least, most))
+}
+
+/// `--name`, which may be left out.
+fn flag<'a>(alloc: Global, name: &'a str) -> Arg<'a>
+    ensures rule { rule_of result ≡ flag name.entry.now }
+    ensures local { result.global ≡ false }
+{
+    word(alloc, name).action(ArgAction::SetTrue)
+}
+
 /// `--depth N`, how deep calls may go.
 fn depth<'a>(alloc: Global) -> Arg<'a>
     ensures rule { rule_of result ≡ depth }
     ensures local { result.global ≡ false }
 {
-    Arg::new(alloc, "depth")
-        .long("depth")
-        .value_parser(ValueParser::unsigned(1, 1_000_000))
+    number(alloc, "depth", 1, 1_000_000)
 }
 
-/// `--chunks N`, how many chunks of memory a run may draw.
-fn chunks<'a>(alloc: Global) -> Arg<'a>
-    ensures rule { rule_of result ≡ chunks }
-    ensures local { result.global ≡ false }
+/// A command of this name on a source.
+fn on_source<'a>(alloc: Global, name: &'a str) -> Result<Command<'a>, AllocError>
+    ensures { IfOk result (λ command. app_of command ≡ with_rule (new_app name.entry.now) (positional (codes "source"))) }
 {
-    Arg::new(alloc, "chunks")
-        .long("chunks")
-        .value_parser(ValueParser::unsigned(16, 65_536))
-}
-
-/// `--workers N`, how many workers run.
-fn workers<'a>(alloc: Global) -> Arg<'a>
-    ensures rule { rule_of result ≡ workers }
-    ensures local { result.global ≡ false }
-{
-    Arg::new(alloc, "workers")
-        .long("workers")
-        .value_parser(ValueParser::unsigned(1, 64))
-}
-
-/// `--fork N`, how many forks may be nested.
-fn fork<'a>(alloc: Global) -> Arg<'a>
-    ensures rule { rule_of result ≡ fork }
-    ensures local { result.global ≡ false }
-{
-    Arg::new(alloc, "fork")
-        .long("fork")
-        .value_parser(ValueParser::unsigned(0, 64))
-}
-
-/// `--pass P`, after which pass.
-fn pass<'a>(alloc: Global) -> Arg<'a>
-    ensures rule { rule_of result ≡ pass }
-    ensures local { result.global ≡ false }
-{
-    Arg::new(alloc, "pass")
-        .long("pass")
-        .value_parser(ValueParser::unsigned(1, 4))
-}
-
-/// `--image FILE`, under which name the image of region memory is written.
-fn image<'a>(alloc: Global) -> Arg<'a>
-    ensures rule { rule_of result ≡ image }
-    ensures local { result.global ≡ false }
-{
-    Arg::new(alloc, "image").long("image")
-}
-
-/// `--pack FILE`, under which name the packed file of the result is written.
-fn pack<'a>(alloc: Global) -> Arg<'a>
-    ensures rule { rule_of result ≡ pack }
-    ensures local { result.global ≡ false }
-{
-    Arg::new(alloc, "pack").long("pack")
-}
-
-/// `--skips`, whether fields are reached from the end of the field before them.
-fn skips<'a>(alloc: Global) -> Arg<'a>
-    ensures rule { rule_of result ≡ skips }
-    ensures local { result.global ≡ false }
-{
-    Arg::new(alloc, "skips")
-        .long("skips")
-        .action(ArgAction::SetTrue)
-}
-
-/// `--from`, whether what is packed is a packed file.
-fn from<'a>(alloc: Global) -> Arg<'a>
-    ensures rule { rule_of result ≡ from }
-    ensures local { result.global ≡ false }
-{
-    Arg::new(alloc, "from")
-        .long("from")
-        .action(ArgAction::SetTrue)
-}
-
-/// `--v1`, whether a packed file of version 1 is written.
-fn v1<'a>(alloc: Global) -> Arg<'a>
-    ensures rule { rule_of result ≡ v1 }
-    ensures local { result.global ≡ false }
-{
-    Arg::new(alloc, "v1").long("v1").action(ArgAction::SetTrue)
+    Command::new(alloc, name).arg(positional(alloc, "source"))
 }
 
 /// A command of this name on a source and a second file.
 fn on_both<'a>(alloc: Global, name: &'a str, second: &'a str) -> Result<Command<'a>, AllocError>
     ensures { IfOk result (λ command. app_of command ≡ with_rule (with_rule (new_app name.entry.now) (positional (codes "source"))) (positional second.entry.now)) }
 {
-    Command::new(alloc, name)
-        .arg(positional(alloc, "source"))?
-        .arg(positional(alloc, second))
+    on_source(alloc, name)?.arg(positional(alloc, second))
 }
 
 /// A command with the options of a run by workers.
@@ -134,17 +77,17 @@ fn with_worker_options<'a>(alloc: Global, command: Command<'a>) -> Result<Comman
     ensures { IfOk result (λ c. app_of c ≡ fold with_rule (app_of command.entry) (workers ∷ depth ∷ chunks ∷ fork ∷ [])) }
 {
     command
-        .arg(workers(alloc))?
+        .arg(number(alloc, "workers", 1, 64))?
         .arg(depth(alloc))?
-        .arg(chunks(alloc))?
-        .arg(fork(alloc))
+        .arg(number(alloc, "chunks", 16, 65_536))?
+        .arg(number(alloc, "fork", 0, 64))
 }
 
 /// A command with the options of a run.
 fn with_run_options<'a>(alloc: Global, command: Command<'a>) -> Result<Command<'a>, AllocError>
     ensures { IfOk result (λ c. app_of c ≡ fold with_rule (app_of command.entry) (workers ∷ depth ∷ chunks ∷ fork ∷ skips ∷ [])) }
 {
-    with_worker_options(alloc, command)?.arg(skips(alloc))
+    with_worker_options(alloc, command)?.arg(flag(alloc, "skips"))
 }
 
 /// `run SOURCE INPUT [--workers N] [--depth N] [--chunks N] [--fork N] [--skips] [--image FILE] [--pack FILE]`.
@@ -152,44 +95,38 @@ fn run_command<'a>(alloc: Global) -> Result<Command<'a>, AllocError>
     ensures { IfOk result (λ command. app_of command ≡ app_for run_form) }
 {
     with_run_options(alloc, on_both(alloc, "run", "input")?)?
-        .arg(image(alloc))?
-        .arg(pack(alloc))
+        .arg(word(alloc, "image"))?
+        .arg(word(alloc, "pack"))
 }
 
 /// `plain SOURCE INPUT [--depth N]`.
 fn plain_command<'a>(alloc: Global) -> Result<Command<'a>, AllocError>
     ensures { IfOk result (λ command. app_of command ≡ app_for plain_form) }
 {
-    Command::new(alloc, "plain")
-        .arg(positional(alloc, "source"))?
-        .arg(positional(alloc, "input"))?
-        .arg(depth(alloc))
+    on_both(alloc, "plain", "input")?.arg(depth(alloc))
 }
 
 /// `check SOURCE`.
 fn check_command<'a>(alloc: Global) -> Result<Command<'a>, AllocError>
     ensures { IfOk result (λ command. app_of command ≡ app_for check_form) }
 {
-    Command::new(alloc, "check").arg(positional(alloc, "source"))
+    on_source(alloc, "check")
 }
 
 /// `core SOURCE [--pass P] [--skips]`.
 fn core_command<'a>(alloc: Global) -> Result<Command<'a>, AllocError>
     ensures { IfOk result (λ command. app_of command ≡ app_for core_form) }
 {
-    Command::new(alloc, "core")
-        .arg(positional(alloc, "source"))?
-        .arg(pass(alloc))?
-        .arg(skips(alloc))
+    on_source(alloc, "core")?
+        .arg(number(alloc, "pass", 1, 4))?
+        .arg(flag(alloc, "skips"))
 }
 
 /// `code SOURCE [--skips]`.
 fn code_command<'a>(alloc: Global) -> Result<Command<'a>, AllocError>
     ensures { IfOk result (λ command. app_of command ≡ app_for code_form) }
 {
-    Command::new(alloc, "code")
-        .arg(positional(alloc, "source"))?
-        .arg(skips(alloc))
+    on_source(alloc, "code")?.arg(flag(alloc, "skips"))
 }
 
 /// `pack SOURCE TEXT TARGET [--from] [--v1]`.
@@ -198,18 +135,15 @@ fn pack_command<'a>(alloc: Global) -> Result<Command<'a>, AllocError>
 {
     on_both(alloc, "pack", "text")?
         .arg(positional(alloc, "target"))?
-        .arg(from(alloc))?
-        .arg(v1(alloc))
+        .arg(flag(alloc, "from"))?
+        .arg(flag(alloc, "v1"))
 }
 
 /// `show SOURCE FILE [--skips]`.
 fn show_command<'a>(alloc: Global) -> Result<Command<'a>, AllocError>
     ensures { IfOk result (λ command. app_of command ≡ app_for show_form) }
 {
-    Command::new(alloc, "show")
-        .arg(positional(alloc, "source"))?
-        .arg(positional(alloc, "file"))?
-        .arg(skips(alloc))
+    on_both(alloc, "show", "file")?.arg(flag(alloc, "skips"))
 }
 
 /// `trace SOURCE INPUT JOURNAL [--workers N] [--depth N] [--chunks N] [--fork N] [--skips]`.
@@ -228,7 +162,7 @@ fn replay_command<'a>(alloc: Global) -> Result<Command<'a>, AllocError>
 {
     on_both(alloc, "replay", "input")?
         .arg(positional(alloc, "journal"))?
-        .arg(image(alloc))
+        .arg(word(alloc, "image"))
 }
 
 /// `local SOURCE INPUT [--workers N] [--depth N] [--chunks N] [--fork N]`.
