@@ -1,5 +1,5 @@
 -- What is spelled so is read, where the levels serve.
-use Rattle.std.proofs.Common.{◌≡◌, ℕ, zero, suc, ◌<◌, ◌^◌, Bool, true, false, List, [], ◌∷◌, ◌++◌, length, Ok, Err, refl, ap, ◌∙◌, subst, Option, Some}
+use Rattle.std.proofs.Common.{◌≡◌, ◌≢◌, ℕ, zero, suc, ◌<◌, ◌^◌, Bool, true, false, List, [], ◌∷◌, ◌++◌, length, Ok, Err, refl, ap, ◌∙◌, subst, Option, Some}
 use Rattle.std.proofs.lemmas.Bool.{lt-ltb}
 use Rattle.gib_base.specs.declared.Span.{Span}
 use Rattle.gib_base.specs.declared.token.Sign.{Sign}
@@ -8,11 +8,10 @@ use Rattle.gib_base.specs.declared.token.Token.{Token}
 use Rattle.gib_base.specs.declared.token.Token.TheVariants as t
 use Rattle.gib_syntax.specs.declared.tree.Ident.{Ident}
 use Rattle.gib_types.specs.declared.operator.Operator.{Operator}
-use Rattle.gib_syntax.specs.GenericTree.{GenericExpression, GenericArguments, GenericArms, GenericVar, GenericNum, GenericBit, GenericParen, GenericOp, GenericCall, GenericMake, GenericLet, GenericPar, GenericIf, GenericCase, GenericTuple, GenericLetSeveral, GenericParSeveral, GenericNoArgument, GenericArgument, GenericLastArm, GenericNextArm}
+use Rattle.gib_syntax.specs.GenericTree.{GenericExpression, GenericArguments, GenericArms, GenericVar, GenericNum, GenericBit, GenericParen, GenericOp, GenericCall, GenericMake, GenericLet, GenericPar, GenericIf, GenericCase, GenericTuple, GenericNoArgument, GenericArgument, GenericLastArm, GenericNextArm}
 use Rattle.gib_syntax.specs.GenericFine.{is_generic_application, IsGenericFine, AreGenericFine, AreGenericParts, HasGenericFine}
-use Rattle.gib_syntax.specs.Results.{AreSeveral, AreSides}
 use Rattle.gib_syntax.specs.Spelling.{Places, spell, spell_arguments, spell_further_parts, spell_arms, spell_variables, spell_names, spell_operator, spell_bit, spell_written, spell_type_arguments, sign_of}
-use Rattle.gib_parse.specs.Reading.{Nested, Mode, Any, App, Atom, Read, Reader, Parts, then_at, want, before, next_is, many_step, many, is_sign, is_literal, literal_at, starts_atom, starts, ArmTree, arms_of, arm_at, next_arm_at, arms_at, arguments_of, arguments_at, names_bound_at, let_of, par_of, bind_at, par_at, let_at, if_at, case_at, side_at, close_at, open_at, next_part_at, tuple_at, close_any_at, open_any_at, type_arguments_at, call, called_at, variable_at, make_at, constant_at, atom_at, app_at, any_at, no_level, parse, operator_of, operation_at}
+use Rattle.gib_parse.specs.Reading.{Nested, Mode, Any, App, Atom, Read, Reader, Parts, then_at, want, before, next_is, many_step, many, is_sign, is_literal, literal_at, starts_atom, starts, ArmTree, arms_of, arm_at, next_arm_at, arms_at, arguments_of, arguments_at, BoundTree, binding_at, bind_at, par_at, let_at, if_at, case_at, side_at, close_at, open_at, next_part_at, tuple_at, close_any_at, open_any_at, type_arguments_at, call, called_at, variable_at, make_at, constant_at, atom_at, app_at, any_at, no_level, parse, operator_of, operation_at}
 use Rattle.gib_reads.proofs.Tools.{done, failed}
 use Rattle.gib_reads.proofs.Signs.{operator_back}
 use Rattle.gib_reads.proofs.Many.{Shrinks, many_none, many_is}
@@ -166,58 +165,35 @@ op_comes at n p f a b ts after rest D E e c d =
     then_comes (close_at (parse at n) p) (GenericOp p f a b) rest c
     (comes_at (close_operator (parse at n) p a f after ∙ ap (λ v. side_at v (parse at n) p f a after) e) (then_last (λ b ts. then_at (want s.Close ts) (λ _ ts. Ok (GenericOp p f a b, ts))) (GenericOp p f a b) rest d refl))
 
-let_comes : (at : Places) (n : ℕ) (p : Span) (xs : List Ident) (a b : GenericExpression) (ts after rest : List Token) (D E : List ℕ) → (xs ≡ [] → ⊥) → Comes D (parse at n Any ts) a (t.Sign s.In ∷ after) → Comes E (parse at n Any after) b rest
-    → Comes (D ++ E) (bind_at at (parse at n) p (spell_names xs (t.Sign s.Equals ∷ ts))) (let_of p (settle_bound at xs (t.Sign s.Equals ∷ ts)) a b) rest
+binding_comes : (at : Places) (n : ℕ) (xs : List Ident) (a : GenericExpression) (ts rest : List Token) (D : List ℕ) → xs ≢ [] → Comes D (parse at n Any ts) a rest
+    → Comes D (binding_at at (parse at n Any) (spell_names xs (t.Sign s.Equals ∷ ts))) (record { names = settle_bound at xs (t.Sign s.Equals ∷ ts); value = a }) rest
+unfolding binding_at
+binding_comes at n xs a ts rest D some c =
+    let ys = settle_bound at xs (t.Sign s.Equals ∷ ts) in
+    let whole : BoundTree = record { names = ys; value = a } in
+    then_comes (λ xs ts. then_at (want s.Equals ts) (λ _ ts. then_at (parse at n Any ts) (λ a ts. done (let x : BoundTree = record { names = xs; value = a } in x) ts))) whole rest (names_bound_come at xs (t.Sign s.Equals ∷ ts) some)
+    (then_last (λ a ts. done (let x : BoundTree = record { names = ys; value = a } in x) ts) whole rest c refl)
+
+let_comes : (at : Places) (n : ℕ) (p : Span) (xs : List Ident) (a b : GenericExpression) (ts after rest : List Token) (D E : List ℕ) → xs ≢ [] → Comes D (parse at n Any ts) a (t.Sign s.In ∷ after) → Comes E (parse at n Any after) b rest
+    → Comes (D ++ E) (bind_at at (parse at n) p (spell_names xs (t.Sign s.Equals ∷ ts))) (GenericLet p (settle_bound at xs (t.Sign s.Equals ∷ ts)) a b) rest
 unfolding bind_at
 let_comes at n p xs a b ts after rest D E some c d =
     let ys = settle_bound at xs (t.Sign s.Equals ∷ ts) in
-    then_comes (λ xs ts. then_at (want s.Equals ts) (λ _ ts. then_at (parse at n Any ts) (λ a ts. then_at (want s.In ts) (λ _ ts. then_at (parse at n Any ts) (λ b ts. Ok (let_of p xs a b, ts)))))) (let_of p ys a b) rest (names_bound_come at xs (t.Sign s.Equals ∷ ts) some)
-    (then_comes (λ a ts. then_at (want s.In ts) (λ _ ts. then_at (parse at n Any ts) (λ b ts. Ok (let_of p ys a b, ts)))) (let_of p ys a b) rest c
-    (then_last (λ b ts. Ok (let_of p ys a b, ts)) (let_of p ys a b) rest d refl))
+    then_comes (λ x ts. then_at (want s.In ts) (λ _ ts. then_at (parse at n Any ts) (λ b ts. Ok (GenericLet p x.names x.value b, ts)))) (GenericLet p ys a b) rest (binding_comes at n xs a ts (t.Sign s.In ∷ after) D some c)
+    (then_last (λ b ts. Ok (GenericLet p ys a b, ts)) (GenericLet p ys a b) rest d refl)
 
-par_comes : (at : Places) (n : ℕ) (p : Span) (xs ys : List Ident) (a b c : GenericExpression) (ts behind after rest : List Token) (D E F : List ℕ) → (xs ≡ [] → ⊥) → (ys ≡ [] → ⊥)
+par_comes : (at : Places) (n : ℕ) (p : Span) (xs ys : List Ident) (a b c : GenericExpression) (ts behind after rest : List Token) (D E F : List ℕ) → xs ≢ [] → ys ≢ []
     → Comes D (parse at n Any ts) a (t.Sign s.And ∷ spell_names ys (t.Sign s.Equals ∷ behind)) → Comes E (parse at n Any behind) b (t.Sign s.In ∷ after) → Comes F (parse at n Any after) c rest
-    → Comes (D ++ (E ++ F)) (par_at at (parse at n) p (spell_names xs (t.Sign s.Equals ∷ ts))) (par_of p (settle_bound at xs (t.Sign s.Equals ∷ ts)) a (settle_bound at ys (t.Sign s.Equals ∷ behind)) b c) rest
+    → Comes (D ++ (E ++ F)) (par_at at (parse at n) p (spell_names xs (t.Sign s.Equals ∷ ts))) (GenericPar p (settle_bound at xs (t.Sign s.Equals ∷ ts)) a (settle_bound at ys (t.Sign s.Equals ∷ behind)) b c) rest
 unfolding par_at
 par_comes at n p xs ys a b c ts behind after rest D E F some further ca cb cc' =
     let xs' = settle_bound at xs (t.Sign s.Equals ∷ ts) in
     let ys' = settle_bound at ys (t.Sign s.Equals ∷ behind) in
-    let whole = par_of p xs' a ys' b c in
-    then_comes (λ xs ts. then_at (want s.Equals ts) (λ _ ts. then_at (parse at n Any ts) (λ a ts. then_at (want s.And ts) (λ _ ts. then_at (names_bound_at at ts) (λ ys ts. then_at (want s.Equals ts) (λ _ ts. then_at (parse at n Any ts) (λ b ts. then_at (want s.In ts) (λ _ ts. then_at (parse at n Any ts) (λ c ts. Ok (par_of p xs a ys b c, ts)))))))))) whole rest
-    (names_bound_come at xs (t.Sign s.Equals ∷ ts) some)
-    (then_comes (λ a ts. then_at (want s.And ts) (λ _ ts. then_at (names_bound_at at ts) (λ ys ts. then_at (want s.Equals ts) (λ _ ts. then_at (parse at n Any ts) (λ b ts. then_at (want s.In ts) (λ _ ts. then_at (parse at n Any ts) (λ c ts. Ok (par_of p xs' a ys b c, ts)))))))) whole rest ca
-    (then_comes (λ ys ts. then_at (want s.Equals ts) (λ _ ts. then_at (parse at n Any ts) (λ b ts. then_at (want s.In ts) (λ _ ts. then_at (parse at n Any ts) (λ c ts. Ok (par_of p xs' a ys b c, ts)))))) whole rest (names_bound_come at ys (t.Sign s.Equals ∷ behind) further)
-    (then_comes (λ b ts. then_at (want s.In ts) (λ _ ts. then_at (parse at n Any ts) (λ c ts. Ok (par_of p xs' a ys' b c, ts)))) whole rest cb
-    (then_last (λ c ts. Ok (par_of p xs' a ys' b c, ts)) whole rest cc' refl))))
-
--- The settled form of several variables is one of several variables.
-let_settled : (at : Places) (p : Span) (xs : List Ident) (a b : GenericExpression) (rest : List Token) → AreSeveral xs → let_of p (settle_bound at xs rest) a b ≡ GenericLetSeveral p (settle_bound at xs rest) a b
-let_settled at p [] a b rest h = absurd h
-let_settled at p (x ∷ []) a b rest h = absurd h
-let_settled at p (x ∷ y ∷ ys) a b rest h = refl
-
-par_settled : (at : Places) (p : Span) (xs ys : List Ident) (a b c : GenericExpression) (rest more : List Token) → AreSides xs ys → par_of p (settle_bound at xs rest) a (settle_bound at ys more) b c ≡ GenericParSeveral p (settle_bound at xs rest) a (settle_bound at ys more) b c
-par_settled at p [] ys a b c rest more h = absurd h
-par_settled at p (x ∷ xs) [] a b c rest more h = absurd h
-par_settled at p (x ∷ []) (y ∷ []) a b c rest more h = absurd h
-par_settled at p (x ∷ []) (y ∷ z ∷ zs) a b c rest more h = refl
-par_settled at p (x ∷ w ∷ ws) (y ∷ ys) a b c rest more h = refl
-
-several_some : (xs : List Ident) → AreSeveral xs → xs ≡ [] → ⊥
-several_some [] h e = h
-several_some (x ∷ xs) h e = cc
-
-left_some : (xs ys : List Ident) → AreSides xs ys → xs ≡ [] → ⊥
-left_some [] ys h e = h
-left_some (x ∷ xs) ys h e = cc
-
-right_some : (xs ys : List Ident) → AreSides xs ys → ys ≡ [] → ⊥
-right_some [] ys h e = h
-right_some (x ∷ xs) [] h e = h
-right_some (x ∷ xs) (y ∷ ys) h e = cc
-
-one_some : (x : Ident) (xs : List Ident) → x ∷ xs ≡ [] → ⊥
-one_some x xs e = cc
+    let whole = GenericPar p xs' a ys' b c in
+    then_comes (λ x ts. then_at (want s.And ts) (λ _ ts. then_at (binding_at at (parse at n Any) ts) (λ y ts. then_at (want s.In ts) (λ _ ts. then_at (parse at n Any ts) (λ c ts. Ok (GenericPar p x.names x.value y.names y.value c, ts)))))) whole rest
+    (binding_comes at n xs a ts (t.Sign s.And ∷ spell_names ys (t.Sign s.Equals ∷ behind)) D some ca)
+    (then_comes (λ y ts. then_at (want s.In ts) (λ _ ts. then_at (parse at n Any ts) (λ c ts. Ok (GenericPar p xs' a y.names y.value c, ts)))) whole rest (binding_comes at n ys b behind (t.Sign s.In ∷ after) E further cb)
+    (then_last (λ c ts. Ok (GenericPar p xs' a ys' b c, ts)) whole rest cc' refl))
 
 -- ---- where any expression may stand
 
@@ -284,10 +260,10 @@ as_tree : {met : List ℕ} {r : Read GenericExpression} {a b : GenericExpression
 as_tree {met = met} {r = r} {rest = rest} e c = subst (λ (x : GenericExpression). Comes met r x rest) e c
 
 -- Behind `let` no variable is `par`.
-several_let : (at : Places) (sub : Parts) (p : Span) (xs : List Ident) (ts : List Token) → AreSeveral xs → let_at at sub p (spell_names xs ts) ≡ bind_at at sub p (spell_names xs ts)
-several_let at sub p [] ts h = absurd h
-several_let at sub p (x ∷ []) ts h = absurd h
-several_let at sub p (x ∷ y ∷ ys) ts h = refl
+let_binds : (at : Places) (sub : Parts) (p : Span) (xs : List Ident) (ts : List Token) → xs ≢ [] → let_at at sub p (spell_names xs ts) ≡ bind_at at sub p (spell_names xs ts)
+let_binds at sub p [] ts some = absurd (some refl)
+let_binds at sub p (x ∷ []) ts some = refl
+let_binds at sub p (x ∷ y ∷ ys) ts some = refl
 
 literal_comes : (at : Places) (n : ℕ) (rest : List Token) → n < 2 ^ 63 → Comes [] (literal_at (is_literal n) (before at rest) n rest) (GenericNum (before at rest) n) rest
 literal_comes at n rest lt = Came (ap (λ v. literal_at v (before at rest) n rest) (lt-ltb n (2 ^ 63) lt)) refl
@@ -357,14 +333,21 @@ mutual
       (type_arguments_come at ws (spell_arguments xs rest) (plain_arguments xs rest f en)) (complete_arguments at xs n rest f en)
   complete at (GenericMake k ws GenericNoArgument) (suc n) Atom rest f i en = Came (constant_comes at n k (spell_type_arguments ws rest) rest (settle_written at ws (t.Sign s.CloseBracket ∷ rest)) (type_arguments_come at ws rest en)) refl
   complete at (GenericMake k ws (GenericArgument a xs)) (suc n) Atom rest f i en = absurd cc
-  complete at (GenericLet p x a b) (suc n) Any rest f i en = let_comes at n (at (length (spell (GenericLet p x a b) rest))) (x ∷ []) (settle at a (t.Sign s.In ∷ spell b rest)) (settle at b rest) (spell a (t.Sign s.In ∷ spell b rest)) (spell b rest) rest _ _ (one_some x [])
-      ((complete at a n Any (t.Sign s.In ∷ spell b rest) f.0 tt refl)) ((complete at b n Any rest f.1 tt en))
-  complete at (GenericLet p x a b) (suc n) App rest f i en = absurd cc
-  complete at (GenericLet p x a b) (suc n) Atom rest f i en = absurd cc
-  complete at (GenericPar p x a y b c) (suc n) Any rest f i en = par_comes at n (at (length (spell (GenericPar p x a y b c) rest))) (x ∷ []) (y ∷ []) (settle at a (t.Sign s.And ∷ t.Variable y.name ∷ t.Sign s.Equals ∷ spell b (t.Sign s.In ∷ spell c rest))) (settle at b (t.Sign s.In ∷ spell c rest)) (settle at c rest) (spell a (t.Sign s.And ∷ t.Variable y.name ∷ t.Sign s.Equals ∷ spell b (t.Sign s.In ∷ spell c rest))) (spell b (t.Sign s.In ∷ spell c rest)) (spell c rest) rest _ _ _ (one_some x []) (one_some y [])
-      ((complete at a n Any (t.Sign s.And ∷ t.Variable y.name ∷ t.Sign s.Equals ∷ spell b (t.Sign s.In ∷ spell c rest)) f.0 tt refl)) ((complete at b n Any (t.Sign s.In ∷ spell c rest) f.1 tt refl)) ((complete at c n Any rest f.2 tt en))
-  complete at (GenericPar p x a y b c) (suc n) App rest f i en = absurd cc
-  complete at (GenericPar p x a y b c) (suc n) Atom rest f i en = absurd cc
+  complete at (GenericLet p xs a b) (suc n) Any rest f i en =
+      let whole = at (length (spell (GenericLet p xs a b) rest)) in
+      let after = t.Sign s.In ∷ spell b rest in
+      comes_at (let_binds at (parse at n) whole xs (t.Sign s.Equals ∷ spell a after) f.0)
+      (let_comes at n whole xs (settle at a after) (settle at b rest) (spell a after) (spell b rest) rest _ _ f.0 (complete at a n Any after f.1 tt refl) (complete at b n Any rest f.2 tt en))
+  complete at (GenericLet p xs a b) (suc n) App rest f i en = absurd cc
+  complete at (GenericLet p xs a b) (suc n) Atom rest f i en = absurd cc
+  complete at (GenericPar p xs a ys b c) (suc n) Any rest f i en =
+      let whole = at (length (spell (GenericPar p xs a ys b c) rest)) in
+      let last = t.Sign s.In ∷ spell c rest in
+      let after = t.Sign s.And ∷ spell_names ys (t.Sign s.Equals ∷ spell b last) in
+      par_comes at n whole xs ys (settle at a after) (settle at b last) (settle at c rest) (spell a after) (spell b last) (spell c rest) rest _ _ _ f.0 f.1
+      (complete at a n Any after f.2 tt refl) (complete at b n Any last f.3 tt refl) (complete at c n Any rest f.4 tt en)
+  complete at (GenericPar p xs a ys b c) (suc n) App rest f i en = absurd cc
+  complete at (GenericPar p xs a ys b c) (suc n) Atom rest f i en = absurd cc
   complete at (GenericIf p a b c) (suc n) Any rest f i en = if_comes at n (at (length (spell (GenericIf p a b c) rest))) (settle at a (t.Sign s.Then ∷ spell b (t.Sign s.Else ∷ spell c rest))) (settle at b (t.Sign s.Else ∷ spell c rest)) (settle at c rest) (spell a (t.Sign s.Then ∷ spell b (t.Sign s.Else ∷ spell c rest))) (spell b (t.Sign s.Else ∷ spell c rest)) (spell c rest) rest _ _ _
       ((complete at a n Any (t.Sign s.Then ∷ spell b (t.Sign s.Else ∷ spell c rest)) f.0 tt refl)) ((complete at b n Any (t.Sign s.Else ∷ spell c rest) f.1 tt refl)) ((complete at c n Any rest f.2 tt en))
   complete at (GenericIf p a b c) (suc n) App rest f i en = absurd cc
@@ -386,27 +369,6 @@ mutual
       (many_comes (below_parts n xs last) (is_sign s.Comma) (next_part_at (parse at n Any)) (next_part_shrinks at n) (parts_list at xs last) more last (complete_parts at xs n rest f.1.1)))
   complete at (GenericTuple p (GenericArgument a (GenericArgument b xs))) (suc n) App rest f i en = absurd cc
   complete at (GenericTuple p (GenericArgument a (GenericArgument b xs))) (suc n) Atom rest f i en = absurd cc
-  complete at (GenericLetSeveral p xs a b) (suc n) Any rest f i en =
-      let whole = at (length (spell (GenericLetSeveral p xs a b) rest)) in
-      let a' = settle at a (t.Sign s.In ∷ spell b rest) in
-      let b' = settle at b rest in
-      as_tree (let_settled at whole xs a' b' (t.Sign s.Equals ∷ spell a (t.Sign s.In ∷ spell b rest)) f.0)
-      (comes_at (several_let at (parse at n) whole xs (t.Sign s.Equals ∷ spell a (t.Sign s.In ∷ spell b rest)) f.0)
-      (let_comes at n whole xs a' b' (spell a (t.Sign s.In ∷ spell b rest)) (spell b rest) rest _ _ (several_some xs f.0) (complete at a n Any (t.Sign s.In ∷ spell b rest) f.1 tt refl) (complete at b n Any rest f.2 tt en)))
-  complete at (GenericLetSeveral p xs a b) (suc n) App rest f i en = absurd cc
-  complete at (GenericLetSeveral p xs a b) (suc n) Atom rest f i en = absurd cc
-  complete at (GenericParSeveral p xs a ys b c) (suc n) Any rest f i en =
-      let whole = at (length (spell (GenericParSeveral p xs a ys b c) rest)) in
-      let right = t.Sign s.Equals ∷ spell b (t.Sign s.In ∷ spell c rest) in
-      let left = t.Sign s.Equals ∷ spell a (t.Sign s.And ∷ spell_names ys right) in
-      let a' = settle at a (t.Sign s.And ∷ spell_names ys right) in
-      let b' = settle at b (t.Sign s.In ∷ spell c rest) in
-      let c' = settle at c rest in
-      as_tree (par_settled at whole xs ys a' b' c' left right f.0)
-      (par_comes at n whole xs ys a' b' c' (spell a (t.Sign s.And ∷ spell_names ys right)) (spell b (t.Sign s.In ∷ spell c rest)) (spell c rest) rest _ _ _ (left_some xs ys f.0) (right_some xs ys f.0)
-      (complete at a n Any (t.Sign s.And ∷ spell_names ys right) f.1 tt refl) (complete at b n Any (t.Sign s.In ∷ spell c rest) f.2 tt refl) (complete at c n Any rest f.3 tt en))
-  complete at (GenericParSeveral p xs a ys b c) (suc n) App rest f i en = absurd cc
-  complete at (GenericParSeveral p xs a ys b c) (suc n) Atom rest f i en = absurd cc
 
   complete_parts : (at : Places) (xs : GenericArguments) (n : ℕ) (rest : List Token) → AreGenericParts xs → Steps (below_parts n xs (t.Sign s.Close ∷ rest)) (is_sign s.Comma) (next_part_at (parse at n Any)) (spell_further_parts xs (t.Sign s.Close ∷ rest)) (parts_list at xs (t.Sign s.Close ∷ rest)) (t.Sign s.Close ∷ rest)
   complete_parts at GenericNoArgument n rest f = (refl, refl, refl)

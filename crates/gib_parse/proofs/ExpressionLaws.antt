@@ -8,11 +8,11 @@ use Rattle.gib_base.specs.declared.token.Token.{Token}
 use Rattle.gib_base.specs.declared.token.Token.TheVariants as t
 use Rattle.gib_syntax.specs.declared.tree.Ident.{Ident}
 use Rattle.gib_types.specs.declared.operator.Operator.{Operator}
-use Rattle.gib_syntax.specs.GenericTree.{GenericExpression, GenericArguments, GenericArms, GenericVar, GenericNum, GenericBit, GenericParen, GenericOp, GenericCall, GenericMake, GenericLet, GenericPar, GenericIf, GenericCase, GenericTuple, GenericLetSeveral, GenericParSeveral, GenericNoArgument, GenericArgument}
+use Rattle.gib_syntax.specs.GenericTree.{GenericExpression, GenericArguments, GenericArms, GenericVar, GenericNum, GenericBit, GenericParen, GenericOp, GenericCall, GenericMake, GenericLet, GenericPar, GenericIf, GenericCase, GenericTuple, GenericNoArgument, GenericArgument}
 use Rattle.gib_syntax.specs.GenericFine.{is_generic_application, is_generic_atom, IsGenericFine, AreGenericFine, AreGenericParts, HasGenericFine}
 use Rattle.gib_syntax.specs.Forms.{WrittenTypes, NoType, MoreTypes}
 use Rattle.gib_syntax.specs.Spelling.{Places, IsAt, AreAt, AreFurtherAt, AreNamesAt, IsPlaced, ArePlaced, ArePartsPlaced, HavePlaces, AreWrittenAt, spell, spell_arguments, spell_further_parts, spell_arms, spell_variables, spell_further_names, spell_names, spell_operator, spell_type_arguments, levels, levels_arguments, levels_arms}
-use Rattle.gib_parse.specs.Reading.{Mode, Any, App, Atom, Parts, before, named, var_at, many, is_variable, is_sign, is_literal, literal_at, starts_atom, ArmTree, arms_of, arm_at, next_arm_at, arms_at, arguments_of, arguments_at, next_name_at, several_names_at, one_name_at, names_bound_at, let_of, par_of, bind_at, par_at, let_at, if_at, case_at, side_at, close_at, open_at, next_part_at, tuple_at, close_any_at, open_any_at, call, called_at, variable_at, make_at, constant_at, atom_at, app_at, any_at, operator_of, operation_at}
+use Rattle.gib_parse.specs.Reading.{Mode, Any, App, Atom, Parts, before, named, var_at, many, is_variable, is_sign, is_literal, literal_at, starts_atom, ArmTree, arms_of, arm_at, next_arm_at, arms_at, arguments_of, arguments_at, next_name_at, several_names_at, one_name_at, names_bound_at, BoundTree, binding_at, bind_at, par_at, let_at, if_at, case_at, side_at, close_at, open_at, next_part_at, tuple_at, close_any_at, open_any_at, call, called_at, variable_at, make_at, constant_at, atom_at, app_at, any_at, operator_of, operation_at}
 use Rattle.gib_reads.proofs.Tools.{done}
 use Rattle.gib_reads.proofs.Signs.{sign_is}
 use Rattle.gib_reads.proofs.Laws.{World, Form, Reads, pure_reads, fail_nil, fail_reads, token_reads, choice_nil, choice_reads, weaken, as_reads, then_reads, then_sign, var_reads, con_reads, many_reads, write_all, fine_all, good_all, a_name}
@@ -42,6 +42,20 @@ further_names at = record { write = spell_further_names; fine = λ xs. Unit {0};
 
 abbrev names : Places → Form (List Ident)
 names at = record { write = spell_names; fine = λ xs. xs ≢ []; good = AreNamesAt at }
+
+abbrev binding_then : BoundTree → List Token → List Token
+binding_then x l = spell_names x.names (t.Sign s.Equals ∷ spell x.value l)
+
+-- A binding carries the spans of its tokens.
+abbrev IsBindingAt : Places → BoundTree → List Token → Type 0
+IsBindingAt at x rest = AreNamesAt at x.names (t.Sign s.Equals ∷ spell x.value rest) × IsPlaced at x.value rest
+
+abbrev binding : Places → ℕ → Form BoundTree
+binding at n = record {
+  write = binding_then;
+  fine = λ x. (x.names ≢ []) × IsGenericFine x.value;
+  good = λ x rest. (levels x.value ≤ n) × IsBindingAt at x rest;
+}
 
 abbrev pub next_part : Places → ℕ → Form GenericExpression
 next_part at n = record { write = λ e l. t.Sign s.Comma ∷ spell e l; fine = IsGenericFine; good = λ e rest. (levels e ≤ n) × IsPlaced at e rest }
@@ -167,13 +181,11 @@ atom_is_application (GenericParen p e) h = refl
 atom_is_application (GenericOp p f a b) h = refl
 atom_is_application (GenericCall f ws xs) h = refl
 atom_is_application (GenericMake k ws xs) h = refl
-atom_is_application (GenericLet p x a b) h = absurd cc
-atom_is_application (GenericPar p x a y b c) h = absurd cc
+atom_is_application (GenericLet p xs a b) h = absurd cc
+atom_is_application (GenericPar p xs a ys b c) h = absurd cc
 atom_is_application (GenericIf p a b c) h = absurd cc
 atom_is_application (GenericCase p x arms) h = absurd cc
 atom_is_application (GenericTuple p xs) h = absurd cc
-atom_is_application (GenericLetSeveral p xs a b) h = absurd cc
-atom_is_application (GenericParSeveral p xs a ys b c) h = absurd cc
 
 pub atom_mode : (m : Mode) (e : GenericExpression) → is_generic_atom e ≡ true → IsMode m e
 atom_mode Any e h = tt
@@ -221,61 +233,6 @@ module _ {w : World Parts} where
   names_bound_reads r (c ∷ ws) = choice_reads (λ at sub. names_bound_at at) (λ at sub. one_name_at at) c ws (λ at sub l. refl) (one_name_reads r (c ∷ ws))
 
 -- ---- expressions
-
--- A `let` and a `let par` of these variables.
-let_spelled : (z : Span) (xs : List Ident) (a b : GenericExpression) (l : List Token) → xs ≢ []
-    → t.Sign s.Let ∷ spell_names xs (t.Sign s.Equals ∷ spell a (t.Sign s.In ∷ spell b l)) ≡ spell (let_of z xs a b) l
-let_spelled z [] a b l some = absurd (some refl)
-let_spelled z (x ∷ []) a b l some = refl
-let_spelled z (x ∷ y ∷ ys) a b l some = refl
-
-let_fine : (z : Span) (xs : List Ident) (a b : GenericExpression) → xs ≢ [] → IsGenericFine a → IsGenericFine b → IsGenericFine (let_of z xs a b)
-let_fine z [] a b some fa fb = absurd (some refl)
-let_fine z (x ∷ []) a b some fa fb = (fa, fb)
-let_fine z (x ∷ y ∷ ys) a b some fa fb = (tt, fa, fb)
-
-let_good : (at : Places) (n : ℕ) (z : Span) (xs : List Ident) (a b : GenericExpression) (rest : List Token) → xs ≢ []
-    → z ≡ at (suc (length (spell_names xs (t.Sign s.Equals ∷ spell a (t.Sign s.In ∷ spell b rest)))))
-    → AreNamesAt at xs (t.Sign s.Equals ∷ spell a (t.Sign s.In ∷ spell b rest)) → (levels a ≤ n) × IsPlaced at a (t.Sign s.In ∷ spell b rest)
-    → (levels b ≤ n) × IsPlaced at b rest → (levels (let_of z xs a b) ≤ suc n) × IsPlaced at (let_of z xs a b) rest
-let_good at n z [] a b rest some e p pa pb = absurd (some refl)
-let_good at n z (x ∷ []) a b rest some e p pa pb = (omega (arith, pa.0, pb.0), (e, p, pa.1, pb.1))
-let_good at n z (x ∷ y ∷ ys) a b rest some e p pa pb = (omega (arith, pa.0, pb.0), (e, p, pa.1, pb.1))
-
-module _ (xs ys : List Ident) (a b c : GenericExpression) where
-  abbrev right_side : List Token → List Token
-  right_side l = spell_names ys (t.Sign s.Equals ∷ spell b (t.Sign s.In ∷ spell c l))
-
-  abbrev both_sides : List Token → List Token
-  both_sides l = spell_names xs (t.Sign s.Equals ∷ spell a (t.Sign s.And ∷ right_side l))
-
-par_spelled : (z : Span) (xs ys : List Ident) (a b c : GenericExpression) (l : List Token) → xs ≢ [] → ys ≢ []
-    → t.Sign s.Let ∷ t.Sign s.Par ∷ both_sides xs ys a b c l ≡ spell (par_of z xs a ys b c) l
-par_spelled z [] ys a b c l some more = absurd (some refl)
-par_spelled z (x ∷ xs) [] a b c l some more = absurd (more refl)
-par_spelled z (x ∷ []) (y ∷ []) a b c l some more = refl
-par_spelled z (x ∷ []) (y ∷ v ∷ vs) a b c l some more = refl
-par_spelled z (x ∷ w ∷ ws) (y ∷ ys) a b c l some more = refl
-
-par_fine : (z : Span) (xs ys : List Ident) (a b c : GenericExpression) → xs ≢ [] → ys ≢ [] → IsGenericFine a → IsGenericFine b → IsGenericFine c
-    → IsGenericFine (par_of z xs a ys b c)
-par_fine z [] ys a b c some more fa fb fc = absurd (some refl)
-par_fine z (x ∷ xs) [] a b c some more fa fb fc = absurd (more refl)
-par_fine z (x ∷ []) (y ∷ []) a b c some more fa fb fc = (fa, fb, fc)
-par_fine z (x ∷ []) (y ∷ v ∷ vs) a b c some more fa fb fc = (tt, fa, fb, fc)
-par_fine z (x ∷ w ∷ ws) (y ∷ ys) a b c some more fa fb fc = (tt, fa, fb, fc)
-
-par_good : (at : Places) (n : ℕ) (z : Span) (xs ys : List Ident) (a b c : GenericExpression) (rest : List Token) → xs ≢ [] → ys ≢ []
-    → z ≡ at (suc (suc (length (both_sides xs ys a b c rest))))
-    → AreNamesAt at xs (t.Sign s.Equals ∷ spell a (t.Sign s.And ∷ right_side xs ys a b c rest))
-    → (levels a ≤ n) × IsPlaced at a (t.Sign s.And ∷ right_side xs ys a b c rest)
-    → AreNamesAt at ys (t.Sign s.Equals ∷ spell b (t.Sign s.In ∷ spell c rest)) → (levels b ≤ n) × IsPlaced at b (t.Sign s.In ∷ spell c rest)
-    → (levels c ≤ n) × IsPlaced at c rest → (levels (par_of z xs a ys b c) ≤ suc n) × IsPlaced at (par_of z xs a ys b c) rest
-par_good at n z [] ys a b c rest some more e px pa py pb pc = absurd (some refl)
-par_good at n z (x ∷ xs) [] a b c rest some more e px pa py pb pc = absurd (more refl)
-par_good at n z (x ∷ []) (y ∷ []) a b c rest some more e px pa py pb pc = (omega (arith, pa.0, pb.0, pc.0), (e, px, pa.1, py, pb.1, pc.1))
-par_good at n z (x ∷ []) (y ∷ v ∷ vs) a b c rest some more e px pa py pb pc = (omega (arith, pa.0, pb.0, pc.0), (e, px, pa.1, py, pb.1, pc.1))
-par_good at n z (x ∷ w ∷ ws) (y ∷ ys) a b c rest some more e px pa py pb pc = (omega (arith, pa.0, pb.0, pc.0), (e, px, pa.1, py, pb.1, pc.1))
 
 -- The parts are read so, of n levels.
 abbrev pub PartsRead : World Parts → ℕ → Type 0
@@ -341,97 +298,60 @@ module _ {w : World Parts} {n : ℕ} (h : PartsRead w n) where
 
   -- ---- bindings
 
+  binding_reads : (r ws : List Token) → Reads w 1 (binding w.text.here n) r (λ l. l) (λ at sub. binding_at at (sub Any)) ws
+  unfolding binding_at zero_is
+  binding_reads r ws =
+      let end = t.Sign s.Equals ∷ spell zero_is r in
+      then_reads (names_bound_reads end ws) (λ xs o. (record { names = xs; value = zero_is }, (o, zero_fine), refl)) (λ xs r1 e1 o1 p1.
+      then_sign s.Equals (spell zero_is r) (record { names = xs; value = zero_is }, (o1, zero_fine), refl) (λ u r2 e2.
+      then_reads (h Any r r2) (λ a o. (record { names = xs; value = a }, (o1, o.0), refl)) (λ a r3 e3 o3 p3.
+      let i1 : r1 ≡ t.Sign s.Equals ∷ spell a r3 = e2 ∙ ap (λ (l : List Token). t.Sign s.Equals ∷ l) e3 in
+      let x : BoundTree = record { names = xs; value = a } in
+      pure_reads x r3 (λ l. refl) (o1, o3.0) (p3.0, (subst (AreNamesAt w.text.here xs) i1 p1, p3.1)))))
+
   bind_reads : (z : Span) (r ws : List Token) → z ≡ before w.text.here ws
       → Reads w 1 (expression w.text.here (suc n) Any) r (λ l. t.Sign s.Let ∷ l) (λ at sub. bind_at at sub z) ws
   unfolding bind_at zero_is
   bind_reads z r ws ze =
-      let end2 = t.Sign s.In ∷ spell zero_is r in
-      let end1 = t.Sign s.Equals ∷ spell zero_is end2 in
-      then_reads (names_bound_reads end1 ws)
-      (λ xs o. (let_of z xs zero_is zero_is, (let_fine z xs zero_is zero_is o zero_fine zero_fine, tt), let_spelled z xs zero_is zero_is r o))
-      (λ xs r1 e1 some p1.
-      then_sign s.Equals (spell zero_is end2) (
-        let_of z xs zero_is zero_is,
-        (let_fine z xs zero_is zero_is some zero_fine zero_fine, tt),
-        let_spelled z xs zero_is zero_is r some,
-      ) (λ u r2 e2.
-      then_reads (h Any end2 r2)
-      (λ a o. (let_of z xs a zero_is, (let_fine z xs a zero_is some o.0 zero_fine, tt), let_spelled z xs a zero_is r some)) (λ a r3 e3 o3 p3.
-      then_sign s.In (spell zero_is r) (let_of z xs a zero_is, (let_fine z xs a zero_is some o3.0 zero_fine, tt), let_spelled z xs a zero_is r some) (λ u r4 e4.
-      then_reads (h Any r r4) (λ b o. (let_of z xs a b, (let_fine z xs a b some o3.0 o.0, tt), let_spelled z xs a b r some)) (λ b r5 e5 o5 p5.
-      let i3 : r3 ≡ t.Sign s.In ∷ spell b r5 = e4 ∙ ap (λ (l : List Token). t.Sign s.In ∷ l) e5 in
-      let i1 : r1 ≡ t.Sign s.Equals ∷ spell a (t.Sign s.In ∷ spell b r5) = e2 ∙ ap (λ (l : List Token). t.Sign s.Equals ∷ l) (e3 ∙ ap (spell a) i3) in
-      pure_reads (let_of z xs a b) r5 (λ l. let_spelled z xs a b l some) (let_fine z xs a b some o3.0 o5.0, tt)
-      (let_good w.text.here n z xs a b r5 some (ze ∙ ap (before w.text.here) (e1 ∙ ap (spell_names xs) i1)) (subst (AreNamesAt w.text.here xs) i1 p1)
-      (p3.0, subst (IsPlaced w.text.here a) i3 p3.1) p5))))))
+      then_reads (binding_reads (t.Sign s.In ∷ spell zero_is r) ws) (λ x o. (GenericLet z x.names x.value zero_is, ((o.0, o.1, zero_fine), tt), refl)) (λ x r1 e1 o1 p1.
+      then_sign s.In (spell zero_is r) (GenericLet z x.names x.value zero_is, ((o1.0, o1.1, zero_fine), tt), refl) (λ u r2 e2.
+      then_reads (h Any r r2) (λ b o. (GenericLet z x.names x.value b, ((o1.0, o1.1, o.0), tt), refl)) (λ b r3 e3 o3 p3.
+      let i1 : r1 ≡ t.Sign s.In ∷ spell b r3 = e2 ∙ ap (λ (l : List Token). t.Sign s.In ∷ l) e3 in
+      let here = subst (IsBindingAt w.text.here x) i1 p1.1 in
+      pure_reads (GenericLet z x.names x.value b) r3 (λ l. refl) ((o1.0, o1.1, o3.0), tt)
+      (omega (arith, p1.0, p3.0), (ze ∙ ap (before w.text.here) (e1 ∙ ap (binding_then x) i1), here.0, here.1, p3.1)))))
 
   par_reads : (z : Span) (r ws : List Token) → z ≡ before w.text.here (t.Sign s.Par ∷ ws)
       → Reads w 1 (expression w.text.here (suc n) Any) r (λ l. t.Sign s.Let ∷ t.Sign s.Par ∷ l) (λ at sub. par_at at sub z) ws
   unfolding par_at zero_is
   par_reads z r ws ze =
-      let end3 = t.Sign s.In ∷ spell zero_is r in
-      let end2 = t.Sign s.Equals ∷ spell zero_is end3 in
-      let end1 = t.Sign s.And ∷ t.Variable a_name.name ∷ end2 in
-      let end0 = t.Sign s.Equals ∷ spell zero_is end1 in
-      let one = a_name ∷ [] in
-      let sm = some_names a_name [] in
-      then_reads (names_bound_reads end0 ws)
-      (λ xs o. (
-        par_of z xs zero_is one zero_is zero_is,
-        (par_fine z xs one zero_is zero_is zero_is o sm zero_fine zero_fine zero_fine, tt),
-        par_spelled z xs one zero_is zero_is zero_is r o sm,
-      )) (λ xs r1 e1 some p1.
-      then_sign s.Equals (spell zero_is end1) (
-        par_of z xs zero_is one zero_is zero_is,
-        (par_fine z xs one zero_is zero_is zero_is some sm zero_fine zero_fine zero_fine, tt),
-        par_spelled z xs one zero_is zero_is zero_is r some sm,
-      ) (λ u r2 e2.
-      then_reads (h Any end1 r2)
-      (λ a o. (
-        par_of z xs a one zero_is zero_is,
-        (par_fine z xs one a zero_is zero_is some sm o.0 zero_fine zero_fine, tt),
-        par_spelled z xs one a zero_is zero_is r some sm,
-      )) (λ a r3 e3 o3 p3.
-      then_sign s.And (t.Variable a_name.name ∷ end2) (
-        par_of z xs a one zero_is zero_is,
-        (par_fine z xs one a zero_is zero_is some sm o3.0 zero_fine zero_fine, tt),
-        par_spelled z xs one a zero_is zero_is r some sm,
-      ) (λ u r4 e4.
-      then_reads (names_bound_reads end2 r4)
-      (λ ys o. (
-        par_of z xs a ys zero_is zero_is,
-        (par_fine z xs ys a zero_is zero_is some o o3.0 zero_fine zero_fine, tt),
-        par_spelled z xs ys a zero_is zero_is r some o,
-      )) (λ ys r5 e5 more p5.
-      then_sign s.Equals (spell zero_is end3) (
-        par_of z xs a ys zero_is zero_is,
-        (par_fine z xs ys a zero_is zero_is some more o3.0 zero_fine zero_fine, tt),
-        par_spelled z xs ys a zero_is zero_is r some more,
-      ) (λ u r6 e6.
-      then_reads (h Any end3 r6)
-      (λ b o. (
-        par_of z xs a ys b zero_is,
-        (par_fine z xs ys a b zero_is some more o3.0 o.0 zero_fine, tt),
-        par_spelled z xs ys a b zero_is r some more,
-      )) (λ b r7 e7 o7 p7.
-      then_sign s.In (spell zero_is r) (
-        par_of z xs a ys b zero_is,
-        (par_fine z xs ys a b zero_is some more o3.0 o7.0 zero_fine, tt),
-        par_spelled z xs ys a b zero_is r some more,
-      ) (λ u r8 e8.
-      then_reads (h Any r r8)
-      (λ c o. (par_of z xs a ys b c, (par_fine z xs ys a b c some more o3.0 o7.0 o.0, tt), par_spelled z xs ys a b c r some more))
-      (λ c r9 e9 o9 p9.
-      let i7 : r7 ≡ t.Sign s.In ∷ spell c r9 = e8 ∙ ap (λ (l : List Token). t.Sign s.In ∷ l) e9 in
-      let i5 : r5 ≡ t.Sign s.Equals ∷ spell b (t.Sign s.In ∷ spell c r9) = e6 ∙ ap (λ (l : List Token). t.Sign s.Equals ∷ l) (e7 ∙ ap (spell b) i7) in
-      let i3 : r3 ≡ t.Sign s.And ∷ right_side xs ys a b c r9 = e4 ∙ ap (λ (l : List Token). t.Sign s.And ∷ l) (e5 ∙ ap (spell_names ys) i5) in
-      let i1 : r1 ≡ t.Sign s.Equals ∷ spell a (t.Sign s.And ∷ right_side xs ys a b c r9) = e2
-      ∙ ap (λ (l : List Token). t.Sign s.Equals ∷ l) (e3 ∙ ap (spell a) i3) in
-      pure_reads (par_of z xs a ys b c) r9 (λ l. par_spelled z xs ys a b c l some more) (par_fine z xs ys a b c some more o3.0 o7.0 o9.0, tt)
-      (par_good w.text.here n z xs ys a b c r9 some more
-      (ze ∙ ap (λ (l : List Token). w.text.here (suc (suc (length l)))) (e1 ∙ ap (spell_names xs) i1)) (subst (AreNamesAt w.text.here xs) i1 p1)
-      (p3.0, subst (IsPlaced w.text.here a) i3 p3.1)
-      (subst (AreNamesAt w.text.here ys) i5 p5) (p7.0, subst (IsPlaced w.text.here b) i7 p7.1) p9))))))))))
+      let some : BoundTree = record { names = a_name ∷ []; value = zero_is } in
+      let one = some_names a_name [] in
+      let end2 = t.Sign s.In ∷ spell zero_is r in
+      let end1 = t.Sign s.And ∷ binding_then some end2 in
+      then_reads (binding_reads end1 ws)
+      (λ x o. (GenericPar z x.names x.value some.names zero_is zero_is, ((o.0, one, o.1, zero_fine, zero_fine), tt), refl)) (λ x r1 e1 o1 p1.
+      then_sign s.And (binding_then some end2)
+      (GenericPar z x.names x.value some.names zero_is zero_is, ((o1.0, one, o1.1, zero_fine, zero_fine), tt), refl) (λ u r2 e2.
+      then_reads (binding_reads end2 r2)
+      (λ y o. (GenericPar z x.names x.value y.names y.value zero_is, ((o1.0, o.0, o1.1, o.1, zero_fine), tt), refl)) (λ y r3 e3 o3 p3.
+      then_sign s.In (spell zero_is r) (GenericPar z x.names x.value y.names y.value zero_is, ((o1.0, o3.0, o1.1, o3.1, zero_fine), tt), refl) (λ u r4 e4.
+      then_reads (h Any r r4) (λ c o. (GenericPar z x.names x.value y.names y.value c, ((o1.0, o3.0, o1.1, o3.1, o.0), tt), refl)) (λ c r5 e5 o5 p5.
+      let i3 : r3 ≡ t.Sign s.In ∷ spell c r5 = e4 ∙ ap (λ (l : List Token). t.Sign s.In ∷ l) e5 in
+      let i1 : r1 ≡ t.Sign s.And ∷ binding_then y (t.Sign s.In ∷ spell c r5) = e2 ∙ ap (λ (l : List Token). t.Sign s.And ∷ l) (e3 ∙ ap (binding_then y) i3) in
+      let left = subst (IsBindingAt w.text.here x) i1 p1.1 in
+      let right = subst (IsBindingAt w.text.here y) i3 p3.1 in
+      pure_reads (GenericPar z x.names x.value y.names y.value c) r5 (λ l. refl) ((o1.0, o3.0, o1.1, o3.1, o5.0), tt) (
+        omega (arith, p1.0, p3.0, p5.0),
+        (
+          ze ∙ ap (λ (l : List Token). w.text.here (suc (suc (length l)))) (e1 ∙ ap (binding_then x) i1),
+          left.0,
+          left.1,
+          right.0,
+          right.1,
+          p5.1,
+        ),
+      ))))))
 
   pub let_reads : (z : Span) (r ws : List Token) → z ≡ before w.text.here ws
       → Reads w 1 (expression w.text.here (suc n) Any) r (λ l. t.Sign s.Let ∷ l) (λ at sub. let_at at sub z) ws

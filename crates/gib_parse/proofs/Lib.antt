@@ -24,7 +24,6 @@ pub mod Opening
 pub mod Calls
 pub mod Bodies
 pub mod Levels
-pub mod Several
 pub mod ExpressionLoops
 pub mod DeclarationLoops
 pub mod Answered

@@ -7,7 +7,7 @@ use Rattle.gib_base.specs.declared.token.Token.{Token}
 use Rattle.gib_base.specs.declared.token.Token.TheVariants as t
 use Rattle.gib_syntax.specs.declared.tree.Ident.{Ident}
 use Rattle.gib_types.specs.declared.operator.Operator.{Operator}
-use Rattle.gib_syntax.specs.GenericTree.{GenericExpression, GenericVar, GenericNum, GenericBit, GenericParen, GenericOp, GenericCall, GenericMake, GenericLet, GenericPar, GenericIf, GenericCase, GenericTuple, GenericLetSeveral, GenericParSeveral}
+use Rattle.gib_syntax.specs.GenericTree.{GenericExpression, GenericVar, GenericNum, GenericBit, GenericParen, GenericOp, GenericCall, GenericMake, GenericLet, GenericPar, GenericIf, GenericCase, GenericTuple}
 use Rattle.gib_syntax.specs.GenericFine.{is_generic_application, is_generic_atom, IsGenericFine}
 use Rattle.gib_syntax.specs.Spelling.{Places, spell, spell_variables, spell_further_names, spell_names, spell_operator, spell_bit, sign_of}
 use Rattle.gib_parse.specs.Reading.{Mode, Any, App, Atom, Read, then_at, want, named, var_at, next_is, many, is_variable, is_sign, starts_atom, starts_expression, starts, next_name_at, several_names_at, one_name_at, names_bound_at, operator_of}
@@ -73,13 +73,11 @@ application_starts (GenericParen p e) rest f i = refl
 application_starts (GenericOp p g a b) rest f i = refl
 application_starts (GenericCall g ws xs) rest f i = refl
 application_starts (GenericMake k ws xs) rest f i = refl
-application_starts (GenericLet p x a b) rest f i = absurd cc
-application_starts (GenericPar p x a y b c) rest f i = absurd cc
+application_starts (GenericLet p xs a b) rest f i = absurd cc
+application_starts (GenericPar p xs a ys b c) rest f i = absurd cc
 application_starts (GenericIf p a b c) rest f i = absurd cc
 application_starts (GenericCase p x arms) rest f i = absurd cc
 application_starts (GenericTuple p xs) rest f i = absurd cc
-application_starts (GenericLetSeveral p xs a b) rest f i = absurd cc
-application_starts (GenericParSeveral p xs a ys b c) rest f i = absurd cc
 
 pub atom_starts : (e : GenericExpression) (rest : List Token) → IsGenericFine e → is_generic_atom e ≡ true → next_is starts_atom (spell e rest) ≡ true
 atom_starts e rest f i = application_starts e rest f (atom_is_application e i)
@@ -92,13 +90,11 @@ expression_starts (GenericParen p e) rest f = refl
 expression_starts (GenericOp p g a b) rest f = refl
 expression_starts (GenericCall g ws xs) rest f = refl
 expression_starts (GenericMake k ws xs) rest f = refl
-expression_starts (GenericLet p x a b) rest f = refl
-expression_starts (GenericPar p x a y b c) rest f = refl
+expression_starts (GenericLet p xs a b) rest f = refl
+expression_starts (GenericPar p xs a ys b c) rest f = refl
 expression_starts (GenericIf p a b c) rest f = refl
 expression_starts (GenericCase p x arms) rest f = refl
 expression_starts (GenericTuple p xs) rest f = refl
-expression_starts (GenericLetSeveral p xs a b) rest f = refl
-expression_starts (GenericParSeveral p xs a ys b c) rest f = refl
 
 pub mode_starts : (m : Mode) (e : GenericExpression) (rest : List Token) → IsGenericFine e → IsMode m e → next_is (starts m) (spell e rest) ≡ true
 mode_starts Any e rest f i = expression_starts e rest f

@@ -9,8 +9,8 @@ ghost use Rattle.gib_syntax.specs.Spelling.{places_of};
 ghost use Rattle.gib_syntax.specs.Words.{types_in, IsTypesRun};
 ghost use Rattle.gib_syntax.specs.GenericArena.{PartsBelow, IsRunWithin, layer, tree_of, arguments_from};
 ghost use Rattle.gib_base.specs.declared.token.Sign.TheVariants as s;
-ghost use Rattle.gib_parse.specs.Reading.{Any, Atom, next_is, is_sign, many, starts, starts_atom, is_literal, literal_at, no_level, parse, any_at, let_at, let_of, par_of, bind_at, par_at, if_at, case_at, arms_at, arm_at, next_arm_at, app_at, variable_at, make_at, constant_at, arguments_at, atom_at, open_at, close_at, next_part_at, tuple_at, close_any_at, open_any_at, operation_at, side_at, Fault, At, Nested};
-ghost use Rattle.gib_parse.specs.Parsing.{Fails, Gives, mode_of, Reads, AllStand, IsExpressionIn, ReadsArms, expression_tree, arm_tree, arms_tree, call_tree, may_call};
+ghost use Rattle.gib_parse.specs.Reading.{Any, Atom, next_is, is_sign, many, starts, starts_atom, is_literal, literal_at, no_level, parse, any_at, let_at, binding_at, bind_at, par_at, if_at, case_at, arms_at, arm_at, next_arm_at, app_at, variable_at, make_at, constant_at, arguments_at, atom_at, open_at, close_at, next_part_at, tuple_at, close_any_at, open_any_at, operation_at, side_at, Fault, At, Nested};
+ghost use Rattle.gib_parse.specs.Parsing.{Fails, Gives, mode_of, Reads, AllStand, IsExpressionIn, ReadsArms, expression_tree, bound_tree, arm_tree, arms_tree, call_tree, may_call};
 
 use crate::phrases::names_bound;
 use crate::types::type_arguments;
@@ -20,7 +20,7 @@ use gib_reads::Stop;
 use gib_reads::phrases::{
     begins, constructor, named, operator_of, span_at, variable, variables, want,
 };
-use gib_syntax::{Arm, ExprId, GenericExprs, GenericNode, Ident, Run};
+use gib_syntax::{Arm, ExprId, GenericExprs, GenericNode, Ident, Names, Run};
 use gib_types::Operator;
 use std::alloc::Global;
 
@@ -124,65 +124,30 @@ fn any<'a>(
     }
 }
 
-/// A `let` of one variable, or of several.
-#[tactic(auto, using(crate::proofs::Several::let_one_is, crate::proofs::Several::let_several_is))]
-fn let_node(span: Span, names: Vec<Ident>, bound: ExprId, body: ExprId) -> GenericNode
-    ensures tree { (words : List Word) (t : ℕ → GenericExpression) → layer words t (Some result) ≡ let_of span names.items (t bound.0) (t body.0) }
-    ensures below { (n : ℕ) → bound.0 < n → body.0 < n → PartsBelow result n }
-    ensures within { (words : List Word) → IsRunWithin result words }
-{
-    if names.len() == 1 {
-        let name = names[0];
-        GenericNode::Let {
-            span,
-            name,
-            bound,
-            body,
-        }
-    } else {
-        GenericNode::LetSeveral {
-            span,
-            names,
-            bound,
-            body,
-        }
-    }
+/// The variables of a binding, and what they are bound to.
+#[derive(Drop)]
+struct Bound {
+    names: Names,
+    value: ExprId,
 }
 
-/// A `let par` of one variable on each side, or with several on one side at least.
-#[tactic(auto, using(crate::proofs::Several::par_one_is, crate::proofs::Several::par_left_is, crate::proofs::Several::par_right_is))]
-fn par_node(
-    span: Span,
-    left_names: Vec<Ident>,
-    left: ExprId,
-    right_names: Vec<Ident>,
-    right: ExprId,
-    body: ExprId,
-) -> GenericNode
-    ensures tree { (words : List Word) (t : ℕ → GenericExpression) → layer words t (Some result) ≡ par_of span left_names.items (t left.0) right_names.items (t right.0) (t body.0) }
-    ensures below { (n : ℕ) → left.0 < n → right.0 < n → body.0 < n → PartsBelow result n }
-    ensures within { (words : List Word) → IsRunWithin result words }
+/// The variables of a binding, an equals sign and an expression.
+#[cycle(expressions)]
+#[tactic(auto, unfolding(crate::specs::Reading::binding_at))]
+fn binding<'a>(
+    alloc: Global,
+    spans: &[Span],
+    exprs: &mut GenericExprs,
+    level: u32,
+    tokens: &'a [Token],
+) -> Result<(Bound, &'a [Token]), Stop>
+    ensures kept { IfOk result (λ x. Reads exprs.old exprs.new x.0.value.0) }
+    ensures read { Gives (λ x. (bound_tree (tree_of exprs.new) x.0, x.1.now)) result (binding_at (places_of spans.now) (parse (places_of spans.now) level Any) tokens.now) }
 {
-    if left_names.len() == 1 {
-        if right_names.len() == 1 {
-            return GenericNode::LetPar {
-                span,
-                left_name: left_names[0],
-                left,
-                right_name: right_names[0],
-                right,
-                body,
-            };
-        }
-    }
-    GenericNode::ParSeveral {
-        span,
-        left_names,
-        left,
-        right_names,
-        right,
-        body,
-    }
+    let (names, tokens) = names_bound(alloc, spans, tokens)?;
+    let tokens = want(Sign::Equals, tokens)?;
+    let (value, tokens) = expression(alloc, spans, exprs, level, Kind::Any, tokens)?;
+    Ok((Bound { names, value }, tokens))
 }
 
 /// Behind `let`.
@@ -220,12 +185,15 @@ fn let_one<'a>(
     ensures kept { IfOk result (λ x. Reads exprs.old exprs.new x.0.0) }
     ensures read { Gives (λ x. (tree_of exprs.new x.0.0, x.1.now)) result (bind_at (places_of spans.now) (parse (places_of spans.now) level) span tokens.now) }
 {
-    let (names, tokens) = names_bound(alloc, spans, tokens)?;
-    let tokens = want(Sign::Equals, tokens)?;
-    let (bound, tokens) = expression(alloc, spans, exprs, level, Kind::Any, tokens)?;
+    let (binding, tokens) = binding(alloc, spans, exprs, level, tokens)?;
     let tokens = want(Sign::In, tokens)?;
     let (body, tokens) = expression(alloc, spans, exprs, level, Kind::Any, tokens)?;
-    let id = exprs.put(let_node(span, names, bound, body))?;
+    let id = exprs.put(GenericNode::Let {
+        span,
+        names: binding.names,
+        bound: binding.value,
+        body,
+    })?;
     Ok((id, tokens))
 }
 
@@ -243,16 +211,19 @@ fn let_par<'a>(
     ensures kept { IfOk result (λ x. Reads exprs.old exprs.new x.0.0) }
     ensures read { Gives (λ x. (tree_of exprs.new x.0.0, x.1.now)) result (par_at (places_of spans.now) (parse (places_of spans.now) level) span tokens.now) }
 {
-    let (left_names, tokens) = names_bound(alloc, spans, tokens)?;
-    let tokens = want(Sign::Equals, tokens)?;
-    let (left, tokens) = expression(alloc, spans, exprs, level, Kind::Any, tokens)?;
+    let (left, tokens) = binding(alloc, spans, exprs, level, tokens)?;
     let tokens = want(Sign::And, tokens)?;
-    let (right_names, tokens) = names_bound(alloc, spans, tokens)?;
-    let tokens = want(Sign::Equals, tokens)?;
-    let (right, tokens) = expression(alloc, spans, exprs, level, Kind::Any, tokens)?;
+    let (right, tokens) = binding(alloc, spans, exprs, level, tokens)?;
     let tokens = want(Sign::In, tokens)?;
     let (body, tokens) = expression(alloc, spans, exprs, level, Kind::Any, tokens)?;
-    let id = exprs.put(par_node(span, left_names, left, right_names, right, body))?;
+    let id = exprs.put(GenericNode::LetPar {
+        span,
+        left_names: left.names,
+        left: left.value,
+        right_names: right.names,
+        right: right.value,
+        body,
+    })?;
     Ok((id, tokens))
 }
 
@@ -805,8 +776,6 @@ fn may_be_side(exprs: &GenericExprs, id: ExprId) -> bool
         GenericNode::If { .. } => false,
         GenericNode::Case { .. } => false,
         GenericNode::Tuple(..) => false,
-        GenericNode::LetSeveral { .. } => false,
-        GenericNode::ParSeveral { .. } => false,
         _ => true,
     }
 }

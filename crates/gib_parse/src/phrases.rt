@@ -10,7 +10,7 @@ use gib_base::Span;
 use gib_base::token::{Sign, Token};
 use gib_reads::Stop;
 use gib_reads::phrases::{begins, variable, want};
-use gib_syntax::Ident;
+use gib_syntax::{Ident, Names};
 use std::alloc::Global;
 
 /// A comma, and a name behind it.
@@ -46,8 +46,8 @@ fn several_names<'a>(
     alloc: Global,
     spans: &[Span],
     tokens: &'a [Token],
-) -> Result<(Vec<Ident>, &'a [Token]), Stop>
-    ensures { Gives (λ x. (x.0.items, x.1.now)) result (several_names_at (places_of spans.now) tokens.now) }
+) -> Result<(Names, &'a [Token]), Stop>
+    ensures { Gives (λ x. (x.0, x.1.now)) result (several_names_at (places_of spans.now) tokens.now) }
 {
     let mut names = Vec::new(alloc);
     let (first, rest) = variable(spans, tokens)?;
@@ -56,37 +56,31 @@ fn several_names<'a>(
     names.push(second)?;
     let (names, rest) = further_names(spans, names, rest)?;
     let rest = want(Sign::Close, rest)?;
-    Ok((names, rest))
+    Ok((Names::several(names), rest))
 }
 
 /// One name.
 #[tactic(auto, unfolding(crate::specs::Reading::one_name_at))]
-fn one_name<'a>(
-    alloc: Global,
-    spans: &[Span],
-    tokens: &'a [Token],
-) -> Result<(Vec<Ident>, &'a [Token]), Stop>
-    ensures { Gives (λ x. (x.0.items, x.1.now)) result (one_name_at (places_of spans.now) tokens.now) }
+fn one_name<'a>(spans: &[Span], tokens: &'a [Token]) -> Result<(Names, &'a [Token]), Stop>
+    ensures { Gives (λ x. (x.0, x.1.now)) result (one_name_at (places_of spans.now) tokens.now) }
 {
-    let mut names = Vec::new(alloc);
     let (name, rest) = variable(spans, tokens)?;
-    names.push(name)?;
-    Ok((names, rest))
+    Ok((Names::one(name), rest))
 }
 
 /// The variables of a binding: one, or several in parentheses.
-pub fn names_bound<'a>(
+pub(crate) fn names_bound<'a>(
     alloc: Global,
     spans: &[Span],
     tokens: &'a [Token],
-) -> Result<(Vec<Ident>, &'a [Token]), Stop>
-    ensures { Gives (λ x. (x.0.items, x.1.now)) result (names_bound_at (places_of spans.now) tokens.now) }
+) -> Result<(Names, &'a [Token]), Stop>
+    ensures { Gives (λ x. (x.0, x.1.now)) result (names_bound_at (places_of spans.now) tokens.now) }
 {
     match tokens {
         [Token::Sign(sign), rest @ ..] => match sign {
             Sign::Open => several_names(alloc, spans, rest),
-            _ => one_name(alloc, spans, tokens),
+            _ => one_name(spans, tokens),
         },
-        _ => one_name(alloc, spans, tokens),
+        _ => one_name(spans, tokens),
     }
 }
