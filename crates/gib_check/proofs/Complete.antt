@@ -11,15 +11,15 @@ use Rattle.gib_syntax.specs.Results.{Results, One, Several, as_results}
 use Rattle.gib_types.specs.Form.{Form, Forms, WholeForm, TruthForm, DataForm, Meant}
 use Rattle.gib_types.specs.SameForm.{same_form}
 use Rattle.gib_syntax.specs.Forms.{WrittenType, WrittenTypes, WholeAt, TruthAt, VariableAt, DataAt, NoType, MoreTypes, formed, formed_all, assign, count_written}
-use Rattle.gib_syntax.specs.GenericTree.{GenericExpression, GenericArguments, GenericArms, GenericVar, GenericNum, GenericBit, GenericParen, GenericOp, GenericCall, GenericMake, GenericLet, GenericPar, GenericIf, GenericCase, GenericTuple, GenericLetSeveral, GenericParSeveral, GenericNoArgument, GenericArgument, GenericLastArm, GenericNextArm, GenericDataTree, GenericRow, GenericGlobals, GenericFunctionTree, GenericParameterTree, place_named, generic_named, data_named}
-use Rattle.gib_syntax.specs.GenericTyping.{FormScope, form_in, form_bound, BindsForms, operator_form, field_forms, parameter_forms, result_forms, IsKnownType, AreKnownTypes, CoversType, HasForm, HaveForms, ArmsHaveForm, generic_expressions, all_generic_expressions, arm_generic_expressions, generic_bindings, all_generic_bindings, arm_generic_bindings}
+use Rattle.gib_syntax.specs.GenericTree.{GenericExpression, GenericArguments, GenericArms, GenericVar, GenericNum, GenericBit, GenericParen, GenericOp, GenericCall, GenericMake, GenericLet, GenericPar, GenericIf, GenericCase, GenericTuple, GenericNoArgument, GenericArgument, GenericLastArm, GenericNextArm, GenericDataTree, GenericRow, GenericGlobals, GenericFunctionTree, GenericParameterTree, place_named, generic_named, data_named}
+use Rattle.gib_syntax.specs.GenericTyping.{FormScope, form_in, form_bound, BindsForms, AreNames, operator_form, field_forms, parameter_forms, result_forms, IsKnownType, AreKnownTypes, CoversType, HasForm, HaveForms, ArmsHaveForm, generic_expressions, all_generic_expressions, arm_generic_expressions, generic_bindings, all_generic_bindings, arm_generic_bindings}
 use Rattle.gib_check.specs.declared.counts.Counts.{Counts}
 use Rattle.gib_check.specs.declared.fault.Kind.{Kind}
 use Rattle.gib_check.specs.declared.fault.Kind.TheVariants as kind
 use Rattle.gib_check.specs.declared.standing.Standing.{Standing}
 use Rattle.gib_check.specs.declared.standing.Standing.TheVariants as standing
 use Rattle.gib_check.specs.declared.standing.Standing.TheVariants.{NoTuple}
-use Rattle.gib_check.specs.Faults.{Checked, and_then, allowed, found, FormPart, one_more, new_variable, part_variable, as_many, known, all_known, row_named, same_lists, same_results, wanted, single_at, all_single, all_wanted, all_of, declared_type, argument_count, ArmHead, heads, head_names, all_declared, is_of, are_different, is_there, covers, field_count, fields_if, all_counted, bind_all, bind_parts, parts_for, types_bound, may_stand, standing_for, MayGive, first_type, infer, infer_all, infer_arms, infer_arm, place}
+use Rattle.gib_check.specs.Faults.{Checked, and_then, allowed, found, FormPart, one_more, new_variable, part_variable, as_many, known, all_known, row_named, same_lists, same_results, wanted, single_at, all_single, all_wanted, all_of, declared_type, argument_count, ArmHead, heads, head_names, all_declared, is_of, are_different, is_there, covers, field_count, fields_if, all_counted, bind_all, bind_parts, bind_given, bind_sides, parts_for, types_bound, may_stand, standing_for, MayGive, first_type, infer, infer_all, infer_arms, infer_arm, place}
 use Rattle.gib_check.proofs.Steps.{PartsAre, EachHas, AllDeclared, AllCounted, IsNew, IsOwn, row_join, given}
 use Rattle.gib_check.proofs.States.{part_new}
 use Rattle.gib_types.proofs.SameForms.{same_form_own}
@@ -167,6 +167,12 @@ bind_parts_yields i scope n (x ∷ xs) (t ∷ ts) inner h l le =
     let o = bind_parts_yields (suc i) (form_bound x t scope) m xs ts inner h.1 (omega (arith, l)) (omega (arith, le, p1)) in let oe = o.so.expressions in let ov = o.so.variables in
     record { value = o.value; is = o.is; so = record { scope = o.so.scope; expressions = oe ∙ p0; variables = omega (arith, ov, p1) } })
 
+binds_long : (scope : FormScope) (xs : List Ident) (ts : List Form) (inner : FormScope) → BindsForms scope xs ts inner → length xs ≡ length ts
+binds_long scope [] [] inner h = refl
+binds_long scope [] (t ∷ ts) inner h = absurd h
+binds_long scope (x ∷ xs) [] inner h = absurd h
+binds_long scope (x ∷ xs) (t ∷ ts) inner h = let e = binds_long (form_bound x t scope) xs ts inner h.1 in omega (arith, e)
+
 -- The types for the variables of a binding, as a list of as many.
 may_bind : (xs : List Ident) (ts : List Form) → length xs ≡ length ts → MayGive (standing_for xs) (as_results ts)
 may_bind [] [] l = tt
@@ -188,16 +194,26 @@ types_bound_ok (x ∷ y ∷ ys) part (t ∷ []) some l e = absurd (omega (arith,
 types_bound_ok (x ∷ y ∷ ys) part (t ∷ u ∷ us) some l e =
     ap (parts_for (length (x ∷ y ∷ ys)) x part) e ∙ ap (λ z. and_then z (λ _. Ok (t ∷ u ∷ us))) (as_many_ok (length (t ∷ u ∷ us)) (length (x ∷ y ∷ ys)) x (sym l))
 
+-- The variables of a binding come into scope.
+bind_given_yields : (scope : FormScope) (n : Counts) (xs : List Ident) (part : FormPart) (ts : List Form) (inner : FormScope) → AreNames xs → BindsForms scope xs ts inner → part.ty ≡ as_results ts → n.variables + length xs ≤ 200 → Yields (bind_given scope n xs part) (BoundTo n (length xs) inner)
+bind_given_yields scope n xs part ts inner few binds e le =
+    then_yields (yields ts (types_bound_ok xs part ts few.0 (binds_long scope xs ts inner binds) e)) (λ us q.
+    bind_parts_yields 0 scope n xs us inner (subst (λ z. BindsForms scope xs z inner) (sym q) binds) (let l = few.1 in omega (arith, l)) le)
+
+-- So those of two sides.
+bind_sides_yields : (scope middle inner : FormScope) (n : Counts) (xs : List Ident) (left : FormPart) (ts : List Form) (ys : List Ident) (right : FormPart) (us : List Form) → AreNames xs → AreNames ys → BindsForms scope xs ts middle → BindsForms middle ys us inner → left.ty ≡ as_results ts → right.ty ≡ as_results us → n.variables + (length xs + length ys) ≤ 200 → Yields (bind_sides scope n xs left ys right) (BoundTo n (length xs + length ys) inner)
+bind_sides_yields scope middle inner n xs left ts ys right us few others bx by' ex ey le =
+    then_yields (yields ts (types_bound_ok xs left ts few.0 (binds_long scope xs ts middle bx) ex)) (λ vs e.
+    then_yields (yields us (types_bound_ok ys right us others.0 (binds_long middle ys us inner by') ey)) (λ ws f.
+    then_yields (bind_parts_yields 0 scope n xs vs middle (subst (λ z. BindsForms scope xs z middle) (sym e) bx) (let l = few.1 in omega (arith, l)) (omega (arith, le))) (λ mid q. let q0 = q.expressions in let q1 = q.variables in
+    let binds : BindsForms mid.0 ys ws inner = subst (λ z. BindsForms z ys ws inner) (sym q.scope) (subst (λ z. BindsForms middle ys z inner) (sym f) by') in
+    let o = bind_parts_yields 0 mid.0 mid.1 ys ws inner binds (let l = others.1 in omega (arith, l)) (omega (arith, le, q1)) in let w0 = o.so.expressions in let w1 = o.so.variables in
+    record { value = o.value; is = o.is; so = record { scope = o.so.scope; expressions = omega (arith, q0, w0); variables = omega (arith, q1, w1) } })))
+
 may_stand_ok : (st : Standing) (n : ℕ) (at : Span) (ts : List Form) → MayGive st (Several ts) → n ≡ length ts → may_stand st n at ≡ Ok (tt {0})
 may_stand_ok standing.NoTuple n at ts u l = absurd u
 may_stand_ok standing.AnyTuple n at ts u l = refl
 may_stand_ok (standing.TupleOf due) n at ts u l = ap (λ b. allowed b kind.Count at (tt {0})) (eq-eqb n due (l ∙ u))
-
-binds_long : (scope : FormScope) (xs : List Ident) (ts : List Form) (inner : FormScope) → BindsForms scope xs ts inner → length xs ≡ length ts
-binds_long scope [] [] inner h = refl
-binds_long scope [] (t ∷ ts) inner h = absurd h
-binds_long scope (x ∷ xs) [] inner h = absurd h
-binds_long scope (x ∷ xs) (t ∷ ts) inner h = let e = binds_long (form_bound x t scope) xs ts inner h.1 in omega (arith, e)
 
 have_long : (g : GenericGlobals) (vars : List ℕ) (m : Meant) (scope : FormScope) (xs : GenericArguments) (ts : List Form) → HaveForms g vars m scope xs ts → argument_count xs ≡ length ts
 have_long g vars m scope GenericNoArgument [] h = refl
@@ -291,26 +307,23 @@ mutual
       then_yields (all_ok g vars m scope o xs (field_forms d (formed_all m ws)) have (omega (arith, le, k0)) (omega (arith, lv, k1))) (λ r s. let se = s.expressions in let sv = s.variables in
       then_yields (yields (tt {0}) (all_wanted_ok r.0 (field_forms d (formed_all m ws)) s.types)) (λ _ _.
       yields_ok (One (DataForm d.owner (formed_all m ws)), r.1) (record { type = ap (λ (z : GenericRow). One (DataForm z.owner (formed_all m ws))) q ∙ sym h.6; expressions = omega (arith, k0, se); variables = omega (arith, k1, sv) }))))))))
-  infer_ok g vars m st scope n (GenericLet p x a b) t h u le lv =
+  infer_ok g vars m st scope n (GenericLet p xs a b) t h u le lv =
+      let many = binds_long scope xs h.0 h.1 h.4 in
       then_yields (one_more_yields n p (omega (arith, le))) (λ o k. let k0 = k.0 in let k1 = k.1 in
-      then_yields (infer_ok g vars m NoTuple scope o a (One h.0) h.1 tt (omega (arith, le, k0)) (omega (arith, lv, k1))) (λ s ss. let se = ss.expressions in let sv = ss.variables in
-      then_yields (yields h.0 (single_ok s.0 (place a) h.0 ss.type)) (λ z e.
-      then_yields (new_variable_yields scope s.1 x h.2 (omega (arith, lv, k1, sv))) (λ l q. let q0 = q.0 in let q1 = q.1 in
-      let has : HasForm g vars m (form_bound x z scope) b t = subst (λ z. HasForm g vars m (form_bound x z scope) b t) (sym e) h.3 in
-      let i = infer_ok g vars m st (form_bound x z scope) l b t has u (omega (arith, le, k0, se, q0)) (omega (arith, lv, k1, sv, q1)) in let oe = i.so.expressions in let ov = i.so.variables in
-      record { value = i.value; is = i.is; so = record { type = i.so.type; expressions = omega (arith, k0, se, q0, oe); variables = omega (arith, k1, sv, q1, ov) } }))))
-  infer_ok g vars m st scope n (GenericPar p x a y b c) t h u le lv =
+      then_yields (infer_ok g vars m (standing_for xs) scope o a (as_results h.0) h.3 (may_bind xs h.0 many) (omega (arith, le, k0)) (omega (arith, lv, k1))) (λ s ss. let se = ss.expressions in let sv = ss.variables in
+      then_yields (bind_given_yields scope s.1 xs (record { ty = s.0; place = place a }) h.0 h.1 h.2 h.4 ss.type (omega (arith, lv, k1, sv))) (λ inner q. let q0 = q.expressions in let q1 = q.variables in
+      let has : HasForm g vars m inner.0 b t = subst (λ z. HasForm g vars m z b t) (sym q.scope) h.5 in
+      let i = infer_ok g vars m st inner.0 inner.1 b t has u (omega (arith, le, k0, se, q0)) (omega (arith, lv, k1, sv, q1)) in let oe = i.so.expressions in let ov = i.so.variables in
+      record { value = i.value; is = i.is; so = record { type = i.so.type; expressions = omega (arith, k0, se, q0, oe); variables = omega (arith, k1, sv, q1, ov) } })))
+  infer_ok g vars m st scope n (GenericPar p xs a ys b c) t h u le lv =
+      let many = binds_long scope xs h.0 h.2 h.8 in let others = binds_long h.2 ys h.1 h.3 h.9 in
       then_yields (one_more_yields n p (omega (arith, le))) (λ o k. let k0 = k.0 in let k1 = k.1 in
-      then_yields (infer_ok g vars m NoTuple scope o a (One h.0) h.2 tt (omega (arith, le, k0)) (omega (arith, lv, k1))) (λ s ss. let se = ss.expressions in let sv = ss.variables in
-      then_yields (infer_ok g vars m NoTuple scope s.1 b (One h.1) h.3 tt (omega (arith, le, k0, se)) (omega (arith, lv, k1, sv))) (λ v sv'. let ue = sv'.expressions in let uv = sv'.variables in
-      then_yields (yields h.0 (single_ok s.0 (place a) h.0 ss.type)) (λ za ea.
-      then_yields (yields h.1 (single_ok v.0 (place b) h.1 sv'.type)) (λ zb eb.
-      then_yields (new_variable_yields scope v.1 x h.4 (omega (arith, lv, k1, sv, uv))) (λ l q. let q0 = q.0 in let q1 = q.1 in
-      let new : IsNew (form_bound x za scope) y = subst (λ z. IsNew (form_bound x z scope) y) (sym ea) h.5 in
-      then_yields (new_variable_yields (form_bound x za scope) l y new (omega (arith, lv, k1, sv, uv, q1))) (λ j w. let w0 = w.0 in let w1 = w.1 in
-      let has : HasForm g vars m (form_bound y zb (form_bound x za scope)) c t = subst (λ z. HasForm g vars m (form_bound y z (form_bound x za scope)) c t) (sym eb) (subst (λ z. HasForm g vars m (form_bound y h.1 (form_bound x z scope)) c t) (sym ea) h.6) in
-      let i = infer_ok g vars m st (form_bound y zb (form_bound x za scope)) j c t has u (omega (arith, le, k0, se, ue, q0, w0)) (omega (arith, lv, k1, sv, uv, q1, w1)) in let oe = i.so.expressions in let ov = i.so.variables in
-      record { value = i.value; is = i.is; so = record { type = i.so.type; expressions = omega (arith, k0, se, ue, q0, w0, oe); variables = omega (arith, k1, sv, uv, q1, w1, ov) } })))))))
+      then_yields (infer_ok g vars m (standing_for xs) scope o a (as_results h.0) h.6 (may_bind xs h.0 many) (omega (arith, le, k0)) (omega (arith, lv, k1))) (λ s ss. let se = ss.expressions in let sv = ss.variables in
+      then_yields (infer_ok g vars m (standing_for ys) scope s.1 b (as_results h.1) h.7 (may_bind ys h.1 others) (omega (arith, le, k0, se)) (omega (arith, lv, k1, sv))) (λ v vv. let ve = vv.expressions in let vv' = vv.variables in
+      then_yields (bind_sides_yields scope h.2 h.3 v.1 xs (record { ty = s.0; place = place a }) h.0 ys (record { ty = v.0; place = place b }) h.1 h.4 h.5 h.8 h.9 ss.type vv.type (omega (arith, lv, k1, sv, vv'))) (λ inner q. let q0 = q.expressions in let q1 = q.variables in
+      let has : HasForm g vars m inner.0 c t = subst (λ z. HasForm g vars m z c t) (sym q.scope) h.10 in
+      let i = infer_ok g vars m st inner.0 inner.1 c t has u (omega (arith, le, k0, se, ve, q0)) (omega (arith, lv, k1, sv, vv', q1)) in let oe = i.so.expressions in let ov = i.so.variables in
+      record { value = i.value; is = i.is; so = record { type = i.so.type; expressions = omega (arith, k0, se, ve, q0, oe); variables = omega (arith, k1, sv, vv', q1, ov) } }))))
   infer_ok g vars m st scope n (GenericIf p a b c) t h u le lv =
       then_yields (one_more_yields n p (omega (arith, le))) (λ o k. let k0 = k.0 in let k1 = k.1 in
       then_yields (infer_ok g vars m NoTuple scope o a (One TruthForm) h.0 tt (omega (arith, le, k0)) (omega (arith, lv, k1))) (λ x sx. let xe = sx.expressions in let xv = sx.variables in
@@ -337,28 +350,6 @@ mutual
       then_yields (all_ok g vars m scope o xs h.0 h.2 (omega (arith, le, k0)) (omega (arith, lv, k1))) (λ r s. let se = s.expressions in let sv = s.variables in
       then_yields (yields h.0 (all_single_ok r.0 h.0 s.types)) (λ ts q.
       yields_ok (Several ts, r.1) (record { type = ap Several q ∙ sym h.1; expressions = omega (arith, k0, se); variables = omega (arith, k1, sv) })))))
-  infer_ok g vars m st scope n (GenericLetSeveral p xs a b) t h u le lv =
-      let many = binds_long scope xs h.0 h.1 h.4 in
-      then_yields (one_more_yields n p (omega (arith, le))) (λ o k. let k0 = k.0 in let k1 = k.1 in
-      then_yields (infer_ok g vars m (standing_for xs) scope o a (as_results h.0) h.3 (may_bind xs h.0 many) (omega (arith, le, k0)) (omega (arith, lv, k1))) (λ s ss. let se = ss.expressions in let sv = ss.variables in
-      then_yields (yields h.0 (types_bound_ok xs (record { ty = s.0; place = place a }) h.0 h.2.0 many ss.type)) (λ ts e.
-      then_yields (bind_parts_yields 0 scope s.1 xs ts h.1 (subst (λ z. BindsForms scope xs z h.1) (sym e) h.4) (let l = h.2.1 in omega (arith, l)) (omega (arith, lv, k1, sv))) (λ inner q. let q0 = q.expressions in let q1 = q.variables in
-      let has : HasForm g vars m inner.0 b t = subst (λ z. HasForm g vars m z b t) (sym q.scope) h.5 in
-      let i = infer_ok g vars m st inner.0 inner.1 b t has u (omega (arith, le, k0, se, q0)) (omega (arith, lv, k1, sv, q1)) in let oe = i.so.expressions in let ov = i.so.variables in
-      record { value = i.value; is = i.is; so = record { type = i.so.type; expressions = omega (arith, k0, se, q0, oe); variables = omega (arith, k1, sv, q1, ov) } }))))
-  infer_ok g vars m st scope n (GenericParSeveral p xs a ys b c) t h u le lv =
-      let many = binds_long scope xs h.0 h.2 h.8 in let others = binds_long h.2 ys h.1 h.3 h.9 in
-      then_yields (one_more_yields n p (omega (arith, le))) (λ o k. let k0 = k.0 in let k1 = k.1 in
-      then_yields (infer_ok g vars m (standing_for xs) scope o a (as_results h.0) h.6 (may_bind xs h.0 many) (omega (arith, le, k0)) (omega (arith, lv, k1))) (λ s ss. let se = ss.expressions in let sv = ss.variables in
-      then_yields (infer_ok g vars m (standing_for ys) scope s.1 b (as_results h.1) h.7 (may_bind ys h.1 others) (omega (arith, le, k0, se)) (omega (arith, lv, k1, sv))) (λ v vv. let ve = vv.expressions in let vv' = vv.variables in
-      then_yields (yields h.0 (types_bound_ok xs (record { ty = s.0; place = place a }) h.0 h.4.0 many ss.type)) (λ ts e.
-      then_yields (yields h.1 (types_bound_ok ys (record { ty = v.0; place = place b }) h.1 h.5.0 others vv.type)) (λ us f.
-      then_yields (bind_parts_yields 0 scope v.1 xs ts h.2 (subst (λ z. BindsForms scope xs z h.2) (sym e) h.8) (let l = h.4.1 in omega (arith, l)) (omega (arith, lv, k1, sv, vv'))) (λ middle q. let q0 = q.expressions in let q1 = q.variables in
-      let binds : BindsForms middle.0 ys us h.3 = subst (λ z. BindsForms z ys us h.3) (sym q.scope) (subst (λ z. BindsForms h.2 ys z h.3) (sym f) h.9) in
-      then_yields (bind_parts_yields 0 middle.0 middle.1 ys us h.3 binds (let l = h.5.1 in omega (arith, l)) (omega (arith, lv, k1, sv, vv', q1))) (λ inner w. let w0 = w.expressions in let w1 = w.variables in
-      let has : HasForm g vars m inner.0 c t = subst (λ z. HasForm g vars m z c t) (sym w.scope) h.10 in
-      let i = infer_ok g vars m st inner.0 inner.1 c t has u (omega (arith, le, k0, se, ve, q0, w0)) (omega (arith, lv, k1, sv, vv', q1, w1)) in let oe = i.so.expressions in let ov = i.so.variables in
-      record { value = i.value; is = i.is; so = record { type = i.so.type; expressions = omega (arith, k0, se, ve, q0, w0, oe); variables = omega (arith, k1, sv, vv', q1, w1, ov) } })))))))
 
   pub all_ok : (g : GenericGlobals) (vars : List ℕ) (m : Meant) (scope : FormScope) (n : Counts) (xs : GenericArguments) (ts : List Form) → HaveForms g vars m scope xs ts → n.expressions + all_generic_expressions xs ≤ 2000 → n.variables + all_generic_bindings xs ≤ 200 → Yields (infer_all g vars m scope n xs) (AllTold n ts (all_generic_expressions xs) (all_generic_bindings xs))
   all_ok g vars m scope n GenericNoArgument [] h le lv = yields_ok ([], n) (record { types = tt; expressions = omega arith; variables = omega arith })

@@ -7,14 +7,14 @@ use Rattle.gib_syntax.specs.Declarations.{number_of}
 use Rattle.gib_syntax.specs.Results.{Results, One, Several}
 use Rattle.gib_types.specs.Form.{Form, Forms, WholeForm, TruthForm, DataForm, Meant}
 use Rattle.gib_syntax.specs.Forms.{formed, formed_all, assign, count_written}
-use Rattle.gib_syntax.specs.GenericTree.{GenericExpression, GenericArguments, GenericArms, GenericVar, GenericNum, GenericBit, GenericParen, GenericOp, GenericCall, GenericMake, GenericLet, GenericPar, GenericIf, GenericCase, GenericTuple, GenericLetSeveral, GenericParSeveral, GenericNoArgument, GenericArgument, GenericLastArm, GenericNextArm, GenericRow, GenericGlobals, GenericParameterTree, place_named, generic_named}
+use Rattle.gib_syntax.specs.GenericTree.{GenericExpression, GenericArguments, GenericArms, GenericVar, GenericNum, GenericBit, GenericParen, GenericOp, GenericCall, GenericMake, GenericLet, GenericPar, GenericIf, GenericCase, GenericTuple, GenericNoArgument, GenericArgument, GenericLastArm, GenericNextArm, GenericRow, GenericGlobals, GenericParameterTree, place_named, generic_named}
 use Rattle.gib_syntax.specs.GenericTyping.{FormScope, form_in, form_bound, BindsForms, operator_form, field_forms, parameter_forms, result_forms, generic_arm_names, CoversType, HasForm, HaveForms, ArmsHaveForm, generic_expressions, all_generic_expressions, arm_generic_expressions, generic_bindings, all_generic_bindings, arm_generic_bindings}
 use Rattle.gib_check.specs.declared.counts.Counts.{Counts}
 use Rattle.gib_check.specs.declared.fault.Kind.TheVariants as kind
 use Rattle.gib_check.specs.declared.standing.Standing.{Standing}
 use Rattle.gib_check.specs.declared.standing.Standing.TheVariants.{NoTuple}
-use Rattle.gib_check.specs.Faults.{FormPart, argument_count, heads, head_names, row_named, fields_if, field_count, first_type, standing_for, types_bound, may_stand, infer, infer_all, infer_arms, infer_arm, place}
-use Rattle.gib_check.proofs.Steps.{Holds, holds_ok, then_holds, found_holds, one_more_holds, new_variable_holds, as_many_holds, all_known_holds, wanted_holds, single_holds, PartsAre, all_single_holds, types_bound_holds, bind_parts_holds, PartsHave, all_wanted_holds, EachHas, all_of_holds, declared_type_holds, AllCounted, all_counted_holds, covered_holds, bind_all_holds, IsOwn, row_split, row_join, fields_long}
+use Rattle.gib_check.specs.Faults.{FormPart, argument_count, heads, head_names, row_named, fields_if, field_count, first_type, standing_for, may_stand, infer, infer_all, infer_arms, infer_arm, place}
+use Rattle.gib_check.proofs.Steps.{Holds, holds_ok, then_holds, found_holds, one_more_holds, new_variable_holds, as_many_holds, all_known_holds, wanted_holds, PartsAre, all_single_holds, bind_given_holds, bind_sides_holds, PartsHave, all_wanted_holds, EachHas, all_of_holds, declared_type_holds, AllCounted, all_counted_holds, covered_holds, bind_all_holds, IsOwn, row_split, row_join, fields_long}
 
 pub record Sound (g : GenericGlobals) (vars : List ℕ) (m : Meant) (scope : FormScope) (n : Counts) (e : GenericExpression) (t : Results Form) (o : Counts) : Type 0 where
   pub has : HasForm g vars m scope e t
@@ -198,6 +198,21 @@ mutual
               few = λ z. sc.few (omega (arith, f1, w1));
             });
       })))))))
+  infer_sound g vars m st scope n (GenericPar p xs a ys b c) =
+      then_holds (one_more_holds n p) (λ o h. then_holds (infer_sound g vars m (standing_for xs) scope o a) (λ s sa. then_holds (infer_sound g vars m (standing_for ys) scope s.1 b) (λ t sb.
+      then_holds (bind_sides_holds scope t.1 xs (record { ty = s.0; place = place a }) ys (record { ty = t.0; place = place b })) (λ inner v.
+      record {
+        by = λ r q. (let sc = (infer_sound g vars m st inner.0 inner.1 c).by r q in
+            let i = counted n o h.1 in let c0 = i.0 in let c1 = i.1 in let h0 = h.0 in let a0 = sa.expressions in let a1 = sa.variables in let b0 = sb.expressions in let b1 = sb.variables in let e0 = sc.expressions in let e1 = sc.variables in
+            let d0 = v.left.bound.expressions in let d1 = v.left.bound.variables in let f0 = v.right.bound.expressions in let f1 = v.right.bound.variables in
+            record {
+              has = (v.left.types, v.right.types, v.middle.0, inner.0, v.left.names, v.right.names, subst (λ z. HasForm g vars m scope a z) v.left.gives sa.has, subst (λ z. HasForm g vars m scope b z) v.right.gives sb.has, v.left.bound.binds, v.right.bound.binds, sc.has);
+              expressions = omega (arith, c0, a0, b0, e0, d0, f0);
+              variables = omega (arith, c1, a1, b1, e1, d1, f1);
+              short = λ z. sc.short (let k = sb.short (sa.short (omega (arith, c0, h0))) in omega (arith, k, d0, f0));
+              few = λ z. sc.few (v.right.bound.few (v.left.bound.few (sb.few (sa.few (omega (arith, c1, z))))));
+            });
+      }))))
   infer_sound g vars m st scope n (GenericIf p a b c) =
       then_holds (one_more_holds n p) (λ o h. then_holds (infer_sound g vars m NoTuple scope o a) (λ x sa. then_holds (infer_sound g vars m st scope x.1 b) (λ y sb. then_holds (infer_sound g vars m st scope y.1 c) (λ z sc.
       then_holds (wanted_holds (One TruthForm) (record { ty = x.0; place = place a })) (λ _ wa. then_holds (wanted_holds y.0 (record { ty = z.0; place = place c })) (λ _ wc.
@@ -235,37 +250,6 @@ mutual
       }))))) where
         stands : Holds (may_stand st (argument_count xs) p) (λ _. Unit {0})
         stands = record { by = λ u e. tt }
-  infer_sound g vars m st scope n (GenericLetSeveral p xs a b) =
-      then_holds (one_more_holds n p) (λ o h. then_holds (infer_sound g vars m (standing_for xs) scope o a) (λ s sa. then_holds (types_bound_holds xs (record { ty = s.0; place = place a })) (λ ts t.
-      then_holds (bind_parts_holds 0 scope s.1 xs ts t.many) (λ inner v.
-      record {
-        by = λ r q. (let sb = (infer_sound g vars m st inner.0 inner.1 b).by r q in
-            let c = counted n o h.1 in let c0 = c.0 in let c1 = c.1 in let h0 = h.0 in let a0 = sa.expressions in let a1 = sa.variables in let b0 = sb.expressions in let b1 = sb.variables in
-            let d0 = v.bound.expressions in let d1 = v.bound.variables in let l = v.eight (omega arith) in
-            record {
-              has = (ts, inner.0, (t.some, omega (arith, l)), subst (λ z. HasForm g vars m scope a z) t.gives sa.has, v.bound.binds, sb.has);
-              expressions = omega (arith, c0, a0, b0, d0);
-              variables = omega (arith, c1, a1, b1, d1);
-              short = λ z. sb.short (let w = sa.short (omega (arith, c0, h0)) in omega (arith, w, d0));
-              few = λ z. sb.few (v.bound.few (sa.few (omega (arith, c1, z))));
-            });
-      }))))
-  infer_sound g vars m st scope n (GenericParSeveral p xs a ys b c) =
-      then_holds (one_more_holds n p) (λ o h. then_holds (infer_sound g vars m (standing_for xs) scope o a) (λ s sa. then_holds (infer_sound g vars m (standing_for ys) scope s.1 b) (λ t sb.
-      then_holds (types_bound_holds xs (record { ty = s.0; place = place a })) (λ ts ta. then_holds (types_bound_holds ys (record { ty = t.0; place = place b })) (λ us tb.
-      then_holds (bind_parts_holds 0 scope t.1 xs ts ta.many) (λ middle v. then_holds (bind_parts_holds 0 middle.0 middle.1 ys us tb.many) (λ inner w.
-      record {
-        by = λ r q. (let sc = (infer_sound g vars m st inner.0 inner.1 c).by r q in
-            let i = counted n o h.1 in let c0 = i.0 in let c1 = i.1 in let h0 = h.0 in let a0 = sa.expressions in let a1 = sa.variables in let b0 = sb.expressions in let b1 = sb.variables in let e0 = sc.expressions in let e1 = sc.variables in
-            let d0 = v.bound.expressions in let d1 = v.bound.variables in let f0 = w.bound.expressions in let f1 = w.bound.variables in let lx = v.eight (omega arith) in let ly = w.eight (omega arith) in
-            record {
-              has = (ts, us, middle.0, inner.0, (ta.some, omega (arith, lx)), (tb.some, omega (arith, ly)), subst (λ z. HasForm g vars m scope a z) ta.gives sa.has, subst (λ z. HasForm g vars m scope b z) tb.gives sb.has, v.bound.binds, w.bound.binds, sc.has);
-              expressions = omega (arith, c0, a0, b0, e0, d0, f0);
-              variables = omega (arith, c1, a1, b1, e1, d1, f1);
-              short = λ z. sc.short (let k = sb.short (sa.short (omega (arith, c0, h0))) in omega (arith, k, d0, f0));
-              few = λ z. sc.few (w.bound.few (v.bound.few (sb.few (sa.few (omega (arith, c1, z))))));
-            });
-      })))))))
 
   pub all_sound : (g : GenericGlobals) (vars : List ℕ) (m : Meant) (scope : FormScope) (n : Counts) (xs : GenericArguments) → Holds (infer_all g vars m scope n xs) (λ r. SoundAll g vars m scope n xs r.0 r.1)
   all_sound g vars m scope n GenericNoArgument = holds_ok ([], n) (record { have = tt; expressions = omega arith; variables = omega arith; short = λ z. z; few = λ z. z })

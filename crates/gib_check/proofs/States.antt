@@ -51,14 +51,6 @@ id_below n (b ∷ scope) x i h e = go (eqb b.0 x) e (λ q. id_below n scope x i 
   go true q f = let same : b.1 ≡ i = cc in subst (λ (z : TypeId). z.0 < n) same h.0
   go false q f = f q
 
--- Whether a name is in scope.
-is_there : (fs : List Form) (o : Option TypeId) → is_some (id_form fs o) ≡ is_some o
-is_there fs None = refl
-is_there fs (Some i) = refl
-
-pub scope_has : (fs : List Form) (scope : IdScope) (x : ℕ) (o : Option TypeId) → o ≡ id_in scope x → is_some (form_in (scope_forms fs scope) x) ≡ is_some o
-scope_has fs scope x o e = ap (λ (z : Option Form). is_some z) (form_of_id fs scope x ∙ ap (id_form fs) (sym e)) ∙ is_there fs o
-
 pub forms_drop : (fs : List Form) (n : ℕ) (scope : IdScope) → scope_forms fs (drop n scope) ≡ drop n (scope_forms fs scope)
 forms_drop fs zero scope = refl
 forms_drop fs (suc n) [] = refl
@@ -77,46 +69,18 @@ type_below s types parts scope counts x o i e h q r = subst (λ (z : Judging). i
 pub type_missing : (s : Judging) (types : List TypeNode) (parts : List TypeId) (scope : IdScope) (counts : Counts) (x : Ident) (o : Option TypeId) → judging types parts scope counts ≡ s → o ≡ id_in scope (number_of x) → o ≡ None → variable (in_scope s) x ≡ Err (record { kind = kind.Unknown; span = x.span })
 type_missing s types parts scope counts x o e q r = subst (λ z. variable (in_scope z) x ≡ Err (record { kind = kind.Unknown; span = x.span })) e (variable_missing (forms_of types) scope x o q r)
 
--- A new variable.
-none_of_some : (o : Option Form) → is_some o ≡ true → is_none o ≡ false
-none_of_some None e = absurd cc
-none_of_some (Some f) e = refl
+-- Whether a name is in scope.
+pub name_twice : (s : Judging) (types : List TypeNode) (parts : List TypeId) (scope : IdScope) (counts : Counts) (x : Ident) (o : Option TypeId) (i : TypeId) → judging types parts scope counts ≡ s → o ≡ id_in scope (number_of x) → o ≡ Some i → unbound (in_scope s) x ≡ Err (record { kind = kind.Twice; span = x.span })
+name_twice s types parts scope counts x o i e q r =
+    subst (λ z. unbound (in_scope z) x ≡ Err (record { kind = kind.Twice; span = x.span })) e
+    (ap (λ z. allowed (is_none z) kind.Twice x.span (tt {0})) (form_of_id (forms_of types) scope (number_of x) ∙ ap (id_form (forms_of types)) (sym q ∙ r)))
 
-none_of_none : (o : Option Form) → is_some o ≡ false → is_none o ≡ true
-none_of_none None e = refl
-none_of_none (Some f) e = absurd cc
-
-pub new_twice : (s : Judging) (types : List TypeNode) (parts : List TypeId) (scope : IdScope) (counts : Counts) (x : Ident) (o : Option TypeId) → judging types parts scope counts ≡ s → o ≡ id_in scope (number_of x) → is_some o ≡ true → new_variable (in_scope s) s.counts x ≡ Err (record { kind = kind.Twice; span = x.span })
-new_twice s types parts scope counts x o e q r =
-    subst (λ (z : Judging). new_variable (in_scope z) z.counts x ≡ Err (record { kind = kind.Twice; span = x.span })) e
-    (ap (λ b. and_then (allowed b kind.Twice x.span (tt {0})) (λ _. counted counts x)) (none_of_some (form_in (scope_forms (forms_of types) scope) (number_of x)) (scope_has (forms_of types) scope (number_of x) o q ∙ r)))
-
-pub new_limit : (s : Judging) (types : List TypeNode) (parts : List TypeId) (scope : IdScope) (counts : Counts) (x : Ident) (o : Option TypeId) → judging types parts scope counts ≡ s → o ≡ id_in scope (number_of x) → is_some o ≡ false → 200 ≤ counts.variables → new_variable (in_scope s) s.counts x ≡ Err (record { kind = kind.Limit; span = x.span })
-new_limit s types parts scope counts x o e q r l =
-    subst (λ (z : Judging). new_variable (in_scope z) z.counts x ≡ Err (record { kind = kind.Limit; span = x.span })) e
-    (ap (λ b. and_then (allowed b kind.Twice x.span (tt {0})) (λ _. counted counts x)) (none_of_none (form_in (scope_forms (forms_of types) scope) (number_of x)) (scope_has (forms_of types) scope (number_of x) o q ∙ r))
-    ∙ ap (λ b. allowed b kind.Limit x.span (record counts { variables = counts.variables + 1 })) (le-ltb counts.variables 200 l))
-
-pub new_counted : (s : Judging) (types : List TypeNode) (parts : List TypeId) (scope : IdScope) (counts : Counts) (x : Ident) (o : Option TypeId) → judging types parts scope counts ≡ s → o ≡ id_in scope (number_of x) → is_some o ≡ false → counts.variables < 200 → new_variable (in_scope s) s.counts x ≡ Ok (record counts { variables = counts.variables + 1 })
-new_counted s types parts scope counts x o e q r l =
-    subst (λ (z : Judging). new_variable (in_scope z) z.counts x ≡ Ok (record counts { variables = counts.variables + 1 })) e
-    (ap (λ b. and_then (allowed b kind.Twice x.span (tt {0})) (λ _. counted counts x)) (none_of_none (form_in (scope_forms (forms_of types) scope) (number_of x)) (scope_has (forms_of types) scope (number_of x) o q ∙ r))
-    ∙ ap (λ b. allowed b kind.Limit x.span (record counts { variables = counts.variables + 1 })) (lt-ltb counts.variables 200 l))
+pub name_new : (s : Judging) (types : List TypeNode) (parts : List TypeId) (scope : IdScope) (counts : Counts) (x : Ident) (o : Option TypeId) → judging types parts scope counts ≡ s → o ≡ id_in scope (number_of x) → o ≡ None → unbound (in_scope s) x ≡ Ok (tt {0})
+name_new s types parts scope counts x o e q r =
+    subst (λ z. unbound (in_scope z) x ≡ Ok (tt {0})) e
+    (ap (λ z. allowed (is_none z) kind.Twice x.span (tt {0})) (form_of_id (forms_of types) scope (number_of x) ∙ ap (id_form (forms_of types)) (sym q ∙ r)))
 
 -- One of the variables of a binding of parts.
-pub part_twice : (i : ℕ) (s : Judging) (types : List TypeNode) (parts : List TypeId) (scope : IdScope) (counts : Counts) (x : Ident) (o : Option TypeId) → judging types parts scope counts ≡ s → o ≡ id_in scope (number_of x) → is_some o ≡ true → part_variable i (in_scope s) s.counts x ≡ Err (record { kind = kind.Twice; span = x.span })
-part_twice i s types parts scope counts x o e q r =
-    subst (λ (z : Judging). part_variable i (in_scope z) z.counts x ≡ Err (record { kind = kind.Twice; span = x.span })) e
-    (ap (λ b. and_then (allowed b kind.Twice x.span (tt {0})) (λ _. and_then (allowed (ltb i 8) kind.Limit x.span (tt {0})) (λ _. counted counts x)))
-    (none_of_some (form_in (scope_forms (forms_of types) scope) (number_of x)) (scope_has (forms_of types) scope (number_of x) o q ∙ r)))
-
-pub part_limit : (i : ℕ) (s : Judging) (types : List TypeNode) (parts : List TypeId) (scope : IdScope) (counts : Counts) (x : Ident) (o : Option TypeId) → judging types parts scope counts ≡ s → o ≡ id_in scope (number_of x) → is_some o ≡ false → 8 ≤ i → part_variable i (in_scope s) s.counts x ≡ Err (record { kind = kind.Limit; span = x.span })
-part_limit i s types parts scope counts x o e q r l =
-    subst (λ (z : Judging). part_variable i (in_scope z) z.counts x ≡ Err (record { kind = kind.Limit; span = x.span })) e
-    (ap (λ b. and_then (allowed b kind.Twice x.span (tt {0})) (λ _. and_then (allowed (ltb i 8) kind.Limit x.span (tt {0})) (λ _. counted counts x)))
-    (none_of_none (form_in (scope_forms (forms_of types) scope) (number_of x)) (scope_has (forms_of types) scope (number_of x) o q ∙ r))
-    ∙ ap (λ b. and_then (allowed b kind.Limit x.span (tt {0})) (λ _. counted counts x)) (le-ltb i 8 l))
-
 pub part_new : (i : ℕ) (scope : FormScope) (n : Counts) (x : Ident) → i < 8 → part_variable i scope n x ≡ new_variable scope n x
 part_new i scope n x l = ap (λ b. and_then (unbound scope x) (λ _. and_then (allowed b kind.Limit x.span (tt {0})) (λ _. counted n x))) (lt-ltb i 8 l)
 

@@ -13,12 +13,12 @@ use Rattle.gib_types.specs.SameForm.{same_form}
 use Rattle.gib_types.proofs.SameForms.{same_form_is}
 use Rattle.gib_syntax.specs.Forms.{WrittenType, WrittenTypes, WholeAt, TruthAt, VariableAt, DataAt, NoType, MoreTypes, formed, assign, count_written}
 use Rattle.gib_syntax.specs.GenericTree.{GenericDataTree, GenericRow, place_named, data_named}
-use Rattle.gib_syntax.specs.GenericTyping.{FormScope, form_in, form_bound, BindsForms, IsKnownType, AreKnownTypes, CoversType}
+use Rattle.gib_syntax.specs.GenericTyping.{FormScope, form_in, form_bound, BindsForms, AreNames, IsKnownType, AreKnownTypes, CoversType}
 use Rattle.gib_check.specs.declared.counts.Counts.{Counts}
 use Rattle.gib_check.specs.declared.fault.Fault.{Fault}
 use Rattle.gib_check.specs.declared.fault.Kind.{Kind}
 use Rattle.gib_check.specs.declared.fault.Kind.TheVariants as kind
-use Rattle.gib_check.specs.Faults.{Checked, and_then, allowed, found, FormPart, one_more, new_variable, part_variable, as_many, known, all_known, row_at, row_named, same_lists, same_results, wanted, single_at, all_single, all_wanted, all_of, declared_type, ArmHead, is_of, are_different, is_there, covers, covered, field_count, fields_if, all_counted, bind_all, parts_for, types_bound, bind_parts}
+use Rattle.gib_check.specs.Faults.{Checked, and_then, allowed, found, FormPart, one_more, new_variable, part_variable, as_many, known, all_known, row_at, row_named, same_lists, same_results, wanted, single_at, all_single, all_wanted, all_of, declared_type, ArmHead, is_of, are_different, is_there, covers, covered, field_count, fields_if, all_counted, bind_all, parts_for, types_bound, bind_parts, bind_given, bind_sides}
 
 -- What is answered is so.
 pub record Holds {A : Type 0} (c : Checked A) (P : A → Type 0) : Type 0 where
@@ -295,3 +295,31 @@ bind_parts_holds i scope n (x ∷ xs) (t ∷ ts) l =
             eight = λ h. (let q = p.1 in let k = o.eight (omega (arith, q)) in omega (arith, k));
           };
     })
+
+-- The variables of a binding were bound to what its right side gives.
+pub record BoundToGiven (scope : FormScope) (n : Counts) (xs : List Ident) (r : Results Form) (inner : FormScope) (m : Counts) : Type 0 where
+  pub types : List Form
+  pub gives : r ≡ as_results types
+  pub names : AreNames xs
+  pub bound : Bound scope n xs types inner m
+
+given_holds : (scope : FormScope) (n : Counts) (xs : List Ident) (r : Results Form) (ts : List Form) → ForNames xs r ts → Holds (bind_parts 0 scope n xs ts) (λ i. BoundToGiven scope n xs r i.0 i.1)
+given_holds scope n xs r ts t =
+    record {
+      by = λ i e. let o = (bind_parts_holds 0 scope n xs ts t.many).by i e in
+          record { types = ts; gives = t.gives; names = (t.some, let l = o.eight (omega arith) in omega (arith, l)); bound = o.bound };
+    }
+
+pub bind_given_holds : (scope : FormScope) (n : Counts) (xs : List Ident) (part : FormPart) → Holds (bind_given scope n xs part) (λ i. BoundToGiven scope n xs part.ty i.0 i.1)
+bind_given_holds scope n xs part = then_holds (types_bound_holds xs part) (λ ts t. given_holds scope n xs part.ty ts t)
+
+-- So those of two sides.
+pub record BothBound (scope : FormScope) (n : Counts) (xs : List Ident) (l : Results Form) (ys : List Ident) (r : Results Form) (inner : FormScope) (m : Counts) : Type 0 where
+  pub middle : FormScope × Counts
+  pub left : BoundToGiven scope n xs l middle.0 middle.1
+  pub right : BoundToGiven middle.0 middle.1 ys r inner m
+
+pub bind_sides_holds : (scope : FormScope) (n : Counts) (xs : List Ident) (left : FormPart) (ys : List Ident) (right : FormPart) → Holds (bind_sides scope n xs left ys right) (λ i. BothBound scope n xs left.ty ys right.ty i.0 i.1)
+bind_sides_holds scope n xs left ys right =
+    then_holds (types_bound_holds xs left) (λ ts ta. then_holds (types_bound_holds ys right) (λ us tb. then_holds (given_holds scope n xs left.ty ts ta) (λ middle v.
+    record { by = λ i e. record { middle = middle; left = v; right = (given_holds middle.0 middle.1 ys right.ty us tb).by i e } })))

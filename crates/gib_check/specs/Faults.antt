@@ -7,7 +7,7 @@ use Rattle.gib_syntax.specs.Results.{Results, One, Several}
 use Rattle.gib_syntax.specs.Declarations.{number_of, place_of}
 use Rattle.gib_syntax.specs.Forms.{WrittenType, WrittenTypes, WholeAt, TruthAt, VariableAt, DataAt, NoType, MoreTypes, Form, Forms, WholeForm, TruthForm, VariableForm, DataForm, Meant, formed_all, count_written}
 use Rattle.gib_types.specs.SameForm.{same_form}
-use Rattle.gib_syntax.specs.GenericTree.{GenericExpression, GenericArguments, GenericArms, GenericVar, GenericNum, GenericBit, GenericParen, GenericOp, GenericCall, GenericMake, GenericLet, GenericPar, GenericIf, GenericCase, GenericTuple, GenericLetSeveral, GenericParSeveral, GenericNoArgument, GenericArgument, GenericLastArm, GenericNextArm, GenericDataTree, GenericFunctionTree, GenericRow, GenericGlobals, place_named, generic_named, data_named}
+use Rattle.gib_syntax.specs.GenericTree.{GenericExpression, GenericArguments, GenericArms, GenericVar, GenericNum, GenericBit, GenericParen, GenericOp, GenericCall, GenericMake, GenericLet, GenericPar, GenericIf, GenericCase, GenericTuple, GenericNoArgument, GenericArgument, GenericLastArm, GenericNextArm, GenericDataTree, GenericFunctionTree, GenericRow, GenericGlobals, place_named, generic_named, data_named}
 use Rattle.gib_syntax.specs.GenericTyping.{FormScope, form_in, form_bound, operator_form, field_forms, parameter_forms, result_forms}
 use Rattle.gib_check.specs.declared.counts.Counts.{Counts}
 use Rattle.gib_check.specs.declared.fault.Fault.{Fault}
@@ -49,13 +49,11 @@ place (GenericParen p e) = place e
 place (GenericOp p f a b) = p
 place (GenericCall f ws xs) = f.span
 place (GenericMake k ws xs) = k.span
-place (GenericLet p x a b) = p
-place (GenericPar p x a y b c) = p
+place (GenericLet p xs a b) = p
+place (GenericPar p xs a ys b c) = p
 place (GenericIf p a b c) = p
 place (GenericCase p x arms) = p
 place (GenericTuple p xs) = p
-place (GenericLetSeveral p xs a b) = p
-place (GenericParSeveral p xs a ys b c) = p
 
 -- `Limit`: one more expression, where 2,000 were not met yet.
 abbrev pub one_more : Counts → Span → Checked Counts
@@ -295,6 +293,18 @@ bind_parts i scope n [] ts = Ok (scope, n)
 bind_parts i scope n (x ∷ xs) [] = Ok (scope, n)
 bind_parts i scope n (x ∷ xs) (t ∷ ts) = and_then (part_variable i scope n x) (λ m. bind_parts (suc i) (form_bound x t scope) m xs ts)
 
+-- The variables of a binding come into scope with what its right side gives.
+abbrev pub bind_given : FormScope → Counts → List Ident → FormPart → Checked (FormScope × Counts)
+bind_given scope n xs part = and_then (types_bound xs part) (λ ts. bind_parts 0 scope n xs ts)
+
+-- So those of two sides: first both sides are looked at, then the variables of both come into scope, those of the left before.
+abbrev pub bind_sides : FormScope → Counts → List Ident → FormPart → List Ident → FormPart → Checked (FormScope × Counts)
+bind_sides scope n xs left ys right =
+    and_then (types_bound xs left)
+    (λ ts. and_then (types_bound ys right)
+    (λ us. and_then (bind_parts 0 scope n xs ts)
+    (λ middle. bind_parts 0 middle.0 middle.1 ys us)))
+
 -- A tuple of so many parts: where it stands, the parts, and that none of them has parts itself.
 abbrev pub infer_tuple : Standing → Counts → Span → ℕ → (Counts → Checked (List FormPart × Counts)) → Checked (Results Form × Counts)
 infer_tuple st n p count results =
@@ -365,21 +375,17 @@ abbrev mutual
       (λ _. Ok (One (operator_form f), y.1))))))
   infer g vars m st scope n (GenericCall f ws xs) = infer_call g vars m n f ws (argument_count xs) (λ o. infer_all g vars m scope o xs)
   infer g vars m st scope n (GenericMake k ws xs) = infer_make g vars m n k ws (argument_count xs) (λ o. infer_all g vars m scope o xs)
-  infer g vars m st scope n (GenericLet p x a b) =
+  infer g vars m st scope n (GenericLet p xs a b) =
       and_then (one_more n p)
-      (λ o. and_then (infer g vars m NoTuple scope o a)
-      (λ s. and_then (single_at s.0 (place a))
-      (λ t. and_then (new_variable scope s.1 x)
-      (λ k. infer g vars m st (form_bound x t scope) k b))))
-  infer g vars m st scope n (GenericPar p x a y b c) =
+      (λ o. and_then (infer g vars m (standing_for xs) scope o a)
+      (λ s. and_then (bind_given scope s.1 xs (record { ty = s.0; place = place a }))
+      (λ inner. infer g vars m st inner.0 inner.1 b)))
+  infer g vars m st scope n (GenericPar p xs a ys b c) =
       and_then (one_more n p)
-      (λ o. and_then (infer g vars m NoTuple scope o a)
-      (λ s. and_then (infer g vars m NoTuple scope s.1 b)
-      (λ t. and_then (single_at s.0 (place a))
-      (λ u. and_then (single_at t.0 (place b))
-      (λ v. and_then (new_variable scope t.1 x)
-      (λ k. and_then (new_variable (form_bound x u scope) k y)
-      (λ l. infer g vars m st (form_bound y v (form_bound x u scope)) l c)))))))
+      (λ o. and_then (infer g vars m (standing_for xs) scope o a)
+      (λ s. and_then (infer g vars m (standing_for ys) scope s.1 b)
+      (λ t. and_then (bind_sides scope t.1 xs (record { ty = s.0; place = place a }) ys (record { ty = t.0; place = place b }))
+      (λ inner. infer g vars m st inner.0 inner.1 c))))
   infer g vars m st scope n (GenericIf p a b c) =
       and_then (one_more n p)
       (λ o. and_then (infer g vars m NoTuple scope o a)
@@ -390,21 +396,6 @@ abbrev mutual
       (λ _. Ok (y.0, z.1)))))))
   infer g vars m st scope n (GenericCase p x arms) = infer_case g.rows scope n p x (heads arms) (λ ts o. infer_arms g vars m st ts scope o arms)
   infer g vars m st scope n (GenericTuple p xs) = infer_tuple st n p (argument_count xs) (λ o. infer_all g vars m scope o xs)
-  infer g vars m st scope n (GenericLetSeveral p xs a b) =
-      and_then (one_more n p)
-      (λ o. and_then (infer g vars m (standing_for xs) scope o a)
-      (λ s. and_then (types_bound xs (record { ty = s.0; place = place a }))
-      (λ ts. and_then (bind_parts 0 scope s.1 xs ts)
-      (λ inner. infer g vars m st inner.0 inner.1 b))))
-  infer g vars m st scope n (GenericParSeveral p xs a ys b c) =
-      and_then (one_more n p)
-      (λ o. and_then (infer g vars m (standing_for xs) scope o a)
-      (λ s. and_then (infer g vars m (standing_for ys) scope s.1 b)
-      (λ t. and_then (types_bound xs (record { ty = s.0; place = place a }))
-      (λ ts. and_then (types_bound ys (record { ty = t.0; place = place b }))
-      (λ us. and_then (bind_parts 0 scope t.1 xs ts)
-      (λ middle. and_then (bind_parts 0 middle.0 middle.1 ys us)
-      (λ inner. infer g vars m st inner.0 inner.1 c)))))))
 
   -- Arguments or parts, from left to right.
   pub infer_all : GenericGlobals → List ℕ → Meant → FormScope → Counts → GenericArguments → Checked (List FormPart × Counts)

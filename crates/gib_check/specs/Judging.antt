@@ -107,6 +107,11 @@ abbrev pub forms_given : Judging → ResultIds → Results Form
 forms_given s (ids.One id) = One (form_at (forms s) id.0)
 forms_given s (ids.Several start count) = Several (listed (forms s) (run_of s start count))
 
+-- The numbers of the types of what an expression gives: of the one thing, or of the parts.
+abbrev pub ids_of : Judging → ResultIds → List TypeId
+ids_of s (ids.One id) = id ∷ []
+ids_of s (ids.Several start count) = run_of s start count
+
 -- They were met.
 abbrev pub AreMet : Judging → ResultIds → Type 0
 AreMet s (ids.One id) = id.0 < length s.types
@@ -152,39 +157,35 @@ infer_each_arm g vars st ts f scope n (arm ∷ arms) =
     (λ x. and_then (infer_each_arm g vars st ts f scope x.1 arms)
     (λ r. Ok (record { ty = x.0; place = place (f arm.body.0) } ∷ r.0, r.1)))
 
--- A word begins the expression of the node, which is one thing, has no arms and binds no parts.
-abbrev pub IsWordedNode : GenericNode → Type 0
-IsWordedNode (n.Variable x) = ⊥
-IsWordedNode (n.Whole p v) = ⊥
-IsWordedNode (n.Truth p b) = ⊥
-IsWordedNode (n.Paren p a) = ⊥
-IsWordedNode (n.Operation p f a b) = ⊥
-IsWordedNode (n.Call f ws xs) = ⊥
-IsWordedNode (n.Make k ws xs) = ⊥
-IsWordedNode (n.Let p x a b) = Unit {0}
-IsWordedNode (n.LetPar p x a y b c) = Unit {0}
-IsWordedNode (n.If p a b c) = Unit {0}
-IsWordedNode (n.Case p x arms) = ⊥
-IsWordedNode (n.Tuple p xs) = ⊥
-IsWordedNode (n.LetSeveral p xs a b) = ⊥
-IsWordedNode (n.ParSeveral p xs a ys b c) = ⊥
+-- The node binds variables to what an expression gives, or two.
+abbrev pub IsBindingNode : GenericNode → Type 0
+IsBindingNode (n.Variable x) = ⊥
+IsBindingNode (n.Whole p v) = ⊥
+IsBindingNode (n.Truth p b) = ⊥
+IsBindingNode (n.Paren p a) = ⊥
+IsBindingNode (n.Operation p f a b) = ⊥
+IsBindingNode (n.Call f ws xs) = ⊥
+IsBindingNode (n.Make k ws xs) = ⊥
+IsBindingNode (n.Let p xs a b) = Unit {0}
+IsBindingNode (n.LetPar p xs a ys b c) = Unit {0}
+IsBindingNode (n.If p a b c) = ⊥
+IsBindingNode (n.Case p x arms) = ⊥
+IsBindingNode (n.Tuple p xs) = ⊥
 
--- The node has several parts, or variables for them.
-abbrev pub IsSeveralNode : GenericNode → Type 0
-IsSeveralNode (n.Variable x) = ⊥
-IsSeveralNode (n.Whole p v) = ⊥
-IsSeveralNode (n.Truth p b) = ⊥
-IsSeveralNode (n.Paren p a) = ⊥
-IsSeveralNode (n.Operation p f a b) = ⊥
-IsSeveralNode (n.Call f ws xs) = ⊥
-IsSeveralNode (n.Make k ws xs) = ⊥
-IsSeveralNode (n.Let p x a b) = ⊥
-IsSeveralNode (n.LetPar p x a y b c) = ⊥
-IsSeveralNode (n.If p a b c) = ⊥
-IsSeveralNode (n.Case p x arms) = ⊥
-IsSeveralNode (n.Tuple p xs) = Unit {0}
-IsSeveralNode (n.LetSeveral p xs a b) = Unit {0}
-IsSeveralNode (n.ParSeveral p xs a ys b c) = Unit {0}
+-- The node has several ways on.
+abbrev pub IsChoiceNode : GenericNode → Type 0
+IsChoiceNode (n.Variable x) = ⊥
+IsChoiceNode (n.Whole p v) = ⊥
+IsChoiceNode (n.Truth p b) = ⊥
+IsChoiceNode (n.Paren p a) = ⊥
+IsChoiceNode (n.Operation p f a b) = ⊥
+IsChoiceNode (n.Call f ws xs) = ⊥
+IsChoiceNode (n.Make k ws xs) = ⊥
+IsChoiceNode (n.Let p xs a b) = ⊥
+IsChoiceNode (n.LetPar p xs a ys b c) = ⊥
+IsChoiceNode (n.If p a b c) = Unit {0}
+IsChoiceNode (n.Case p x arms) = Unit {0}
+IsChoiceNode (n.Tuple p xs) = ⊥
 
 -- The type is `Int` or `Bool`.
 abbrev pub IsClosed : TypeNode → Type 0

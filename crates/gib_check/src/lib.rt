@@ -13,6 +13,7 @@ ghost use Rattle.gib_check.specs.FirstFault as rule;
 
 mod arm_index;
 mod arms;
+mod bindings;
 mod bodies;
 mod counts;
 mod datas;

@@ -7,7 +7,7 @@ ghost use Rattle.gib_types.specs.Types.{form_at, forms_at, forms_of, AreBelow};
 ghost use Rattle.gib_syntax.specs.Results.{One};
 ghost use Rattle.gib_check.specs.Answers.{Gives};
 ghost use Rattle.gib_check.specs.Faults as rule;
-ghost use Rattle.gib_check.specs.Judging.{Judging, forms, listed, forms_given, AreMet, part_in, parts_in, ArePartsMet};
+ghost use Rattle.gib_check.specs.Judging.{Judging, forms, listed, ids_of, forms_given, AreMet, part_in, parts_in, ArePartsMet};
 
 use crate::fault::{Fault, Kind, TypeFault};
 use crate::state::State;
@@ -199,21 +199,22 @@ pub fn all_single(state: &State, parts: &[Part]) -> Result<Vec<TypeId>, TypeFaul
     Ok(ids)
 }
 
-/// The types of the variables of a binding, by its right side: one thing for one, parts for several.
-pub fn types_bound(state: &State, names: &[Ident], part: Part) -> Result<Vec<TypeId>, TypeFault>
+/// A part can be bound to these variables: one thing to one, as many parts to several.
+pub fn can_bind(state: &State, names: &[Ident], part: Part) -> Result<(), TypeFault>
     requires { AreMet state.now part.ty }
-    ensures types { Gives (λ ids. listed (forms state.now) ids.items) result (rule.types_bound names.now (part_in state.now part)) }
-    ensures below { IfOk result (λ ids. AreBelow (length state.now.types) ids.items) }
+    ensures { Gives (λ _. listed (forms state.now) (ids_of state.now part.ty)) result (rule.types_bound names.now (part_in state.now part)) }
 {
     match names {
         [] => Err(broken(Kind::Shape, part.place)),
-        [_] => all_single(state, &[part]),
+        [_] => match part.ty {
+            ResultIds::One(_) => Ok(()),
+            ResultIds::Several { .. } => Err(broken(Kind::Shape, part.place)),
+        },
         [first, _, ..] => match part.ty {
             ResultIds::One(_) => Err(broken(Kind::Shape, part.place)),
             ResultIds::Several { start, count } => {
-                as_many(count as usize, names.len(), *first)?;
-                let ids = Vec::from_slice(state.alloc(), state.parts(start, count))?;
-                Ok(ids)
+                as_many(state.parts(start, count).len(), names.len(), *first)?;
+                Ok(())
             }
         },
     }

@@ -46,7 +46,7 @@ impl State {
     ghost use Rattle.gib_syntax.specs.GenericTyping.{FormScope, form_bound};
     ghost use Rattle.gib_check.specs.Answers.{Gives};
     ghost use Rattle.gib_check.specs.Faults as rule;
-    ghost use Rattle.gib_check.specs.Judging.{Judging, forms, in_scope, listed, run_of, forms_given, Met, Meets, Reads, Keeps, meant_by, IsMeaningBelow};
+    ghost use Rattle.gib_check.specs.Judging.{Judging, forms, in_scope, listed, run_of, ids_of, forms_given, AreMet, Met, Meets, Reads, Keeps, meant_by, IsMeaningBelow};
 
     /// Nothing was met but so many parameters, which are not in scope yet.
     pub fn new(alloc: Global, variables: u32) -> State
@@ -117,6 +117,30 @@ impl State {
         }
     }
 
+    /// A name that is not in scope yet.
+    fn unbound(&self, x: Ident) -> Result<(), TypeFault>
+        ensures { Gives (λ _. tt {0}) result (rule.unbound (in_scope self.now) x) }
+    {
+        match self.scope.find(x.name) {
+            Some(_) => Err(broken(Kind::Twice, x.span)),
+            None => Ok(()),
+        }
+    }
+
+    /// One more variable.
+    fn counted(&mut self, x: Ident) -> Result<(), TypeFault>
+        ensures counts { Gives (λ _. self.new.counts) result (rule.counted self.old.counts x) }
+        ensures scope { (in_scope self.new) ≡ (in_scope self.old) }
+        ensures types { self.new.types ≡ self.old.types }
+        ensures parts { self.new.parts ≡ self.old.parts }
+    {
+        if self.counts.variables >= VARIABLES {
+            return Err(broken(Kind::Limit, x.span));
+        }
+        self.counts.variables += 1;
+        Ok(())
+    }
+
     /// One more variable, which is not in scope yet: it is counted.
     fn new_variable(&mut self, x: Ident) -> Result<(), TypeFault>
         ensures counts { Gives (λ _. self.new.counts) result (rule.new_variable (in_scope self.old) self.old.counts x) }
@@ -124,13 +148,8 @@ impl State {
         ensures types { self.new.types ≡ self.old.types }
         ensures parts { self.new.parts ≡ self.old.parts }
     {
-        if self.scope.find(x.name).is_some() {
-            return Err(broken(Kind::Twice, x.span));
-        }
-        if self.counts.variables >= VARIABLES {
-            return Err(broken(Kind::Limit, x.span));
-        }
-        self.counts.variables += 1;
+        self.unbound(x)?;
+        self.counted(x)?;
         Ok(())
     }
 
@@ -169,13 +188,12 @@ impl State {
         ensures types { self.new.types ≡ self.old.types }
         ensures parts { self.new.parts ≡ self.old.parts }
     {
-        if self.scope.find(x.name).is_some() {
-            return Err(broken(Kind::Twice, x.span));
-        }
+        self.unbound(x)?;
         if behind >= PARTS as usize {
             return Err(broken(Kind::Limit, x.span));
         }
-        self.new_variable(x)
+        self.counted(x)?;
+        Ok(())
     }
 
     /// Binds a new variable behind so many of a binding.
@@ -191,8 +209,8 @@ impl State {
         Ok(())
     }
 
-    /// Binds the variables of a binding of parts.
-    pub fn bind_parts(&mut self, names: &[Ident], types: &[TypeId]) -> Result<(), TypeFault>
+    /// Binds the variables of a binding to things of these types.
+    fn bind_parts(&mut self, names: &[Ident], types: &[TypeId]) -> Result<(), TypeFault>
         requires { AreBelow (length self.old.types) types.now }
         ensures read { Gives (λ _. ((in_scope self.new), self.new.counts)) result (rule.bind_parts 0 (in_scope self.old) self.old.counts names.now (listed (forms self.old) types.now)) }
         ensures kept { OnOk result ((added : FormScope) × ((in_scope self.new) ≡ added ++ (in_scope self.old))) }
@@ -214,6 +232,23 @@ impl State {
             }
         }
         Ok(())
+    }
+
+    /// Binds the variables of a binding to what its right side gives: to the one thing, or to the parts.
+    pub fn bind_results(&mut self, names: &[Ident], given: ResultIds) -> Result<(), TypeFault>
+        requires { AreMet self.old given }
+        ensures read { Gives (λ _. ((in_scope self.new), self.new.counts)) result (rule.bind_parts 0 (in_scope self.old) self.old.counts names.now (listed (forms self.old) (ids_of self.old given))) }
+        ensures kept { OnOk result ((added : FormScope) × ((in_scope self.new) ≡ added ++ (in_scope self.old))) }
+        ensures types { self.new.types ≡ self.old.types }
+        ensures parts { self.new.parts ≡ self.old.parts }
+    {
+        match given {
+            ResultIds::One(ty) => self.bind_parts(names, &[ty]),
+            ResultIds::Several { start, count } => {
+                let ids = Vec::from_slice(self.alloc, self.parts(start, count))?;
+                self.bind_parts(names, &ids)
+            }
+        }
     }
 
     /// Binds the variables of an arm.

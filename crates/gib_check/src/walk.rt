@@ -10,16 +10,17 @@ ghost use Rattle.gib_syntax.specs.GenericTyping.{variable_numbers, opaque, opera
 ghost use Rattle.gib_syntax.specs.Words.{IsTypesRun, types_in};
 ghost use Rattle.gib_check.specs.Answers.{Gives};
 ghost use Rattle.gib_check.specs.Faults as rule;
-ghost use Rattle.gib_check.specs.Judging.{forms, in_scope, forms_given, Met, AllMet, parts_in, ArePartsMet, arm_head, infer_each_arm, IsWordedNode, IsSeveralNode, IsClosed};
+ghost use Rattle.gib_check.specs.Judging.{forms, in_scope, forms_given, Met, AllMet, parts_in, ArePartsMet, arm_head, infer_each_arm, IsBindingNode, IsChoiceNode, IsClosed};
 ghost use Rattle.gib_check.specs.NameViews.{generic_globals, generic_tree};
 
 use crate::arms::{all_counted, all_declared, covered};
+use crate::bindings::{bind_given, bind_sides};
 use crate::fault::TypeFault;
 use crate::named::Around;
-use crate::parts::{part, single};
+use crate::parts::part;
 use crate::rules::{
-    Part, ResultIds, all_of, all_single, all_wanted, as_many, declared_type, types_bound, wanted,
-    wanted_truth, wanted_whole,
+    Part, ResultIds, all_of, all_single, all_wanted, as_many, declared_type, wanted, wanted_truth,
+    wanted_whole,
 };
 use crate::standing::{Standing, may_stand, standing_for};
 use crate::state::State;
@@ -27,7 +28,7 @@ use crate::uses::{
     Use, fields_named, given, parameter_types, result_types, row_fields, type_arguments,
 };
 use gib_base::Span;
-use gib_syntax::{Arm, Bound, ExprId, GenericNode, Ident};
+use gib_syntax::{Arm, ExprId, GenericNode, Ident};
 use gib_types::Operator;
 use gib_types::types::{TypeId, TypeNode};
 
@@ -62,13 +63,6 @@ impl Sides {
     {
         Sides { left, right }
     }
-}
-
-/// Two parts that are bound.
-#[derive(Clone, Copy)]
-struct BoundSides {
-    left: Bound,
-    right: Bound,
 }
 
 /// Two parts that are bound, and the part in which they are.
@@ -161,25 +155,22 @@ pub fn infer(
             let made = Use::new(*k, *types);
             make(around, state, id, made, ids)
         }
-        GenericNode::Case {
-            span,
-            variable,
-            arms,
-        } => {
+        GenericNode::Tuple(span, parts) => {
             let at = At::new(id, *span, standing);
-            case(around, state, at, *variable, arms)
+            tuple(around, state, at, parts)
         }
-        GenericNode::Let { .. } | GenericNode::LetPar { .. } | GenericNode::If { .. } => {
-            infer_worded(around, state, standing, id, node)
+        GenericNode::Let { .. } | GenericNode::LetPar { .. } => {
+            infer_binding(around, state, standing, id, node)
         }
-        GenericNode::Tuple(..) | GenericNode::LetSeveral { .. } | GenericNode::ParSeveral { .. } =>
-            { infer_several(around, state, standing, id, node) }
+        GenericNode::If { .. } | GenericNode::Case { .. } => {
+            infer_choice(around, state, standing, id, node)
+        }
     }
 }
 
-/// What an expression gives that a word begins.
+/// What an expression gives that has several ways on.
 #[cycle(infer)]
-fn infer_worded(
+fn infer_choice(
     around: &Around,
     state: &mut State,
     standing: Standing,
@@ -188,37 +179,12 @@ fn infer_worded(
 ) -> Result<ResultIds, TypeFault>
     requires inside { id.0 < length around.now.named.now.exprs.nodes }
     requires opens { Opens around.now.named.now.exprs id.0 node.now }
-    requires worded { IsWordedNode node.now }
+    requires choice { IsChoiceNode node.now }
     ensures read { Gives (λ r. (forms_given state.new r, state.new.counts)) result (rule.infer (generic_globals around.now.named.now) (variable_numbers around.now.variables.now) opaque standing (in_scope state.old) state.old.counts (generic_tree around.now.named.now id.0)) }
     ensures kept { IfOk result (λ _. (in_scope state.new) ≡ (in_scope state.old)) }
     ensures met { IfOk result (λ r. Met state.old state.new r) }
 {
     match node {
-        GenericNode::Let {
-            span,
-            name,
-            bound,
-            body,
-        } => {
-            let at = At::new(id, *span, standing);
-            let bound = Bound::new(*name, *bound);
-            let_in(around, state, at, bound, *body)
-        }
-        GenericNode::LetPar {
-            span,
-            left_name,
-            left,
-            right_name,
-            right,
-            body,
-        } => {
-            let at = At::new(id, *span, standing);
-            let sides = BoundSides {
-                left: Bound::new(*left_name, *left),
-                right: Bound::new(*right_name, *right),
-            };
-            let_par(around, state, at, sides, *body)
-        }
         GenericNode::If {
             span,
             condition,
@@ -229,13 +195,21 @@ fn infer_worded(
             let branches = Sides::new(*then_part, *else_part);
             if_else(around, state, at, *condition, branches)
         }
+        GenericNode::Case {
+            span,
+            variable,
+            arms,
+        } => {
+            let at = At::new(id, *span, standing);
+            case(around, state, at, *variable, arms)
+        }
         _ => unreachable!(),
     }
 }
 
-/// What an expression gives that has several parts, or binds them.
+/// What an expression gives that binds variables.
 #[cycle(infer)]
-fn infer_several(
+fn infer_binding(
     around: &Around,
     state: &mut State,
     standing: Standing,
@@ -244,17 +218,13 @@ fn infer_several(
 ) -> Result<ResultIds, TypeFault>
     requires inside { id.0 < length around.now.named.now.exprs.nodes }
     requires opens { Opens around.now.named.now.exprs id.0 node.now }
-    requires several { IsSeveralNode node.now }
+    requires binding { IsBindingNode node.now }
     ensures read { Gives (λ r. (forms_given state.new r, state.new.counts)) result (rule.infer (generic_globals around.now.named.now) (variable_numbers around.now.variables.now) opaque standing (in_scope state.old) state.old.counts (generic_tree around.now.named.now id.0)) }
     ensures kept { IfOk result (λ _. (in_scope state.new) ≡ (in_scope state.old)) }
     ensures met { IfOk result (λ r. Met state.old state.new r) }
 {
     match node {
-        GenericNode::Tuple(span, parts) => {
-            let at = At::new(id, *span, standing);
-            tuple(around, state, at, parts)
-        }
-        GenericNode::LetSeveral {
+        GenericNode::Let {
             span,
             names,
             bound,
@@ -262,9 +232,9 @@ fn infer_several(
         } => {
             let at = At::new(id, *span, standing);
             let sides = Sides::new(*bound, *body);
-            let_several(around, state, at, names, sides)
+            infer_let(around, state, at, names.as_slice(), sides)
         }
-        GenericNode::ParSeveral {
+        GenericNode::LetPar {
             span,
             left_names,
             left,
@@ -274,15 +244,15 @@ fn infer_several(
         } => {
             let at = At::new(id, *span, standing);
             let names = SideNames {
-                left: left_names,
-                right: right_names,
+                left: left_names.as_slice(),
+                right: right_names.as_slice(),
             };
             let parts = BoundParts {
                 left: *left,
                 right: *right,
                 body: *body,
             };
-            par_several(around, state, at, &names, parts)
+            infer_par(around, state, at, &names, parts)
         }
         _ => unreachable!(),
     }
@@ -394,62 +364,6 @@ fn make(
     Ok(ResultIds::One(ty))
 }
 
-/// The type of a `let`.
-#[cycle(infer)]
-fn let_in(
-    around: &Around,
-    state: &mut State,
-    at: At,
-    bound: Bound,
-    body: ExprId,
-) -> Result<ResultIds, TypeFault>
-    requires inside { at.id.0 < length around.now.named.now.exprs.nodes }
-    requires value { bound.value.0 < at.id.0 }
-    requires body { body.0 < at.id.0 }
-    ensures read { Gives (λ r. (forms_given state.new r, state.new.counts)) result (rule.infer (generic_globals around.now.named.now) (variable_numbers around.now.variables.now) opaque at.standing (in_scope state.old) state.old.counts (tree.GenericLet at.span bound.name (generic_tree around.now.named.now bound.value.0) (generic_tree around.now.named.now body.0))) }
-    ensures kept { IfOk result (λ _. (in_scope state.new) ≡ (in_scope state.old)) }
-    ensures met { IfOk result (λ r. Met state.old state.new r) }
-{
-    state.one_more(at.span)?;
-    let value = infer(around, state, Standing::NoTuple, bound.value)?;
-    let ty = single(around.named, bound.value, value)?;
-    let len = state.len();
-    state.bind(bound.name, ty)?;
-    let given = infer(around, state, at.standing, body)?;
-    state.truncate(len)?;
-    Ok(given)
-}
-
-/// The type of a `let par`.
-#[cycle(infer)]
-fn let_par(
-    around: &Around,
-    state: &mut State,
-    at: At,
-    sides: BoundSides,
-    body: ExprId,
-) -> Result<ResultIds, TypeFault>
-    requires inside { at.id.0 < length around.now.named.now.exprs.nodes }
-    requires left { sides.left.value.0 < at.id.0 }
-    requires right { sides.right.value.0 < at.id.0 }
-    requires body { body.0 < at.id.0 }
-    ensures read { Gives (λ r. (forms_given state.new r, state.new.counts)) result (rule.infer (generic_globals around.now.named.now) (variable_numbers around.now.variables.now) opaque at.standing (in_scope state.old) state.old.counts (tree.GenericPar at.span sides.left.name (generic_tree around.now.named.now sides.left.value.0) sides.right.name (generic_tree around.now.named.now sides.right.value.0) (generic_tree around.now.named.now body.0))) }
-    ensures kept { IfOk result (λ _. (in_scope state.new) ≡ (in_scope state.old)) }
-    ensures met { IfOk result (λ r. Met state.old state.new r) }
-{
-    state.one_more(at.span)?;
-    let left = infer(around, state, Standing::NoTuple, sides.left.value)?;
-    let right = infer(around, state, Standing::NoTuple, sides.right.value)?;
-    let left_ty = single(around.named, sides.left.value, left)?;
-    let right_ty = single(around.named, sides.right.value, right)?;
-    let len = state.len();
-    state.bind(sides.left.name, left_ty)?;
-    state.bind(sides.right.name, right_ty)?;
-    let given = infer(around, state, at.standing, body)?;
-    state.truncate(len)?;
-    Ok(given)
-}
-
 /// The types of the parts of a tuple.
 #[cycle(infer)]
 fn tuple(around: &Around, state: &mut State, at: At, ids: &[ExprId]) -> Result<ResultIds, TypeFault>
@@ -467,9 +381,9 @@ fn tuple(around: &Around, state: &mut State, at: At, ids: &[ExprId]) -> Result<R
     Ok(given)
 }
 
-/// What a `let` of several variables gives: its value is on the left, its body on the right.
+/// What a `let` gives: its value is on the left, its body on the right.
 #[cycle(infer)]
-fn let_several(
+fn infer_let(
     around: &Around,
     state: &mut State,
     at: At,
@@ -479,23 +393,22 @@ fn let_several(
     requires inside { at.id.0 < length around.now.named.now.exprs.nodes }
     requires value { sides.left.0 < at.id.0 }
     requires body { sides.right.0 < at.id.0 }
-    ensures read { Gives (λ r. (forms_given state.new r, state.new.counts)) result (rule.infer (generic_globals around.now.named.now) (variable_numbers around.now.variables.now) opaque at.standing (in_scope state.old) state.old.counts (tree.GenericLetSeveral at.span names.now (generic_tree around.now.named.now sides.left.0) (generic_tree around.now.named.now sides.right.0))) }
+    ensures read { Gives (λ r. (forms_given state.new r, state.new.counts)) result (rule.infer (generic_globals around.now.named.now) (variable_numbers around.now.variables.now) opaque at.standing (in_scope state.old) state.old.counts (tree.GenericLet at.span names.now (generic_tree around.now.named.now sides.left.0) (generic_tree around.now.named.now sides.right.0))) }
     ensures kept { IfOk result (λ _. (in_scope state.new) ≡ (in_scope state.old)) }
     ensures met { IfOk result (λ r. Met state.old state.new r) }
 {
     state.one_more(at.span)?;
     let value = infer(around, state, standing_for(names), sides.left)?;
-    let types = types_bound(state, names, part(around.named, sides.left, value))?;
     let len = state.len();
-    state.bind_parts(names, &types)?;
+    bind_given(state, names, part(around.named, sides.left, value))?;
     let given = infer(around, state, at.standing, sides.right)?;
     state.truncate(len)?;
     Ok(given)
 }
 
-/// What a `let par` of several variables gives.
+/// What a `let par` gives.
 #[cycle(infer)]
-fn par_several(
+fn infer_par(
     around: &Around,
     state: &mut State,
     at: At,
@@ -506,18 +419,17 @@ fn par_several(
     requires left { parts.left.0 < at.id.0 }
     requires right { parts.right.0 < at.id.0 }
     requires body { parts.body.0 < at.id.0 }
-    ensures read { Gives (λ r. (forms_given state.new r, state.new.counts)) result (rule.infer (generic_globals around.now.named.now) (variable_numbers around.now.variables.now) opaque at.standing (in_scope state.old) state.old.counts (tree.GenericParSeveral at.span names.now.left.now (generic_tree around.now.named.now parts.left.0) names.now.right.now (generic_tree around.now.named.now parts.right.0) (generic_tree around.now.named.now parts.body.0))) }
+    ensures read { Gives (λ r. (forms_given state.new r, state.new.counts)) result (rule.infer (generic_globals around.now.named.now) (variable_numbers around.now.variables.now) opaque at.standing (in_scope state.old) state.old.counts (tree.GenericPar at.span names.now.left.now (generic_tree around.now.named.now parts.left.0) names.now.right.now (generic_tree around.now.named.now parts.right.0) (generic_tree around.now.named.now parts.body.0))) }
     ensures kept { IfOk result (λ _. (in_scope state.new) ≡ (in_scope state.old)) }
     ensures met { IfOk result (λ r. Met state.old state.new r) }
 {
     state.one_more(at.span)?;
     let left = infer(around, state, standing_for(names.left), parts.left)?;
     let right = infer(around, state, standing_for(names.right), parts.right)?;
-    let left_types = types_bound(state, names.left, part(around.named, parts.left, left))?;
-    let right_types = types_bound(state, names.right, part(around.named, parts.right, right))?;
     let len = state.len();
-    state.bind_parts(names.left, &left_types)?;
-    state.bind_parts(names.right, &right_types)?;
+    let left = part(around.named, parts.left, left);
+    let right = part(around.named, parts.right, right);
+    bind_sides(state, names.left, left, names.right, right)?;
     let given = infer(around, state, at.standing, parts.body)?;
     state.truncate(len)?;
     Ok(given)

@@ -1,4 +1,4 @@
-use Rattle.std.proofs.Common.{◌≡◌, ◌<◌, ◌-◌, List, [], ap, ap₂, sym, refl, ◌∙◌, subst, Some, length, rules}
+use Rattle.std.proofs.Common.{◌≡◌, ◌<◌, ◌-◌, List, [], ap, ap₂, sym, refl, ◌∙◌, subst, subst₂, Some, length, rules}
 use Rattle.std.proofs.lemmas.Result.{err_from_is_err_and}
 use Rattle.gib_types.specs.Form.{Form, WholeForm, TruthForm}
 use Rattle.gib_types.specs.Types.{form_at, forms_of, AreBelow}
@@ -7,9 +7,10 @@ use Rattle.gib_check.specs.declared.rules.Part.{Part}
 use Rattle.gib_check.specs.declared.uses.Use.{Use}
 use Rattle.gib_check.specs.declared.walk.At.{At}
 use Rattle.gib_check.specs.declared.walk.Sides.{Sides}
-use Rattle.gib_check.specs.Faults.{infer}
+use Rattle.gib_check.specs.Answers.{IsFaultOf}
+use Rattle.gib_check.specs.Faults.{place, bind_given, bind_sides, infer}
 use Rattle.gib_syntax.specs.Results.{Results, One, Several}
-use Rattle.gib_syntax.specs.GenericTree.{GenericCall, GenericMake, GenericCase, GenericTuple, GenericLetSeveral, GenericParSeveral}
+use Rattle.gib_syntax.specs.GenericTree.{GenericCall, GenericMake, GenericLet, GenericPar, GenericCase, GenericTuple}
 use Rattle.gib_syntax.specs.GenericArena.{tree_of, layer, PartsBelow, arguments_from, case_from}
 use Rattle.gib_syntax.specs.GenericTyping.{variable_numbers, opaque}
 use Rattle.gib_syntax.specs.Words.{types_in}
@@ -52,41 +53,23 @@ infer-returns-in-Make-clause-read t c =
     ∙ ap (λ (u : Use). GenericMake u.name (types_in c.args.around.now.named.now.exprs.words u.types) (arguments_from (generic_tree c.args.around.now.named.now) c.in-Make.ids.items)) (sym c.new-made.ensures)) c.deref-in-Make.ensures.value)
     c.make.ensures.read
 
-pub infer-returns-in-Case-clause-read : goal.infer-returns-in-Case-clause-read
-infer-returns-in-Case-clause-read t c =
+pub infer_choice-returns-in-Case-clause-read : goal.infer_choice-returns-in-Case-clause-read
+infer_choice-returns-in-Case-clause-read t c =
     gives_same (λ ty. (forms_given c.case.new.state ty, c.case.new.state.counts)) c.case.result _ _
     (ap (λ (a : At). infer (generic_globals c.args.around.now.named.now) (variable_numbers c.args.around.now.variables.now) opaque a.standing (in_scope c.args.state.now) c.args.state.now.counts (generic_tree c.args.around.now.named.now c.args.id.0)) (sym c.new-at-in-Case.ensures)
-    ∙ case_opened (generic_globals c.args.around.now.named.now) (variable_numbers c.args.around.now.variables.now) (generic_tree c.args.around.now.named.now) c.new-at-in-Case.result.standing (in_scope c.args.state.now) c.args.state.now.counts (generic_tree c.args.around.now.named.now c.args.id.0) c.new-at-in-Case.result.span c.in-Case.variable c.args.id.0 c.deref-in-Case.result.now c.in-Case.arms.items
-    (c.node-node.ensures.opens.0 ∙ ap (λ z. layer c.args.around.now.named.now.exprs.words (tree_of c.args.around.now.named.now.exprs) (Some z)) c.in-Case.is
-    ∙ ap (λ (a : At). case_from (generic_tree c.args.around.now.named.now) c.in-Case.arms.items (GenericCase a.span c.in-Case.variable)) (sym c.new-at-in-Case.ensures)) (subst (λ z. PartsBelow z c.args.id.0) c.in-Case.is c.node-node.ensures.opens.1) c.deref-in-Case.ensures.value)
+    ∙ case_opened (generic_globals c.args.around.now.named.now) (variable_numbers c.args.around.now.variables.now) (generic_tree c.args.around.now.named.now) c.new-at-in-Case.result.standing (in_scope c.args.state.now) c.args.state.now.counts (generic_tree c.args.around.now.named.now c.args.id.0) c.new-at-in-Case.result.span c.in-Case.variable c.args.id.0 c.deref.result.now c.in-Case.arms.items
+    (c.requires.opens.0 ∙ ap (λ z. layer c.args.around.now.named.now.exprs.words (tree_of c.args.around.now.named.now.exprs) (Some z)) c.in-Case.is
+    ∙ ap (λ (a : At). case_from (generic_tree c.args.around.now.named.now) c.in-Case.arms.items (GenericCase a.span c.in-Case.variable)) (sym c.new-at-in-Case.ensures)) (subst (λ z. PartsBelow z c.args.id.0) c.in-Case.is c.requires.opens.1) c.deref.ensures.value)
     c.case.ensures.read
 
-pub infer_several-returns-in-Tuple-clause-read : goal.infer_several-returns-in-Tuple-clause-read
-infer_several-returns-in-Tuple-clause-read t c =
+pub infer-returns-in-Tuple-clause-read : goal.infer-returns-in-Tuple-clause-read
+infer-returns-in-Tuple-clause-read t c =
     gives_same (λ ty. (forms_given c.tuple.new.state ty, c.tuple.new.state.counts)) c.tuple.result _ _
-    (ap (λ (a : At). infer (generic_globals c.args.around.now.named.now) (variable_numbers c.args.around.now.variables.now) opaque a.standing (in_scope c.args.state.now) c.args.state.now.counts (generic_tree c.args.around.now.named.now c.args.id.0)) (sym c.new-at.ensures)
-    ∙ tuple_opened (generic_globals c.args.around.now.named.now) (variable_numbers c.args.around.now.variables.now) (generic_tree c.args.around.now.named.now) c.new-at.result.standing (in_scope c.args.state.now) c.args.state.now.counts (generic_tree c.args.around.now.named.now c.args.id.0) c.new-at.result.span c.deref.result.now c.in-Tuple.parts.items
-    (c.requires.opens.0 ∙ ap (λ z. layer c.args.around.now.named.now.exprs.words (tree_of c.args.around.now.named.now.exprs) (Some z)) c.in-Tuple.is
-    ∙ ap (λ (a : At). GenericTuple a.span (arguments_from (generic_tree c.args.around.now.named.now) c.in-Tuple.parts.items)) (sym c.new-at.ensures)) c.deref.ensures.value)
+    (ap (λ (a : At). infer (generic_globals c.args.around.now.named.now) (variable_numbers c.args.around.now.variables.now) opaque a.standing (in_scope c.args.state.now) c.args.state.now.counts (generic_tree c.args.around.now.named.now c.args.id.0)) (sym c.new-at-in-Tuple.ensures)
+    ∙ tuple_opened (generic_globals c.args.around.now.named.now) (variable_numbers c.args.around.now.variables.now) (generic_tree c.args.around.now.named.now) c.new-at-in-Tuple.result.standing (in_scope c.args.state.now) c.args.state.now.counts (generic_tree c.args.around.now.named.now c.args.id.0) c.new-at-in-Tuple.result.span c.deref-in-Tuple.result.now c.in-Tuple.parts.items
+    (c.node-node.ensures.opens.0 ∙ ap (λ z. layer c.args.around.now.named.now.exprs.words (tree_of c.args.around.now.named.now.exprs) (Some z)) c.in-Tuple.is
+    ∙ ap (λ (a : At). GenericTuple a.span (arguments_from (generic_tree c.args.around.now.named.now) c.in-Tuple.parts.items)) (sym c.new-at-in-Tuple.ensures)) c.deref-in-Tuple.ensures.value)
     c.tuple.ensures.read
-
-pub infer_several-returns-in-LetSeveral-clause-read : goal.infer_several-returns-in-LetSeveral-clause-read
-infer_several-returns-in-LetSeveral-clause-read t c =
-    gives_same (λ ty. (forms_given c.let_several.new.state ty, c.let_several.new.state.counts)) c.let_several.result _ _
-    (ap (infer (generic_globals c.args.around.now.named.now) (variable_numbers c.args.around.now.variables.now) opaque c.args.standing (in_scope c.args.state.now) c.args.state.now.counts)
-    (c.requires.opens.0 ∙ ap (λ z. layer c.args.around.now.named.now.exprs.words (tree_of c.args.around.now.named.now.exprs) (Some z)) c.in-LetSeveral.is
-    ∙ ap (λ xs. GenericLetSeveral c.in-LetSeveral.span xs (generic_tree c.args.around.now.named.now c.in-LetSeveral.bound.0) (generic_tree c.args.around.now.named.now c.in-LetSeveral.body.0)) (sym c.deref-in-LetSeveral.ensures.value))
-    ∙ ap₂ (λ (a : At) (u : Sides). infer (generic_globals c.args.around.now.named.now) (variable_numbers c.args.around.now.variables.now) opaque a.standing (in_scope c.args.state.now) c.args.state.now.counts (GenericLetSeveral a.span c.deref-in-LetSeveral.result.now (generic_tree c.args.around.now.named.now u.left.0) (generic_tree c.args.around.now.named.now u.right.0))) (sym c.new-at-in-LetSeveral.ensures) (sym c.new-sides.ensures))
-    c.let_several.ensures.read
-
-pub infer_several-returns-in-ParSeveral-clause-read : goal.infer_several-returns-in-ParSeveral-clause-read
-infer_several-returns-in-ParSeveral-clause-read t c =
-    gives_same (λ ty. (forms_given c.par_several.new.state ty, c.par_several.new.state.counts)) c.par_several.result _ _
-    (ap (infer (generic_globals c.args.around.now.named.now) (variable_numbers c.args.around.now.variables.now) opaque c.args.standing (in_scope c.args.state.now) c.args.state.now.counts)
-    (c.requires.opens.0 ∙ ap (λ z. layer c.args.around.now.named.now.exprs.words (tree_of c.args.around.now.named.now.exprs) (Some z)) c.in-ParSeveral.is
-    ∙ ap₂ (λ xs ys. GenericParSeveral c.in-ParSeveral.span xs (generic_tree c.args.around.now.named.now c.in-ParSeveral.left.0) ys (generic_tree c.args.around.now.named.now c.in-ParSeveral.right.0) (generic_tree c.args.around.now.named.now c.in-ParSeveral.body.0)) (sym c.deref-in-ParSeveral.ensures.value) (sym c.deref-in-ParSeveral-2.ensures.value))
-    ∙ ap (λ (a : At). infer (generic_globals c.args.around.now.named.now) (variable_numbers c.args.around.now.variables.now) opaque a.standing (in_scope c.args.state.now) c.args.state.now.counts (GenericParSeveral a.span c.deref-in-ParSeveral.result.now (generic_tree c.args.around.now.named.now c.in-ParSeveral.left.0) c.deref-in-ParSeveral-2.result.now (generic_tree c.args.around.now.named.now c.in-ParSeveral.right.0) (generic_tree c.args.around.now.named.now c.in-ParSeveral.body.0))) (sym c.new-at-in-ParSeveral.ensures))
-    c.par_several.ensures.read
 
 pub arguments-arguments-init : goal.arguments-arguments-init
 arguments-arguments-init t c =
@@ -131,20 +114,20 @@ pub operation-returns-in_err-wanted_whole-clause-read : goal.operation-returns-i
 operation-returns-in_err-wanted_whole-clause-read t c =
     let p = err_from_is_err_and c.from_residual-in_err-wanted_whole.result c.from_residual-in_err-wanted_whole.ensures.1 in
     rw (p.1, p.2) (walking.op_left c.args.around.now.named.now c.args.around.now.variables.now c.args.at.standing c.in_err-wanted_whole.field-0.0 c.args.state.now c.one_more.new.self c.infer.new.state c.infer-2.new.state c.args.at.span c.args.operator (generic_tree c.args.around.now.named.now c.args.sides.left.0) (generic_tree c.args.around.now.named.now c.args.sides.right.0) c.in_ok-left_ty.left_ty c.in_ok-right_ty.right_ty (record { read = c.in_ok-one_more.ensures.counts; kept = c.one_more.ensures.scope; types = c.one_more.ensures.types }) (record { read = c.in_ok-left_ty.ensures.read; kept = c.in_ok-left_ty.ensures.kept; met = c.in_ok-left_ty.ensures.met }) (record { read = c.in_ok-right_ty.ensures.read; kept = c.in_ok-right_ty.ensures.kept; met = c.in_ok-right_ty.ensures.met })
-    (walking.seen (λ z. Rattle.gib_check.specs.Answers.IsFaultOf c.in_err-wanted_whole.field-0.0 (Rattle.gib_check.specs.Faults.wanted (One WholeForm) z)) c.infer-2.new.state c.part.result (record { ty = c.in_ok-left_ty.left_ty; place = Rattle.gib_check.specs.Faults.place (generic_tree c.args.around.now.named.now c.args.sides.left.0) }) c.part.ensures c.in_err-wanted_whole.ensures))
+    (walking.seen (λ z. IsFaultOf c.in_err-wanted_whole.field-0.0 (Rattle.gib_check.specs.Faults.wanted (One WholeForm) z)) c.infer-2.new.state c.part.result (record { ty = c.in_ok-left_ty.left_ty; place = place (generic_tree c.args.around.now.named.now c.args.sides.left.0) }) c.part.ensures c.in_err-wanted_whole.ensures))
 
 pub operation-returns-in_err-wanted_whole-2-clause-read : goal.operation-returns-in_err-wanted_whole-2-clause-read
 operation-returns-in_err-wanted_whole-2-clause-read t c =
     let p = err_from_is_err_and c.from_residual-in_err-wanted_whole-2.result c.from_residual-in_err-wanted_whole-2.ensures.1 in
     rw (p.1, p.2) (walking.op_right c.args.around.now.named.now c.args.around.now.variables.now c.args.at.standing c.in_err-wanted_whole-2.field-0.0 c.args.state.now c.one_more.new.self c.infer.new.state c.infer-2.new.state c.args.at.span c.args.operator (generic_tree c.args.around.now.named.now c.args.sides.left.0) (generic_tree c.args.around.now.named.now c.args.sides.right.0) c.in_ok-left_ty.left_ty c.in_ok-right_ty.right_ty (record { read = c.in_ok-one_more.ensures.counts; kept = c.one_more.ensures.scope; types = c.one_more.ensures.types }) (record { read = c.in_ok-left_ty.ensures.read; kept = c.in_ok-left_ty.ensures.kept; met = c.in_ok-left_ty.ensures.met }) (record { read = c.in_ok-right_ty.ensures.read; kept = c.in_ok-right_ty.ensures.kept; met = c.in_ok-right_ty.ensures.met })
-    (walking.seen (λ z. Rattle.gib_check.specs.Faults.wanted (One WholeForm) z ≡ Rattle.std.proofs.Common.Ok (tt {0})) c.infer-2.new.state c.part.result (record { ty = c.in_ok-left_ty.left_ty; place = Rattle.gib_check.specs.Faults.place (generic_tree c.args.around.now.named.now c.args.sides.left.0) }) c.part.ensures c.in_ok-wanted_whole.ensures)
-    (walking.seen (λ z. Rattle.gib_check.specs.Answers.IsFaultOf c.in_err-wanted_whole-2.field-0.0 (Rattle.gib_check.specs.Faults.wanted (One WholeForm) z)) c.infer-2.new.state c.part-2.result (record { ty = c.in_ok-right_ty.right_ty; place = Rattle.gib_check.specs.Faults.place (generic_tree c.args.around.now.named.now c.args.sides.right.0) }) c.part-2.ensures c.in_err-wanted_whole-2.ensures))
+    (walking.seen (λ z. Rattle.gib_check.specs.Faults.wanted (One WholeForm) z ≡ Rattle.std.proofs.Common.Ok (tt {0})) c.infer-2.new.state c.part.result (record { ty = c.in_ok-left_ty.left_ty; place = place (generic_tree c.args.around.now.named.now c.args.sides.left.0) }) c.part.ensures c.in_ok-wanted_whole.ensures)
+    (walking.seen (λ z. IsFaultOf c.in_err-wanted_whole-2.field-0.0 (Rattle.gib_check.specs.Faults.wanted (One WholeForm) z)) c.infer-2.new.state c.part-2.result (record { ty = c.in_ok-right_ty.right_ty; place = place (generic_tree c.args.around.now.named.now c.args.sides.right.0) }) c.part-2.ensures c.in_err-wanted_whole-2.ensures))
 
 pub operation-returns-clause-read : goal.operation-returns-clause-read
 operation-returns-clause-read t c =
     walking.op_ok c.args.around.now.named.now c.args.around.now.variables.now c.args.at.standing c.args.state.now c.one_more.new.self c.infer.new.state c.infer-2.new.state c.args.at.span c.args.operator (generic_tree c.args.around.now.named.now c.args.sides.left.0) (generic_tree c.args.around.now.named.now c.args.sides.right.0) c.in_ok-left_ty.left_ty c.in_ok-right_ty.right_ty (record { read = c.in_ok-one_more.ensures.counts; kept = c.one_more.ensures.scope; types = c.one_more.ensures.types }) (record { read = c.in_ok-left_ty.ensures.read; kept = c.in_ok-left_ty.ensures.kept; met = c.in_ok-left_ty.ensures.met }) (record { read = c.in_ok-right_ty.ensures.read; kept = c.in_ok-right_ty.ensures.kept; met = c.in_ok-right_ty.ensures.met })
-    (walking.seen (λ z. Rattle.gib_check.specs.Faults.wanted (One WholeForm) z ≡ Rattle.std.proofs.Common.Ok (tt {0})) c.infer-2.new.state c.part.result (record { ty = c.in_ok-left_ty.left_ty; place = Rattle.gib_check.specs.Faults.place (generic_tree c.args.around.now.named.now c.args.sides.left.0) }) c.part.ensures c.in_ok-wanted_whole.ensures)
-    (walking.seen (λ z. Rattle.gib_check.specs.Faults.wanted (One WholeForm) z ≡ Rattle.std.proofs.Common.Ok (tt {0})) c.infer-2.new.state c.part-2.result (record { ty = c.in_ok-right_ty.right_ty; place = Rattle.gib_check.specs.Faults.place (generic_tree c.args.around.now.named.now c.args.sides.right.0) }) c.part-2.ensures c.in_ok-wanted_whole-2.ensures)
+    (walking.seen (λ z. Rattle.gib_check.specs.Faults.wanted (One WholeForm) z ≡ Rattle.std.proofs.Common.Ok (tt {0})) c.infer-2.new.state c.part.result (record { ty = c.in_ok-left_ty.left_ty; place = place (generic_tree c.args.around.now.named.now c.args.sides.left.0) }) c.part.ensures c.in_ok-wanted_whole.ensures)
+    (walking.seen (λ z. Rattle.gib_check.specs.Faults.wanted (One WholeForm) z ≡ Rattle.std.proofs.Common.Ok (tt {0})) c.infer-2.new.state c.part-2.result (record { ty = c.in_ok-right_ty.right_ty; place = place (generic_tree c.args.around.now.named.now c.args.sides.right.0) }) c.part-2.ensures c.in_ok-wanted_whole-2.ensures)
     ∙ ap (λ (f : Form). Rattle.std.proofs.Common.Ok (One f, c.infer-2.new.state.counts)) (sym (c.in_ok-id.ensures.met.form ∙ c.result_node.ensures.form (forms c.infer-2.new.state)))
     ∙ ap (λ (n : Rattle.gib_check.specs.declared.counts.Counts.Counts). Rattle.std.proofs.Common.Ok (One (form_at (forms c.put.new.self) c.in_ok-id.id.0), n)) (sym c.put.ensures.keeps.counts)
 
@@ -152,46 +135,20 @@ pub if_else-returns-in_err-wanted_truth-clause-read : goal.if_else-returns-in_er
 if_else-returns-in_err-wanted_truth-clause-read t c =
     let p = err_from_is_err_and c.from_residual-in_err-wanted_truth.result c.from_residual-in_err-wanted_truth.ensures.1 in
     rw (p.1, p.2) (walking.if_condition c.args.around.now.named.now c.args.around.now.variables.now c.args.at.standing c.in_err-wanted_truth.field-0.0 c.args.state.now c.one_more.new.self c.infer.new.state c.infer-2.new.state c.infer-3.new.state c.args.at.span (generic_tree c.args.around.now.named.now c.args.condition.0) (generic_tree c.args.around.now.named.now c.args.branches.left.0) (generic_tree c.args.around.now.named.now c.args.branches.right.0) c.in_ok-condition_ty.condition_ty c.in_ok-then_ty.then_ty c.in_ok-else_ty.else_ty (record { read = c.in_ok-one_more.ensures.counts; kept = c.one_more.ensures.scope; types = c.one_more.ensures.types }) (record { read = c.in_ok-condition_ty.ensures.read; kept = c.in_ok-condition_ty.ensures.kept; met = c.in_ok-condition_ty.ensures.met }) (record { read = c.in_ok-then_ty.ensures.read; kept = c.in_ok-then_ty.ensures.kept; met = c.in_ok-then_ty.ensures.met }) (record { read = c.in_ok-else_ty.ensures.read; kept = c.in_ok-else_ty.ensures.kept; met = c.in_ok-else_ty.ensures.met })
-    (walking.seen (λ z. Rattle.gib_check.specs.Answers.IsFaultOf c.in_err-wanted_truth.field-0.0 (Rattle.gib_check.specs.Faults.wanted (One TruthForm) z)) c.infer-3.new.state c.part.result (record { ty = c.in_ok-condition_ty.condition_ty; place = Rattle.gib_check.specs.Faults.place (generic_tree c.args.around.now.named.now c.args.condition.0) }) c.part.ensures c.in_err-wanted_truth.ensures))
+    (walking.seen (λ z. IsFaultOf c.in_err-wanted_truth.field-0.0 (Rattle.gib_check.specs.Faults.wanted (One TruthForm) z)) c.infer-3.new.state c.part.result (record { ty = c.in_ok-condition_ty.condition_ty; place = place (generic_tree c.args.around.now.named.now c.args.condition.0) }) c.part.ensures c.in_err-wanted_truth.ensures))
 
 pub if_else-returns-in_err-wanted-clause-read : goal.if_else-returns-in_err-wanted-clause-read
 if_else-returns-in_err-wanted-clause-read t c =
     let p = err_from_is_err_and c.from_residual-in_err-wanted.result c.from_residual-in_err-wanted.ensures.1 in
     rw (p.1, p.2) (walking.if_branches c.args.around.now.named.now c.args.around.now.variables.now c.args.at.standing c.in_err-wanted.field-0.0 c.args.state.now c.one_more.new.self c.infer.new.state c.infer-2.new.state c.infer-3.new.state c.args.at.span (generic_tree c.args.around.now.named.now c.args.condition.0) (generic_tree c.args.around.now.named.now c.args.branches.left.0) (generic_tree c.args.around.now.named.now c.args.branches.right.0) c.in_ok-condition_ty.condition_ty c.in_ok-then_ty.then_ty c.in_ok-else_ty.else_ty (record { read = c.in_ok-one_more.ensures.counts; kept = c.one_more.ensures.scope; types = c.one_more.ensures.types }) (record { read = c.in_ok-condition_ty.ensures.read; kept = c.in_ok-condition_ty.ensures.kept; met = c.in_ok-condition_ty.ensures.met }) (record { read = c.in_ok-then_ty.ensures.read; kept = c.in_ok-then_ty.ensures.kept; met = c.in_ok-then_ty.ensures.met }) (record { read = c.in_ok-else_ty.ensures.read; kept = c.in_ok-else_ty.ensures.kept; met = c.in_ok-else_ty.ensures.met })
-    (walking.seen (λ z. Rattle.gib_check.specs.Faults.wanted (One TruthForm) z ≡ Rattle.std.proofs.Common.Ok (tt {0})) c.infer-3.new.state c.part.result (record { ty = c.in_ok-condition_ty.condition_ty; place = Rattle.gib_check.specs.Faults.place (generic_tree c.args.around.now.named.now c.args.condition.0) }) c.part.ensures c.in_ok-wanted_truth.ensures)
-    (subst (λ z. Rattle.gib_check.specs.Answers.IsFaultOf c.in_err-wanted.field-0.0 (Rattle.gib_check.specs.Faults.wanted (forms_given c.infer-3.new.state c.in_ok-then_ty.then_ty) (part_in c.infer-3.new.state z))) c.part-2.ensures c.in_err-wanted.ensures))
+    (walking.seen (λ z. Rattle.gib_check.specs.Faults.wanted (One TruthForm) z ≡ Rattle.std.proofs.Common.Ok (tt {0})) c.infer-3.new.state c.part.result (record { ty = c.in_ok-condition_ty.condition_ty; place = place (generic_tree c.args.around.now.named.now c.args.condition.0) }) c.part.ensures c.in_ok-wanted_truth.ensures)
+    (subst (λ z. IsFaultOf c.in_err-wanted.field-0.0 (Rattle.gib_check.specs.Faults.wanted (forms_given c.infer-3.new.state c.in_ok-then_ty.then_ty) (part_in c.infer-3.new.state z))) c.part-2.ensures c.in_err-wanted.ensures))
 
 pub if_else-returns-clause-read : goal.if_else-returns-clause-read
 if_else-returns-clause-read t c =
     walking.if_ok c.args.around.now.named.now c.args.around.now.variables.now c.args.at.standing c.args.state.now c.one_more.new.self c.infer.new.state c.infer-2.new.state c.infer-3.new.state c.args.at.span (generic_tree c.args.around.now.named.now c.args.condition.0) (generic_tree c.args.around.now.named.now c.args.branches.left.0) (generic_tree c.args.around.now.named.now c.args.branches.right.0) c.in_ok-condition_ty.condition_ty c.in_ok-then_ty.then_ty c.in_ok-else_ty.else_ty (record { read = c.in_ok-one_more.ensures.counts; kept = c.one_more.ensures.scope; types = c.one_more.ensures.types }) (record { read = c.in_ok-condition_ty.ensures.read; kept = c.in_ok-condition_ty.ensures.kept; met = c.in_ok-condition_ty.ensures.met }) (record { read = c.in_ok-then_ty.ensures.read; kept = c.in_ok-then_ty.ensures.kept; met = c.in_ok-then_ty.ensures.met }) (record { read = c.in_ok-else_ty.ensures.read; kept = c.in_ok-else_ty.ensures.kept; met = c.in_ok-else_ty.ensures.met })
-    (walking.seen (λ z. Rattle.gib_check.specs.Faults.wanted (One TruthForm) z ≡ Rattle.std.proofs.Common.Ok (tt {0})) c.infer-3.new.state c.part.result (record { ty = c.in_ok-condition_ty.condition_ty; place = Rattle.gib_check.specs.Faults.place (generic_tree c.args.around.now.named.now c.args.condition.0) }) c.part.ensures c.in_ok-wanted_truth.ensures)
+    (walking.seen (λ z. Rattle.gib_check.specs.Faults.wanted (One TruthForm) z ≡ Rattle.std.proofs.Common.Ok (tt {0})) c.infer-3.new.state c.part.result (record { ty = c.in_ok-condition_ty.condition_ty; place = place (generic_tree c.args.around.now.named.now c.args.condition.0) }) c.part.ensures c.in_ok-wanted_truth.ensures)
     (subst (λ z. Rattle.gib_check.specs.Faults.wanted (forms_given c.infer-3.new.state c.in_ok-then_ty.then_ty) (part_in c.infer-3.new.state z) ≡ Rattle.std.proofs.Common.Ok (tt {0})) c.part-2.ensures c.in_ok-wanted.ensures)
-
-pub let_in-returns-in_err-ty-clause-read : goal.let_in-returns-in_err-ty-clause-read
-let_in-returns-in_err-ty-clause-read t c =
-    let p = err_from_is_err_and c.from_residual-in_err-ty.result c.from_residual-in_err-ty.ensures.1 in
-    rw (p.1, p.2) (walking.let_single c.args.around.now.named.now c.args.around.now.variables.now c.args.at.standing c.in_err-ty.field-0.0 c.args.state.now c.one_more.new.self c.infer.new.state c.args.at.span c.args.bound.name (generic_tree c.args.around.now.named.now c.args.bound.value.0) (generic_tree c.args.around.now.named.now c.args.body.0) c.in_ok-value.value (record { read = c.in_ok-one_more.ensures.counts; kept = c.one_more.ensures.scope; types = c.one_more.ensures.types }) (record { read = c.in_ok-value.ensures.read; kept = c.in_ok-value.ensures.kept; met = c.in_ok-value.ensures.met }) (c.in_err-ty.ensures.form c.infer.new.state))
-
-pub let_in-returns-in_err-bind-clause-read : goal.let_in-returns-in_err-bind-clause-read
-let_in-returns-in_err-bind-clause-read t c =
-    let p = err_from_is_err_and c.from_residual-in_err-bind.result c.from_residual-in_err-bind.ensures.1 in
-    rw (p.1, p.2) (walking.let_bind c.args.around.now.named.now c.args.around.now.variables.now c.args.at.standing c.in_err-bind.field-0.0 c.args.state.now c.one_more.new.self c.infer.new.state c.args.at.span c.args.bound.name (generic_tree c.args.around.now.named.now c.args.bound.value.0) (generic_tree c.args.around.now.named.now c.args.body.0) c.in_ok-value.value c.in_ok-ty.ty (record { read = c.in_ok-one_more.ensures.counts; kept = c.one_more.ensures.scope; types = c.one_more.ensures.types }) (record { read = c.in_ok-value.ensures.read; kept = c.in_ok-value.ensures.kept; met = c.in_ok-value.ensures.met }) (c.in_ok-ty.ensures.form c.infer.new.state) c.in_err-bind.ensures.counts)
-
-pub let_in-returns-in_err-given-clause-read : goal.let_in-returns-in_err-given-clause-read
-let_in-returns-in_err-given-clause-read t c =
-    let p = err_from_is_err_and c.from_residual-in_err-given.result c.from_residual-in_err-given.ensures.1 in
-    rw (p.1, p.2) (walking.let_body c.args.around.now.named.now c.args.around.now.variables.now c.args.at.standing c.in_err-given.field-0.0 c.args.state.now c.one_more.new.self c.infer.new.state c.bind.new.self c.args.at.span c.args.bound.name (generic_tree c.args.around.now.named.now c.args.bound.value.0) (generic_tree c.args.around.now.named.now c.args.body.0) c.in_ok-value.value c.in_ok-ty.ty (record { read = c.in_ok-one_more.ensures.counts; kept = c.one_more.ensures.scope; types = c.one_more.ensures.types }) (record { read = c.in_ok-value.ensures.read; kept = c.in_ok-value.ensures.kept; met = c.in_ok-value.ensures.met }) (c.in_ok-ty.ensures.form c.infer.new.state) (record { read = c.in_ok-bind.ensures.counts; scope = c.in_ok-bind.ensures.scope; types = c.bind.ensures.types }) c.in_err-given.ensures.read)
-
-pub let_in-returns-clause-read : goal.let_in-returns-clause-read
-let_in-returns-clause-read t c =
-    walking.let_is c.args.around.now.named.now c.args.around.now.variables.now c.args.at.standing c.args.state.now c.one_more.new.self c.infer.new.state c.bind.new.self c.args.at.span c.args.bound.name (generic_tree c.args.around.now.named.now c.args.bound.value.0) (generic_tree c.args.around.now.named.now c.args.body.0) c.in_ok-value.value c.in_ok-ty.ty (record { read = c.in_ok-one_more.ensures.counts; kept = c.one_more.ensures.scope; types = c.one_more.ensures.types }) (record { read = c.in_ok-value.ensures.read; kept = c.in_ok-value.ensures.kept; met = c.in_ok-value.ensures.met }) (c.in_ok-ty.ensures.form c.infer.new.state) (record { read = c.in_ok-bind.ensures.counts; scope = c.in_ok-bind.ensures.scope; types = c.bind.ensures.types })
-    ∙ c.in_ok-given.ensures.read
-    ∙ answering.same_answer c.infer-2.new.state c.truncate.new.self c.in_ok-given.given (same_advance c.infer-2.new.state c.truncate.new.self c.truncate.ensures.types c.truncate.ensures.parts) c.in_ok-given.ensures.met.here c.truncate.ensures.counts
-
-pub let_in-returns-clause-kept : goal.let_in-returns-clause-kept
-let_in-returns-clause-kept t c =
-    walking.one_dropped c.args.around.now.named.now c.args.around.now.variables.now (in_scope c.infer.new.state) (in_scope c.infer-2.new.state) (in_scope c.truncate.new.self) _ c.len-len.result (c.in_ok-given.ensures.kept ∙ c.in_ok-bind.ensures.scope) c.len-len.ensures c.in_ok-truncate.ensures.scope
-    ∙ c.in_ok-value.ensures.kept ∙ c.one_more.ensures.scope
 
 pub operation-wanted_whole-requires : goal.operation-wanted_whole-requires
 operation-wanted_whole-requires t c =
@@ -206,174 +163,6 @@ pub if_else-wanted-requires-clause-due : goal.if_else-wanted-requires-clause-due
 if_else-wanted-requires-clause-due t c =
     met_stays c.infer-2.new.state c.infer-3.new.state c.in_ok-then_ty.then_ty c.in_ok-else_ty.ensures.met.advances c.in_ok-then_ty.ensures.met.here
 
-pub let_in-bind-requires : goal.let_in-bind-requires
-let_in-bind-requires t c =
-    c.in_ok-ty.ensures.met c.infer.new.state c.in_ok-value.ensures.met.here
-
-pub let_in-returns-clause-met : goal.let_in-returns-clause-met
-let_in-returns-clause-met t c =
-    record { advances = (advances_on c.args.state.now c.infer-2.new.state c.truncate.new.self (advances_on c.args.state.now c.bind.new.self c.infer-2.new.state (advances_on c.args.state.now c.infer.new.state c.bind.new.self (advances_on c.args.state.now c.one_more.new.self c.infer.new.state (same_advance c.args.state.now c.one_more.new.self c.one_more.ensures.types c.one_more.ensures.parts) c.in_ok-value.ensures.met.advances) (same_advance c.infer.new.state c.bind.new.self c.bind.ensures.types c.bind.ensures.parts)) c.in_ok-given.ensures.met.advances) (same_advance c.infer-2.new.state c.truncate.new.self c.truncate.ensures.types c.truncate.ensures.parts)); here = met_stays c.infer-2.new.state c.truncate.new.self c.in_ok-given.given (same_advance c.infer-2.new.state c.truncate.new.self c.truncate.ensures.types c.truncate.ensures.parts) c.in_ok-given.ensures.met.here }
-
-pub let_par-returns-in_err-left_ty-clause-read : goal.let_par-returns-in_err-left_ty-clause-read
-let_par-returns-in_err-left_ty-clause-read t c =
-    let p = err_from_is_err_and c.from_residual-in_err-left_ty.result c.from_residual-in_err-left_ty.ensures.1 in
-    rw (p.1, p.2) (walking.par_left_single c.args.around.now.named.now c.args.around.now.variables.now c.args.at.standing c.args.at.span c.args.sides.left.name (generic_tree c.args.around.now.named.now c.args.sides.left.value.0) c.args.sides.right.name (generic_tree c.args.around.now.named.now c.args.sides.right.value.0) (generic_tree c.args.around.now.named.now c.args.body.0) c.in_err-left_ty.field-0.0 c.args.state.now c.one_more.new.self c.infer.new.state c.infer-2.new.state c.in_ok-left.left c.in_ok-right.right (record { read = c.in_ok-one_more.ensures.counts; kept = c.one_more.ensures.scope; types = c.one_more.ensures.types }) (record { read = c.in_ok-left.ensures.read; kept = c.in_ok-left.ensures.kept; met = c.in_ok-left.ensures.met }) (record { read = c.in_ok-right.ensures.read; kept = c.in_ok-right.ensures.kept; met = c.in_ok-right.ensures.met }) (c.in_err-left_ty.ensures.form c.infer-2.new.state))
-
-pub let_par-returns-in_err-right_ty-clause-read : goal.let_par-returns-in_err-right_ty-clause-read
-let_par-returns-in_err-right_ty-clause-read t c =
-    let p = err_from_is_err_and c.from_residual-in_err-right_ty.result c.from_residual-in_err-right_ty.ensures.1 in
-    rw (p.1, p.2) (walking.par_right_single c.args.around.now.named.now c.args.around.now.variables.now c.args.at.standing c.args.at.span c.args.sides.left.name (generic_tree c.args.around.now.named.now c.args.sides.left.value.0) c.args.sides.right.name (generic_tree c.args.around.now.named.now c.args.sides.right.value.0) (generic_tree c.args.around.now.named.now c.args.body.0) c.in_err-right_ty.field-0.0 c.args.state.now c.one_more.new.self c.infer.new.state c.infer-2.new.state c.in_ok-left.left c.in_ok-right.right c.in_ok-left_ty.left_ty (record { read = c.in_ok-one_more.ensures.counts; kept = c.one_more.ensures.scope; types = c.one_more.ensures.types }) (record { read = c.in_ok-left.ensures.read; kept = c.in_ok-left.ensures.kept; met = c.in_ok-left.ensures.met }) (record { read = c.in_ok-right.ensures.read; kept = c.in_ok-right.ensures.kept; met = c.in_ok-right.ensures.met }) (c.in_ok-left_ty.ensures.form c.infer-2.new.state) (c.in_err-right_ty.ensures.form c.infer-2.new.state))
-
-pub let_par-returns-in_err-bind-clause-read : goal.let_par-returns-in_err-bind-clause-read
-let_par-returns-in_err-bind-clause-read t c =
-    let p = err_from_is_err_and c.from_residual-in_err-bind.result c.from_residual-in_err-bind.ensures.1 in
-    rw (p.1, p.2) (walking.par_left c.args.around.now.named.now c.args.around.now.variables.now c.args.at.standing c.args.at.span c.args.sides.left.name (generic_tree c.args.around.now.named.now c.args.sides.left.value.0) c.args.sides.right.name (generic_tree c.args.around.now.named.now c.args.sides.right.value.0) (generic_tree c.args.around.now.named.now c.args.body.0) c.in_err-bind.field-0.0 c.args.state.now c.one_more.new.self c.infer.new.state c.infer-2.new.state c.in_ok-left.left c.in_ok-right.right c.in_ok-left_ty.left_ty c.in_ok-right_ty.right_ty (record { read = c.in_ok-one_more.ensures.counts; kept = c.one_more.ensures.scope; types = c.one_more.ensures.types }) (record { read = c.in_ok-left.ensures.read; kept = c.in_ok-left.ensures.kept; met = c.in_ok-left.ensures.met }) (record { read = c.in_ok-right.ensures.read; kept = c.in_ok-right.ensures.kept; met = c.in_ok-right.ensures.met }) (record { left = (c.in_ok-left_ty.ensures.form c.infer-2.new.state); right = (c.in_ok-right_ty.ensures.form c.infer-2.new.state) }) c.in_err-bind.ensures.counts)
-
-pub let_par-returns-in_err-bind-2-clause-read : goal.let_par-returns-in_err-bind-2-clause-read
-let_par-returns-in_err-bind-2-clause-read t c =
-    let p = err_from_is_err_and c.from_residual-in_err-bind-2.result c.from_residual-in_err-bind-2.ensures.1 in
-    rw (p.1, p.2) (walking.par_right c.args.around.now.named.now c.args.around.now.variables.now c.args.at.standing c.args.at.span c.args.sides.left.name (generic_tree c.args.around.now.named.now c.args.sides.left.value.0) c.args.sides.right.name (generic_tree c.args.around.now.named.now c.args.sides.right.value.0) (generic_tree c.args.around.now.named.now c.args.body.0) c.in_err-bind-2.field-0.0 c.args.state.now c.one_more.new.self c.infer.new.state c.infer-2.new.state c.bind.new.self c.in_ok-left.left c.in_ok-right.right c.in_ok-left_ty.left_ty c.in_ok-right_ty.right_ty (record { read = c.in_ok-one_more.ensures.counts; kept = c.one_more.ensures.scope; types = c.one_more.ensures.types }) (record { read = c.in_ok-left.ensures.read; kept = c.in_ok-left.ensures.kept; met = c.in_ok-left.ensures.met }) (record { read = c.in_ok-right.ensures.read; kept = c.in_ok-right.ensures.kept; met = c.in_ok-right.ensures.met }) (record { left = (c.in_ok-left_ty.ensures.form c.infer-2.new.state); right = (c.in_ok-right_ty.ensures.form c.infer-2.new.state) }) (record { read = c.in_ok-bind.ensures.counts; scope = c.in_ok-bind.ensures.scope; types = c.bind.ensures.types }) c.in_err-bind-2.ensures.counts)
-
-pub let_par-returns-in_err-given-clause-read : goal.let_par-returns-in_err-given-clause-read
-let_par-returns-in_err-given-clause-read t c =
-    let p = err_from_is_err_and c.from_residual-in_err-given.result c.from_residual-in_err-given.ensures.1 in
-    rw (p.1, p.2) (along c.in_err-given.field-0.0 _ _ (walking.par_is c.args.around.now.named.now c.args.around.now.variables.now c.args.at.standing c.args.at.span c.args.sides.left.name (generic_tree c.args.around.now.named.now c.args.sides.left.value.0) c.args.sides.right.name (generic_tree c.args.around.now.named.now c.args.sides.right.value.0) (generic_tree c.args.around.now.named.now c.args.body.0) c.args.state.now c.one_more.new.self c.infer.new.state c.infer-2.new.state c.bind.new.self c.bind-2.new.self c.in_ok-left.left c.in_ok-right.right c.in_ok-left_ty.left_ty c.in_ok-right_ty.right_ty (record { read = c.in_ok-one_more.ensures.counts; kept = c.one_more.ensures.scope; types = c.one_more.ensures.types }) (record { read = c.in_ok-left.ensures.read; kept = c.in_ok-left.ensures.kept; met = c.in_ok-left.ensures.met }) (record { read = c.in_ok-right.ensures.read; kept = c.in_ok-right.ensures.kept; met = c.in_ok-right.ensures.met }) (record { left = (c.in_ok-left_ty.ensures.form c.infer-2.new.state); right = (c.in_ok-right_ty.ensures.form c.infer-2.new.state) }) (record { read = c.in_ok-bind.ensures.counts; scope = c.in_ok-bind.ensures.scope; types = c.bind.ensures.types }) (record { read = c.in_ok-bind-2.ensures.counts; scope = c.in_ok-bind-2.ensures.scope; types = c.bind-2.ensures.types })) c.in_err-given.ensures.read)
-
-pub let_par-returns-clause-read : goal.let_par-returns-clause-read
-let_par-returns-clause-read t c =
-    walking.par_is c.args.around.now.named.now c.args.around.now.variables.now c.args.at.standing c.args.at.span c.args.sides.left.name (generic_tree c.args.around.now.named.now c.args.sides.left.value.0) c.args.sides.right.name (generic_tree c.args.around.now.named.now c.args.sides.right.value.0) (generic_tree c.args.around.now.named.now c.args.body.0) c.args.state.now c.one_more.new.self c.infer.new.state c.infer-2.new.state c.bind.new.self c.bind-2.new.self c.in_ok-left.left c.in_ok-right.right c.in_ok-left_ty.left_ty c.in_ok-right_ty.right_ty (record { read = c.in_ok-one_more.ensures.counts; kept = c.one_more.ensures.scope; types = c.one_more.ensures.types }) (record { read = c.in_ok-left.ensures.read; kept = c.in_ok-left.ensures.kept; met = c.in_ok-left.ensures.met }) (record { read = c.in_ok-right.ensures.read; kept = c.in_ok-right.ensures.kept; met = c.in_ok-right.ensures.met }) (record { left = (c.in_ok-left_ty.ensures.form c.infer-2.new.state); right = (c.in_ok-right_ty.ensures.form c.infer-2.new.state) }) (record { read = c.in_ok-bind.ensures.counts; scope = c.in_ok-bind.ensures.scope; types = c.bind.ensures.types }) (record { read = c.in_ok-bind-2.ensures.counts; scope = c.in_ok-bind-2.ensures.scope; types = c.bind-2.ensures.types })
-    ∙ c.in_ok-given.ensures.read
-    ∙ answering.same_answer c.infer-3.new.state c.truncate.new.self c.in_ok-given.given (same_advance c.infer-3.new.state c.truncate.new.self c.truncate.ensures.types c.truncate.ensures.parts) c.in_ok-given.ensures.met.here c.truncate.ensures.counts
-
-pub let_par-returns-clause-kept : goal.let_par-returns-clause-kept
-let_par-returns-clause-kept t c =
-    walking.two_dropped c.args.around.now.named.now c.args.around.now.variables.now (in_scope c.infer-2.new.state) (in_scope c.infer-3.new.state) (in_scope c.truncate.new.self) _ _ c.len-len.result
-    (c.in_ok-given.ensures.kept ∙ c.in_ok-bind-2.ensures.scope ∙ ap (Rattle.gib_syntax.specs.GenericTyping.form_bound c.args.sides.right.name _) c.in_ok-bind.ensures.scope) c.len-len.ensures c.in_ok-truncate.ensures.scope
-    ∙ c.in_ok-right.ensures.kept ∙ c.in_ok-left.ensures.kept ∙ c.one_more.ensures.scope
-
-pub let_par-returns-clause-met : goal.let_par-returns-clause-met
-let_par-returns-clause-met t c =
-    record { advances = (advances_on c.args.state.now c.infer-3.new.state c.truncate.new.self (advances_on c.args.state.now c.bind-2.new.self c.infer-3.new.state (advances_on c.args.state.now c.bind.new.self c.bind-2.new.self (advances_on c.args.state.now c.infer-2.new.state c.bind.new.self (advances_on c.args.state.now c.infer.new.state c.infer-2.new.state (advances_on c.args.state.now c.one_more.new.self c.infer.new.state (same_advance c.args.state.now c.one_more.new.self c.one_more.ensures.types c.one_more.ensures.parts) c.in_ok-left.ensures.met.advances) c.in_ok-right.ensures.met.advances) (same_advance c.infer-2.new.state c.bind.new.self c.bind.ensures.types c.bind.ensures.parts)) (same_advance c.bind.new.self c.bind-2.new.self c.bind-2.ensures.types c.bind-2.ensures.parts)) c.in_ok-given.ensures.met.advances) (same_advance c.infer-3.new.state c.truncate.new.self c.truncate.ensures.types c.truncate.ensures.parts)); here = met_stays c.infer-3.new.state c.truncate.new.self c.in_ok-given.given (same_advance c.infer-3.new.state c.truncate.new.self c.truncate.ensures.types c.truncate.ensures.parts) c.in_ok-given.ensures.met.here }
-
-pub let_par-bind-requires : goal.let_par-bind-requires
-let_par-bind-requires t c =
-    c.in_ok-left_ty.ensures.met c.infer-2.new.state (met_stays c.infer.new.state c.infer-2.new.state c.in_ok-left.left c.in_ok-right.ensures.met.advances c.in_ok-left.ensures.met.here)
-
-pub let_par-bind-requires-2 : goal.let_par-bind-requires-2
-let_par-bind-requires-2 t c =
-    subst (λ ns. c.in_ok-right_ty.right_ty.0 < length ns) (sym c.bind.ensures.types) (c.in_ok-right_ty.ensures.met c.infer-2.new.state c.in_ok-right.ensures.met.here)
-
-pub let_several-returns-in_err-value-clause-read : goal.let_several-returns-in_err-value-clause-read
-let_several-returns-in_err-value-clause-read t c =
-    let p = err_from_is_err_and c.from_residual-in_err-value.result c.from_residual-in_err-value.ensures.1 in
-    rw (p.1, p.2) (walking.several_fails c.args.around.now.named.now c.args.around.now.variables.now c.args.at.standing c.args.at.span c.args.names.now (generic_tree c.args.around.now.named.now c.args.sides.left.0) (generic_tree c.args.around.now.named.now c.args.sides.right.0) c.in_err-value.field-0.0 c.args.state.now c.one_more.new.self (record { read = c.in_ok-one_more.ensures.counts; kept = c.one_more.ensures.scope; types = c.one_more.ensures.types }) (subst (λ st. Rattle.gib_check.specs.Answers.IsFaultOf c.in_err-value.field-0.0 (infer (generic_globals c.args.around.now.named.now) (variable_numbers c.args.around.now.variables.now) opaque st (in_scope c.one_more.new.self) c.one_more.new.self.counts (generic_tree c.args.around.now.named.now c.args.sides.left.0))) c.standing_for.ensures c.in_err-value.ensures.read))
-
-pub let_several-returns-in_err-types-clause-read : goal.let_several-returns-in_err-types-clause-read
-let_several-returns-in_err-types-clause-read t c =
-    let p = err_from_is_err_and c.from_residual-in_err-types.result c.from_residual-in_err-types.ensures.1 in
-    rw (p.1, p.2) (walking.several_types c.args.around.now.named.now c.args.around.now.variables.now c.args.at.standing c.args.at.span c.args.names.now (generic_tree c.args.around.now.named.now c.args.sides.left.0) (generic_tree c.args.around.now.named.now c.args.sides.right.0) c.in_err-types.field-0.0 c.args.state.now c.one_more.new.self c.infer.new.state c.in_ok-value.value (record { read = c.in_ok-one_more.ensures.counts; kept = c.one_more.ensures.scope; types = c.one_more.ensures.types }) (record { read = (subst (λ st. infer (generic_globals c.args.around.now.named.now) (variable_numbers c.args.around.now.variables.now) opaque st (in_scope c.one_more.new.self) c.one_more.new.self.counts (generic_tree c.args.around.now.named.now c.args.sides.left.0) ≡ Rattle.std.proofs.Common.Ok (forms_given c.infer.new.state c.in_ok-value.value, c.infer.new.state.counts)) c.standing_for.ensures c.in_ok-value.ensures.read); kept = c.in_ok-value.ensures.kept; met = c.in_ok-value.ensures.met }) (walking.seen (λ z. Rattle.gib_check.specs.Answers.IsFaultOf c.in_err-types.field-0.0 (Rattle.gib_check.specs.Faults.types_bound c.args.names.now z)) c.infer.new.state c.part.result (record { ty = c.in_ok-value.value; place = Rattle.gib_check.specs.Faults.place (generic_tree c.args.around.now.named.now c.args.sides.left.0) }) c.part.ensures c.in_err-types.ensures.types))
-
-pub let_several-returns-in_err-bind_parts-clause-read : goal.let_several-returns-in_err-bind_parts-clause-read
-let_several-returns-in_err-bind_parts-clause-read t c =
-    let p = err_from_is_err_and c.from_residual-in_err-bind_parts.result c.from_residual-in_err-bind_parts.ensures.1 in
-    rw (p.1, p.2) (walking.several_bind c.args.around.now.named.now c.args.around.now.variables.now c.args.at.standing c.args.at.span c.args.names.now (generic_tree c.args.around.now.named.now c.args.sides.left.0) (generic_tree c.args.around.now.named.now c.args.sides.right.0) c.in_err-bind_parts.field-0.0 c.args.state.now c.one_more.new.self c.infer.new.state c.in_ok-value.value c.in_ok-types.types.items (record { read = c.in_ok-one_more.ensures.counts; kept = c.one_more.ensures.scope; types = c.one_more.ensures.types }) (record { read = (subst (λ st. infer (generic_globals c.args.around.now.named.now) (variable_numbers c.args.around.now.variables.now) opaque st (in_scope c.one_more.new.self) c.one_more.new.self.counts (generic_tree c.args.around.now.named.now c.args.sides.left.0) ≡ Rattle.std.proofs.Common.Ok (forms_given c.infer.new.state c.in_ok-value.value, c.infer.new.state.counts)) c.standing_for.ensures c.in_ok-value.ensures.read); kept = c.in_ok-value.ensures.kept; met = c.in_ok-value.ensures.met }) (walking.seen (λ z. Rattle.gib_check.specs.Faults.types_bound c.args.names.now z ≡ Rattle.std.proofs.Common.Ok (listed (forms c.infer.new.state) c.in_ok-types.types.items)) c.infer.new.state c.part.result (record { ty = c.in_ok-value.value; place = Rattle.gib_check.specs.Faults.place (generic_tree c.args.around.now.named.now c.args.sides.left.0) }) c.part.ensures c.in_ok-types.ensures.types) (subst (λ is. Rattle.gib_check.specs.Answers.IsFaultOf c.in_err-bind_parts.field-0.0 (Rattle.gib_check.specs.Faults.bind_parts 0 (in_scope c.infer.new.state) c.infer.new.state.counts c.args.names.now (listed (forms c.infer.new.state) is))) c.deref.ensures.value c.in_err-bind_parts.ensures.read))
-
-pub let_several-returns-in_err-given-clause-read : goal.let_several-returns-in_err-given-clause-read
-let_several-returns-in_err-given-clause-read t c =
-    let p = err_from_is_err_and c.from_residual-in_err-given.result c.from_residual-in_err-given.ensures.1 in
-    rw (p.1, p.2) (along c.in_err-given.field-0.0 _ _ (walking.several_is c.args.around.now.named.now c.args.around.now.variables.now c.args.at.standing c.args.at.span c.args.names.now (generic_tree c.args.around.now.named.now c.args.sides.left.0) (generic_tree c.args.around.now.named.now c.args.sides.right.0) c.args.state.now c.one_more.new.self c.infer.new.state c.bind_parts.new.self c.in_ok-value.value c.in_ok-types.types.items (record { read = c.in_ok-one_more.ensures.counts; kept = c.one_more.ensures.scope; types = c.one_more.ensures.types }) (record { read = (subst (λ st. infer (generic_globals c.args.around.now.named.now) (variable_numbers c.args.around.now.variables.now) opaque st (in_scope c.one_more.new.self) c.one_more.new.self.counts (generic_tree c.args.around.now.named.now c.args.sides.left.0) ≡ Rattle.std.proofs.Common.Ok (forms_given c.infer.new.state c.in_ok-value.value, c.infer.new.state.counts)) c.standing_for.ensures c.in_ok-value.ensures.read); kept = c.in_ok-value.ensures.kept; met = c.in_ok-value.ensures.met }) (walking.seen (λ z. Rattle.gib_check.specs.Faults.types_bound c.args.names.now z ≡ Rattle.std.proofs.Common.Ok (listed (forms c.infer.new.state) c.in_ok-types.types.items)) c.infer.new.state c.part.result (record { ty = c.in_ok-value.value; place = Rattle.gib_check.specs.Faults.place (generic_tree c.args.around.now.named.now c.args.sides.left.0) }) c.part.ensures c.in_ok-types.ensures.types) (record { read = (subst (λ is. Rattle.gib_check.specs.Faults.bind_parts 0 (in_scope c.infer.new.state) c.infer.new.state.counts c.args.names.now (listed (forms c.infer.new.state) is) ≡ Rattle.std.proofs.Common.Ok (in_scope c.bind_parts.new.self, c.bind_parts.new.self.counts)) c.deref.ensures.value c.in_ok-bind_parts.ensures.read); types = c.bind_parts.ensures.types })) c.in_err-given.ensures.read)
-
-pub let_several-returns-clause-read : goal.let_several-returns-clause-read
-let_several-returns-clause-read t c =
-    walking.several_is c.args.around.now.named.now c.args.around.now.variables.now c.args.at.standing c.args.at.span c.args.names.now (generic_tree c.args.around.now.named.now c.args.sides.left.0) (generic_tree c.args.around.now.named.now c.args.sides.right.0) c.args.state.now c.one_more.new.self c.infer.new.state c.bind_parts.new.self c.in_ok-value.value c.in_ok-types.types.items (record { read = c.in_ok-one_more.ensures.counts; kept = c.one_more.ensures.scope; types = c.one_more.ensures.types }) (record { read = (subst (λ st. infer (generic_globals c.args.around.now.named.now) (variable_numbers c.args.around.now.variables.now) opaque st (in_scope c.one_more.new.self) c.one_more.new.self.counts (generic_tree c.args.around.now.named.now c.args.sides.left.0) ≡ Rattle.std.proofs.Common.Ok (forms_given c.infer.new.state c.in_ok-value.value, c.infer.new.state.counts)) c.standing_for.ensures c.in_ok-value.ensures.read); kept = c.in_ok-value.ensures.kept; met = c.in_ok-value.ensures.met }) (walking.seen (λ z. Rattle.gib_check.specs.Faults.types_bound c.args.names.now z ≡ Rattle.std.proofs.Common.Ok (listed (forms c.infer.new.state) c.in_ok-types.types.items)) c.infer.new.state c.part.result (record { ty = c.in_ok-value.value; place = Rattle.gib_check.specs.Faults.place (generic_tree c.args.around.now.named.now c.args.sides.left.0) }) c.part.ensures c.in_ok-types.ensures.types) (record { read = (subst (λ is. Rattle.gib_check.specs.Faults.bind_parts 0 (in_scope c.infer.new.state) c.infer.new.state.counts c.args.names.now (listed (forms c.infer.new.state) is) ≡ Rattle.std.proofs.Common.Ok (in_scope c.bind_parts.new.self, c.bind_parts.new.self.counts)) c.deref.ensures.value c.in_ok-bind_parts.ensures.read); types = c.bind_parts.ensures.types })
-    ∙ c.in_ok-given.ensures.read
-    ∙ answering.same_answer c.infer-2.new.state c.truncate.new.self c.in_ok-given.given (same_advance c.infer-2.new.state c.truncate.new.self c.truncate.ensures.types c.truncate.ensures.parts) c.in_ok-given.ensures.met.here c.truncate.ensures.counts
-
-pub let_several-returns-clause-kept : goal.let_several-returns-clause-kept
-let_several-returns-clause-kept t c =
-    answering.parts_dropped (in_scope c.infer.new.state) (in_scope c.infer-2.new.state) (in_scope c.truncate.new.self) c.in_ok-bind_parts.ensures.kept.0 c.len-len.result
-    (c.in_ok-given.ensures.kept ∙ c.in_ok-bind_parts.ensures.kept.1) c.len-len.ensures c.in_ok-truncate.ensures.scope
-    ∙ c.in_ok-value.ensures.kept ∙ c.one_more.ensures.scope
-
-pub let_several-returns-clause-met : goal.let_several-returns-clause-met
-let_several-returns-clause-met t c =
-    record { advances = (advances_on c.args.state.now c.infer-2.new.state c.truncate.new.self (advances_on c.args.state.now c.bind_parts.new.self c.infer-2.new.state (advances_on c.args.state.now c.infer.new.state c.bind_parts.new.self (advances_on c.args.state.now c.one_more.new.self c.infer.new.state (same_advance c.args.state.now c.one_more.new.self c.one_more.ensures.types c.one_more.ensures.parts) c.in_ok-value.ensures.met.advances) (same_advance c.infer.new.state c.bind_parts.new.self c.bind_parts.ensures.types c.bind_parts.ensures.parts)) c.in_ok-given.ensures.met.advances) (same_advance c.infer-2.new.state c.truncate.new.self c.truncate.ensures.types c.truncate.ensures.parts)); here = met_stays c.infer-2.new.state c.truncate.new.self c.in_ok-given.given (same_advance c.infer-2.new.state c.truncate.new.self c.truncate.ensures.types c.truncate.ensures.parts) c.in_ok-given.ensures.met.here }
-
-pub let_several-types_bound-requires : goal.let_several-types_bound-requires
-let_several-types_bound-requires t c =
-    subst (λ (q : Part). AreMet c.infer.new.state q.ty) (sym c.part.ensures) c.in_ok-value.ensures.met.here
-
-pub let_several-bind_parts-requires : goal.let_several-bind_parts-requires
-let_several-bind_parts-requires t c =
-    subst (AreBelow (length c.infer.new.state.types)) (sym c.deref.ensures.value) c.in_ok-types.ensures.below
-
-pub par_several-returns-in_err-left-clause-read : goal.par_several-returns-in_err-left-clause-read
-par_several-returns-in_err-left-clause-read t c =
-    let p = err_from_is_err_and c.from_residual-in_err-left.result c.from_residual-in_err-left.ensures.1 in
-    rw (p.1, p.2) (walking.sides_fail_left c.args.around.now.named.now c.args.around.now.variables.now c.args.at.standing c.args.at.span c.args.names.now.left.now (generic_tree c.args.around.now.named.now c.args.parts.left.0) c.args.names.now.right.now (generic_tree c.args.around.now.named.now c.args.parts.right.0) (generic_tree c.args.around.now.named.now c.args.parts.body.0) c.in_err-left.field-0.0 c.args.state.now c.one_more.new.self (record { read = c.in_ok-one_more.ensures.counts; kept = c.one_more.ensures.scope; types = c.one_more.ensures.types }) (subst (λ st. Rattle.gib_check.specs.Answers.IsFaultOf c.in_err-left.field-0.0 (infer (generic_globals c.args.around.now.named.now) (variable_numbers c.args.around.now.variables.now) opaque st (in_scope c.one_more.new.self) c.one_more.new.self.counts (generic_tree c.args.around.now.named.now c.args.parts.left.0))) c.standing_for.ensures c.in_err-left.ensures.read))
-
-pub par_several-returns-in_err-right-clause-read : goal.par_several-returns-in_err-right-clause-read
-par_several-returns-in_err-right-clause-read t c =
-    let p = err_from_is_err_and c.from_residual-in_err-right.result c.from_residual-in_err-right.ensures.1 in
-    rw (p.1, p.2) (walking.sides_fail_right c.args.around.now.named.now c.args.around.now.variables.now c.args.at.standing c.args.at.span c.args.names.now.left.now (generic_tree c.args.around.now.named.now c.args.parts.left.0) c.args.names.now.right.now (generic_tree c.args.around.now.named.now c.args.parts.right.0) (generic_tree c.args.around.now.named.now c.args.parts.body.0) c.in_err-right.field-0.0 c.args.state.now c.one_more.new.self c.infer.new.state c.in_ok-left.left (record { read = c.in_ok-one_more.ensures.counts; kept = c.one_more.ensures.scope; types = c.one_more.ensures.types }) (record { read = (subst (λ st. infer (generic_globals c.args.around.now.named.now) (variable_numbers c.args.around.now.variables.now) opaque st (in_scope c.one_more.new.self) c.one_more.new.self.counts (generic_tree c.args.around.now.named.now c.args.parts.left.0) ≡ Rattle.std.proofs.Common.Ok (forms_given c.infer.new.state c.in_ok-left.left, c.infer.new.state.counts)) c.standing_for.ensures c.in_ok-left.ensures.read); kept = c.in_ok-left.ensures.kept; met = c.in_ok-left.ensures.met }) (subst (λ st. Rattle.gib_check.specs.Answers.IsFaultOf c.in_err-right.field-0.0 (infer (generic_globals c.args.around.now.named.now) (variable_numbers c.args.around.now.variables.now) opaque st (in_scope c.infer.new.state) c.infer.new.state.counts (generic_tree c.args.around.now.named.now c.args.parts.right.0))) c.standing_for-2.ensures c.in_err-right.ensures.read))
-
-pub par_several-returns-in_err-left_types-clause-read : goal.par_several-returns-in_err-left_types-clause-read
-par_several-returns-in_err-left_types-clause-read t c =
-    let p = err_from_is_err_and c.from_residual-in_err-left_types.result c.from_residual-in_err-left_types.ensures.1 in
-    rw (p.1, p.2) (walking.sides_left c.args.around.now.named.now c.args.around.now.variables.now c.args.at.standing c.args.at.span c.args.names.now.left.now (generic_tree c.args.around.now.named.now c.args.parts.left.0) c.args.names.now.right.now (generic_tree c.args.around.now.named.now c.args.parts.right.0) (generic_tree c.args.around.now.named.now c.args.parts.body.0) c.in_err-left_types.field-0.0 c.args.state.now c.one_more.new.self c.infer.new.state c.infer-2.new.state c.in_ok-left.left c.in_ok-right.right (record { read = c.in_ok-one_more.ensures.counts; kept = c.one_more.ensures.scope; types = c.one_more.ensures.types }) (record { read = (subst (λ st. infer (generic_globals c.args.around.now.named.now) (variable_numbers c.args.around.now.variables.now) opaque st (in_scope c.one_more.new.self) c.one_more.new.self.counts (generic_tree c.args.around.now.named.now c.args.parts.left.0) ≡ Rattle.std.proofs.Common.Ok (forms_given c.infer.new.state c.in_ok-left.left, c.infer.new.state.counts)) c.standing_for.ensures c.in_ok-left.ensures.read); kept = c.in_ok-left.ensures.kept; met = c.in_ok-left.ensures.met }) (record { read = (subst (λ st. infer (generic_globals c.args.around.now.named.now) (variable_numbers c.args.around.now.variables.now) opaque st (in_scope c.infer.new.state) c.infer.new.state.counts (generic_tree c.args.around.now.named.now c.args.parts.right.0) ≡ Rattle.std.proofs.Common.Ok (forms_given c.infer-2.new.state c.in_ok-right.right, c.infer-2.new.state.counts)) c.standing_for-2.ensures c.in_ok-right.ensures.read); kept = c.in_ok-right.ensures.kept; met = c.in_ok-right.ensures.met }) (walking.seen (λ z. Rattle.gib_check.specs.Answers.IsFaultOf c.in_err-left_types.field-0.0 (Rattle.gib_check.specs.Faults.types_bound c.args.names.now.left.now z)) c.infer-2.new.state c.part.result (record { ty = c.in_ok-left.left; place = Rattle.gib_check.specs.Faults.place (generic_tree c.args.around.now.named.now c.args.parts.left.0) }) c.part.ensures c.in_err-left_types.ensures.types))
-
-pub par_several-returns-in_err-right_types-clause-read : goal.par_several-returns-in_err-right_types-clause-read
-par_several-returns-in_err-right_types-clause-read t c =
-    let p = err_from_is_err_and c.from_residual-in_err-right_types.result c.from_residual-in_err-right_types.ensures.1 in
-    rw (p.1, p.2) (walking.sides_right c.args.around.now.named.now c.args.around.now.variables.now c.args.at.standing c.args.at.span c.args.names.now.left.now (generic_tree c.args.around.now.named.now c.args.parts.left.0) c.args.names.now.right.now (generic_tree c.args.around.now.named.now c.args.parts.right.0) (generic_tree c.args.around.now.named.now c.args.parts.body.0) c.in_err-right_types.field-0.0 c.args.state.now c.one_more.new.self c.infer.new.state c.infer-2.new.state c.in_ok-left.left c.in_ok-right.right c.in_ok-left_types.left_types.items (record { read = c.in_ok-one_more.ensures.counts; kept = c.one_more.ensures.scope; types = c.one_more.ensures.types }) (record { read = (subst (λ st. infer (generic_globals c.args.around.now.named.now) (variable_numbers c.args.around.now.variables.now) opaque st (in_scope c.one_more.new.self) c.one_more.new.self.counts (generic_tree c.args.around.now.named.now c.args.parts.left.0) ≡ Rattle.std.proofs.Common.Ok (forms_given c.infer.new.state c.in_ok-left.left, c.infer.new.state.counts)) c.standing_for.ensures c.in_ok-left.ensures.read); kept = c.in_ok-left.ensures.kept; met = c.in_ok-left.ensures.met }) (record { read = (subst (λ st. infer (generic_globals c.args.around.now.named.now) (variable_numbers c.args.around.now.variables.now) opaque st (in_scope c.infer.new.state) c.infer.new.state.counts (generic_tree c.args.around.now.named.now c.args.parts.right.0) ≡ Rattle.std.proofs.Common.Ok (forms_given c.infer-2.new.state c.in_ok-right.right, c.infer-2.new.state.counts)) c.standing_for-2.ensures c.in_ok-right.ensures.read); kept = c.in_ok-right.ensures.kept; met = c.in_ok-right.ensures.met }) (walking.seen (λ z. Rattle.gib_check.specs.Faults.types_bound c.args.names.now.left.now z ≡ Rattle.std.proofs.Common.Ok (listed (forms c.infer-2.new.state) c.in_ok-left_types.left_types.items)) c.infer-2.new.state c.part.result (record { ty = c.in_ok-left.left; place = Rattle.gib_check.specs.Faults.place (generic_tree c.args.around.now.named.now c.args.parts.left.0) }) c.part.ensures c.in_ok-left_types.ensures.types) (walking.seen (λ z. Rattle.gib_check.specs.Answers.IsFaultOf c.in_err-right_types.field-0.0 (Rattle.gib_check.specs.Faults.types_bound c.args.names.now.right.now z)) c.infer-2.new.state c.part-2.result (record { ty = c.in_ok-right.right; place = Rattle.gib_check.specs.Faults.place (generic_tree c.args.around.now.named.now c.args.parts.right.0) }) c.part-2.ensures c.in_err-right_types.ensures.types))
-
-pub par_several-returns-in_err-bind_parts-clause-read : goal.par_several-returns-in_err-bind_parts-clause-read
-par_several-returns-in_err-bind_parts-clause-read t c =
-    let p = err_from_is_err_and c.from_residual-in_err-bind_parts.result c.from_residual-in_err-bind_parts.ensures.1 in
-    rw (p.1, p.2) (walking.sides_first c.args.around.now.named.now c.args.around.now.variables.now c.args.at.standing c.args.at.span c.args.names.now.left.now (generic_tree c.args.around.now.named.now c.args.parts.left.0) c.args.names.now.right.now (generic_tree c.args.around.now.named.now c.args.parts.right.0) (generic_tree c.args.around.now.named.now c.args.parts.body.0) c.in_err-bind_parts.field-0.0 c.args.state.now c.one_more.new.self c.infer.new.state c.infer-2.new.state c.in_ok-left.left c.in_ok-right.right c.in_ok-left_types.left_types.items c.in_ok-right_types.right_types.items (record { read = c.in_ok-one_more.ensures.counts; kept = c.one_more.ensures.scope; types = c.one_more.ensures.types }) (record { read = (subst (λ st. infer (generic_globals c.args.around.now.named.now) (variable_numbers c.args.around.now.variables.now) opaque st (in_scope c.one_more.new.self) c.one_more.new.self.counts (generic_tree c.args.around.now.named.now c.args.parts.left.0) ≡ Rattle.std.proofs.Common.Ok (forms_given c.infer.new.state c.in_ok-left.left, c.infer.new.state.counts)) c.standing_for.ensures c.in_ok-left.ensures.read); kept = c.in_ok-left.ensures.kept; met = c.in_ok-left.ensures.met }) (record { read = (subst (λ st. infer (generic_globals c.args.around.now.named.now) (variable_numbers c.args.around.now.variables.now) opaque st (in_scope c.infer.new.state) c.infer.new.state.counts (generic_tree c.args.around.now.named.now c.args.parts.right.0) ≡ Rattle.std.proofs.Common.Ok (forms_given c.infer-2.new.state c.in_ok-right.right, c.infer-2.new.state.counts)) c.standing_for-2.ensures c.in_ok-right.ensures.read); kept = c.in_ok-right.ensures.kept; met = c.in_ok-right.ensures.met }) (record { left = (walking.seen (λ z. Rattle.gib_check.specs.Faults.types_bound c.args.names.now.left.now z ≡ Rattle.std.proofs.Common.Ok (listed (forms c.infer-2.new.state) c.in_ok-left_types.left_types.items)) c.infer-2.new.state c.part.result (record { ty = c.in_ok-left.left; place = Rattle.gib_check.specs.Faults.place (generic_tree c.args.around.now.named.now c.args.parts.left.0) }) c.part.ensures c.in_ok-left_types.ensures.types); right = (walking.seen (λ z. Rattle.gib_check.specs.Faults.types_bound c.args.names.now.right.now z ≡ Rattle.std.proofs.Common.Ok (listed (forms c.infer-2.new.state) c.in_ok-right_types.right_types.items)) c.infer-2.new.state c.part-2.result (record { ty = c.in_ok-right.right; place = Rattle.gib_check.specs.Faults.place (generic_tree c.args.around.now.named.now c.args.parts.right.0) }) c.part-2.ensures c.in_ok-right_types.ensures.types) }) (subst (λ is. Rattle.gib_check.specs.Answers.IsFaultOf c.in_err-bind_parts.field-0.0 (Rattle.gib_check.specs.Faults.bind_parts 0 (in_scope c.infer-2.new.state) c.infer-2.new.state.counts c.args.names.now.left.now (listed (forms c.infer-2.new.state) is))) c.deref.ensures.value c.in_err-bind_parts.ensures.read))
-
-pub par_several-returns-in_err-bind_parts-2-clause-read : goal.par_several-returns-in_err-bind_parts-2-clause-read
-par_several-returns-in_err-bind_parts-2-clause-read t c =
-    let p = err_from_is_err_and c.from_residual-in_err-bind_parts-2.result c.from_residual-in_err-bind_parts-2.ensures.1 in
-    rw (p.1, p.2) (walking.sides_second c.args.around.now.named.now c.args.around.now.variables.now c.args.at.standing c.args.at.span c.args.names.now.left.now (generic_tree c.args.around.now.named.now c.args.parts.left.0) c.args.names.now.right.now (generic_tree c.args.around.now.named.now c.args.parts.right.0) (generic_tree c.args.around.now.named.now c.args.parts.body.0) c.in_err-bind_parts-2.field-0.0 c.args.state.now c.one_more.new.self c.infer.new.state c.infer-2.new.state c.bind_parts.new.self c.in_ok-left.left c.in_ok-right.right c.in_ok-left_types.left_types.items c.in_ok-right_types.right_types.items (record { read = c.in_ok-one_more.ensures.counts; kept = c.one_more.ensures.scope; types = c.one_more.ensures.types }) (record { read = (subst (λ st. infer (generic_globals c.args.around.now.named.now) (variable_numbers c.args.around.now.variables.now) opaque st (in_scope c.one_more.new.self) c.one_more.new.self.counts (generic_tree c.args.around.now.named.now c.args.parts.left.0) ≡ Rattle.std.proofs.Common.Ok (forms_given c.infer.new.state c.in_ok-left.left, c.infer.new.state.counts)) c.standing_for.ensures c.in_ok-left.ensures.read); kept = c.in_ok-left.ensures.kept; met = c.in_ok-left.ensures.met }) (record { read = (subst (λ st. infer (generic_globals c.args.around.now.named.now) (variable_numbers c.args.around.now.variables.now) opaque st (in_scope c.infer.new.state) c.infer.new.state.counts (generic_tree c.args.around.now.named.now c.args.parts.right.0) ≡ Rattle.std.proofs.Common.Ok (forms_given c.infer-2.new.state c.in_ok-right.right, c.infer-2.new.state.counts)) c.standing_for-2.ensures c.in_ok-right.ensures.read); kept = c.in_ok-right.ensures.kept; met = c.in_ok-right.ensures.met }) (record { left = (walking.seen (λ z. Rattle.gib_check.specs.Faults.types_bound c.args.names.now.left.now z ≡ Rattle.std.proofs.Common.Ok (listed (forms c.infer-2.new.state) c.in_ok-left_types.left_types.items)) c.infer-2.new.state c.part.result (record { ty = c.in_ok-left.left; place = Rattle.gib_check.specs.Faults.place (generic_tree c.args.around.now.named.now c.args.parts.left.0) }) c.part.ensures c.in_ok-left_types.ensures.types); right = (walking.seen (λ z. Rattle.gib_check.specs.Faults.types_bound c.args.names.now.right.now z ≡ Rattle.std.proofs.Common.Ok (listed (forms c.infer-2.new.state) c.in_ok-right_types.right_types.items)) c.infer-2.new.state c.part-2.result (record { ty = c.in_ok-right.right; place = Rattle.gib_check.specs.Faults.place (generic_tree c.args.around.now.named.now c.args.parts.right.0) }) c.part-2.ensures c.in_ok-right_types.ensures.types) }) (record { read = (subst (λ is. Rattle.gib_check.specs.Faults.bind_parts 0 (in_scope c.infer-2.new.state) c.infer-2.new.state.counts c.args.names.now.left.now (listed (forms c.infer-2.new.state) is) ≡ Rattle.std.proofs.Common.Ok (in_scope c.bind_parts.new.self, c.bind_parts.new.self.counts)) c.deref.ensures.value c.in_ok-bind_parts.ensures.read); types = c.bind_parts.ensures.types }) (subst (λ is. Rattle.gib_check.specs.Answers.IsFaultOf c.in_err-bind_parts-2.field-0.0 (Rattle.gib_check.specs.Faults.bind_parts 0 (in_scope c.bind_parts.new.self) c.bind_parts.new.self.counts c.args.names.now.right.now (listed (forms c.bind_parts.new.self) is))) c.deref-2.ensures.value c.in_err-bind_parts-2.ensures.read))
-
-pub par_several-returns-in_err-given-clause-read : goal.par_several-returns-in_err-given-clause-read
-par_several-returns-in_err-given-clause-read t c =
-    let p = err_from_is_err_and c.from_residual-in_err-given.result c.from_residual-in_err-given.ensures.1 in
-    rw (p.1, p.2) (along c.in_err-given.field-0.0 _ _ (walking.sides_is c.args.around.now.named.now c.args.around.now.variables.now c.args.at.standing c.args.at.span c.args.names.now.left.now (generic_tree c.args.around.now.named.now c.args.parts.left.0) c.args.names.now.right.now (generic_tree c.args.around.now.named.now c.args.parts.right.0) (generic_tree c.args.around.now.named.now c.args.parts.body.0) c.args.state.now c.one_more.new.self c.infer.new.state c.infer-2.new.state c.bind_parts.new.self c.bind_parts-2.new.self c.in_ok-left.left c.in_ok-right.right c.in_ok-left_types.left_types.items c.in_ok-right_types.right_types.items (record { read = c.in_ok-one_more.ensures.counts; kept = c.one_more.ensures.scope; types = c.one_more.ensures.types }) (record { read = (subst (λ st. infer (generic_globals c.args.around.now.named.now) (variable_numbers c.args.around.now.variables.now) opaque st (in_scope c.one_more.new.self) c.one_more.new.self.counts (generic_tree c.args.around.now.named.now c.args.parts.left.0) ≡ Rattle.std.proofs.Common.Ok (forms_given c.infer.new.state c.in_ok-left.left, c.infer.new.state.counts)) c.standing_for.ensures c.in_ok-left.ensures.read); kept = c.in_ok-left.ensures.kept; met = c.in_ok-left.ensures.met }) (record { read = (subst (λ st. infer (generic_globals c.args.around.now.named.now) (variable_numbers c.args.around.now.variables.now) opaque st (in_scope c.infer.new.state) c.infer.new.state.counts (generic_tree c.args.around.now.named.now c.args.parts.right.0) ≡ Rattle.std.proofs.Common.Ok (forms_given c.infer-2.new.state c.in_ok-right.right, c.infer-2.new.state.counts)) c.standing_for-2.ensures c.in_ok-right.ensures.read); kept = c.in_ok-right.ensures.kept; met = c.in_ok-right.ensures.met }) (record { left = (walking.seen (λ z. Rattle.gib_check.specs.Faults.types_bound c.args.names.now.left.now z ≡ Rattle.std.proofs.Common.Ok (listed (forms c.infer-2.new.state) c.in_ok-left_types.left_types.items)) c.infer-2.new.state c.part.result (record { ty = c.in_ok-left.left; place = Rattle.gib_check.specs.Faults.place (generic_tree c.args.around.now.named.now c.args.parts.left.0) }) c.part.ensures c.in_ok-left_types.ensures.types); right = (walking.seen (λ z. Rattle.gib_check.specs.Faults.types_bound c.args.names.now.right.now z ≡ Rattle.std.proofs.Common.Ok (listed (forms c.infer-2.new.state) c.in_ok-right_types.right_types.items)) c.infer-2.new.state c.part-2.result (record { ty = c.in_ok-right.right; place = Rattle.gib_check.specs.Faults.place (generic_tree c.args.around.now.named.now c.args.parts.right.0) }) c.part-2.ensures c.in_ok-right_types.ensures.types) }) (record { read = (subst (λ is. Rattle.gib_check.specs.Faults.bind_parts 0 (in_scope c.infer-2.new.state) c.infer-2.new.state.counts c.args.names.now.left.now (listed (forms c.infer-2.new.state) is) ≡ Rattle.std.proofs.Common.Ok (in_scope c.bind_parts.new.self, c.bind_parts.new.self.counts)) c.deref.ensures.value c.in_ok-bind_parts.ensures.read); types = c.bind_parts.ensures.types }) (record { read = (subst (λ is. Rattle.gib_check.specs.Faults.bind_parts 0 (in_scope c.bind_parts.new.self) c.bind_parts.new.self.counts c.args.names.now.right.now (listed (forms c.bind_parts.new.self) is) ≡ Rattle.std.proofs.Common.Ok (in_scope c.bind_parts-2.new.self, c.bind_parts-2.new.self.counts)) c.deref-2.ensures.value c.in_ok-bind_parts-2.ensures.read); types = c.bind_parts-2.ensures.types })) c.in_err-given.ensures.read)
-
-pub par_several-returns-clause-read : goal.par_several-returns-clause-read
-par_several-returns-clause-read t c =
-    walking.sides_is c.args.around.now.named.now c.args.around.now.variables.now c.args.at.standing c.args.at.span c.args.names.now.left.now (generic_tree c.args.around.now.named.now c.args.parts.left.0) c.args.names.now.right.now (generic_tree c.args.around.now.named.now c.args.parts.right.0) (generic_tree c.args.around.now.named.now c.args.parts.body.0) c.args.state.now c.one_more.new.self c.infer.new.state c.infer-2.new.state c.bind_parts.new.self c.bind_parts-2.new.self c.in_ok-left.left c.in_ok-right.right c.in_ok-left_types.left_types.items c.in_ok-right_types.right_types.items (record { read = c.in_ok-one_more.ensures.counts; kept = c.one_more.ensures.scope; types = c.one_more.ensures.types }) (record { read = (subst (λ st. infer (generic_globals c.args.around.now.named.now) (variable_numbers c.args.around.now.variables.now) opaque st (in_scope c.one_more.new.self) c.one_more.new.self.counts (generic_tree c.args.around.now.named.now c.args.parts.left.0) ≡ Rattle.std.proofs.Common.Ok (forms_given c.infer.new.state c.in_ok-left.left, c.infer.new.state.counts)) c.standing_for.ensures c.in_ok-left.ensures.read); kept = c.in_ok-left.ensures.kept; met = c.in_ok-left.ensures.met }) (record { read = (subst (λ st. infer (generic_globals c.args.around.now.named.now) (variable_numbers c.args.around.now.variables.now) opaque st (in_scope c.infer.new.state) c.infer.new.state.counts (generic_tree c.args.around.now.named.now c.args.parts.right.0) ≡ Rattle.std.proofs.Common.Ok (forms_given c.infer-2.new.state c.in_ok-right.right, c.infer-2.new.state.counts)) c.standing_for-2.ensures c.in_ok-right.ensures.read); kept = c.in_ok-right.ensures.kept; met = c.in_ok-right.ensures.met }) (record { left = (walking.seen (λ z. Rattle.gib_check.specs.Faults.types_bound c.args.names.now.left.now z ≡ Rattle.std.proofs.Common.Ok (listed (forms c.infer-2.new.state) c.in_ok-left_types.left_types.items)) c.infer-2.new.state c.part.result (record { ty = c.in_ok-left.left; place = Rattle.gib_check.specs.Faults.place (generic_tree c.args.around.now.named.now c.args.parts.left.0) }) c.part.ensures c.in_ok-left_types.ensures.types); right = (walking.seen (λ z. Rattle.gib_check.specs.Faults.types_bound c.args.names.now.right.now z ≡ Rattle.std.proofs.Common.Ok (listed (forms c.infer-2.new.state) c.in_ok-right_types.right_types.items)) c.infer-2.new.state c.part-2.result (record { ty = c.in_ok-right.right; place = Rattle.gib_check.specs.Faults.place (generic_tree c.args.around.now.named.now c.args.parts.right.0) }) c.part-2.ensures c.in_ok-right_types.ensures.types) }) (record { read = (subst (λ is. Rattle.gib_check.specs.Faults.bind_parts 0 (in_scope c.infer-2.new.state) c.infer-2.new.state.counts c.args.names.now.left.now (listed (forms c.infer-2.new.state) is) ≡ Rattle.std.proofs.Common.Ok (in_scope c.bind_parts.new.self, c.bind_parts.new.self.counts)) c.deref.ensures.value c.in_ok-bind_parts.ensures.read); types = c.bind_parts.ensures.types }) (record { read = (subst (λ is. Rattle.gib_check.specs.Faults.bind_parts 0 (in_scope c.bind_parts.new.self) c.bind_parts.new.self.counts c.args.names.now.right.now (listed (forms c.bind_parts.new.self) is) ≡ Rattle.std.proofs.Common.Ok (in_scope c.bind_parts-2.new.self, c.bind_parts-2.new.self.counts)) c.deref-2.ensures.value c.in_ok-bind_parts-2.ensures.read); types = c.bind_parts-2.ensures.types })
-    ∙ c.in_ok-given.ensures.read
-    ∙ answering.same_answer c.infer-3.new.state c.truncate.new.self c.in_ok-given.given (same_advance c.infer-3.new.state c.truncate.new.self c.truncate.ensures.types c.truncate.ensures.parts) c.in_ok-given.ensures.met.here c.truncate.ensures.counts
-
-pub par_several-returns-clause-kept : goal.par_several-returns-clause-kept
-par_several-returns-clause-kept t c =
-    answering.parts_dropped (in_scope c.infer-2.new.state) (in_scope c.infer-3.new.state) (in_scope c.truncate.new.self) _ c.len-len.result
-    (c.in_ok-given.ensures.kept ∙ answering.both_added (in_scope c.infer-2.new.state) (in_scope c.bind_parts.new.self) (in_scope c.bind_parts-2.new.self) c.in_ok-bind_parts.ensures.kept.0 c.in_ok-bind_parts-2.ensures.kept.0 c.in_ok-bind_parts.ensures.kept.1 c.in_ok-bind_parts-2.ensures.kept.1) c.len-len.ensures c.in_ok-truncate.ensures.scope
-    ∙ c.in_ok-right.ensures.kept ∙ c.in_ok-left.ensures.kept ∙ c.one_more.ensures.scope
-
-pub par_several-returns-clause-met : goal.par_several-returns-clause-met
-par_several-returns-clause-met t c =
-    record { advances = (advances_on c.args.state.now c.infer-3.new.state c.truncate.new.self (advances_on c.args.state.now c.bind_parts-2.new.self c.infer-3.new.state (advances_on c.args.state.now c.bind_parts.new.self c.bind_parts-2.new.self (advances_on c.args.state.now c.infer-2.new.state c.bind_parts.new.self (advances_on c.args.state.now c.infer.new.state c.infer-2.new.state (advances_on c.args.state.now c.one_more.new.self c.infer.new.state (same_advance c.args.state.now c.one_more.new.self c.one_more.ensures.types c.one_more.ensures.parts) c.in_ok-left.ensures.met.advances) c.in_ok-right.ensures.met.advances) (same_advance c.infer-2.new.state c.bind_parts.new.self c.bind_parts.ensures.types c.bind_parts.ensures.parts)) (same_advance c.bind_parts.new.self c.bind_parts-2.new.self c.bind_parts-2.ensures.types c.bind_parts-2.ensures.parts)) c.in_ok-given.ensures.met.advances) (same_advance c.infer-3.new.state c.truncate.new.self c.truncate.ensures.types c.truncate.ensures.parts)); here = met_stays c.infer-3.new.state c.truncate.new.self c.in_ok-given.given (same_advance c.infer-3.new.state c.truncate.new.self c.truncate.ensures.types c.truncate.ensures.parts) c.in_ok-given.ensures.met.here }
-
-pub par_several-types_bound-requires : goal.par_several-types_bound-requires
-par_several-types_bound-requires t c =
-    subst (λ (q : Part). AreMet c.infer-2.new.state q.ty) (sym c.part.ensures) (met_stays c.infer.new.state c.infer-2.new.state c.in_ok-left.left c.in_ok-right.ensures.met.advances c.in_ok-left.ensures.met.here)
-
-pub par_several-types_bound-requires-2 : goal.par_several-types_bound-requires-2
-par_several-types_bound-requires-2 t c =
-    subst (λ (q : Part). AreMet c.infer-2.new.state q.ty) (sym c.part-2.ensures) c.in_ok-right.ensures.met.here
-
-pub par_several-bind_parts-requires : goal.par_several-bind_parts-requires
-par_several-bind_parts-requires t c =
-    subst (AreBelow (length c.infer-2.new.state.types)) (sym c.deref.ensures.value) c.in_ok-left_types.ensures.below
-
-pub par_several-bind_parts-requires-2 : goal.par_several-bind_parts-requires-2
-par_several-bind_parts-requires-2 t c =
-    subst (λ ns. AreBelow (length ns) c.deref-2.result.now) (sym c.bind_parts.ensures.types) (subst (AreBelow (length c.infer-2.new.state.types)) (sym c.deref-2.ensures.value) c.in_ok-right_types.ensures.below)
-
 pub tuple-returns-in_err-may_stand-clause-read : goal.tuple-returns-in_err-may_stand-clause-read
 tuple-returns-in_err-may_stand-clause-read t c =
     let p = err_from_is_err_and c.from_residual-in_err-may_stand.result c.from_residual-in_err-may_stand.ensures.1 in
@@ -387,7 +176,7 @@ tuple-returns-in_err-parts-clause-read t c =
 pub tuple-returns-in_err-types-clause-read : goal.tuple-returns-in_err-types-clause-read
 tuple-returns-in_err-types-clause-read t c =
     let p = err_from_is_err_and c.from_residual-in_err-types.result c.from_residual-in_err-types.ensures.1 in
-    rw (p.1, p.2) (walking.tuple_single c.args.around.now.named.now c.args.around.now.variables.now c.args.at.standing c.args.at.span (length c.args.ids.now) (λ n. Rattle.gib_check.specs.Faults.infer_all (generic_globals c.args.around.now.named.now) (variable_numbers c.args.around.now.variables.now) opaque (in_scope c.args.state.now) n (Rattle.gib_syntax.specs.GenericArena.arguments_from (generic_tree c.args.around.now.named.now) c.args.ids.now)) c.in_err-types.field-0.0 c.args.state.now c.one_more.new.self (parts_in c.arguments.new.state c.in_ok-parts.parts.items) c.arguments.new.state.counts (record { read = c.in_ok-one_more.ensures.counts; kept = c.one_more.ensures.scope; types = c.one_more.ensures.types }) c.in_ok-may_stand.ensures ((answering.results_same c.args.around.now.named.now c.args.around.now.variables.now c.args.state.now c.one_more.new.self c.args.ids.now c.one_more.ensures.scope) ∙ c.in_ok-parts.ensures.read) (subst (λ ps. Rattle.gib_check.specs.Answers.IsFaultOf c.in_err-types.field-0.0 (Rattle.gib_check.specs.Faults.all_single (parts_in c.arguments.new.state ps))) c.deref.ensures.value c.in_err-types.ensures.types))
+    rw (p.1, p.2) (walking.tuple_single c.args.around.now.named.now c.args.around.now.variables.now c.args.at.standing c.args.at.span (length c.args.ids.now) (λ n. Rattle.gib_check.specs.Faults.infer_all (generic_globals c.args.around.now.named.now) (variable_numbers c.args.around.now.variables.now) opaque (in_scope c.args.state.now) n (Rattle.gib_syntax.specs.GenericArena.arguments_from (generic_tree c.args.around.now.named.now) c.args.ids.now)) c.in_err-types.field-0.0 c.args.state.now c.one_more.new.self (parts_in c.arguments.new.state c.in_ok-parts.parts.items) c.arguments.new.state.counts (record { read = c.in_ok-one_more.ensures.counts; kept = c.one_more.ensures.scope; types = c.one_more.ensures.types }) c.in_ok-may_stand.ensures ((answering.results_same c.args.around.now.named.now c.args.around.now.variables.now c.args.state.now c.one_more.new.self c.args.ids.now c.one_more.ensures.scope) ∙ c.in_ok-parts.ensures.read) (subst (λ ps. IsFaultOf c.in_err-types.field-0.0 (Rattle.gib_check.specs.Faults.all_single (parts_in c.arguments.new.state ps))) c.deref.ensures.value c.in_err-types.ensures.types))
 
 pub tuple-returns-clause-read : goal.tuple-returns-clause-read
 tuple-returns-clause-read t c =
@@ -418,12 +207,12 @@ call-returns-in_err-function-clause-read t c =
 pub call-returns-in_err-types-clause-read : goal.call-returns-in_err-types-clause-read
 call-returns-in_err-types-clause-read t c =
     let p = err_from_is_err_and c.from_residual-in_err-types.result c.from_residual-in_err-types.ensures.1 in
-    rw (p.1, p.2) (walking.call_arguments c.args.around.now.named.now c.args.around.now.variables.now c.args.called.name (types_in c.args.around.now.named.now.exprs.words c.args.called.types) (length c.args.ids.now) (λ n. Rattle.gib_check.specs.Faults.infer_all (generic_globals c.args.around.now.named.now) (variable_numbers c.args.around.now.variables.now) Rattle.gib_syntax.specs.GenericTyping.opaque (in_scope c.args.state.now) n (Rattle.gib_syntax.specs.GenericArena.arguments_from (generic_tree c.args.around.now.named.now) c.args.ids.now)) c.in_err-types.field-0.0 c.args.state.now c.one_more.new.self (Rattle.gib_syntax.specs.GenericParts.function_in c.args.around.now.named.now.exprs c.in_ok-function.function.now) (record { read = c.in_ok-one_more.ensures.counts; kept = c.one_more.ensures.scope; types = c.one_more.ensures.types }) c.in_ok-function.ensures (subst (λ n. Rattle.gib_check.specs.Answers.IsFaultOf c.in_err-types.field-0.0 (walking.use_types c.args.around.now.named.now c.args.around.now.variables.now c.args.called.name (types_in c.args.around.now.named.now.exprs.words c.args.called.types) (length c.args.ids.now) (λ n. Rattle.gib_check.specs.Faults.infer_all (generic_globals c.args.around.now.named.now) (variable_numbers c.args.around.now.variables.now) Rattle.gib_syntax.specs.GenericTyping.opaque (in_scope c.args.state.now) n (Rattle.gib_syntax.specs.GenericArena.arguments_from (generic_tree c.args.around.now.named.now) c.args.ids.now)) n)) (omega (Rattle.std.proofs.Common.arith, c.len-due.ensures, c.in_ok-function.function.now.variables.ok)) c.in_err-types.ensures.read))
+    rw (p.1, p.2) (walking.call_arguments c.args.around.now.named.now c.args.around.now.variables.now c.args.called.name (types_in c.args.around.now.named.now.exprs.words c.args.called.types) (length c.args.ids.now) (λ n. Rattle.gib_check.specs.Faults.infer_all (generic_globals c.args.around.now.named.now) (variable_numbers c.args.around.now.variables.now) Rattle.gib_syntax.specs.GenericTyping.opaque (in_scope c.args.state.now) n (Rattle.gib_syntax.specs.GenericArena.arguments_from (generic_tree c.args.around.now.named.now) c.args.ids.now)) c.in_err-types.field-0.0 c.args.state.now c.one_more.new.self (Rattle.gib_syntax.specs.GenericParts.function_in c.args.around.now.named.now.exprs c.in_ok-function.function.now) (record { read = c.in_ok-one_more.ensures.counts; kept = c.one_more.ensures.scope; types = c.one_more.ensures.types }) c.in_ok-function.ensures (subst (λ n. IsFaultOf c.in_err-types.field-0.0 (walking.use_types c.args.around.now.named.now c.args.around.now.variables.now c.args.called.name (types_in c.args.around.now.named.now.exprs.words c.args.called.types) (length c.args.ids.now) (λ n. Rattle.gib_check.specs.Faults.infer_all (generic_globals c.args.around.now.named.now) (variable_numbers c.args.around.now.variables.now) Rattle.gib_syntax.specs.GenericTyping.opaque (in_scope c.args.state.now) n (Rattle.gib_syntax.specs.GenericArena.arguments_from (generic_tree c.args.around.now.named.now) c.args.ids.now)) n)) (omega (Rattle.std.proofs.Common.arith, c.len-due.ensures, c.in_ok-function.function.now.variables.ok)) c.in_err-types.ensures.read))
 
 pub call-returns-in_err-as_many-clause-read : goal.call-returns-in_err-as_many-clause-read
 call-returns-in_err-as_many-clause-read t c =
     let p = err_from_is_err_and c.from_residual-in_err-as_many.result c.from_residual-in_err-as_many.ensures.1 in
-    rw (p.1, p.2) (walking.call_count c.args.around.now.named.now c.args.around.now.variables.now c.args.called.name (types_in c.args.around.now.named.now.exprs.words c.args.called.types) (length c.args.ids.now) (λ n. Rattle.gib_check.specs.Faults.infer_all (generic_globals c.args.around.now.named.now) (variable_numbers c.args.around.now.variables.now) Rattle.gib_syntax.specs.GenericTyping.opaque (in_scope c.args.state.now) n (Rattle.gib_syntax.specs.GenericArena.arguments_from (generic_tree c.args.around.now.named.now) c.args.ids.now)) c.in_err-as_many.field-0.0 c.args.state.now c.one_more.new.self (Rattle.gib_syntax.specs.GenericParts.function_in c.args.around.now.named.now.exprs c.in_ok-function.function.now) (record { read = c.in_ok-one_more.ensures.counts; kept = c.one_more.ensures.scope; types = c.one_more.ensures.types }) c.in_ok-function.ensures (subst (λ n. walking.use_types c.args.around.now.named.now c.args.around.now.variables.now c.args.called.name (types_in c.args.around.now.named.now.exprs.words c.args.called.types) (length c.args.ids.now) (λ n. Rattle.gib_check.specs.Faults.infer_all (generic_globals c.args.around.now.named.now) (variable_numbers c.args.around.now.variables.now) Rattle.gib_syntax.specs.GenericTyping.opaque (in_scope c.args.state.now) n (Rattle.gib_syntax.specs.GenericArena.arguments_from (generic_tree c.args.around.now.named.now) c.args.ids.now)) n ≡ Rattle.std.proofs.Common.Ok (tt {0})) (omega (Rattle.std.proofs.Common.arith, c.len-due.ensures, c.in_ok-function.function.now.variables.ok)) c.in_ok-types.ensures.read) (answering.counted_as (λ z. Rattle.gib_check.specs.Answers.IsFaultOf c.in_err-as_many.field-0.0 (z)) c.args.called.name (length c.args.ids.now) c.len.result (length c.args.ids.now) (length (Rattle.gib_syntax.specs.GenericParts.function_in c.args.around.now.named.now.exprs c.in_ok-function.function.now).parameters) refl (answering.mapped_length c.args.around.now.named.now.exprs.words c.len.result c.in_ok-function.function.now.parameters.items (omega (Rattle.std.proofs.Common.arith, c.len.ensures, c.in_ok-function.function.now.parameters.ok))) c.in_err-as_many.ensures))
+    rw (p.1, p.2) (walking.call_count c.args.around.now.named.now c.args.around.now.variables.now c.args.called.name (types_in c.args.around.now.named.now.exprs.words c.args.called.types) (length c.args.ids.now) (λ n. Rattle.gib_check.specs.Faults.infer_all (generic_globals c.args.around.now.named.now) (variable_numbers c.args.around.now.variables.now) Rattle.gib_syntax.specs.GenericTyping.opaque (in_scope c.args.state.now) n (Rattle.gib_syntax.specs.GenericArena.arguments_from (generic_tree c.args.around.now.named.now) c.args.ids.now)) c.in_err-as_many.field-0.0 c.args.state.now c.one_more.new.self (Rattle.gib_syntax.specs.GenericParts.function_in c.args.around.now.named.now.exprs c.in_ok-function.function.now) (record { read = c.in_ok-one_more.ensures.counts; kept = c.one_more.ensures.scope; types = c.one_more.ensures.types }) c.in_ok-function.ensures (subst (λ n. walking.use_types c.args.around.now.named.now c.args.around.now.variables.now c.args.called.name (types_in c.args.around.now.named.now.exprs.words c.args.called.types) (length c.args.ids.now) (λ n. Rattle.gib_check.specs.Faults.infer_all (generic_globals c.args.around.now.named.now) (variable_numbers c.args.around.now.variables.now) Rattle.gib_syntax.specs.GenericTyping.opaque (in_scope c.args.state.now) n (Rattle.gib_syntax.specs.GenericArena.arguments_from (generic_tree c.args.around.now.named.now) c.args.ids.now)) n ≡ Rattle.std.proofs.Common.Ok (tt {0})) (omega (Rattle.std.proofs.Common.arith, c.len-due.ensures, c.in_ok-function.function.now.variables.ok)) c.in_ok-types.ensures.read) (answering.counted_as (λ z. IsFaultOf c.in_err-as_many.field-0.0 (z)) c.args.called.name (length c.args.ids.now) c.len.result (length c.args.ids.now) (length (Rattle.gib_syntax.specs.GenericParts.function_in c.args.around.now.named.now.exprs c.in_ok-function.function.now).parameters) refl (answering.mapped_length c.args.around.now.named.now.exprs.words c.len.result c.in_ok-function.function.now.parameters.items (omega (Rattle.std.proofs.Common.arith, c.len.ensures, c.in_ok-function.function.now.parameters.ok))) c.in_err-as_many.ensures))
 
 pub call-returns-in_err-parts-clause-read : goal.call-returns-in_err-parts-clause-read
 call-returns-in_err-parts-clause-read t c =
@@ -463,12 +252,12 @@ make-returns-in_err-row-clause-read t c =
 pub make-returns-in_err-types-clause-read : goal.make-returns-in_err-types-clause-read
 make-returns-in_err-types-clause-read t c =
     let p = err_from_is_err_and c.from_residual-in_err-types.result c.from_residual-in_err-types.ensures.1 in
-    rw (p.1, p.2) (walking.make_arguments c.args.around.now.named.now c.args.around.now.variables.now c.args.made.name (types_in c.args.around.now.named.now.exprs.words c.args.made.types) (length c.args.ids.now) (λ n. Rattle.gib_check.specs.Faults.infer_all (generic_globals c.args.around.now.named.now) (variable_numbers c.args.around.now.variables.now) Rattle.gib_syntax.specs.GenericTyping.opaque (in_scope c.args.state.now) n (Rattle.gib_syntax.specs.GenericArena.arguments_from (generic_tree c.args.around.now.named.now) c.args.ids.now)) c.in_err-types.field-0.0 c.args.state.now c.one_more.new.self (Rattle.gib_check.specs.NameViews.row_in c.args.around.now.named.now c.in_ok-row.row) (record { read = c.in_ok-one_more.ensures.counts; kept = c.one_more.ensures.scope; types = c.one_more.ensures.types }) c.in_ok-row.ensures.row (subst (λ n. Rattle.gib_check.specs.Answers.IsFaultOf c.in_err-types.field-0.0 (walking.use_types c.args.around.now.named.now c.args.around.now.variables.now c.args.made.name (types_in c.args.around.now.named.now.exprs.words c.args.made.types) (length c.args.ids.now) (λ n. Rattle.gib_check.specs.Faults.infer_all (generic_globals c.args.around.now.named.now) (variable_numbers c.args.around.now.variables.now) Rattle.gib_syntax.specs.GenericTyping.opaque (in_scope c.args.state.now) n (Rattle.gib_syntax.specs.GenericArena.arguments_from (generic_tree c.args.around.now.named.now) c.args.ids.now)) n)) (ap length c.variables-due.ensures) c.in_err-types.ensures.read))
+    rw (p.1, p.2) (walking.make_arguments c.args.around.now.named.now c.args.around.now.variables.now c.args.made.name (types_in c.args.around.now.named.now.exprs.words c.args.made.types) (length c.args.ids.now) (λ n. Rattle.gib_check.specs.Faults.infer_all (generic_globals c.args.around.now.named.now) (variable_numbers c.args.around.now.variables.now) Rattle.gib_syntax.specs.GenericTyping.opaque (in_scope c.args.state.now) n (Rattle.gib_syntax.specs.GenericArena.arguments_from (generic_tree c.args.around.now.named.now) c.args.ids.now)) c.in_err-types.field-0.0 c.args.state.now c.one_more.new.self (Rattle.gib_check.specs.NameViews.row_in c.args.around.now.named.now c.in_ok-row.row) (record { read = c.in_ok-one_more.ensures.counts; kept = c.one_more.ensures.scope; types = c.one_more.ensures.types }) c.in_ok-row.ensures.row (subst (λ n. IsFaultOf c.in_err-types.field-0.0 (walking.use_types c.args.around.now.named.now c.args.around.now.variables.now c.args.made.name (types_in c.args.around.now.named.now.exprs.words c.args.made.types) (length c.args.ids.now) (λ n. Rattle.gib_check.specs.Faults.infer_all (generic_globals c.args.around.now.named.now) (variable_numbers c.args.around.now.variables.now) Rattle.gib_syntax.specs.GenericTyping.opaque (in_scope c.args.state.now) n (Rattle.gib_syntax.specs.GenericArena.arguments_from (generic_tree c.args.around.now.named.now) c.args.ids.now)) n)) (ap length c.variables-due.ensures) c.in_err-types.ensures.read))
 
 pub make-returns-in_err-as_many-clause-read : goal.make-returns-in_err-as_many-clause-read
 make-returns-in_err-as_many-clause-read t c =
     let p = err_from_is_err_and c.from_residual-in_err-as_many.result c.from_residual-in_err-as_many.ensures.1 in
-    rw (p.1, p.2) (walking.make_count c.args.around.now.named.now c.args.around.now.variables.now c.args.made.name (types_in c.args.around.now.named.now.exprs.words c.args.made.types) (length c.args.ids.now) (λ n. Rattle.gib_check.specs.Faults.infer_all (generic_globals c.args.around.now.named.now) (variable_numbers c.args.around.now.variables.now) Rattle.gib_syntax.specs.GenericTyping.opaque (in_scope c.args.state.now) n (Rattle.gib_syntax.specs.GenericArena.arguments_from (generic_tree c.args.around.now.named.now) c.args.ids.now)) c.in_err-as_many.field-0.0 c.args.state.now c.one_more.new.self (Rattle.gib_check.specs.NameViews.row_in c.args.around.now.named.now c.in_ok-row.row) (record { read = c.in_ok-one_more.ensures.counts; kept = c.one_more.ensures.scope; types = c.one_more.ensures.types }) c.in_ok-row.ensures.row (subst (λ n. walking.use_types c.args.around.now.named.now c.args.around.now.variables.now c.args.made.name (types_in c.args.around.now.named.now.exprs.words c.args.made.types) (length c.args.ids.now) (λ n. Rattle.gib_check.specs.Faults.infer_all (generic_globals c.args.around.now.named.now) (variable_numbers c.args.around.now.variables.now) Rattle.gib_syntax.specs.GenericTyping.opaque (in_scope c.args.state.now) n (Rattle.gib_syntax.specs.GenericArena.arguments_from (generic_tree c.args.around.now.named.now) c.args.ids.now)) n ≡ Rattle.std.proofs.Common.Ok (tt {0})) (ap length c.variables-due.ensures) c.in_ok-types.ensures.read) (answering.counted_as (λ z. Rattle.gib_check.specs.Answers.IsFaultOf c.in_err-as_many.field-0.0 (z)) c.args.made.name (length c.args.ids.now) c.in_ok-row.row.count (length c.args.ids.now) (length (Rattle.gib_check.specs.NameViews.row_in c.args.around.now.named.now c.in_ok-row.row).fields) refl c.in_ok-row.ensures.count c.in_err-as_many.ensures))
+    rw (p.1, p.2) (walking.make_count c.args.around.now.named.now c.args.around.now.variables.now c.args.made.name (types_in c.args.around.now.named.now.exprs.words c.args.made.types) (length c.args.ids.now) (λ n. Rattle.gib_check.specs.Faults.infer_all (generic_globals c.args.around.now.named.now) (variable_numbers c.args.around.now.variables.now) Rattle.gib_syntax.specs.GenericTyping.opaque (in_scope c.args.state.now) n (Rattle.gib_syntax.specs.GenericArena.arguments_from (generic_tree c.args.around.now.named.now) c.args.ids.now)) c.in_err-as_many.field-0.0 c.args.state.now c.one_more.new.self (Rattle.gib_check.specs.NameViews.row_in c.args.around.now.named.now c.in_ok-row.row) (record { read = c.in_ok-one_more.ensures.counts; kept = c.one_more.ensures.scope; types = c.one_more.ensures.types }) c.in_ok-row.ensures.row (subst (λ n. walking.use_types c.args.around.now.named.now c.args.around.now.variables.now c.args.made.name (types_in c.args.around.now.named.now.exprs.words c.args.made.types) (length c.args.ids.now) (λ n. Rattle.gib_check.specs.Faults.infer_all (generic_globals c.args.around.now.named.now) (variable_numbers c.args.around.now.variables.now) Rattle.gib_syntax.specs.GenericTyping.opaque (in_scope c.args.state.now) n (Rattle.gib_syntax.specs.GenericArena.arguments_from (generic_tree c.args.around.now.named.now) c.args.ids.now)) n ≡ Rattle.std.proofs.Common.Ok (tt {0})) (ap length c.variables-due.ensures) c.in_ok-types.ensures.read) (answering.counted_as (λ z. IsFaultOf c.in_err-as_many.field-0.0 (z)) c.args.made.name (length c.args.ids.now) c.in_ok-row.row.count (length c.args.ids.now) (length (Rattle.gib_check.specs.NameViews.row_in c.args.around.now.named.now c.in_ok-row.row).fields) refl c.in_ok-row.ensures.count c.in_err-as_many.ensures))
 
 pub make-returns-in_err-parts-clause-read : goal.make-returns-in_err-parts-clause-read
 make-returns-in_err-parts-clause-read t c =
@@ -550,7 +339,7 @@ case-returns-in_err-ty-clause-read t c =
 pub case-returns-in_err-ty-2-clause-read : goal.case-returns-in_err-ty-2-clause-read
 case-returns-in_err-ty-2-clause-read t c =
     let p = err_from_is_err_and c.from_residual-in_err-ty-2.result c.from_residual-in_err-ty-2.ensures.1 in
-    rw (p.1, p.2) (answering.case_shape c.args.around.now.named.now c.args.around.now.variables.now (generic_globals c.args.around.now.named.now).rows c.args.at.span c.args.variable (Rattle.std.proofs.Common.map Rattle.gib_check.specs.Judging.arm_head c.args.arms.now) (λ ts n. Rattle.gib_check.specs.Judging.infer_each_arm (generic_globals c.args.around.now.named.now) (variable_numbers c.args.around.now.variables.now) c.args.at.standing ts (generic_tree c.args.around.now.named.now) (in_scope c.args.state.now) n c.args.arms.now) c.in_err-ty-2.field-0.0 c.args.state.now c.one_more.new.self (form_at (forms c.one_more.new.self) c.in_ok-ty.ty.0) (record { read = c.in_ok-one_more.ensures.counts; kept = c.one_more.ensures.scope; types = c.one_more.ensures.types }) c.in_ok-ty.ensures.read (subst (λ ns. Rattle.gib_check.specs.Answers.IsFaultOf c.in_err-ty-2.field-0.0 (Rattle.gib_check.specs.Faults.declared_type (form_at (forms_of ns) c.in_ok-ty.ty.0) c.args.variable)) c.types.ensures c.in_err-ty-2.ensures.read))
+    rw (p.1, p.2) (answering.case_shape c.args.around.now.named.now c.args.around.now.variables.now (generic_globals c.args.around.now.named.now).rows c.args.at.span c.args.variable (Rattle.std.proofs.Common.map Rattle.gib_check.specs.Judging.arm_head c.args.arms.now) (λ ts n. Rattle.gib_check.specs.Judging.infer_each_arm (generic_globals c.args.around.now.named.now) (variable_numbers c.args.around.now.variables.now) c.args.at.standing ts (generic_tree c.args.around.now.named.now) (in_scope c.args.state.now) n c.args.arms.now) c.in_err-ty-2.field-0.0 c.args.state.now c.one_more.new.self (form_at (forms c.one_more.new.self) c.in_ok-ty.ty.0) (record { read = c.in_ok-one_more.ensures.counts; kept = c.one_more.ensures.scope; types = c.one_more.ensures.types }) c.in_ok-ty.ensures.read (subst (λ ns. IsFaultOf c.in_err-ty-2.field-0.0 (Rattle.gib_check.specs.Faults.declared_type (form_at (forms_of ns) c.in_ok-ty.ty.0) c.args.variable)) c.types.ensures c.in_err-ty-2.ensures.read))
 
 pub case-returns-in_err-all_declared-clause-read : goal.case-returns-in_err-all_declared-clause-read
 case-returns-in_err-all_declared-clause-read t c =
@@ -576,7 +365,7 @@ pub case-returns-in_err-common-clause-read : goal.case-returns-in_err-common-cla
 case-returns-in_err-common-clause-read t c =
     let p = err_from_is_err_and c.from_residual-in_err-common.result c.from_residual-in_err-common.ensures.1 in
     rw (p.1, p.2) (Rattle.gib_check.proofs.Loops.along c.in_err-common.field-0.0 _ _ (answering.case_ends c.args.around.now.named.now c.args.around.now.variables.now (generic_globals c.args.around.now.named.now).rows c.args.at.span c.args.variable (Rattle.std.proofs.Common.map Rattle.gib_check.specs.Judging.arm_head c.args.arms.now) (λ ts n. Rattle.gib_check.specs.Judging.infer_each_arm (generic_globals c.args.around.now.named.now) (variable_numbers c.args.around.now.variables.now) c.args.at.standing ts (generic_tree c.args.around.now.named.now) (in_scope c.args.state.now) n c.args.arms.now) c.args.state.now c.one_more.new.self (form_at (forms c.one_more.new.self) c.in_ok-ty.ty.0) (c.in_ok-ty-2.ty.name, Rattle.gib_types.specs.Types.forms_at (forms c.one_more.new.self) c.in_ok-ty-2.ty.arguments.items) (parts_in c.arm_results.new.state c.in_ok-parts.parts.items) c.arm_results.new.state.counts (record { read = c.in_ok-one_more.ensures.counts; kept = c.one_more.ensures.scope; types = c.one_more.ensures.types }) c.in_ok-ty.ensures.read (subst (λ ns. Rattle.gib_check.specs.Faults.declared_type (form_at (forms_of ns) c.in_ok-ty.ty.0) c.args.variable ≡ Rattle.std.proofs.Common.Ok (c.in_ok-ty-2.ty.name, Rattle.gib_types.specs.Types.forms_at (forms_of ns) c.in_ok-ty-2.ty.arguments.items)) c.types.ensures c.in_ok-ty-2.ensures.read) c.in_ok-all_declared.ensures c.in_ok-covered.ensures c.in_ok-all_counted.ensures ((λ i. Rattle.gib_check.specs.Judging.infer_each_arm (generic_globals c.args.around.now.named.now) (variable_numbers c.args.around.now.variables.now) c.args.at.standing (Rattle.gib_types.specs.Types.forms_at (forms c.one_more.new.self) (sym c.deref.ensures.value i)) (generic_tree c.args.around.now.named.now) (sym c.one_more.ensures.scope i) c.one_more.new.self.counts c.args.arms.now) ∙ c.in_ok-parts.ensures.read))
-    (subst (λ ps. Rattle.gib_check.specs.Answers.IsFaultOf {B = Results Form × Counts} c.in_err-common.field-0.0 (Rattle.gib_check.specs.Faults.and_then {B = Results Form × Counts} (Rattle.gib_check.specs.Faults.all_of (Rattle.gib_check.specs.Faults.first_type ps) ps) (λ _. Rattle.std.proofs.Common.Ok (Rattle.gib_check.specs.Faults.first_type ps, c.arm_results.new.state.counts)))) (ap (parts_in c.arm_results.new.state) c.deref-2.ensures.value) (answering.fault_with c.in_err-common.field-0.0 (Rattle.gib_check.specs.Faults.all_of (Rattle.gib_check.specs.Faults.first_type (parts_in c.arm_results.new.state c.deref-2.result.now)) (parts_in c.arm_results.new.state c.deref-2.result.now)) (Rattle.gib_check.specs.Faults.first_type (parts_in c.arm_results.new.state c.deref-2.result.now)) c.arm_results.new.state.counts c.in_err-common.ensures.read)))
+    (subst (λ ps. IsFaultOf {B = Results Form × Counts} c.in_err-common.field-0.0 (Rattle.gib_check.specs.Faults.and_then {B = Results Form × Counts} (Rattle.gib_check.specs.Faults.all_of (Rattle.gib_check.specs.Faults.first_type ps) ps) (λ _. Rattle.std.proofs.Common.Ok (Rattle.gib_check.specs.Faults.first_type ps, c.arm_results.new.state.counts)))) (ap (parts_in c.arm_results.new.state) c.deref-2.ensures.value) (answering.fault_with c.in_err-common.field-0.0 (Rattle.gib_check.specs.Faults.all_of (Rattle.gib_check.specs.Faults.first_type (parts_in c.arm_results.new.state c.deref-2.result.now)) (parts_in c.arm_results.new.state c.deref-2.result.now)) (Rattle.gib_check.specs.Faults.first_type (parts_in c.arm_results.new.state c.deref-2.result.now)) c.arm_results.new.state.counts c.in_err-common.ensures.read)))
 
 pub case-returns-clause-read : goal.case-returns-clause-read
 case-returns-clause-read t c =
@@ -620,3 +409,100 @@ arm_results-returns-clause-met t c = c.arms.invariant.met
 
 pub arm_results-returns-clause-kept : goal.arm_results-returns-clause-kept
 arm_results-returns-clause-kept t c = c.arms.invariant.scope
+
+pub infer_let-returns-in_err-value-clause-read : goal.infer_let-returns-in_err-value-clause-read
+infer_let-returns-in_err-value-clause-read t c =
+    let p = err_from_is_err_and c.from_residual-in_err-value.result c.from_residual-in_err-value.ensures.1 in
+    rw (p.1, p.2) (walking.let_fails c.args.around.now.named.now c.args.around.now.variables.now c.args.at.standing c.args.at.span c.args.names.now (generic_tree c.args.around.now.named.now c.args.sides.left.0) (generic_tree c.args.around.now.named.now c.args.sides.right.0) c.in_err-value.field-0.0 c.args.state.now c.one_more.new.self (record { read = c.in_ok-one_more.ensures.counts; kept = c.one_more.ensures.scope; types = c.one_more.ensures.types }) (subst (λ st. IsFaultOf c.in_err-value.field-0.0 (infer (generic_globals c.args.around.now.named.now) (variable_numbers c.args.around.now.variables.now) opaque st (in_scope c.one_more.new.self) c.one_more.new.self.counts (generic_tree c.args.around.now.named.now c.args.sides.left.0))) c.standing_for.ensures c.in_err-value.ensures.read))
+
+pub infer_let-returns-in_err-bind_given-clause-read : goal.infer_let-returns-in_err-bind_given-clause-read
+infer_let-returns-in_err-bind_given-clause-read t c =
+    let p = err_from_is_err_and c.from_residual-in_err-bind_given.result c.from_residual-in_err-bind_given.ensures.1 in
+    rw (p.1, p.2) (walking.let_bind c.args.around.now.named.now c.args.around.now.variables.now c.args.at.standing c.args.at.span c.args.names.now (generic_tree c.args.around.now.named.now c.args.sides.left.0) (generic_tree c.args.around.now.named.now c.args.sides.right.0) c.in_err-bind_given.field-0.0 c.args.state.now c.one_more.new.self c.infer.new.state c.in_ok-value.value (record { read = c.in_ok-one_more.ensures.counts; kept = c.one_more.ensures.scope; types = c.one_more.ensures.types }) (record { read = (subst (λ st. infer (generic_globals c.args.around.now.named.now) (variable_numbers c.args.around.now.variables.now) opaque st (in_scope c.one_more.new.self) c.one_more.new.self.counts (generic_tree c.args.around.now.named.now c.args.sides.left.0) ≡ Rattle.std.proofs.Common.Ok (forms_given c.infer.new.state c.in_ok-value.value, c.infer.new.state.counts)) c.standing_for.ensures c.in_ok-value.ensures.read); kept = c.in_ok-value.ensures.kept; met = c.in_ok-value.ensures.met }) (walking.seen (λ z. IsFaultOf c.in_err-bind_given.field-0.0 (bind_given (in_scope c.infer.new.state) c.infer.new.state.counts c.args.names.now z)) c.infer.new.state c.part.result (record { ty = c.in_ok-value.value; place = place (generic_tree c.args.around.now.named.now c.args.sides.left.0) }) c.part.ensures c.in_err-bind_given.ensures.read))
+
+pub infer_let-returns-in_err-given-clause-read : goal.infer_let-returns-in_err-given-clause-read
+infer_let-returns-in_err-given-clause-read t c =
+    let p = err_from_is_err_and c.from_residual-in_err-given.result c.from_residual-in_err-given.ensures.1 in
+    rw (p.1, p.2) (along c.in_err-given.field-0.0 _ _ (walking.let_is c.args.around.now.named.now c.args.around.now.variables.now c.args.at.standing c.args.at.span c.args.names.now (generic_tree c.args.around.now.named.now c.args.sides.left.0) (generic_tree c.args.around.now.named.now c.args.sides.right.0) c.args.state.now c.one_more.new.self c.infer.new.state c.bind_given.new.state c.in_ok-value.value (record { read = c.in_ok-one_more.ensures.counts; kept = c.one_more.ensures.scope; types = c.one_more.ensures.types }) (record { read = (subst (λ st. infer (generic_globals c.args.around.now.named.now) (variable_numbers c.args.around.now.variables.now) opaque st (in_scope c.one_more.new.self) c.one_more.new.self.counts (generic_tree c.args.around.now.named.now c.args.sides.left.0) ≡ Rattle.std.proofs.Common.Ok (forms_given c.infer.new.state c.in_ok-value.value, c.infer.new.state.counts)) c.standing_for.ensures c.in_ok-value.ensures.read); kept = c.in_ok-value.ensures.kept; met = c.in_ok-value.ensures.met }) (walking.seen (λ z. bind_given (in_scope c.infer.new.state) c.infer.new.state.counts c.args.names.now z ≡ Rattle.std.proofs.Common.Ok (in_scope c.bind_given.new.state, c.bind_given.new.state.counts)) c.infer.new.state c.part.result (record { ty = c.in_ok-value.value; place = place (generic_tree c.args.around.now.named.now c.args.sides.left.0) }) c.part.ensures c.in_ok-bind_given.ensures.read)) c.in_err-given.ensures.read)
+
+pub infer_let-returns-clause-read : goal.infer_let-returns-clause-read
+infer_let-returns-clause-read t c =
+    walking.let_is c.args.around.now.named.now c.args.around.now.variables.now c.args.at.standing c.args.at.span c.args.names.now (generic_tree c.args.around.now.named.now c.args.sides.left.0) (generic_tree c.args.around.now.named.now c.args.sides.right.0) c.args.state.now c.one_more.new.self c.infer.new.state c.bind_given.new.state c.in_ok-value.value (record { read = c.in_ok-one_more.ensures.counts; kept = c.one_more.ensures.scope; types = c.one_more.ensures.types }) (record { read = (subst (λ st. infer (generic_globals c.args.around.now.named.now) (variable_numbers c.args.around.now.variables.now) opaque st (in_scope c.one_more.new.self) c.one_more.new.self.counts (generic_tree c.args.around.now.named.now c.args.sides.left.0) ≡ Rattle.std.proofs.Common.Ok (forms_given c.infer.new.state c.in_ok-value.value, c.infer.new.state.counts)) c.standing_for.ensures c.in_ok-value.ensures.read); kept = c.in_ok-value.ensures.kept; met = c.in_ok-value.ensures.met }) (walking.seen (λ z. bind_given (in_scope c.infer.new.state) c.infer.new.state.counts c.args.names.now z ≡ Rattle.std.proofs.Common.Ok (in_scope c.bind_given.new.state, c.bind_given.new.state.counts)) c.infer.new.state c.part.result (record { ty = c.in_ok-value.value; place = place (generic_tree c.args.around.now.named.now c.args.sides.left.0) }) c.part.ensures c.in_ok-bind_given.ensures.read)
+    ∙ c.in_ok-given.ensures.read
+    ∙ answering.same_answer c.infer-2.new.state c.truncate.new.self c.in_ok-given.given (same_advance c.infer-2.new.state c.truncate.new.self c.truncate.ensures.types c.truncate.ensures.parts) c.in_ok-given.ensures.met.here c.truncate.ensures.counts
+
+pub infer_let-returns-clause-kept : goal.infer_let-returns-clause-kept
+infer_let-returns-clause-kept t c =
+    answering.parts_dropped (in_scope c.infer.new.state) (in_scope c.infer-2.new.state) (in_scope c.truncate.new.self) c.in_ok-bind_given.ensures.kept.0 c.len-len.result
+    (c.in_ok-given.ensures.kept ∙ c.in_ok-bind_given.ensures.kept.1) c.len-len.ensures c.in_ok-truncate.ensures.scope
+    ∙ c.in_ok-value.ensures.kept ∙ c.one_more.ensures.scope
+
+pub infer_let-returns-clause-met : goal.infer_let-returns-clause-met
+infer_let-returns-clause-met t c =
+    record { advances = (advances_on c.args.state.now c.infer-2.new.state c.truncate.new.self (advances_on c.args.state.now c.bind_given.new.state c.infer-2.new.state (advances_on c.args.state.now c.infer.new.state c.bind_given.new.state (advances_on c.args.state.now c.one_more.new.self c.infer.new.state (same_advance c.args.state.now c.one_more.new.self c.one_more.ensures.types c.one_more.ensures.parts) c.in_ok-value.ensures.met.advances) (same_advance c.infer.new.state c.bind_given.new.state c.bind_given.ensures.types c.bind_given.ensures.parts)) c.in_ok-given.ensures.met.advances) (same_advance c.infer-2.new.state c.truncate.new.self c.truncate.ensures.types c.truncate.ensures.parts)); here = met_stays c.infer-2.new.state c.truncate.new.self c.in_ok-given.given (same_advance c.infer-2.new.state c.truncate.new.self c.truncate.ensures.types c.truncate.ensures.parts) c.in_ok-given.ensures.met.here }
+
+pub infer_let-bind_given-requires : goal.infer_let-bind_given-requires
+infer_let-bind_given-requires t c =
+    subst (λ (q : Part). AreMet c.infer.new.state q.ty) (sym c.part.ensures) c.in_ok-value.ensures.met.here
+
+pub infer_par-returns-in_err-left-clause-read : goal.infer_par-returns-in_err-left-clause-read
+infer_par-returns-in_err-left-clause-read t c =
+    let p = err_from_is_err_and c.from_residual-in_err-left.result c.from_residual-in_err-left.ensures.1 in
+    rw (p.1, p.2) (walking.par_fails_left c.args.around.now.named.now c.args.around.now.variables.now c.args.at.standing c.args.at.span c.args.names.now.left.now (generic_tree c.args.around.now.named.now c.args.parts.left.0) c.args.names.now.right.now (generic_tree c.args.around.now.named.now c.args.parts.right.0) (generic_tree c.args.around.now.named.now c.args.parts.body.0) c.in_err-left.field-0.0 c.args.state.now c.one_more.new.self (record { read = c.in_ok-one_more.ensures.counts; kept = c.one_more.ensures.scope; types = c.one_more.ensures.types }) (subst (λ st. IsFaultOf c.in_err-left.field-0.0 (infer (generic_globals c.args.around.now.named.now) (variable_numbers c.args.around.now.variables.now) opaque st (in_scope c.one_more.new.self) c.one_more.new.self.counts (generic_tree c.args.around.now.named.now c.args.parts.left.0))) c.standing_for.ensures c.in_err-left.ensures.read))
+
+pub infer_par-returns-in_err-right-clause-read : goal.infer_par-returns-in_err-right-clause-read
+infer_par-returns-in_err-right-clause-read t c =
+    let p = err_from_is_err_and c.from_residual-in_err-right.result c.from_residual-in_err-right.ensures.1 in
+    rw (p.1, p.2) (walking.par_fails_right c.args.around.now.named.now c.args.around.now.variables.now c.args.at.standing c.args.at.span c.args.names.now.left.now (generic_tree c.args.around.now.named.now c.args.parts.left.0) c.args.names.now.right.now (generic_tree c.args.around.now.named.now c.args.parts.right.0) (generic_tree c.args.around.now.named.now c.args.parts.body.0) c.in_err-right.field-0.0 c.args.state.now c.one_more.new.self c.infer.new.state c.in_ok-left.left (record { read = c.in_ok-one_more.ensures.counts; kept = c.one_more.ensures.scope; types = c.one_more.ensures.types }) (record { read = (subst (λ st. infer (generic_globals c.args.around.now.named.now) (variable_numbers c.args.around.now.variables.now) opaque st (in_scope c.one_more.new.self) c.one_more.new.self.counts (generic_tree c.args.around.now.named.now c.args.parts.left.0) ≡ Rattle.std.proofs.Common.Ok (forms_given c.infer.new.state c.in_ok-left.left, c.infer.new.state.counts)) c.standing_for.ensures c.in_ok-left.ensures.read); kept = c.in_ok-left.ensures.kept; met = c.in_ok-left.ensures.met }) (subst (λ st. IsFaultOf c.in_err-right.field-0.0 (infer (generic_globals c.args.around.now.named.now) (variable_numbers c.args.around.now.variables.now) opaque st (in_scope c.infer.new.state) c.infer.new.state.counts (generic_tree c.args.around.now.named.now c.args.parts.right.0))) c.standing_for-2.ensures c.in_err-right.ensures.read))
+
+pub infer_par-returns-in_err-bind_sides-clause-read : goal.infer_par-returns-in_err-bind_sides-clause-read
+infer_par-returns-in_err-bind_sides-clause-read t c =
+    let p = err_from_is_err_and c.from_residual-in_err-bind_sides.result c.from_residual-in_err-bind_sides.ensures.1 in
+    rw (p.1, p.2) (walking.par_bind c.args.around.now.named.now c.args.around.now.variables.now c.args.at.standing c.args.at.span c.args.names.now.left.now (generic_tree c.args.around.now.named.now c.args.parts.left.0) c.args.names.now.right.now (generic_tree c.args.around.now.named.now c.args.parts.right.0) (generic_tree c.args.around.now.named.now c.args.parts.body.0) c.in_err-bind_sides.field-0.0 c.args.state.now c.one_more.new.self c.infer.new.state c.infer-2.new.state c.in_ok-left.left c.in_ok-right.right (record { read = c.in_ok-one_more.ensures.counts; kept = c.one_more.ensures.scope; types = c.one_more.ensures.types }) (record { read = (subst (λ st. infer (generic_globals c.args.around.now.named.now) (variable_numbers c.args.around.now.variables.now) opaque st (in_scope c.one_more.new.self) c.one_more.new.self.counts (generic_tree c.args.around.now.named.now c.args.parts.left.0) ≡ Rattle.std.proofs.Common.Ok (forms_given c.infer.new.state c.in_ok-left.left, c.infer.new.state.counts)) c.standing_for.ensures c.in_ok-left.ensures.read); kept = c.in_ok-left.ensures.kept; met = c.in_ok-left.ensures.met }) (record { read = (subst (λ st. infer (generic_globals c.args.around.now.named.now) (variable_numbers c.args.around.now.variables.now) opaque st (in_scope c.infer.new.state) c.infer.new.state.counts (generic_tree c.args.around.now.named.now c.args.parts.right.0) ≡ Rattle.std.proofs.Common.Ok (forms_given c.infer-2.new.state c.in_ok-right.right, c.infer-2.new.state.counts)) c.standing_for-2.ensures c.in_ok-right.ensures.read); kept = c.in_ok-right.ensures.kept; met = c.in_ok-right.ensures.met }) (subst₂ (λ x y. IsFaultOf c.in_err-bind_sides.field-0.0 (bind_sides (in_scope c.infer-2.new.state) c.infer-2.new.state.counts c.args.names.now.left.now (part_in c.infer-2.new.state x) c.args.names.now.right.now (part_in c.infer-2.new.state y))) c.part-left.ensures c.part-right.ensures c.in_err-bind_sides.ensures.read))
+
+pub infer_par-returns-in_err-given-clause-read : goal.infer_par-returns-in_err-given-clause-read
+infer_par-returns-in_err-given-clause-read t c =
+    let p = err_from_is_err_and c.from_residual-in_err-given.result c.from_residual-in_err-given.ensures.1 in
+    rw (p.1, p.2) (along c.in_err-given.field-0.0 _ _ (walking.par_is c.args.around.now.named.now c.args.around.now.variables.now c.args.at.standing c.args.at.span c.args.names.now.left.now (generic_tree c.args.around.now.named.now c.args.parts.left.0) c.args.names.now.right.now (generic_tree c.args.around.now.named.now c.args.parts.right.0) (generic_tree c.args.around.now.named.now c.args.parts.body.0) c.args.state.now c.one_more.new.self c.infer.new.state c.infer-2.new.state c.bind_sides.new.state c.in_ok-left.left c.in_ok-right.right (record { read = c.in_ok-one_more.ensures.counts; kept = c.one_more.ensures.scope; types = c.one_more.ensures.types }) (record { read = (subst (λ st. infer (generic_globals c.args.around.now.named.now) (variable_numbers c.args.around.now.variables.now) opaque st (in_scope c.one_more.new.self) c.one_more.new.self.counts (generic_tree c.args.around.now.named.now c.args.parts.left.0) ≡ Rattle.std.proofs.Common.Ok (forms_given c.infer.new.state c.in_ok-left.left, c.infer.new.state.counts)) c.standing_for.ensures c.in_ok-left.ensures.read); kept = c.in_ok-left.ensures.kept; met = c.in_ok-left.ensures.met }) (record { read = (subst (λ st. infer (generic_globals c.args.around.now.named.now) (variable_numbers c.args.around.now.variables.now) opaque st (in_scope c.infer.new.state) c.infer.new.state.counts (generic_tree c.args.around.now.named.now c.args.parts.right.0) ≡ Rattle.std.proofs.Common.Ok (forms_given c.infer-2.new.state c.in_ok-right.right, c.infer-2.new.state.counts)) c.standing_for-2.ensures c.in_ok-right.ensures.read); kept = c.in_ok-right.ensures.kept; met = c.in_ok-right.ensures.met }) (subst₂ (λ x y. bind_sides (in_scope c.infer-2.new.state) c.infer-2.new.state.counts c.args.names.now.left.now (part_in c.infer-2.new.state x) c.args.names.now.right.now (part_in c.infer-2.new.state y) ≡ Rattle.std.proofs.Common.Ok (in_scope c.bind_sides.new.state, c.bind_sides.new.state.counts)) c.part-left.ensures c.part-right.ensures c.in_ok-bind_sides.ensures.read)) c.in_err-given.ensures.read)
+
+pub infer_par-returns-clause-read : goal.infer_par-returns-clause-read
+infer_par-returns-clause-read t c =
+    walking.par_is c.args.around.now.named.now c.args.around.now.variables.now c.args.at.standing c.args.at.span c.args.names.now.left.now (generic_tree c.args.around.now.named.now c.args.parts.left.0) c.args.names.now.right.now (generic_tree c.args.around.now.named.now c.args.parts.right.0) (generic_tree c.args.around.now.named.now c.args.parts.body.0) c.args.state.now c.one_more.new.self c.infer.new.state c.infer-2.new.state c.bind_sides.new.state c.in_ok-left.left c.in_ok-right.right (record { read = c.in_ok-one_more.ensures.counts; kept = c.one_more.ensures.scope; types = c.one_more.ensures.types }) (record { read = (subst (λ st. infer (generic_globals c.args.around.now.named.now) (variable_numbers c.args.around.now.variables.now) opaque st (in_scope c.one_more.new.self) c.one_more.new.self.counts (generic_tree c.args.around.now.named.now c.args.parts.left.0) ≡ Rattle.std.proofs.Common.Ok (forms_given c.infer.new.state c.in_ok-left.left, c.infer.new.state.counts)) c.standing_for.ensures c.in_ok-left.ensures.read); kept = c.in_ok-left.ensures.kept; met = c.in_ok-left.ensures.met }) (record { read = (subst (λ st. infer (generic_globals c.args.around.now.named.now) (variable_numbers c.args.around.now.variables.now) opaque st (in_scope c.infer.new.state) c.infer.new.state.counts (generic_tree c.args.around.now.named.now c.args.parts.right.0) ≡ Rattle.std.proofs.Common.Ok (forms_given c.infer-2.new.state c.in_ok-right.right, c.infer-2.new.state.counts)) c.standing_for-2.ensures c.in_ok-right.ensures.read); kept = c.in_ok-right.ensures.kept; met = c.in_ok-right.ensures.met }) (subst₂ (λ x y. bind_sides (in_scope c.infer-2.new.state) c.infer-2.new.state.counts c.args.names.now.left.now (part_in c.infer-2.new.state x) c.args.names.now.right.now (part_in c.infer-2.new.state y) ≡ Rattle.std.proofs.Common.Ok (in_scope c.bind_sides.new.state, c.bind_sides.new.state.counts)) c.part-left.ensures c.part-right.ensures c.in_ok-bind_sides.ensures.read)
+    ∙ c.in_ok-given.ensures.read
+    ∙ answering.same_answer c.infer-3.new.state c.truncate.new.self c.in_ok-given.given (same_advance c.infer-3.new.state c.truncate.new.self c.truncate.ensures.types c.truncate.ensures.parts) c.in_ok-given.ensures.met.here c.truncate.ensures.counts
+
+pub infer_par-returns-clause-kept : goal.infer_par-returns-clause-kept
+infer_par-returns-clause-kept t c =
+    answering.parts_dropped (in_scope c.infer-2.new.state) (in_scope c.infer-3.new.state) (in_scope c.truncate.new.self) c.in_ok-bind_sides.ensures.kept.0 c.len-len.result
+    (c.in_ok-given.ensures.kept ∙ c.in_ok-bind_sides.ensures.kept.1) c.len-len.ensures c.in_ok-truncate.ensures.scope
+    ∙ c.in_ok-right.ensures.kept ∙ c.in_ok-left.ensures.kept ∙ c.one_more.ensures.scope
+
+pub infer_par-returns-clause-met : goal.infer_par-returns-clause-met
+infer_par-returns-clause-met t c =
+    record { advances = (advances_on c.args.state.now c.infer-3.new.state c.truncate.new.self (advances_on c.args.state.now c.bind_sides.new.state c.infer-3.new.state (advances_on c.args.state.now c.infer-2.new.state c.bind_sides.new.state (advances_on c.args.state.now c.infer.new.state c.infer-2.new.state (advances_on c.args.state.now c.one_more.new.self c.infer.new.state (same_advance c.args.state.now c.one_more.new.self c.one_more.ensures.types c.one_more.ensures.parts) c.in_ok-left.ensures.met.advances) c.in_ok-right.ensures.met.advances) (same_advance c.infer-2.new.state c.bind_sides.new.state c.bind_sides.ensures.types c.bind_sides.ensures.parts)) c.in_ok-given.ensures.met.advances) (same_advance c.infer-3.new.state c.truncate.new.self c.truncate.ensures.types c.truncate.ensures.parts)); here = met_stays c.infer-3.new.state c.truncate.new.self c.in_ok-given.given (same_advance c.infer-3.new.state c.truncate.new.self c.truncate.ensures.types c.truncate.ensures.parts) c.in_ok-given.ensures.met.here }
+
+pub infer_par-bind_sides-requires-clause-left : goal.infer_par-bind_sides-requires-clause-left
+infer_par-bind_sides-requires-clause-left t c =
+    subst (λ (q : Part). AreMet c.infer-2.new.state q.ty) (sym c.part-left.ensures) (met_stays c.infer.new.state c.infer-2.new.state c.in_ok-left.left c.in_ok-right.ensures.met.advances c.in_ok-left.ensures.met.here)
+
+pub infer_par-bind_sides-requires-clause-right : goal.infer_par-bind_sides-requires-clause-right
+infer_par-bind_sides-requires-clause-right t c =
+    subst (λ (q : Part). AreMet c.infer-2.new.state q.ty) (sym c.part-right.ensures) c.in_ok-right.ensures.met.here
+
+pub infer_binding-returns-in-Let-clause-read : goal.infer_binding-returns-in-Let-clause-read
+infer_binding-returns-in-Let-clause-read t c =
+    gives_same (λ ty. (forms_given c.infer_let.new.state ty, c.infer_let.new.state.counts)) c.infer_let.result _ _
+    (ap (infer (generic_globals c.args.around.now.named.now) (variable_numbers c.args.around.now.variables.now) opaque c.args.standing (in_scope c.args.state.now) c.args.state.now.counts)
+    (c.requires.opens.0 ∙ ap (λ z. layer c.args.around.now.named.now.exprs.words (tree_of c.args.around.now.named.now.exprs) (Some z)) c.in-Let.is
+    ∙ ap (λ xs. GenericLet c.in-Let.span xs (generic_tree c.args.around.now.named.now c.in-Let.bound.0) (generic_tree c.args.around.now.named.now c.in-Let.body.0)) (sym c.as_slice.ensures))
+    ∙ ap₂ (λ (a : At) (u : Sides). infer (generic_globals c.args.around.now.named.now) (variable_numbers c.args.around.now.variables.now) opaque a.standing (in_scope c.args.state.now) c.args.state.now.counts (GenericLet a.span c.as_slice.result.now (generic_tree c.args.around.now.named.now u.left.0) (generic_tree c.args.around.now.named.now u.right.0))) (sym c.new-at.ensures) (sym c.new-sides.ensures))
+    c.infer_let.ensures.read
+
+pub infer_binding-returns-in-LetPar-clause-read : goal.infer_binding-returns-in-LetPar-clause-read
+infer_binding-returns-in-LetPar-clause-read t c =
+    gives_same (λ ty. (forms_given c.infer_par.new.state ty, c.infer_par.new.state.counts)) c.infer_par.result _ _
+    (ap (infer (generic_globals c.args.around.now.named.now) (variable_numbers c.args.around.now.variables.now) opaque c.args.standing (in_scope c.args.state.now) c.args.state.now.counts)
+    (c.requires.opens.0 ∙ ap (λ z. layer c.args.around.now.named.now.exprs.words (tree_of c.args.around.now.named.now.exprs) (Some z)) c.in-LetPar.is
+    ∙ ap₂ (λ xs ys. GenericPar c.in-LetPar.span xs (generic_tree c.args.around.now.named.now c.in-LetPar.left.0) ys (generic_tree c.args.around.now.named.now c.in-LetPar.right.0) (generic_tree c.args.around.now.named.now c.in-LetPar.body.0)) (sym c.as_slice-in-LetPar.ensures) (sym c.as_slice-in-LetPar-2.ensures))
+    ∙ ap (λ (a : At). infer (generic_globals c.args.around.now.named.now) (variable_numbers c.args.around.now.variables.now) opaque a.standing (in_scope c.args.state.now) c.args.state.now.counts (GenericPar a.span c.as_slice-in-LetPar.result.now (generic_tree c.args.around.now.named.now c.in-LetPar.left.0) c.as_slice-in-LetPar-2.result.now (generic_tree c.args.around.now.named.now c.in-LetPar.right.0) (generic_tree c.args.around.now.named.now c.in-LetPar.body.0))) (sym c.new-at-in-LetPar.ensures))
+    c.infer_par.ensures.read

@@ -5,20 +5,14 @@ use Rattle.gib_check.proofs.walk.+infer.Given as goal
 abbrev pub decreases-infer : goal.decreases-infer
 decreases-infer l = 6 * l.id.0 + 5
 
-abbrev pub decreases-infer_worded : goal.decreases-infer_worded
-decreases-infer_worded l = 6 * l.id.0 + 4
+abbrev pub decreases-infer_choice : goal.decreases-infer_choice
+decreases-infer_choice l = 6 * l.id.0 + 4
 
-abbrev pub decreases-infer_several : goal.decreases-infer_several
-decreases-infer_several l = 6 * l.id.0 + 4
+abbrev pub decreases-infer_binding : goal.decreases-infer_binding
+decreases-infer_binding l = 6 * l.id.0 + 4
 
 abbrev pub decreases-tuple : goal.decreases-tuple
 decreases-tuple l = 6 * l.at.id.0 + 3
-
-abbrev pub decreases-let_several : goal.decreases-let_several
-decreases-let_several l = 6 * l.at.id.0 + 3
-
-abbrev pub decreases-par_several : goal.decreases-par_several
-decreases-par_several l = 6 * l.at.id.0 + 3
 
 abbrev pub decreases-operation : goal.decreases-operation
 decreases-operation l = 6 * l.at.id.0 + 3
@@ -29,11 +23,11 @@ decreases-call l = 6 * l.id.0 + 3
 abbrev pub decreases-make : goal.decreases-make
 decreases-make l = 6 * l.id.0 + 3
 
-abbrev pub decreases-let_in : goal.decreases-let_in
-decreases-let_in l = 6 * l.at.id.0 + 3
+abbrev pub decreases-infer_let : goal.decreases-infer_let
+decreases-infer_let l = 6 * l.at.id.0 + 3
 
-abbrev pub decreases-let_par : goal.decreases-let_par
-decreases-let_par l = 6 * l.at.id.0 + 3
+abbrev pub decreases-infer_par : goal.decreases-infer_par
+decreases-infer_par l = 6 * l.at.id.0 + 3
 
 abbrev pub decreases-if_else : goal.decreases-if_else
 decreases-if_else l = 6 * l.at.id.0 + 3
