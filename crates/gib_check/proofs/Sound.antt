@@ -168,36 +168,21 @@ mutual
         short = λ z. s.short (omega (arith, c0, h0));
         few = λ z. s.few (omega (arith, c1, z));
       }))))))))
-  infer_sound g vars m st scope n (GenericLet p x a b) =
-      then_holds (one_more_holds n p) (λ o h. then_holds (infer_sound g vars m NoTuple scope o a) (λ s sa. then_holds (single_holds s.0 (place a)) (λ t e. then_holds (new_variable_holds scope s.1 x) (λ k v.
+  infer_sound g vars m st scope n (GenericLet p xs a b) =
+      then_holds (one_more_holds n p) (λ o h. then_holds (infer_sound g vars m (standing_for xs) scope o a) (λ s sa.
+      then_holds (bind_given_holds scope s.1 xs (record { ty = s.0; place = place a })) (λ inner v.
       record {
-        by = λ r q. (let sb = (infer_sound g vars m st (form_bound x t scope) k b).by r q in
+        by = λ r q. (let sb = (infer_sound g vars m st inner.0 inner.1 b).by r q in
             let c = counted n o h.1 in let c0 = c.0 in let c1 = c.1 in let h0 = h.0 in let a0 = sa.expressions in let a1 = sa.variables in let b0 = sb.expressions in let b1 = sb.variables in
-            let d = more_variables s.1 k v.2 in let d0 = d.0 in let d1 = d.1 in let v1 = v.1 in
+            let d0 = v.bound.expressions in let d1 = v.bound.variables in
             record {
-              has = (t, subst (λ z. HasForm g vars m scope a z) e sa.has, v.0, sb.has);
+              has = (v.types, inner.0, v.names, subst (λ z. HasForm g vars m scope a z) v.gives sa.has, v.bound.binds, sb.has);
               expressions = omega (arith, c0, a0, b0, d0);
               variables = omega (arith, c1, a1, b1, d1);
               short = λ z. sb.short (let w = sa.short (omega (arith, c0, h0)) in omega (arith, w, d0));
-              few = λ z. sb.few (omega (arith, d1, v1));
+              few = λ z. sb.few (v.bound.few (sa.few (omega (arith, c1, z))));
             });
-      }))))
-  infer_sound g vars m st scope n (GenericPar p x a y b c) =
-      then_holds (one_more_holds n p) (λ o h. then_holds (infer_sound g vars m NoTuple scope o a) (λ s sa. then_holds (infer_sound g vars m NoTuple scope s.1 b) (λ t sb.
-      then_holds (single_holds s.0 (place a)) (λ u ea. then_holds (single_holds t.0 (place b)) (λ z0 eb.
-      then_holds (new_variable_holds scope t.1 x) (λ k v. then_holds (new_variable_holds (form_bound x u scope) k y) (λ l w.
-      record {
-        by = λ r q. (let sc = (infer_sound g vars m st (form_bound y z0 (form_bound x u scope)) l c).by r q in
-            let i = counted n o h.1 in let c0 = i.0 in let c1 = i.1 in let h0 = h.0 in let a0 = sa.expressions in let a1 = sa.variables in let b0 = sb.expressions in let b1 = sb.variables in let e0 = sc.expressions in let e1 = sc.variables in
-            let d = more_variables t.1 k v.2 in let d0 = d.0 in let d1 = d.1 in let f = more_variables k l w.2 in let f0 = f.0 in let f1 = f.1 in let w1 = w.1 in
-            record {
-              has = (u, z0, subst (λ z. HasForm g vars m scope a z) ea sa.has, subst (λ z. HasForm g vars m scope b z) eb sb.has, v.0, w.0, sc.has);
-              expressions = omega (arith, c0, a0, b0, e0, d0, f0);
-              variables = omega (arith, c1, a1, b1, e1, d1, f1);
-              short = λ z. sc.short (let u = sb.short (sa.short (omega (arith, c0, h0))) in omega (arith, u, d0, f0));
-              few = λ z. sc.few (omega (arith, f1, w1));
-            });
-      })))))))
+      })))
   infer_sound g vars m st scope n (GenericPar p xs a ys b c) =
       then_holds (one_more_holds n p) (λ o h. then_holds (infer_sound g vars m (standing_for xs) scope o a) (λ s sa. then_holds (infer_sound g vars m (standing_for ys) scope s.1 b) (λ t sb.
       then_holds (bind_sides_holds scope t.1 xs (record { ty = s.0; place = place a }) ys (record { ty = t.0; place = place b })) (λ inner v.

@@ -8,14 +8,14 @@ use Rattle.gib_syntax.specs.declared.tree.Ident.{Ident}
 use Rattle.gib_types.specs.declared.operator.Operator.{Operator}
 use Rattle.gib_syntax.specs.Forms.{WrittenTypes, formed_all, count_written}
 use Rattle.gib_syntax.specs.Results.{Results, One, Several}
-use Rattle.gib_syntax.specs.GenericTree.{GenericExpression, GenericOp, GenericLet, GenericPar, GenericIf, GenericLetSeveral, GenericParSeveral, GenericFunctionTree, GenericRow}
+use Rattle.gib_syntax.specs.GenericTree.{GenericExpression, GenericOp, GenericLet, GenericPar, GenericIf, GenericFunctionTree, GenericRow}
 use Rattle.gib_syntax.specs.GenericTyping.{FormScope, form_bound, variable_numbers, opaque, operator_form, field_forms, parameter_forms, result_forms}
 use Rattle.gib_syntax.specs.GenericParts.{GenericParts}
 use Rattle.gib_check.specs.declared.counts.Counts.{Counts}
 use Rattle.gib_check.specs.declared.fault.TypeFault.{TypeFault}
 use Rattle.gib_check.specs.declared.fault.TypeFault.TheVariants as t
 use Rattle.gib_check.specs.Answers.{IsFaultOf}
-use Rattle.gib_check.specs.Faults.{Checked, and_then, FormPart, place, one_more, as_many, all_known, function, constructor, new_variable, wanted, single_at, all_single, standing_for, may_stand, types_bound, bind_parts, infer_tuple, all_wanted, infer, infer_call, infer_make}
+use Rattle.gib_check.specs.Faults.{Checked, and_then, FormPart, place, one_more, as_many, all_known, function, constructor, wanted, all_single, standing_for, may_stand, bind_given, bind_sides, infer_tuple, all_wanted, infer, infer_call, infer_make}
 use Rattle.gib_check.specs.NameViews.{generic_globals}
 use Rattle.gib_check.specs.Judging.{Judging, forms, in_scope, Advances, Met, AllMet, listed, forms_given, AreMet, part_in, parts_in}
 use Rattle.gib_check.proofs.Growing.{advances_on, given_grows, met_stays}
@@ -105,196 +105,81 @@ module _ (parts : GenericParts) (variables : List Ident) where
       ∙ ap (λ q. and_then q (λ _. and_then (wanted (forms_given s4 y) (part_in s4 (record { ty = z; place = place c }))) (λ _. Ok (forms_given s4 y, s4.counts)))) w
       ∙ ap (λ q. and_then q (λ _. Ok (forms_given s4 y, s4.counts))) v
 
-  -- A variable was bound.
-  pub record BoundIn (before after : Judging) (x : Ident) (ty : TypeId) : Type 0 where
-    pub read : new_variable (in_scope before) before.counts x ≡ Ok after.counts
-    pub scope : in_scope after ≡ form_bound x (form_at (forms before) ty.0) (in_scope before)
-    pub types : after.types ≡ before.types
-
-  -- A `let`, up to its variable.
-  let_value : (st : Standing) (s0 s1 s2 : Judging) (p : Span) (x : Ident) (a b : GenericExpression) (v : ResultIds) → Counted s0 s1 p → Judged NoTuple s1 s2 a v → types_of st (in_scope s0) s0.counts (GenericLet p x a b) ≡ and_then (single_at (forms_given s2 v) (place a)) (λ t. and_then (new_variable (in_scope s2) s2.counts x) (λ k. types_of st (form_bound x t (in_scope s2)) k b))
-  let_value st s0 s1 s2 p x a b v o ja =
-      ap (λ z. and_then z (λ o. and_then (types_of NoTuple (in_scope s0) o a) (λ s. and_then (single_at s.0 (place a)) (λ t. and_then (new_variable (in_scope s0) s.1 x) (λ k. types_of st (form_bound x t (in_scope s0)) k b))))) o.read
-      ∙ ap (λ z. and_then z (λ s. and_then (single_at s.0 (place a)) (λ t. and_then (new_variable (in_scope s0) s.1 x) (λ k. types_of st (form_bound x t (in_scope s0)) k b)))) (ap (λ s. types_of NoTuple s s1.counts a) (sym o.kept) ∙ ja.read)
-      ∙ ap (λ s. and_then (single_at (forms_given s2 v) (place a)) (λ t. and_then (new_variable s s2.counts x) (λ k. types_of st (form_bound x t s) k b))) (sym (ja.kept ∙ o.kept))
-
-  pub let_single : (st : Standing) (e : TypeFault) (s0 s1 s2 : Judging) (p : Span) (x : Ident) (a b : GenericExpression) (v : ResultIds) → Counted s0 s1 p → Judged NoTuple s1 s2 a v → IsFaultOf e (single_at (forms_given s2 v) (place a)) → IsFaultOf e (types_of st (in_scope s0) s0.counts (GenericLet p x a b))
-  let_single st e s0 s1 s2 p x a b v o ja h = along e _ _ (let_value st s0 s1 s2 p x a b v o ja) (passed_on e _ _ h)
-
-  let_variable : (st : Standing) (s0 s1 s2 : Judging) (p : Span) (x : Ident) (a b : GenericExpression) (v : ResultIds) (t : TypeId) → Counted s0 s1 p → Judged NoTuple s1 s2 a v → single_at (forms_given s2 v) (place a) ≡ Ok (form_at (forms s2) t.0) → types_of st (in_scope s0) s0.counts (GenericLet p x a b) ≡ and_then (new_variable (in_scope s2) s2.counts x) (λ k. types_of st (form_bound x (form_at (forms s2) t.0) (in_scope s2)) k b)
-  let_variable st s0 s1 s2 p x a b v t o ja e =
-      let_value st s0 s1 s2 p x a b v o ja ∙ ap (λ z. and_then z (λ t. and_then (new_variable (in_scope s2) s2.counts x) (λ k. types_of st (form_bound x t (in_scope s2)) k b))) e
-
-  pub let_bind : (st : Standing) (e : TypeFault) (s0 s1 s2 : Judging) (p : Span) (x : Ident) (a b : GenericExpression) (v : ResultIds) (t : TypeId) → Counted s0 s1 p → Judged NoTuple s1 s2 a v → single_at (forms_given s2 v) (place a) ≡ Ok (form_at (forms s2) t.0) → IsFaultOf e (new_variable (in_scope s2) s2.counts x) → IsFaultOf e (types_of st (in_scope s0) s0.counts (GenericLet p x a b))
-  let_bind st e s0 s1 s2 p x a b v t o ja q h = along e _ _ (let_variable st s0 s1 s2 p x a b v t o ja q) (passed_on e _ _ h)
-
-  pub let_is : (st : Standing) (s0 s1 s2 s3 : Judging) (p : Span) (x : Ident) (a b : GenericExpression) (v : ResultIds) (t : TypeId) → Counted s0 s1 p → Judged NoTuple s1 s2 a v → single_at (forms_given s2 v) (place a) ≡ Ok (form_at (forms s2) t.0) → BoundIn s2 s3 x t → types_of st (in_scope s0) s0.counts (GenericLet p x a b) ≡ types_of st (in_scope s3) s3.counts b
-  let_is st s0 s1 s2 s3 p x a b v t o ja q bx =
-      let_variable st s0 s1 s2 p x a b v t o ja q
-      ∙ ap (λ z. and_then z (λ k. types_of st (form_bound x (form_at (forms s2) t.0) (in_scope s2)) k b)) bx.read
-      ∙ ap (λ s. types_of st s s3.counts b) (sym bx.scope)
-
-  pub let_body : (st : Standing) (e : TypeFault) (s0 s1 s2 s3 : Judging) (p : Span) (x : Ident) (a b : GenericExpression) (v : ResultIds) (t : TypeId) → Counted s0 s1 p → Judged NoTuple s1 s2 a v → single_at (forms_given s2 v) (place a) ≡ Ok (form_at (forms s2) t.0) → BoundIn s2 s3 x t → IsFaultOf e (types_of st (in_scope s3) s3.counts b) → IsFaultOf e (types_of st (in_scope s0) s0.counts (GenericLet p x a b))
-  let_body st e s0 s1 s2 s3 p x a b v t o ja q bx h = along e _ _ (let_is st s0 s1 s2 s3 p x a b v t o ja q bx) h
-
-  -- A `let par`, up to its variables.
-  module _ (st : Standing) (p : Span) (x : Ident) (a : GenericExpression) (y : Ident) (b c : GenericExpression) where
-    abbrev par_of : Judging → Checked (Results Form × Counts)
-    par_of s = types_of st (in_scope s) s.counts (GenericPar p x a y b c)
-
-    -- Behind the sides.
-    abbrev par_rest : FormScope → Counts → Form → Form → Checked (Results Form × Counts)
-    par_rest scope n u v = and_then (new_variable scope n x) (λ k. and_then (new_variable (form_bound x u scope) k y) (λ q. types_of st (form_bound y v (form_bound x u scope)) q c))
-
-    par_sides : (s0 s1 s2 s3 : Judging) (l r : ResultIds) → Counted s0 s1 p → Judged NoTuple s1 s2 a l → Judged NoTuple s2 s3 b r → par_of s0 ≡ and_then (single_at (forms_given s3 l) (place a)) (λ u. and_then (single_at (forms_given s3 r) (place b)) (λ v. par_rest (in_scope s3) s3.counts u v))
-    par_sides s0 s1 s2 s3 l r o ja jb =
-        ap (λ z. and_then z (λ o. and_then (types_of NoTuple (in_scope s0) o a) (λ s. and_then (types_of NoTuple (in_scope s0) s.1 b) (λ t. and_then (single_at s.0 (place a)) (λ u. and_then (single_at t.0 (place b)) (λ v. par_rest (in_scope s0) t.1 u v)))))) o.read
-        ∙ ap (λ z. and_then z (λ s. and_then (types_of NoTuple (in_scope s0) s.1 b) (λ t. and_then (single_at s.0 (place a)) (λ u. and_then (single_at t.0 (place b)) (λ v. par_rest (in_scope s0) t.1 u v))))) (ap (λ s. types_of NoTuple s s1.counts a) (sym o.kept) ∙ ja.read)
-        ∙ ap (λ z. and_then z (λ t. and_then (single_at (forms_given s2 l) (place a)) (λ u. and_then (single_at t.0 (place b)) (λ v. par_rest (in_scope s0) t.1 u v)))) (ap (λ s. types_of NoTuple s s2.counts b) (sym (ja.kept ∙ o.kept)) ∙ jb.read)
-        ∙ ap₂ (λ (s : FormScope) (f : Results Form). and_then (single_at f (place a)) (λ u. and_then (single_at (forms_given s3 r) (place b)) (λ v. par_rest s s3.counts u v)))
-        (sym (jb.kept ∙ ja.kept ∙ o.kept)) (sym (given_grows s2 s3 l jb.met.advances ja.met.here))
-
-    -- Both sides give one thing.
-    pub record BothSingle (s : Judging) (l r : ResultIds) (t u : TypeId) : Type 0 where
-      pub left : single_at (forms_given s l) (place a) ≡ Ok (form_at (forms s) t.0)
-      pub right : single_at (forms_given s r) (place b) ≡ Ok (form_at (forms s) u.0)
-
-    pub par_left_single : (e : TypeFault) (s0 s1 s2 s3 : Judging) (l r : ResultIds) → Counted s0 s1 p → Judged NoTuple s1 s2 a l → Judged NoTuple s2 s3 b r → IsFaultOf e (single_at (forms_given s3 l) (place a)) → IsFaultOf e (par_of s0)
-    par_left_single e s0 s1 s2 s3 l r o ja jb h = along e _ _ (par_sides s0 s1 s2 s3 l r o ja jb) (passed_on e _ _ h)
-
-    pub par_right_single : (e : TypeFault) (s0 s1 s2 s3 : Judging) (l r : ResultIds) (t : TypeId) → Counted s0 s1 p → Judged NoTuple s1 s2 a l → Judged NoTuple s2 s3 b r → single_at (forms_given s3 l) (place a) ≡ Ok (form_at (forms s3) t.0) → IsFaultOf e (single_at (forms_given s3 r) (place b)) → IsFaultOf e (par_of s0)
-    par_right_single e s0 s1 s2 s3 l r t o ja jb q h =
-        along e _ _ (par_sides s0 s1 s2 s3 l r o ja jb ∙ ap (λ z. and_then z (λ u. and_then (single_at (forms_given s3 r) (place b)) (λ v. par_rest (in_scope s3) s3.counts u v))) q) (passed_on e _ _ h)
-
-    par_variables : (s0 s1 s2 s3 : Judging) (l r : ResultIds) (t u : TypeId) → Counted s0 s1 p → Judged NoTuple s1 s2 a l → Judged NoTuple s2 s3 b r → BothSingle s3 l r t u → par_of s0 ≡ par_rest (in_scope s3) s3.counts (form_at (forms s3) t.0) (form_at (forms s3) u.0)
-    par_variables s0 s1 s2 s3 l r t u o ja jb q =
-        par_sides s0 s1 s2 s3 l r o ja jb
-        ∙ ap (λ z. and_then z (λ u. and_then (single_at (forms_given s3 r) (place b)) (λ v. par_rest (in_scope s3) s3.counts u v))) q.left
-        ∙ ap (λ z. and_then z (λ v. par_rest (in_scope s3) s3.counts (form_at (forms s3) t.0) v)) q.right
-
-    pub par_left : (e : TypeFault) (s0 s1 s2 s3 : Judging) (l r : ResultIds) (t u : TypeId) → Counted s0 s1 p → Judged NoTuple s1 s2 a l → Judged NoTuple s2 s3 b r → BothSingle s3 l r t u → IsFaultOf e (new_variable (in_scope s3) s3.counts x) → IsFaultOf e (par_of s0)
-    par_left e s0 s1 s2 s3 l r t u o ja jb q h = along e _ _ (par_variables s0 s1 s2 s3 l r t u o ja jb q) (passed_on e _ _ h)
-
-    par_second : (s0 s1 s2 s3 s4 : Judging) (l r : ResultIds) (t u : TypeId) → Counted s0 s1 p → Judged NoTuple s1 s2 a l → Judged NoTuple s2 s3 b r → BothSingle s3 l r t u → BoundIn s3 s4 x t → par_of s0 ≡ and_then (new_variable (in_scope s4) s4.counts y) (λ q. types_of st (form_bound y (form_at (forms s4) u.0) (in_scope s4)) q c)
-    par_second s0 s1 s2 s3 s4 l r t u o ja jb q bx =
-        par_variables s0 s1 s2 s3 l r t u o ja jb q
-        ∙ ap (λ z. and_then z (λ k. and_then (new_variable (form_bound x (form_at (forms s3) t.0) (in_scope s3)) k y) (λ q. types_of st (form_bound y (form_at (forms s3) u.0) (form_bound x (form_at (forms s3) t.0) (in_scope s3))) q c))) bx.read
-        ∙ ap₂ (λ (s : FormScope) (f : Form). and_then (new_variable s s4.counts y) (λ q. types_of st (form_bound y f s) q c)) (sym bx.scope) (ap (λ ns. form_at (forms_of ns) u.0) (sym bx.types))
-
-    pub par_right : (e : TypeFault) (s0 s1 s2 s3 s4 : Judging) (l r : ResultIds) (t u : TypeId) → Counted s0 s1 p → Judged NoTuple s1 s2 a l → Judged NoTuple s2 s3 b r → BothSingle s3 l r t u → BoundIn s3 s4 x t → IsFaultOf e (new_variable (in_scope s4) s4.counts y) → IsFaultOf e (par_of s0)
-    par_right e s0 s1 s2 s3 s4 l r t u o ja jb q bx h = along e _ _ (par_second s0 s1 s2 s3 s4 l r t u o ja jb q bx) (passed_on e _ _ h)
-
-    pub par_is : (s0 s1 s2 s3 s4 s5 : Judging) (l r : ResultIds) (t u : TypeId) → Counted s0 s1 p → Judged NoTuple s1 s2 a l → Judged NoTuple s2 s3 b r → BothSingle s3 l r t u → BoundIn s3 s4 x t → BoundIn s4 s5 y u → par_of s0 ≡ types_of st (in_scope s5) s5.counts c
-    par_is s0 s1 s2 s3 s4 s5 l r t u o ja jb q bx by' =
-        par_second s0 s1 s2 s3 s4 l r t u o ja jb q bx
-        ∙ ap (λ z. and_then z (λ q. types_of st (form_bound y (form_at (forms s4) u.0) (in_scope s4)) q c)) by'.read
-        ∙ ap (λ s. types_of st s s5.counts c) (sym by'.scope)
-
-  -- Variables for parts were bound.
-  pub record PartsIn (before after : Judging) (xs : List Ident) (ts : List TypeId) : Type 0 where
-    pub read : bind_parts 0 (in_scope before) before.counts xs (listed (forms before) ts) ≡ Ok (in_scope after, after.counts)
-    pub types : after.types ≡ before.types
-
-  -- A `let` of several variables.
+  -- A `let`.
   module _ (st : Standing) (p : Span) (xs : List Ident) (a b : GenericExpression) where
-    abbrev several_of : Judging → Checked (Results Form × Counts)
-    several_of s = types_of st (in_scope s) s.counts (GenericLetSeveral p xs a b)
+    abbrev let_of : Judging → Checked (Results Form × Counts)
+    let_of s = types_of st (in_scope s) s.counts (GenericLet p xs a b)
 
-    abbrev several_rest : FormScope → Counts → List Form → Checked (Results Form × Counts)
-    several_rest scope n ts = and_then (bind_parts 0 scope n xs ts) (λ inner. types_of st inner.0 inner.1 b)
+    abbrev let_body : FormScope × Counts → Checked (Results Form × Counts)
+    let_body inner = types_of st inner.0 inner.1 b
 
-    pub several_fails : (e : TypeFault) (s0 s1 : Judging) → Counted s0 s1 p → IsFaultOf e (types_of (standing_for xs) (in_scope s1) s1.counts a) → IsFaultOf e (several_of s0)
-    several_fails e s0 s1 o h =
-        along e _ _ (ap (λ z. and_then z (λ o. and_then (types_of (standing_for xs) (in_scope s0) o a) (λ s. and_then (types_bound xs (record { ty = s.0; place = place a })) (λ ts. several_rest (in_scope s0) s.1 ts)))) o.read
-        ∙ ap (λ z. and_then (types_of (standing_for xs) z s1.counts a) (λ s. and_then (types_bound xs (record { ty = s.0; place = place a })) (λ ts. several_rest (in_scope s0) s.1 ts))) (sym o.kept)) (passed_on e _ _ h)
+    abbrev let_behind : FormScope → Results Form × Counts → Checked (Results Form × Counts)
+    let_behind scope s = and_then (bind_given scope s.1 xs (record { ty = s.0; place = place a })) let_body
 
-    several_value : (s0 s1 s2 : Judging) (v : ResultIds) → Counted s0 s1 p → Judged (standing_for xs) s1 s2 a v → several_of s0 ≡ and_then (types_bound xs (part_in s2 (record { ty = v; place = place a }))) (λ ts. several_rest (in_scope s2) s2.counts ts)
-    several_value s0 s1 s2 v o ja =
-        ap (λ z. and_then z (λ o. and_then (types_of (standing_for xs) (in_scope s0) o a) (λ s. and_then (types_bound xs (record { ty = s.0; place = place a })) (λ ts. several_rest (in_scope s0) s.1 ts)))) o.read
-        ∙ ap (λ z. and_then z (λ s. and_then (types_bound xs (record { ty = s.0; place = place a })) (λ ts. several_rest (in_scope s0) s.1 ts))) (ap (λ s. types_of (standing_for xs) s s1.counts a) (sym o.kept) ∙ ja.read)
-        ∙ ap (λ s. and_then (types_bound xs (part_in s2 (record { ty = v; place = place a }))) (λ ts. several_rest s s2.counts ts)) (sym (ja.kept ∙ o.kept))
+    abbrev let_variables : Judging → ResultIds → Checked (FormScope × Counts)
+    let_variables s v = bind_given (in_scope s) s.counts xs (part_in s (record { ty = v; place = place a }))
 
-    pub several_types : (e : TypeFault) (s0 s1 s2 : Judging) (v : ResultIds) → Counted s0 s1 p → Judged (standing_for xs) s1 s2 a v → IsFaultOf e (types_bound xs (part_in s2 (record { ty = v; place = place a }))) → IsFaultOf e (several_of s0)
-    several_types e s0 s1 s2 v o ja h = along e _ _ (several_value s0 s1 s2 v o ja) (passed_on e _ _ h)
+    let_counted : (s0 s1 : Judging) → Counted s0 s1 p → let_of s0 ≡ and_then (types_of (standing_for xs) (in_scope s1) s1.counts a) (let_behind (in_scope s1))
+    let_counted s0 s1 o =
+        ap (λ z. and_then z (λ n. and_then (types_of (standing_for xs) (in_scope s0) n a) (let_behind (in_scope s0)))) o.read
+        ∙ ap (λ scope. and_then (types_of (standing_for xs) scope s1.counts a) (let_behind scope)) (sym o.kept)
 
-    several_variables : (s0 s1 s2 : Judging) (v : ResultIds) (ts : List TypeId) → Counted s0 s1 p → Judged (standing_for xs) s1 s2 a v → types_bound xs (part_in s2 (record { ty = v; place = place a })) ≡ Ok (listed (forms s2) ts) → several_of s0 ≡ several_rest (in_scope s2) s2.counts (listed (forms s2) ts)
-    several_variables s0 s1 s2 v ts o ja q = several_value s0 s1 s2 v o ja ∙ ap (λ z. and_then z (λ ts. several_rest (in_scope s2) s2.counts ts)) q
+    pub let_fails : (e : TypeFault) (s0 s1 : Judging) → Counted s0 s1 p → IsFaultOf e (types_of (standing_for xs) (in_scope s1) s1.counts a) → IsFaultOf e (let_of s0)
+    let_fails e s0 s1 o h = along e _ _ (let_counted s0 s1 o) (passed_on e _ _ h)
 
-    pub several_bind : (e : TypeFault) (s0 s1 s2 : Judging) (v : ResultIds) (ts : List TypeId) → Counted s0 s1 p → Judged (standing_for xs) s1 s2 a v → types_bound xs (part_in s2 (record { ty = v; place = place a })) ≡ Ok (listed (forms s2) ts) → IsFaultOf e (bind_parts 0 (in_scope s2) s2.counts xs (listed (forms s2) ts)) → IsFaultOf e (several_of s0)
-    several_bind e s0 s1 s2 v ts o ja q h = along e _ _ (several_variables s0 s1 s2 v ts o ja q) (passed_on e _ _ h)
+    let_judged : (s0 s1 s2 : Judging) (v : ResultIds) → Counted s0 s1 p → Judged (standing_for xs) s1 s2 a v → let_of s0 ≡ and_then (let_variables s2 v) let_body
+    let_judged s0 s1 s2 v o ja =
+        let_counted s0 s1 o ∙ ap (λ z. and_then z (let_behind (in_scope s1))) ja.read ∙ ap (λ scope. let_behind scope (forms_given s2 v, s2.counts)) (sym ja.kept)
 
-    pub several_is : (s0 s1 s2 s3 : Judging) (v : ResultIds) (ts : List TypeId) → Counted s0 s1 p → Judged (standing_for xs) s1 s2 a v → types_bound xs (part_in s2 (record { ty = v; place = place a })) ≡ Ok (listed (forms s2) ts) → PartsIn s2 s3 xs ts → several_of s0 ≡ types_of st (in_scope s3) s3.counts b
-    several_is s0 s1 s2 s3 v ts o ja q bx = several_variables s0 s1 s2 v ts o ja q ∙ ap (λ z. and_then z (λ inner. types_of st inner.0 inner.1 b)) bx.read
+    pub let_bind : (e : TypeFault) (s0 s1 s2 : Judging) (v : ResultIds) → Counted s0 s1 p → Judged (standing_for xs) s1 s2 a v → IsFaultOf e (let_variables s2 v) → IsFaultOf e (let_of s0)
+    let_bind e s0 s1 s2 v o ja h = along e _ _ (let_judged s0 s1 s2 v o ja) (passed_on e _ _ h)
 
-  -- A `let par` with several variables.
+    pub let_is : (s0 s1 s2 s3 : Judging) (v : ResultIds) → Counted s0 s1 p → Judged (standing_for xs) s1 s2 a v → let_variables s2 v ≡ Ok (in_scope s3, s3.counts) → let_of s0 ≡ types_of st (in_scope s3) s3.counts b
+    let_is s0 s1 s2 s3 v o ja q = let_judged s0 s1 s2 v o ja ∙ ap (λ z. and_then z let_body) q
+
+  -- A `let par`.
   module _ (st : Standing) (p : Span) (xs : List Ident) (a : GenericExpression) (ys : List Ident) (b c : GenericExpression) where
-    abbrev sides_of : Judging → Checked (Results Form × Counts)
-    sides_of s = types_of st (in_scope s) s.counts (GenericParSeveral p xs a ys b c)
+    abbrev par_of : Judging → Checked (Results Form × Counts)
+    par_of s = types_of st (in_scope s) s.counts (GenericPar p xs a ys b c)
 
-    abbrev sides_rest : FormScope → Counts → List Form → List Form → Checked (Results Form × Counts)
-    sides_rest scope n ts us = and_then (bind_parts 0 scope n xs ts) (λ middle. and_then (bind_parts 0 middle.0 middle.1 ys us) (λ inner. types_of st inner.0 inner.1 c))
+    abbrev par_body : FormScope × Counts → Checked (Results Form × Counts)
+    par_body inner = types_of st inner.0 inner.1 c
 
-    abbrev left_types : Judging → ResultIds → Checked (List Form)
-    left_types s l = types_bound xs (part_in s (record { ty = l; place = place a }))
+    abbrev par_behind : FormScope → FormPart → Results Form × Counts → Checked (Results Form × Counts)
+    par_behind scope left t = and_then (bind_sides scope t.1 xs left ys (record { ty = t.0; place = place b })) par_body
 
-    abbrev right_types : Judging → ResultIds → Checked (List Form)
-    right_types s r = types_bound ys (part_in s (record { ty = r; place = place b }))
+    abbrev par_second : FormScope → Results Form × Counts → Checked (Results Form × Counts)
+    par_second scope s = and_then (types_of (standing_for ys) scope s.1 b) (par_behind scope (record { ty = s.0; place = place a }))
 
-    abbrev sides_behind : FormScope → Results Form × Counts → Results Form × Counts → Checked (Results Form × Counts)
-    sides_behind scope s t = and_then (types_bound xs (record { ty = s.0; place = place a })) (λ ts. and_then (types_bound ys (record { ty = t.0; place = place b })) (λ us. sides_rest scope t.1 ts us))
+    abbrev par_variables : Judging → ResultIds → ResultIds → Checked (FormScope × Counts)
+    par_variables s l r = bind_sides (in_scope s) s.counts xs (part_in s (record { ty = l; place = place a })) ys (part_in s (record { ty = r; place = place b }))
 
-    pub sides_fail_left : (e : TypeFault) (s0 s1 : Judging) → Counted s0 s1 p → IsFaultOf e (types_of (standing_for xs) (in_scope s1) s1.counts a) → IsFaultOf e (sides_of s0)
-    sides_fail_left e s0 s1 o h =
-        along e _ _ (ap (λ z. and_then z (λ o. and_then (types_of (standing_for xs) (in_scope s0) o a) (λ s. and_then (types_of (standing_for ys) (in_scope s0) s.1 b) (sides_behind (in_scope s0) s)))) o.read
-        ∙ ap (λ z. and_then (types_of (standing_for xs) z s1.counts a) (λ s. and_then (types_of (standing_for ys) (in_scope s0) s.1 b) (sides_behind (in_scope s0) s))) (sym o.kept)) (passed_on e _ _ h)
+    par_counted : (s0 s1 : Judging) → Counted s0 s1 p → par_of s0 ≡ and_then (types_of (standing_for xs) (in_scope s1) s1.counts a) (par_second (in_scope s1))
+    par_counted s0 s1 o =
+        ap (λ z. and_then z (λ n. and_then (types_of (standing_for xs) (in_scope s0) n a) (par_second (in_scope s0)))) o.read
+        ∙ ap (λ scope. and_then (types_of (standing_for xs) scope s1.counts a) (par_second scope)) (sym o.kept)
 
-    pub sides_fail_right : (e : TypeFault) (s0 s1 s2 : Judging) (l : ResultIds) → Counted s0 s1 p → Judged (standing_for xs) s1 s2 a l → IsFaultOf e (types_of (standing_for ys) (in_scope s2) s2.counts b) → IsFaultOf e (sides_of s0)
-    sides_fail_right e s0 s1 s2 l o ja h =
-        along e _ _ (ap (λ z. and_then z (λ o. and_then (types_of (standing_for xs) (in_scope s0) o a) (λ s. and_then (types_of (standing_for ys) (in_scope s0) s.1 b) (sides_behind (in_scope s0) s)))) o.read
-        ∙ ap (λ z. and_then z (λ s. and_then (types_of (standing_for ys) (in_scope s0) s.1 b) (sides_behind (in_scope s0) s))) (ap (λ s. types_of (standing_for xs) s s1.counts a) (sym o.kept) ∙ ja.read)
-        ∙ ap (λ z. and_then (types_of (standing_for ys) z s2.counts b) (sides_behind (in_scope s0) (forms_given s2 l, s2.counts))) (sym (ja.kept ∙ o.kept))) (passed_on e _ _ h)
+    pub par_fails_left : (e : TypeFault) (s0 s1 : Judging) → Counted s0 s1 p → IsFaultOf e (types_of (standing_for xs) (in_scope s1) s1.counts a) → IsFaultOf e (par_of s0)
+    par_fails_left e s0 s1 o h = along e _ _ (par_counted s0 s1 o) (passed_on e _ _ h)
 
-    sides_judged : (s0 s1 s2 s3 : Judging) (l r : ResultIds) → Counted s0 s1 p → Judged (standing_for xs) s1 s2 a l → Judged (standing_for ys) s2 s3 b r → sides_of s0 ≡ and_then (left_types s3 l) (λ ts. and_then (right_types s3 r) (λ us. sides_rest (in_scope s3) s3.counts ts us))
-    sides_judged s0 s1 s2 s3 l r o ja jb =
-        ap (λ z. and_then z (λ o. and_then (types_of (standing_for xs) (in_scope s0) o a) (λ s. and_then (types_of (standing_for ys) (in_scope s0) s.1 b) (λ t. and_then (types_bound xs (record { ty = s.0; place = place a })) (λ ts. and_then (types_bound ys (record { ty = t.0; place = place b })) (λ us. sides_rest (in_scope s0) t.1 ts us)))))) o.read
-        ∙ ap (λ z. and_then z (λ s. and_then (types_of (standing_for ys) (in_scope s0) s.1 b) (λ t. and_then (types_bound xs (record { ty = s.0; place = place a })) (λ ts. and_then (types_bound ys (record { ty = t.0; place = place b })) (λ us. sides_rest (in_scope s0) t.1 ts us))))) (ap (λ s. types_of (standing_for xs) s s1.counts a) (sym o.kept) ∙ ja.read)
-        ∙ ap (λ z. and_then z (λ t. and_then (left_types s2 l) (λ ts. and_then (types_bound ys (record { ty = t.0; place = place b })) (λ us. sides_rest (in_scope s0) t.1 ts us)))) (ap (λ s. types_of (standing_for ys) s s2.counts b) (sym (ja.kept ∙ o.kept)) ∙ jb.read)
-        ∙ ap₂ (λ (s : FormScope) (f : FormPart). and_then (types_bound xs f) (λ ts. and_then (right_types s3 r) (λ us. sides_rest s s3.counts ts us)))
-        (sym (jb.kept ∙ ja.kept ∙ o.kept)) (sym (stays s2 s3 l (place a) jb.met.advances ja.met.here))
+    par_left : (s0 s1 s2 : Judging) (l : ResultIds) → Counted s0 s1 p → Judged (standing_for xs) s1 s2 a l → par_of s0 ≡ par_second (in_scope s2) (forms_given s2 l, s2.counts)
+    par_left s0 s1 s2 l o ja =
+        par_counted s0 s1 o ∙ ap (λ z. and_then z (par_second (in_scope s1))) ja.read ∙ ap (λ scope. par_second scope (forms_given s2 l, s2.counts)) (sym ja.kept)
 
-    pub sides_left : (e : TypeFault) (s0 s1 s2 s3 : Judging) (l r : ResultIds) → Counted s0 s1 p → Judged (standing_for xs) s1 s2 a l → Judged (standing_for ys) s2 s3 b r → IsFaultOf e (left_types s3 l) → IsFaultOf e (sides_of s0)
-    sides_left e s0 s1 s2 s3 l r o ja jb h = along e _ _ (sides_judged s0 s1 s2 s3 l r o ja jb) (passed_on e _ _ h)
+    pub par_fails_right : (e : TypeFault) (s0 s1 s2 : Judging) (l : ResultIds) → Counted s0 s1 p → Judged (standing_for xs) s1 s2 a l → IsFaultOf e (types_of (standing_for ys) (in_scope s2) s2.counts b) → IsFaultOf e (par_of s0)
+    par_fails_right e s0 s1 s2 l o ja h = along e _ _ (par_left s0 s1 s2 l o ja) (passed_on e _ _ h)
 
-    pub sides_right : (e : TypeFault) (s0 s1 s2 s3 : Judging) (l r : ResultIds) (ts : List TypeId) → Counted s0 s1 p → Judged (standing_for xs) s1 s2 a l → Judged (standing_for ys) s2 s3 b r → left_types s3 l ≡ Ok (listed (forms s3) ts) → IsFaultOf e (right_types s3 r) → IsFaultOf e (sides_of s0)
-    sides_right e s0 s1 s2 s3 l r ts o ja jb q h =
-        along e _ _ (sides_judged s0 s1 s2 s3 l r o ja jb ∙ ap (λ z. and_then z (λ ts. and_then (right_types s3 r) (λ us. sides_rest (in_scope s3) s3.counts ts us))) q) (passed_on e _ _ h)
+    par_judged : (s0 s1 s2 s3 : Judging) (l r : ResultIds) → Counted s0 s1 p → Judged (standing_for xs) s1 s2 a l → Judged (standing_for ys) s2 s3 b r → par_of s0 ≡ and_then (par_variables s3 l r) par_body
+    par_judged s0 s1 s2 s3 l r o ja jb =
+        par_left s0 s1 s2 l o ja
+        ∙ ap (λ z. and_then z (par_behind (in_scope s2) (part_in s2 (record { ty = l; place = place a })))) jb.read
+        ∙ ap₂ (λ (scope : FormScope) (left : FormPart). par_behind scope left (forms_given s3 r, s3.counts)) (sym jb.kept) (sym (stays s2 s3 l (place a) jb.met.advances ja.met.here))
 
-    -- The types for the variables of both sides.
-    pub record BothBound (s : Judging) (l r : ResultIds) (ts us : List TypeId) : Type 0 where
-      pub left : left_types s l ≡ Ok (listed (forms s) ts)
-      pub right : right_types s r ≡ Ok (listed (forms s) us)
+    pub par_bind : (e : TypeFault) (s0 s1 s2 s3 : Judging) (l r : ResultIds) → Counted s0 s1 p → Judged (standing_for xs) s1 s2 a l → Judged (standing_for ys) s2 s3 b r → IsFaultOf e (par_variables s3 l r) → IsFaultOf e (par_of s0)
+    par_bind e s0 s1 s2 s3 l r o ja jb h = along e _ _ (par_judged s0 s1 s2 s3 l r o ja jb) (passed_on e _ _ h)
 
-    sides_typed : (s0 s1 s2 s3 : Judging) (l r : ResultIds) (ts us : List TypeId) → Counted s0 s1 p → Judged (standing_for xs) s1 s2 a l → Judged (standing_for ys) s2 s3 b r → BothBound s3 l r ts us → sides_of s0 ≡ sides_rest (in_scope s3) s3.counts (listed (forms s3) ts) (listed (forms s3) us)
-    sides_typed s0 s1 s2 s3 l r ts us o ja jb q =
-        sides_judged s0 s1 s2 s3 l r o ja jb
-        ∙ ap (λ z. and_then z (λ ts. and_then (right_types s3 r) (λ us. sides_rest (in_scope s3) s3.counts ts us))) q.left
-        ∙ ap (λ z. and_then z (λ us. sides_rest (in_scope s3) s3.counts (listed (forms s3) ts) us)) q.right
-
-    pub sides_first : (e : TypeFault) (s0 s1 s2 s3 : Judging) (l r : ResultIds) (ts us : List TypeId) → Counted s0 s1 p → Judged (standing_for xs) s1 s2 a l → Judged (standing_for ys) s2 s3 b r → BothBound s3 l r ts us → IsFaultOf e (bind_parts 0 (in_scope s3) s3.counts xs (listed (forms s3) ts)) → IsFaultOf e (sides_of s0)
-    sides_first e s0 s1 s2 s3 l r ts us o ja jb q h = along e _ _ (sides_typed s0 s1 s2 s3 l r ts us o ja jb q) (passed_on e _ _ h)
-
-    sides_middle : (s0 s1 s2 s3 s4 : Judging) (l r : ResultIds) (ts us : List TypeId) → Counted s0 s1 p → Judged (standing_for xs) s1 s2 a l → Judged (standing_for ys) s2 s3 b r → BothBound s3 l r ts us → PartsIn s3 s4 xs ts → sides_of s0 ≡ and_then (bind_parts 0 (in_scope s4) s4.counts ys (listed (forms s4) us)) (λ inner. types_of st inner.0 inner.1 c)
-    sides_middle s0 s1 s2 s3 s4 l r ts us o ja jb q bx =
-        sides_typed s0 s1 s2 s3 l r ts us o ja jb q
-        ∙ ap (λ z. and_then z (λ middle. and_then (bind_parts 0 middle.0 middle.1 ys (listed (forms s3) us)) (λ inner. types_of st inner.0 inner.1 c))) bx.read
-        ∙ ap (λ ns. and_then (bind_parts 0 (in_scope s4) s4.counts ys (listed (forms_of ns) us)) (λ inner. types_of st inner.0 inner.1 c)) (sym bx.types)
-
-    pub sides_second : (e : TypeFault) (s0 s1 s2 s3 s4 : Judging) (l r : ResultIds) (ts us : List TypeId) → Counted s0 s1 p → Judged (standing_for xs) s1 s2 a l → Judged (standing_for ys) s2 s3 b r → BothBound s3 l r ts us → PartsIn s3 s4 xs ts → IsFaultOf e (bind_parts 0 (in_scope s4) s4.counts ys (listed (forms s4) us)) → IsFaultOf e (sides_of s0)
-    sides_second e s0 s1 s2 s3 s4 l r ts us o ja jb q bx h = along e _ _ (sides_middle s0 s1 s2 s3 s4 l r ts us o ja jb q bx) (passed_on e _ _ h)
-
-    pub sides_is : (s0 s1 s2 s3 s4 s5 : Judging) (l r : ResultIds) (ts us : List TypeId) → Counted s0 s1 p → Judged (standing_for xs) s1 s2 a l → Judged (standing_for ys) s2 s3 b r → BothBound s3 l r ts us → PartsIn s3 s4 xs ts → PartsIn s4 s5 ys us → sides_of s0 ≡ types_of st (in_scope s5) s5.counts c
-    sides_is s0 s1 s2 s3 s4 s5 l r ts us o ja jb q bx by' =
-        sides_middle s0 s1 s2 s3 s4 l r ts us o ja jb q bx ∙ ap (λ z. and_then z (λ inner. types_of st inner.0 inner.1 c)) by'.read
+    pub par_is : (s0 s1 s2 s3 s4 : Judging) (l r : ResultIds) → Counted s0 s1 p → Judged (standing_for xs) s1 s2 a l → Judged (standing_for ys) s2 s3 b r → par_variables s3 l r ≡ Ok (in_scope s4, s4.counts) → par_of s0 ≡ types_of st (in_scope s4) s4.counts c
+    par_is s0 s1 s2 s3 s4 l r o ja jb q = par_judged s0 s1 s2 s3 l r o ja jb ∙ ap (λ z. and_then z par_body) q
 
   -- A tuple.
   module _ (st : Standing) (p : Span) (count : ℕ) (results : Counts → Checked (List FormPart × Counts)) where
@@ -324,15 +209,6 @@ module _ (parts : GenericParts) (variables : List Ident) where
 
     pub tuple_ok : (s0 s1 : Judging) (ps : List FormPart) (n : Counts) (ts : List Form) → Counted s0 s1 p → may_stand st count p ≡ Ok (tt {0}) → results s1.counts ≡ Ok (ps, n) → all_single ps ≡ Ok ts → tuple_of s0.counts ≡ Ok (Several ts, n)
     tuple_ok s0 s1 ps n ts o q r h = tuple_judged s0 s1 ps n o q r ∙ ap (λ z. and_then z (λ ts. Ok (Several ts, n))) h
-
-  -- What is left of a scope behind so many more variables.
-  pub one_dropped : (old inner now : FormScope) (b : ℕ × Form) (len : ℕ) → inner ≡ b ∷ old → len ≡ length old → now ≡ drop (length inner - len) inner → now ≡ old
-  one_dropped old inner now b len e l d =
-      d ∙ ap (λ s. drop (length s - len) s) e ∙ (let n : length (b ∷ old) - len ≡ 1 = omega (arith, l) in ap (λ k. drop k (b ∷ old)) n)
-
-  pub two_dropped : (old inner now : FormScope) (b c : ℕ × Form) (len : ℕ) → inner ≡ c ∷ b ∷ old → len ≡ length old → now ≡ drop (length inner - len) inner → now ≡ old
-  two_dropped old inner now b c len e l d =
-      d ∙ ap (λ s. drop (length s - len) s) e ∙ (let n : length (c ∷ b ∷ old) - len ≡ 2 = omega (arith, l) in ap (λ k. drop k (c ∷ b ∷ old)) n)
 
   -- Arguments were judged.
   pub record AllJudged (before after : Judging) (scope : FormScope) (results : Counts → Checked (List FormPart × Counts)) (ps : List Part) : Type 0 where
