@@ -59,8 +59,12 @@ pub struct Around<'a> {
     pub variables: &'a [Ident],
 }
 
-/// The names of the declared types.
-fn list_types(alloc: Global, program: &GenericProgram) -> Result<NameList, Memory>
+/// The names of the declared types, in their order.
+///
+/// # Errors
+///
+/// Want of memory.
+pub fn type_names(alloc: Global, program: &GenericProgram) -> Result<NameList, Memory>
     ensures { IfOk result (λ names. names ≡ map data_number (generic_program_of program.now).datas) }
 {
     let mut names = NameList::new(alloc);
@@ -72,8 +76,12 @@ fn list_types(alloc: Global, program: &GenericProgram) -> Result<NameList, Memor
     Ok(names)
 }
 
-/// The names of the functions.
-fn list_functions(alloc: Global, program: &GenericProgram) -> Result<NameList, Memory>
+/// The names of the functions, in their order.
+///
+/// # Errors
+///
+/// Want of memory.
+pub fn function_names(alloc: Global, program: &GenericProgram) -> Result<NameList, Memory>
     ensures { IfOk result (λ names. names ≡ map function_number (generic_program_of program.now).functions) }
 {
     let mut names = NameList::new(alloc);
@@ -160,8 +168,8 @@ impl Named {
     pub fn make(alloc: Global, program: GenericProgram) -> Result<Named, Memory>
         ensures { IfOk result (λ named. named ≡ program) }
     {
-        let types = list_types(alloc, &program)?;
-        let functions = list_functions(alloc, &program)?;
+        let types = type_names(alloc, &program)?;
+        let functions = function_names(alloc, &program)?;
         let rows = list_rows(alloc, &program)?;
         let constructors = list_constructors(alloc, &rows)?;
         Ok(Named {

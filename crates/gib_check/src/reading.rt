@@ -68,7 +68,11 @@ pub fn put_type(types: &mut Types, node: TypeNode) -> Result<TypeId, Memory>
 }
 
 /// The type that one of these type variables stands for; `Int` for any other name.
-fn given_type(
+///
+/// # Errors
+///
+/// Want of memory.
+pub fn given_type(
     types: &mut Types,
     variables: &[Ident],
     meant: &[TypeId],
