@@ -6,6 +6,7 @@ pub mod Rooms
 pub mod Parts
 pub mod Apart
 pub mod Noting
+pub mod Carrying
 -- The loop that places them.
 pub mod Resting
 pub mod Steps

@@ -5,6 +5,7 @@ pub mod Preorder
 pub mod Spot
 pub mod Gaps
 pub mod Rest
+pub mod Runs
 -- What loading makes of a memory, what then holds, and where it is refused.
 pub mod Placement
 pub mod Holding

@@ -4,5 +4,7 @@
 pub(crate) mod due;
 pub mod law;
 mod loading;
+mod run;
+mod running;
 
 pub use loading::{LoadFault, load};
