@@ -25,7 +25,7 @@ pub(crate) struct Packing<'a> {
 }
 
 impl<'a> Packing<'a> {
-    /// What parts share that have this.
+    /// These fields as one: a closure takes them apart and puts them together again.
     pub(crate) fn of(
         alloc: Global,
         arena: &'a Arena,

@@ -9,7 +9,7 @@ ghost use Rattle.gib_value.specs.Text.{con_text, truth_text, AreHeld};
 use gib_base::Texts;
 use gib_types::{ConId, TyId, TypeTable};
 
-/// A number behind which a digit may follow: ten times as much and nine is below 2 ^ 64.
+/// The greatest number behind which one more digit is read: ten times it and nine is still below 2 ^ 64.
 const MOST_FRONT: u64 = 1_844_674_407_370_955_160;
 
 /// The greatest number that is no negative one's.
