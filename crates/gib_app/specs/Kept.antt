@@ -1,10 +1,13 @@
 -- What the code keeps of an input, and of what a job made.
 use Rattle.std.specs.Prelude.{◌≡◌, ℕ, List, Option, None, option_map, option_to_list}
 use Rattle.gib_value.specs.Text.{AreHeld}
+use Rattle.gib_base.specs.Texts.{TextsView}
+use Rattle.gib_syntax.specs.Parts.{program_of}
 use Rattle.gib_syntax.specs.Tree.{ProgramTree}
 use Rattle.gib_app.specs.declared.made.End.{End as KeptEnd}
 use Rattle.gib_app.specs.declared.made.End.TheVariants as ends
 use Rattle.gib_app.specs.declared.jobs.Given.{Given}
+use Rattle.gib_app.specs.declared.request.Request.{Request}
 use Rattle.gib_app.specs.declared.made.Made.{Made}
 use Rattle.gib_app.specs.declared.made.Valued.{Valued}
 use Rattle.gib_app.specs.declared.inputs.Input.{Input as KeptInput}
@@ -24,6 +27,18 @@ input_of input = record { document = document_of input.document; most = input.mo
 -- The bytes of the inputs.
 abbrev pub contents_of : Given → Contents
 contents_of given = record { second = given.second.now; further = option_to_list (option_map (λ bytes. bytes.now) given.journal) }
+
+-- The program of a request.
+abbrev pub tree_in : Request → ProgramTree
+tree_in request = program_of request.compiled.now.typed
+
+-- The texts of its names.
+abbrev pub names_in : Request → TextsView
+names_in request = request.compiled.now.names
+
+-- The bytes of its inputs.
+abbrev pub inputs_in : Request → Contents
+inputs_in request = record { second = request.input.now; further = option_to_list (option_map (λ bytes. bytes.now) request.journal) }
 
 -- The file that a job made.
 abbrev pub file_of : Made → Option (List ℕ)

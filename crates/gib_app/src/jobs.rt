@@ -4,7 +4,7 @@ ghost use Rattle.std.specs.Prelude.{◌≡◌, ◌≤◌, false, length, None, O
 ghost use Rattle.gib_syntax.specs.Parts.{program_of};
 ghost use Rattle.gib_app.specs.Formats.{most_of};
 ghost use Rattle.gib_app.specs.Jobs.{Does, DoesAll, Replays, packs_of};
-ghost use Rattle.gib_app.specs.Kept.{EndsBy, EndsByBoth, contents_of, file_of, packed_of};
+ghost use Rattle.gib_app.specs.Kept.{EndsBy, EndsByBoth, contents_of, file_of, inputs_in, names_in, packed_of, tree_in};
 ghost use Rattle.gib_words.specs.Ranges.{AreInRange};
 ghost use Rattle.gib_app.specs.Remains.{ComesOfRun, SumsMemory};
 ghost use Rattle.gib_app.specs.Rows.{row};
@@ -25,6 +25,7 @@ mod trace;
 
 use crate::compile::Compiled;
 use crate::made::Made;
+use crate::request::Request;
 use crate::runtime::Runtime;
 use crate::stop::Stop;
 use gib_base::limits::FILE_BYTES;
@@ -42,23 +43,24 @@ pub struct Given<'a> {
 }
 
 /// What a journal and an input are replayed to.
-fn do_replay(
-    alloc: Global,
-    compiled: &Compiled,
-    image: bool,
-    given: Given<'_>,
-) -> Result<Made, Stop<'static>>
-    requires ready { IsReady (program_of compiled.now.typed) compiled.now.names }
-    requires most { length given.second.now ≤ FILE_BYTES }
-    requires short { IfSome given.journal (λ j. length j.now ≤ FILE_BYTES) }
+fn do_replay(alloc: Global, request: Request<'_>) -> Result<Made, Stop<'static>>
+    requires ready { IsReady (tree_in request) (names_in request) }
+    requires most { length request.input.now ≤ FILE_BYTES }
+    requires short { IfSome request.journal (λ j. length j.now ≤ FILE_BYTES) }
     ensures made { IfOk result (λ made. EndsBy (file_of made) made.end
-        (Replays (program_of compiled.now.typed) compiled.now.names image (contents_of given.entry))) }
-    ensures stop { IfErr result (IsReplayStop (program_of compiled.now.typed) compiled.now.names (contents_of given.entry)) }
+        (Replays (tree_in request.entry) (names_in request.entry) request.entry.options.image (inputs_in request.entry))) }
+    ensures stop { IfErr result (IsReplayStop (tree_in request.entry) (names_in request.entry) (inputs_in request.entry)) }
     ensures alone { IfOk result (λ made. made.packed ≡ None) }
 {
-    match given.journal {
-        Some(journal) => replay::replay(alloc, compiled, image, given.second, journal),
-        None => replay::replay(alloc, compiled, image, given.second, &[]),
+    let Request {
+        compiled,
+        options,
+        input,
+        journal,
+    } = request;
+    match journal {
+        Some(journal) => replay::replay(alloc, compiled, options.image, input, journal),
+        None => replay::replay(alloc, compiled, options.image, input, &[]),
     }
 }
 
@@ -66,36 +68,34 @@ fn do_replay(
 fn do_beside<R: Threads + Wait + Sync, G: Gate + Sync>(
     alloc: Global,
     runtime: Runtime<'_, R, G>,
-    compiled: &Compiled,
     job: Job,
-    options: Options,
-    given: Given<'_>,
+    request: Request<'_>,
 ) -> Result<Made, Stop<'static>>
     requires other { job ≡ Job.Run → ⊥ }
     requires here { job ≡ Job.Local → ⊥ }
-    requires ready { IsReady (program_of compiled.now.typed) compiled.now.names }
-    requires most { length given.second.now ≤ most_of job }
-    requires short { IfSome given.journal (λ j. length j.now ≤ 16777216) }
-    requires range { AreInRange job options }
+    requires ready { IsReady (tree_in request) (names_in request) }
+    requires most { length request.input.now ≤ most_of job }
+    requires short { IfSome request.journal (λ j. length j.now ≤ 16777216) }
+    requires range { AreInRange job request.options }
     ensures made { IfOk result (λ made. EndsBy (file_of made) made.end
-        (Does job options (sourced (program_of compiled.now.typed)) compiled.now.names (contents_of given.entry))) }
-    ensures stop { IfErr result (FailsTo job options (sourced (program_of compiled.now.typed)) compiled.now.names (contents_of given.entry)) }
+        (Does job request.entry.options (sourced (tree_in request.entry)) (names_in request.entry) (inputs_in request.entry))) }
+    ensures stop { IfErr result (FailsTo job request.entry.options (sourced (tree_in request.entry)) (names_in request.entry) (inputs_in request.entry)) }
     ensures region { job ≡ Job.Gen → IfOk result (λ made. SumsMemory
-        (program_of compiled.now.typed) compiled.now.names options given.entry.second.now made.end) }
-    ensures beside { packs_of (row job) options ≡ false }
+        (tree_in request.entry) (names_in request.entry) request.entry.options request.entry.input.now made.end) }
+    ensures beside { packs_of (row job) request.entry.options ≡ false }
     ensures alone { IfOk result (λ made. made.packed ≡ None) }
 {
     match job {
         Job::Run => unreachable!(),
-        Job::Plain => plain::plain(alloc, compiled, options, given.second),
+        Job::Plain => plain::plain(alloc, request),
         Job::Check => check::check(alloc),
-        Job::Core => core_text::core_text(alloc, compiled, options),
-        Job::Code => code_text::code_text(alloc, compiled, options),
-        Job::Pack => pack::pack(alloc, compiled, options, given.second),
-        Job::Show => show::show(alloc, compiled, options, given.second),
-        Job::Gen => made_run::made_run(alloc, runtime, compiled, options, given.second),
-        Job::Trace => trace::trace(alloc, runtime, compiled, options, given.second),
-        Job::Replay => do_replay(alloc, compiled, options.image, given),
+        Job::Core => core_text::core_text(alloc, request),
+        Job::Code => code_text::code_text(alloc, request),
+        Job::Pack => pack::pack(alloc, request),
+        Job::Show => show::show(alloc, request),
+        Job::Gen => made_run::made_run(alloc, runtime, request),
+        Job::Trace => trace::trace(alloc, runtime, request),
+        Job::Replay => do_replay(alloc, request),
         Job::Local => unreachable!(),
     }
 }
@@ -127,6 +127,14 @@ pub fn do_job<R: Threads + Wait + Sync, G: Gate + Sync>(
 {
     match job {
         Job::Run => run::run(alloc, runtime, compiled, options, given.second),
-        _ => do_beside(alloc, runtime, &compiled, job, options, given),
+        _ => {
+            let request = Request {
+                compiled: &compiled,
+                options,
+                input: given.second,
+                journal: given.journal,
+            };
+            do_beside(alloc, runtime, job, request)
+        }
     }
 }

@@ -28,6 +28,7 @@ mod perform;
 mod printing;
 mod replay_law;
 mod replaying;
+mod request;
 mod runtime;
 mod source_fault;
 mod source_law;

@@ -6,12 +6,12 @@ ghost use Rattle.gib_core.specs.Parts.{core_of};
 ghost use Rattle.gib_core.specs.CoreText.{core_text as text_of_core};
 ghost use Rattle.gib_app.specs.Cores.{core_after};
 ghost use Rattle.gib_app.specs.Jobs.{OnlyPrints};
-ghost use Rattle.gib_app.specs.Kept.{EndsBy, file_of};
+ghost use Rattle.gib_app.specs.Kept.{EndsBy, file_of, names_in, tree_in};
 
-use crate::compile::Compiled;
 use crate::lowering::{checked_core, marked_core, placed_core};
 use crate::made::Made;
 use crate::printing::only_prints;
+use crate::request::Request;
 use crate::stop::Stop;
 use gib_base::Memory;
 use gib_check::Typed;
@@ -42,11 +42,12 @@ fn core_after(alloc: Global, typed: &Typed, options: Options) -> Result<Core, Me
 }
 
 /// The text of the core of a program after a pass.
-fn print_after(alloc: Global, compiled: &Compiled, options: Options) -> Result<Vec<u8>, Memory>
-    ensures { IfOk result (λ text. text.items ≡ text_of_core compiled.now.names.long (core_after options.access options.pass (program_of compiled.now.typed))) }
+fn print_after(alloc: Global, request: Request<'_>) -> Result<Vec<u8>, Memory>
+    ensures { IfOk result (λ text. text.items ≡ text_of_core (names_in request.entry).long
+        (core_after request.entry.options.access request.entry.options.pass (tree_in request.entry))) }
 {
-    let core = core_after(alloc, &compiled.typed, options)?;
-    print_core(alloc, &core, &compiled.names)
+    let core = core_after(alloc, &request.compiled.typed, request.options)?;
+    print_core(alloc, &core, &request.compiled.names)
 }
 
 /// What is printed of the core of a program after a pass.
@@ -54,17 +55,14 @@ fn print_after(alloc: Global, compiled: &Compiled, options: Options) -> Result<V
 /// # Errors
 ///
 /// Want of memory alone.
-pub fn core_text(
-    alloc: Global,
-    compiled: &Compiled,
-    options: Options,
-) -> Result<Made, Stop<'static>>
+pub fn core_text(alloc: Global, request: Request<'_>) -> Result<Made, Stop<'static>>
     ensures made { IfOk result (λ made. EndsBy (file_of made) made.end
-        (OnlyPrints (λ text. text ≡ text_of_core compiled.now.names.long (core_after options.access options.pass (program_of compiled.now.typed))))) }
+        (OnlyPrints (λ text. text ≡ text_of_core (names_in request.entry).long
+        (core_after request.entry.options.access request.entry.options.pass (tree_in request.entry))))) }
     ensures memory { IfErr result (λ e. e ≡ Stop.Memory) }
     ensures alone { IfOk result (λ made. made.packed ≡ None) }
 {
-    match print_after(alloc, compiled, options) {
+    match print_after(alloc, request) {
         Ok(text) => Ok(only_prints(text)),
         Err(_) => Err(Stop::Memory),
     }

@@ -4,17 +4,16 @@ ghost use Rattle.gib_base.specs.Texts.{TextsView};
 ghost use Rattle.std.specs.Prelude.{◌≡◌, ◌≤◌, ℕ, List, length, IfOk, IfErr, None};
 ghost use Rattle.gib_gen.specs.Summary.{summary_line};
 ghost use Rattle.gib_syntax.specs.Tree.{ProgramTree};
-ghost use Rattle.gib_syntax.specs.Parts.{program_of};
 ghost use Rattle.gib_app.specs.Jobs.{Sums};
-ghost use Rattle.gib_app.specs.Kept.{EndsBy, file_of};
+ghost use Rattle.gib_app.specs.Kept.{EndsBy, file_of, names_in, tree_in};
 ghost use Rattle.gib_app.specs.MachineRun.{SomeStandsIn, IsMeantBy};
 ghost use Rattle.gib_app.specs.Remains.{IsLeft, SumsMemory};
 ghost use Rattle.gib_app.specs.Stops.{IsRunStop};
 
-use crate::compile::Compiled;
 use crate::machine_run::{Ran, RunEnd, run_packed};
 use crate::made::{End, Made};
 use crate::printing::no_value;
+use crate::request::Request;
 use crate::runtime::Runtime;
 use crate::stop::Stop;
 use gib_arena::SoleMem;
@@ -78,30 +77,29 @@ fn line_made(alloc: Global, mut ran: Ran<SoleMem>, options: Options) -> Result<M
 pub fn made_run<R: Threads + Wait + Sync, G: Gate + Sync>(
     alloc: Global,
     runtime: Runtime<'_, R, G>,
-    compiled: &Compiled,
-    options: Options,
-    input: &[u8],
+    request: Request<'_>,
 ) -> Result<Made, Stop<'static>>
-    requires short { length input.now ≤ FILE_BYTES }
-    ensures made { IfOk result (λ made. EndsBy (file_of made) made.end (Sums (program_of compiled.now.typed) compiled.now.names options input.now)) }
+    requires short { length request.input.now ≤ FILE_BYTES }
+    ensures made { IfOk result (λ made. EndsBy (file_of made) made.end (Sums
+        (tree_in request.entry) (names_in request.entry) request.entry.options request.entry.input.now)) }
     // It is about the value in the region memory that the run left.
-    ensures region { IfOk result (λ made. SumsMemory (program_of compiled.now.typed) compiled.now.names options input.now made.end) }
-    ensures stop { IfErr result (IsRunStop (program_of compiled.now.typed) compiled.now.names input.now) }
+    ensures region { IfOk result (λ made. SumsMemory (tree_in request.entry) (names_in request.entry) request.entry.options request.entry.input.now made.end) }
+    ensures stop { IfErr result (IsRunStop (tree_in request.entry) (names_in request.entry) request.entry.input.now) }
     ensures alone { IfOk result (λ made. made.packed ≡ None) }
 {
     let end = match run_packed(
         alloc,
         runtime,
-        &compiled.typed,
-        &compiled.names,
-        input,
-        options,
+        &request.compiled.typed,
+        &request.compiled.names,
+        request.input,
+        request.options,
     ) {
         Ok(end) => end,
         Err(stop) => return Err(stop),
     };
     match end {
-        RunEnd::Value(ran) => line_made(alloc, ran, options),
+        RunEnd::Value(ran) => line_made(alloc, ran, request.options),
         RunEnd::NoValue(reason) => Ok(no_value(reason)),
     }
 }

@@ -6,7 +6,7 @@ ghost use Rattle.gib_value.specs.Reading.{IsTextOf};
 ghost use Rattle.gib_syntax.specs.Parts.{program_of};
 ghost use Rattle.gib_syntax.specs.Declarations.{table_of_program, input_type};
 ghost use Rattle.gib_app.specs.Jobs.{Packs};
-ghost use Rattle.gib_app.specs.Kept.{EndsBy, file_of};
+ghost use Rattle.gib_app.specs.Kept.{EndsBy, file_of, names_in, tree_in};
 ghost use Rattle.gib_app.specs.Packing.{IsFileOf, IsPackable, IsPackedBy, without_feed as feed_cut};
 ghost use Rattle.gib_app.specs.Stops.{IsReady, IsPackStop};
 
@@ -15,6 +15,7 @@ use crate::input_fault::InputFault;
 use crate::made::{End, Made};
 use crate::packed::read_packed;
 use crate::printing::ok_answer;
+use crate::request::Request;
 use crate::stop::Stop;
 use gib_base::Memory;
 use gib_base::limits::FILE_BYTES;
@@ -22,7 +23,6 @@ use gib_file::{one_file, pack as packed_file};
 use gib_transcode::{transcode, transcode_first};
 use gib_value::law::texts_differ;
 use gib_value::{TextFault, Value, read_text};
-use gib_words::plan::Options;
 use std::alloc::Global;
 
 /// The bytes without the line feed at their end, where one stands there.
@@ -40,26 +40,24 @@ fn without_feed(bytes: &[u8]) -> &[u8]
 /// # Errors
 ///
 /// `Input` where the bytes are none of such a value.
-fn value_of(
-    alloc: Global,
-    compiled: &Compiled,
-    options: Options,
-    bytes: &[u8],
-) -> Result<Value, Stop<'static>>
-    requires ready { IsReady (program_of compiled.now.typed) compiled.now.names }
-    requires short { length bytes.now ≤ FILE_BYTES }
-    ensures packable { IfOk result (λ v. IsPackable options.repacks (program_of compiled.now.typed) compiled.now.names v bytes.now) }
-    ensures stop { IfErr result (IsPackStop options.repacks options.first_version (program_of compiled.now.typed) compiled.now.names bytes.now) }
+fn value_of(alloc: Global, request: Request<'_>) -> Result<Value, Stop<'static>>
+    requires ready { IsReady (tree_in request) (names_in request) }
+    requires short { length request.input.now ≤ FILE_BYTES }
+    ensures packable { IfOk result (λ v. IsPackable request.entry.options.repacks (tree_in request.entry) (names_in request.entry) v request.entry.input.now) }
+    ensures stop { IfErr result (IsPackStop request.entry.options.repacks request.entry.options.first_version
+        (tree_in request.entry) (names_in request.entry) request.entry.input.now) }
 {
-    if options.repacks {
-        return match read_packed(alloc, &compiled.typed, &compiled.names, bytes) {
+    let compiled = request.compiled;
+    if request.options.repacks {
+        return match read_packed(alloc, &compiled.typed, &compiled.names, request.input) {
             Ok(value) => Ok(value),
             Err(stop) => Err(stop),
         };
     }
     let types = compiled.typed.types();
     let ty = compiled.typed.input_type();
-    match read_text(alloc, types, &compiled.names, ty, without_feed(bytes)) {
+    let text = without_feed(request.input);
+    match read_text(alloc, types, &compiled.names, ty, text) {
         Ok(value) => Ok(value),
         Err(TextFault::At(place)) => Err(Stop::Input(InputFault::Text(place))),
         Err(TextFault::Memory) => Err(Stop::Memory),
@@ -123,28 +121,27 @@ fn file_of_text(
 /// # Errors
 ///
 /// `Input` where the bytes are none of such a value.
-fn file_found(
-    alloc: Global,
-    compiled: &Compiled,
-    options: Options,
-    bytes: &[u8],
-) -> Result<Vec<u8>, Stop<'static>>
-    requires ready { IsReady (program_of compiled.now.typed) compiled.now.names }
-    requires short { length bytes.now ≤ FILE_BYTES }
-    ensures file { IfOk result (λ file. (v : Datum) × IsPackable options.repacks (program_of compiled.now.typed) compiled.now.names v bytes.now
-        × IsFileOf options.first_version (program_of compiled.now.typed) compiled.now.names v file.items) }
-    ensures stop { IfErr result (IsPackStop options.repacks options.first_version (program_of compiled.now.typed) compiled.now.names bytes.now) }
+fn file_found(alloc: Global, request: Request<'_>) -> Result<Vec<u8>, Stop<'static>>
+    requires ready { IsReady (tree_in request) (names_in request) }
+    requires short { length request.input.now ≤ FILE_BYTES }
+    ensures file { IfOk result (λ file. (v : Datum) × IsPackable request.entry.options.repacks
+        (tree_in request.entry) (names_in request.entry) v request.entry.input.now
+        × IsFileOf request.entry.options.first_version (tree_in request.entry) (names_in request.entry) v file.items) }
+    ensures stop { IfErr result (IsPackStop request.entry.options.repacks request.entry.options.first_version
+        (tree_in request.entry) (names_in request.entry) request.entry.input.now) }
 {
+    let compiled = request.compiled;
+    let options = request.options;
     if !options.repacks {
-        let Ok(found) = file_of_text(alloc, compiled, options.first_version, without_feed(bytes))
-        else {
+        let text = without_feed(request.input);
+        let Ok(found) = file_of_text(alloc, compiled, options.first_version, text) else {
             return Err(Stop::Memory);
         };
         if let Some(file) = found {
             return Ok(file);
         }
     }
-    let value = match value_of(alloc, compiled, options, bytes) {
+    let value = match value_of(alloc, request) {
         Ok(value) => value,
         Err(stop) => return Err(stop),
     };
@@ -159,21 +156,17 @@ fn file_found(
 /// # Errors
 ///
 /// `Input` where the bytes are none of such a value, or the file would be too long.
-fn file_made(
-    alloc: Global,
-    compiled: &Compiled,
-    options: Options,
-    bytes: &[u8],
-) -> Result<Vec<u8>, Stop<'static>>
-    requires ready { IsReady (program_of compiled.now.typed) compiled.now.names }
-    requires short { length bytes.now ≤ FILE_BYTES }
-    ensures file { IfOk result (λ file. IsPackedBy options.repacks options.first_version
-        (program_of compiled.now.typed) compiled.now.names bytes.now file.items) }
-    ensures stop { IfErr result (IsPackStop options.repacks options.first_version (program_of compiled.now.typed) compiled.now.names bytes.now) }
+fn file_made(alloc: Global, request: Request<'_>) -> Result<Vec<u8>, Stop<'static>>
+    requires ready { IsReady (tree_in request) (names_in request) }
+    requires short { length request.input.now ≤ FILE_BYTES }
+    ensures file { IfOk result (λ file. IsPackedBy request.entry.options.repacks request.entry.options.first_version
+        (tree_in request.entry) (names_in request.entry) request.entry.input.now file.items) }
+    ensures stop { IfErr result (IsPackStop request.entry.options.repacks request.entry.options.first_version
+        (tree_in request.entry) (names_in request.entry) request.entry.input.now) }
 {
     one_file();
-    texts_differ(compiled.typed.types(), &compiled.names);
-    let file = match file_found(alloc, compiled, options, bytes) {
+    texts_differ(request.compiled.typed.types(), &request.compiled.names);
+    let file = match file_found(alloc, request) {
         Ok(file) => file,
         Err(stop) => return Err(stop),
     };
@@ -189,19 +182,16 @@ fn file_made(
 /// # Errors
 ///
 /// `Input` where the bytes are none of a value of the type of main's parameter, or the file would be too long.
-pub fn pack(
-    alloc: Global,
-    compiled: &Compiled,
-    options: Options,
-    bytes: &[u8],
-) -> Result<Made, Stop<'static>>
-    requires ready { IsReady (program_of compiled.now.typed) compiled.now.names }
-    requires short { length bytes.now ≤ FILE_BYTES }
-    ensures made { IfOk result (λ made. EndsBy (file_of made) made.end (Packs (program_of compiled.now.typed) compiled.now.names options bytes.now)) }
-    ensures stop { IfErr result (IsPackStop options.repacks options.first_version (program_of compiled.now.typed) compiled.now.names bytes.now) }
+pub fn pack(alloc: Global, request: Request<'_>) -> Result<Made, Stop<'static>>
+    requires ready { IsReady (tree_in request) (names_in request) }
+    requires short { length request.input.now ≤ FILE_BYTES }
+    ensures made { IfOk result (λ made. EndsBy (file_of made) made.end (Packs
+        (tree_in request.entry) (names_in request.entry) request.entry.options request.entry.input.now)) }
+    ensures stop { IfErr result (IsPackStop request.entry.options.repacks request.entry.options.first_version
+        (tree_in request.entry) (names_in request.entry) request.entry.input.now) }
     ensures alone { IfOk result (λ made. made.packed ≡ None) }
 {
-    let file = match file_made(alloc, compiled, options, bytes) {
+    let file = match file_made(alloc, request) {
         Ok(file) => file,
         Err(stop) => return Err(stop),
     };

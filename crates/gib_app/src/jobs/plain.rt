@@ -7,20 +7,20 @@ ghost use Rattle.gib_syntax.specs.Declarations.{table_of_program, input_type};
 ghost use Rattle.gib_syntax.specs.Meaning.{run, Gives, Stops};
 ghost use Rattle.gib_app.specs.Running.{text_line};
 ghost use Rattle.gib_app.specs.Jobs.{Means};
-ghost use Rattle.gib_app.specs.Kept.{EndsBy, file_of};
+ghost use Rattle.gib_app.specs.Kept.{EndsBy, file_of, names_in, tree_in};
 ghost use Rattle.gib_app.specs.Stops.{IsReady, IsRunStop};
 
 use crate::compile::Compiled;
 use crate::made::{Made, Reason};
 use crate::packed::read_packed;
 use crate::printing::{no_value, only_prints, value_line};
+use crate::request::Request;
 use crate::stop::Stop;
 use gib_base::Memory;
 use gib_base::limits::FILE_BYTES;
 use gib_plain::{Outcome, plain as evaluated};
 use gib_syntax::law::results_are_typed;
 use gib_value::Value;
-use gib_words::plan::Options;
 use std::alloc::Global;
 
 /// The text of the value that a program means, with a line feed, or why there is none.
@@ -55,23 +55,20 @@ fn evaluate(
 /// # Errors
 ///
 /// `Input` where the bytes are no packed file of a value of the type of main's parameter.
-pub fn plain(
-    alloc: Global,
-    compiled: &Compiled,
-    options: Options,
-    input: &[u8],
-) -> Result<Made, Stop<'static>>
-    requires ready { IsReady (program_of compiled.now.typed) compiled.now.names }
-    requires short { length input.now ≤ FILE_BYTES }
-    ensures made { IfOk result (λ made. EndsBy (file_of made) made.end (Means (program_of compiled.now.typed) compiled.now.names options input.now)) }
-    ensures stop { IfErr result (IsRunStop (program_of compiled.now.typed) compiled.now.names input.now) }
+pub fn plain(alloc: Global, request: Request<'_>) -> Result<Made, Stop<'static>>
+    requires ready { IsReady (tree_in request) (names_in request) }
+    requires short { length request.input.now ≤ FILE_BYTES }
+    ensures made { IfOk result (λ made. EndsBy (file_of made) made.end (Means
+        (tree_in request.entry) (names_in request.entry) request.entry.options request.entry.input.now)) }
+    ensures stop { IfErr result (IsRunStop (tree_in request.entry) (names_in request.entry) request.entry.input.now) }
     ensures alone { IfOk result (λ made. made.packed ≡ None) }
 {
-    let value = match read_packed(alloc, &compiled.typed, &compiled.names, input) {
+    let compiled = request.compiled;
+    let value = match read_packed(alloc, &compiled.typed, &compiled.names, request.input) {
         Ok(value) => value,
         Err(stop) => return Err(stop),
     };
-    match evaluate(alloc, compiled, value, options.depth) {
+    match evaluate(alloc, compiled, value, request.options.depth) {
         Ok(Ok(text)) => Ok(only_prints(text)),
         Ok(Err(why)) => Ok(no_value(Reason::Meant(why))),
         Err(_) => Err(Stop::Memory),

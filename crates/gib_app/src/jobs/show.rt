@@ -7,7 +7,7 @@ ghost use Rattle.gib_syntax.specs.Parts.{program_of};
 ghost use Rattle.gib_app.specs.Cores.{layouts_asked};
 ghost use Rattle.gib_app.specs.InputFaults.{HasImageSign};
 ghost use Rattle.gib_app.specs.Jobs.{OnlyPrints};
-ghost use Rattle.gib_app.specs.Kept.{EndsBy, file_of};
+ghost use Rattle.gib_app.specs.Kept.{EndsBy, file_of, names_in, tree_in};
 ghost use Rattle.gib_app.specs.Running.{IsInput, IsShown, text_line};
 ghost use Rattle.gib_app.specs.Stops.{IsReady, IsPackedStop, IsShowStop};
 
@@ -17,29 +17,26 @@ use crate::input_fault::{InputFault, PackedFault};
 use crate::made::Made;
 use crate::packed::{of_packed, survey_input};
 use crate::printing::{only_prints, value_line};
+use crate::request::Request;
 use crate::stop::Stop;
 use gib_base::limits::FILE_BYTES;
 use gib_file::{HeadFault, has_magic, refused_header};
 use gib_print::packed_text;
-use gib_words::plan::Options;
 use std::alloc::Global;
 
 /// The text of the value of an image, with a line feed.
-fn image_line(
-    alloc: Global,
-    compiled: &Compiled,
-    options: Options,
-    file: &[u8],
-) -> Result<Vec<u8>, Stop<'static>>
-    requires ready { IsReady (program_of compiled.now.typed) compiled.now.names }
-    requires sign { HasImageSign file.now }
-    requires short { length file.now ≤ 268435480 }
+fn image_line(alloc: Global, request: Request<'_>) -> Result<Vec<u8>, Stop<'static>>
+    requires ready { IsReady (tree_in request) (names_in request) }
+    requires sign { HasImageSign request.input.now }
+    requires short { length request.input.now ≤ 268435480 }
     ensures output { IfOk result (λ output.
-        IsShown (program_of compiled.now.typed) compiled.now.names (layouts_asked options (program_of compiled.now.typed)) file.now output.items) }
+        IsShown (tree_in request.entry) (names_in request.entry) (layouts_asked request.entry.options (tree_in request.entry))
+        request.entry.input.now output.items) }
     ensures stop { IfErr result
-        (IsShowStop (program_of compiled.now.typed) compiled.now.names (layouts_asked options (program_of compiled.now.typed)) file.now) }
+        (IsShowStop (tree_in request.entry) (names_in request.entry) (layouts_asked request.entry.options (tree_in request.entry)) request.entry.input.now) }
 {
-    let value = match read_image_of(alloc, &compiled.typed, options, file) {
+    let compiled = request.compiled;
+    let value = match read_image_of(alloc, &compiled.typed, request.options, request.input) {
         Ok(value) => value,
         Err(stop) => return Err(stop),
     };
@@ -75,30 +72,26 @@ fn packed_line(alloc: Global, compiled: &Compiled, file: &[u8]) -> Result<Vec<u8
 ///
 /// `Input` where the bytes are neither a packed file of a value of the type of main's parameter nor an image of one of the type
 /// of its result.
-fn show_file(
-    alloc: Global,
-    compiled: &Compiled,
-    options: Options,
-    file: &[u8],
-) -> Result<Vec<u8>, Stop<'static>>
-    requires ready { IsReady (program_of compiled.now.typed) compiled.now.names }
-    requires short { length file.now ≤ 268435480 }
+fn show_file(alloc: Global, request: Request<'_>) -> Result<Vec<u8>, Stop<'static>>
+    requires ready { IsReady (tree_in request) (names_in request) }
+    requires short { length request.input.now ≤ 268435480 }
     ensures output { IfOk result (λ output.
-        IsShown (program_of compiled.now.typed) compiled.now.names (layouts_asked options (program_of compiled.now.typed)) file.now output.items) }
+        IsShown (tree_in request.entry) (names_in request.entry) (layouts_asked request.entry.options (tree_in request.entry))
+        request.entry.input.now output.items) }
     ensures stop { IfErr result
-        (IsShowStop (program_of compiled.now.typed) compiled.now.names (layouts_asked options (program_of compiled.now.typed)) file.now) }
+        (IsShowStop (tree_in request.entry) (names_in request.entry) (layouts_asked request.entry.options (tree_in request.entry)) request.entry.input.now) }
 {
-    if has_image_sign(file) {
-        return image_line(alloc, compiled, options, file);
+    if has_image_sign(request.input) {
+        return image_line(alloc, request);
     }
     refused_header();
-    if !has_magic(file) {
+    if !has_magic(request.input) {
         return Err(of_packed(PackedFault::Header(HeadFault::Magic)));
     }
-    if file.len() as u64 > FILE_BYTES {
+    if request.input.len() as u64 > FILE_BYTES {
         return Err(Stop::Input(InputFault::Long(FILE_BYTES)));
     }
-    match packed_line(alloc, compiled, file) {
+    match packed_line(alloc, request.compiled, request.input) {
         Ok(text) => Ok(text),
         Err(stop) => Err(stop),
     }
@@ -110,21 +103,17 @@ fn show_file(
 ///
 /// `Input` where the bytes are neither a packed file of a value of the type of main's parameter nor an image of one of the type
 /// of its result.
-pub fn show(
-    alloc: Global,
-    compiled: &Compiled,
-    options: Options,
-    file: &[u8],
-) -> Result<Made, Stop<'static>>
-    requires ready { IsReady (program_of compiled.now.typed) compiled.now.names }
-    requires short { length file.now ≤ 268435480 }
+pub fn show(alloc: Global, request: Request<'_>) -> Result<Made, Stop<'static>>
+    requires ready { IsReady (tree_in request) (names_in request) }
+    requires short { length request.input.now ≤ 268435480 }
     ensures made { IfOk result (λ made. EndsBy (file_of made) made.end
-        (OnlyPrints (IsShown (program_of compiled.now.typed) compiled.now.names (layouts_asked options (program_of compiled.now.typed)) file.now))) }
+        (OnlyPrints (IsShown (tree_in request.entry) (names_in request.entry) (layouts_asked request.entry.options
+        (tree_in request.entry)) request.entry.input.now))) }
     ensures stop { IfErr result
-        (IsShowStop (program_of compiled.now.typed) compiled.now.names (layouts_asked options (program_of compiled.now.typed)) file.now) }
+        (IsShowStop (tree_in request.entry) (names_in request.entry) (layouts_asked request.entry.options (tree_in request.entry)) request.entry.input.now) }
     ensures alone { IfOk result (λ made. made.packed ≡ None) }
 {
-    match show_file(alloc, compiled, options, file) {
+    match show_file(alloc, request) {
         Ok(text) => Ok(only_prints(text)),
         Err(stop) => Err(stop),
     }

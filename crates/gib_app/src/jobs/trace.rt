@@ -3,20 +3,19 @@
 ghost use Rattle.std.specs.Prelude.{◌≡◌, ◌≤◌, ℕ, List, length, IfOk, IfErr, None};
 ghost use Rattle.gib_value.specs.Text.{AreHeld};
 ghost use Rattle.gib_syntax.specs.Tree.{ProgramTree};
-ghost use Rattle.gib_syntax.specs.Parts.{program_of};
 ghost use Rattle.gib_words.specs.declared.plan.Options.{Options as OptionValues};
 ghost use Rattle.gib_app.specs.Cores.{layouts_asked};
 ghost use Rattle.gib_app.specs.Jobs.{Traces};
-ghost use Rattle.gib_app.specs.Kept.{EndsBy, file_of};
+ghost use Rattle.gib_app.specs.Kept.{EndsBy, file_of, names_in, tree_in};
 ghost use Rattle.gib_words.specs.Ranges.{AreOfRun};
 ghost use Rattle.gib_app.specs.Stops.{IsReady, IsRunStop};
 ghost use Rattle.gib_app.specs.Workers.{IsTraced};
 
-use crate::compile::Compiled;
 use crate::imaging::text_of;
 use crate::machine_run::ran_of;
 use crate::made::{End, Made, Reason};
 use crate::printing::of_stop;
+use crate::request::Request;
 use crate::runtime::Runtime;
 use crate::stop::Stop;
 use crate::tracing::{TracedRun, trace_packed};
@@ -25,7 +24,6 @@ use gib_base::limits::FILE_BYTES;
 use gib_edge::outside::Gate;
 use gib_locked::{Traced, write_journal};
 use gib_mem::{Mem, PlainMem};
-use gib_words::plan::Options;
 use std::alloc::Global;
 use std::sync::Wait;
 use std::thread::Threads;
@@ -82,26 +80,25 @@ fn left_of(alloc: Global, run: TracedRun, names: &Texts) -> Result<Made, Stop<'s
 pub fn trace<R: Threads + Wait + Sync, G: Gate + Sync>(
     alloc: Global,
     runtime: Runtime<'_, R, G>,
-    compiled: &Compiled,
-    options: Options,
-    input: &[u8],
+    request: Request<'_>,
 ) -> Result<Made, Stop<'static>>
-    requires ready { IsReady (program_of compiled.now.typed) compiled.now.names }
-    requires short { length input.now ≤ FILE_BYTES }
-    requires range { AreOfRun options }
-    ensures made { IfOk result (λ made. EndsBy (file_of made) made.end (Traces (program_of compiled.now.typed) compiled.now.names options input.now)) }
-    ensures stop { IfErr result (IsRunStop (program_of compiled.now.typed) compiled.now.names input.now) }
+    requires ready { IsReady (tree_in request) (names_in request) }
+    requires short { length request.input.now ≤ FILE_BYTES }
+    requires range { AreOfRun request.options }
+    ensures made { IfOk result (λ made. EndsBy (file_of made) made.end (Traces
+        (tree_in request.entry) (names_in request.entry) request.entry.options request.entry.input.now)) }
+    ensures stop { IfErr result (IsRunStop (tree_in request.entry) (names_in request.entry) request.entry.input.now) }
     ensures alone { IfOk result (λ made. made.packed ≡ None) }
 {
     match trace_packed(
         alloc,
         runtime,
-        &compiled.typed,
-        &compiled.names,
-        input,
-        options,
+        &request.compiled.typed,
+        &request.compiled.names,
+        request.input,
+        request.options,
     ) {
-        Ok(run) => left_of(alloc, run, &compiled.names),
+        Ok(run) => left_of(alloc, run, &request.compiled.names),
         Err(stop) => of_stop(stop),
     }
 }

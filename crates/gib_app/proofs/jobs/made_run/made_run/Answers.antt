@@ -17,28 +17,28 @@ use Rattle.gib_app.proofs.jobs.made_run.made_run.Goals as goal
 
 pub line_made-requires : goal.line_made-requires
 line_made-requires g c =
-    let p = program_of c.args.compiled.now.typed in
-    let names = c.args.compiled.now.names in
-    let o = c.args.options in
-    let input = c.args.input.now in
+    let p = program_of c.args.request.compiled.now.typed in
+    let names = c.args.request.compiled.now.names in
+    let o = c.args.request.options in
+    let input = c.args.request.input.now in
     let S : RunEnd → Type 0 = IsRunEnd (core_asked o p) p names o.depth (run_forks o) o.chunks input in
     record { stands = (names, record { program = p; depth = o.depth; input = input; meant = subst S c.in-Value.is c.in-Ok.ensures.stands }) }
 
 pub returns-in-Value-clause-made : goal.returns-in-Value-clause-made
 returns-in-Value-clause-made g c =
-    let p = program_of c.args.compiled.now.typed in
-    let names = c.args.compiled.now.names in
-    let o = c.args.options in
-    let input = c.args.input.now in
+    let p = program_of c.args.request.compiled.now.typed in
+    let names = c.args.request.compiled.now.names in
+    let o = c.args.request.options in
+    let input = c.args.request.input.now in
     let S : RunEnd → Type 0 = IsRunEnd (core_asked o p) p names o.depth (run_forks o) o.chunks input in
     c.line_made.ensures.made p names input (subst S c.in-Value.is c.in-Ok.ensures.stands)
 
 pub returns-in-Value-clause-region : goal.returns-in-Value-clause-region
 returns-in-Value-clause-region g c =
-    let p = program_of c.args.compiled.now.typed in
-    let names = c.args.compiled.now.names in
-    let o = c.args.options in
-    let input = c.args.input.now in
+    let p = program_of c.args.request.compiled.now.typed in
+    let names = c.args.request.compiled.now.names in
+    let o = c.args.request.options in
+    let input = c.args.request.input.now in
     let S : RunEnd → Type 0 = IsRunEnd (core_asked o p) p names o.depth (run_forks o) o.chunks input in
     let C : RunEnd → Type 0 = OnRan (λ ran. ran.lowered.code ≡ lower_program (core_asked o p)) in
     let M : RunEnd → Type 0 = OnRan (λ ran. (sole_memory ran.memory).limit ≤ o.chunks) in
@@ -46,21 +46,21 @@ returns-in-Value-clause-region g c =
     (is_left p names o input (record { ran = c.in-Value.ran; names = names }) (subst C c.in-Value.is c.in-Ok.ensures.code) (subst M c.in-Value.is c.in-Ok.ensures.limit) (subst S c.in-Value.is c.in-Ok.ensures.stands))
 
 pub returns-in-Value-clause-stop : goal.returns-in-Value-clause-stop
-returns-in-Value-clause-stop g c = memory_stops c.line_made.result (program_of c.args.compiled.now.typed) c.args.compiled.now.names c.args.input.now c.line_made.ensures.memory
+returns-in-Value-clause-stop g c = memory_stops c.line_made.result (program_of c.args.request.compiled.now.typed) c.args.request.compiled.now.names c.args.request.input.now c.line_made.ensures.memory
 
 -- ---- It leaves none
 
 pub returns-in-NoValue-clause-made : goal.returns-in-NoValue-clause-made
 returns-in-NoValue-clause-made g c =
-    let p = program_of c.args.compiled.now.typed in
-    let names = c.args.compiled.now.names in
-    let o = c.args.options in
-    let input = c.args.input.now in
+    let p = program_of c.args.request.compiled.now.typed in
+    let names = c.args.request.compiled.now.names in
+    let o = c.args.request.options in
+    let input = c.args.request.input.now in
     let S : RunEnd → Type 0 = IsRunEnd (core_asked o p) p names o.depth (run_forks o) o.chunks input in
     let why = c.in-NoValue.reason in
     ends_without c.no_value.result why (Sums p names o input) c.no_value.ensures.file c.no_value.ensures.end (lacks_sums p names o input why (subst S c.in-NoValue.is c.in-Ok.ensures.stands))
 
 pub returns-in-NoValue-clause-region : goal.returns-in-NoValue-clause-region
 returns-in-NoValue-clause-region g c =
-    let Q : End → Type 0 = SumsMemory (program_of c.args.compiled.now.typed) c.args.compiled.now.names c.args.options c.args.input.now in
+    let Q : End → Type 0 = SumsMemory (program_of c.args.request.compiled.now.typed) c.args.request.compiled.now.names c.args.request.options c.args.request.input.now in
     subst Q (sym c.no_value.ensures.end) (tt {0})

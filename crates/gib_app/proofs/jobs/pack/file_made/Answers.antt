@@ -7,15 +7,15 @@ use Rattle.gib_app.proofs.jobs.pack.file_made.Goals as goal
 
 pub returns-then-len-gt-FILE_BYTES-clause-stop : goal.returns-then-len-gt-FILE_BYTES-clause-stop
 returns-then-len-gt-FILE_BYTES-clause-stop c =
-    let p = program_of c.args.compiled.now.typed in
-    let names = c.args.compiled.now.names in
+    let p = program_of c.args.request.compiled.now.typed in
+    let names = c.args.request.compiled.now.names in
     let L : Table → Type 0 = λ t. PackLaws t names.short in
     let laws : PackLaws (table_of_program p) names.short = subst L c.types.ensures (record { firsts = c.one_file.ensures.bytes; seconds = c.one_file.ensures.second; values = c.one_file.ensures.value; texts = c.texts_differ.ensures }) in
     let over = c.if-len-gt-FILE_BYTES.true in
     let len = c.len.ensures in
     let found = c.in-Ok.ensures.file in
     let many : 16777216 < length c.in-Ok.file.items = omega (arith, over, len) in
-    long_stop_packs c.args.options.repacks c.args.options.first_version p names c.args.bytes.now c.requires.short laws found.0 c.in-Ok.file.items found.1 found.2 many
+    long_stop_packs c.args.request.options.repacks c.args.request.options.first_version p names c.args.request.input.now c.requires.short laws found.0 c.in-Ok.file.items found.1 found.2 many
 
 pub returns-clause-file : goal.returns-clause-file
 returns-clause-file c =
