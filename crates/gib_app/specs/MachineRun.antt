@@ -117,6 +117,16 @@ EndsWith l depth forks chunks v s end =
     MatchResult end (IsRootOf l.code.laid s (core_of l.core).main.result (core_run (core_of l.core) depth v))
     (Halts (core_run (core_of l.core) depth v) chunks (run_cost (core_of l.core) depth forks v))
 
+-- What a run of code leaves, on each of these values: a root in region memory for what its core means.
+abbrev pub LeavesRoot : LoweredParts → (depth : ℕ) → (Datum → Type 0) → Rooted → Type 0
+LeavesRoot l depth IsGiven left =
+    (v : Datum) → IsGiven v → IsRootOf l.code.laid (cells_of left.memory) (core_of l.core).main.result (core_run (core_of l.core) depth v) left.root
+
+-- Why it leaves none, where there are so many chunks.
+abbrev pub LeavesNone : LoweredParts → (depth forks chunks : ℕ) → (Datum → Type 0) → RunStop → Type 0
+LeavesNone l depth forks chunks IsGiven why =
+    (v : Datum) → IsGiven v → Halts (core_run (core_of l.core) depth v) chunks (run_cost (core_of l.core) depth forks v) why
+
 -- How the run of a program ends whose code was run so.
 abbrev pub ended : LoweredParts → Result Rooted RunStop → Result RunEnd Stop
 ended l (Ok left) = Ok (ends.Value (record { lowered = l; memory = left.memory; root = left.root }))

@@ -10,9 +10,7 @@ ghost use Rattle.gib_syntax.specs.Declarations.{output_type};
 ghost use Rattle.gib_syntax.specs.Meaning.{run};
 ghost use Rattle.gib_syntax.specs.Parts.{program_of};
 ghost use Rattle.gib_syntax.specs.Tree.{ProgramTree};
-ghost use Rattle.gib_core.specs.Cost.{run_cost};
 ghost use Rattle.gib_core.specs.LoweredParts.{LoweredParts};
-ghost use Rattle.gib_core.specs.Meaning.{core_run};
 ghost use Rattle.gib_core.specs.Numbering.{AreNumbered};
 ghost use Rattle.gib_core.specs.Parts.{core_of};
 ghost use Rattle.gib_lower.specs.Lowering.{lower_program};
@@ -22,7 +20,8 @@ ghost use Rattle.gib_app.specs.Cores.{core_asked, layouts_asked};
 ghost use Rattle.gib_app.specs.Jobs.{run_forks};
 ghost use Rattle.gib_app.specs.Running.{IsInput, text_line};
 ghost use Rattle.gib_app.specs.Replaying.{root_in};
-ghost use Rattle.gib_app.specs.MachineRun.{StandsIn, SomeStandsIn, IsRunEnd, RunsFor, IsRootOf, Lacks, Halts, EndsWith, OnEnd, OnRan, ended, program_cost};
+ghost use Rattle.gib_app.specs.MachineRun.{StandsIn, SomeStandsIn, IsRunEnd, RunsFor, IsRootOf, Lacks, EndsWith, OnEnd, OnRan, ended, program_cost};
+ghost use Rattle.gib_app.specs.MachineRun.{LeavesRoot, LeavesNone};
 ghost use Rattle.gib_app.specs.Stops.{IsRunStop};
 
 use crate::lowering::lowered;
@@ -216,11 +215,9 @@ fn run_within<R: Threads + Wait + Sync, G: Gate + Sync>(
     requires table { survey.table ≡ lowered.now.code.laid.table }
     requires ty { survey.ty ≡ (core_of lowered.now.core).main.parameter }
     ensures limit { IfOk result (λ left. (⟦<SoleMem as Mem>⟧.view left.memory).limit ≡ chunks) }
-    ensures root { IfOk result (λ left. (v : Datum) → Packed survey.entry.table survey.entry.ty v survey.entry.bytes
-        → IsRootOf lowered.now.code.laid (⟦<SoleMem as Mem>⟧.view left.memory).cells (core_of lowered.now.core).main.result
-        (core_run (core_of lowered.now.core) options.depth v) left.root) }
-    ensures halts { IfErr result (λ why. (v : Datum) → Packed survey.entry.table survey.entry.ty v survey.entry.bytes
-        → Halts (core_run (core_of lowered.now.core) options.depth v) chunks (run_cost (core_of lowered.now.core) options.depth (run_forks options) v) why) }
+    ensures root { IfOk result (LeavesRoot lowered.now options.depth (λ v. Packed survey.entry.table survey.entry.ty v survey.entry.bytes)) }
+    ensures halts { IfErr result (LeavesNone lowered.now options.depth (run_forks options) chunks
+        (λ v. Packed survey.entry.table survey.entry.ty v survey.entry.bytes)) }
 {
     let memory = match SoleMem::make(alloc, chunks) {
         Ok(memory) => memory,
@@ -269,12 +266,9 @@ fn run_on<R: Threads + Wait + Sync, G: Gate + Sync>(
     requires table { survey.table ≡ lowered.now.code.laid.table }
     requires ty { survey.ty ≡ (core_of lowered.now.core).main.parameter }
     ensures limit { IfOk result (λ left. (⟦<SoleMem as Mem>⟧.view left.memory).limit ≤ options.chunks) }
-    ensures root { IfOk result (λ left. (v : Datum) → Packed survey.entry.table survey.entry.ty v survey.entry.bytes
-        → IsRootOf lowered.now.code.laid (⟦<SoleMem as Mem>⟧.view left.memory).cells (core_of lowered.now.core).main.result
-        (core_run (core_of lowered.now.core) options.depth v) left.root) }
-    ensures halts { IfErr result (λ why. (v : Datum) → Packed survey.entry.table survey.entry.ty v survey.entry.bytes
-        → Halts (core_run (core_of lowered.now.core) options.depth v) options.chunks
-        (run_cost (core_of lowered.now.core) options.depth (run_forks options) v) why) }
+    ensures root { IfOk result (LeavesRoot lowered.now options.depth (λ v. Packed survey.entry.table survey.entry.ty v survey.entry.bytes)) }
+    ensures halts { IfErr result (LeavesNone lowered.now options.depth (run_forks options) options.chunks
+        (λ v. Packed survey.entry.table survey.entry.ty v survey.entry.bytes)) }
 {
     let mut limit = first_limit(survey.payload().len(), options.chunks);
     'limits: while limit < options.chunks {

@@ -32,17 +32,26 @@ pub fn value_line(alloc: Global, compiled: &Compiled, value: &Value) -> Result<V
     Ok(line)
 }
 
+/// What a job made that makes no file and ends so.
+fn only(end: End) -> Made
+    ensures file { result.file ≡ None }
+    ensures packed { result.packed ≡ None }
+    ensures end { result.end ≡ end }
+{
+    Made {
+        file: None,
+        packed: None,
+        end,
+    }
+}
+
 /// What a job made that makes no file and ends with a text.
 pub fn only_prints(text: Vec<u8>) -> Made
     ensures file { result.file ≡ None }
     ensures packed { result.packed ≡ None }
     ensures end { result.end ≡ End.Prints text }
 {
-    Made {
-        file: None,
-        packed: None,
-        end: End::Prints(text),
-    }
+    only(End::Prints(text))
 }
 
 /// What a job made that makes no file and ends without a value.
@@ -51,11 +60,7 @@ pub fn no_value(reason: Reason) -> Made
     ensures packed { result.packed ≡ None }
     ensures end { result.end ≡ End.NoValue reason }
 {
-    Made {
-        file: None,
-        packed: None,
-        end: End::NoValue(reason),
-    }
+    only(End::NoValue(reason))
 }
 
 /// What a job makes that stopped: there is no value, where that is why.
