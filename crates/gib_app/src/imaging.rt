@@ -18,10 +18,9 @@ ghost use Rattle.gib_app.specs.Running.{text_line};
 use crate::buffer::Buffer;
 use crate::machine_run::{Ran, print_ran};
 use crate::made::{End, Made, Valued};
-use crate::printing::only_prints;
 use gib_arena::SoleMem;
 use gib_base::{Memory, Texts};
-use gib_mem::{Mem, PlainMem};
+use gib_mem::Mem;
 use gib_print::image;
 use gib_print::law::written_is_read;
 use std::alloc::{AllocError, Global};
@@ -64,73 +63,63 @@ pub fn text_of<M: Mem>(alloc: Global, ran: &mut Ran<M>, names: &Texts) -> Result
     }
 }
 
-/// What a run makes that leaves a value and is asked for an image. The text is made too, so that memory cannot run out once
-/// the image is written.
-fn imaged<M: Mem + Drop>(alloc: Global, mut ran: Ran<M>, names: &Texts) -> Result<Made, Memory>
+/// The image of the memory that a run leaves, where that is asked for. The memory stays.
+///
+/// # Errors
+///
+/// Want of memory.
+fn image_asked<M: Mem>(
+    alloc: Global,
+    ran: &mut Ran<M>,
+    image: bool,
+) -> Result<Option<Vec<u8>>, Memory>
+    requires alone { (M.view ran.old.memory).alone ≡ true }
+    requires there { (q : ℕ) → q < 4096 * (M.view ran.old.memory).drawn → IsThere ((M.view ran.old.memory).cells q) }
+    requires few { (M.view ran.old.memory).limit ≤ 65536 }
+    ensures file { (ty : Type_of) (v : Datum) → Stands ran.old.lowered.code.laid (M.view ran.old.memory).cells ran.old.root ty v
+        → IfOk result (λ file. IsImageFile image ran.old.lowered.code.laid ty (M.view ran.old.memory) ran.old.root v
+        (option_map (λ bytes. bytes.items) file)) }
+    ensures same { M.view ran.new.memory ≡ M.view ran.old.memory }
+    ensures kept { ran.new.lowered ≡ ran.old.lowered }
+    ensures root { ran.new.root ≡ ran.old.root }
+{
+    if !image {
+        return Ok(None);
+    }
+    match image_of(alloc, ran) {
+        Ok(bytes) => Ok(Some(bytes)),
+        Err(memory) => Err(memory),
+    }
+}
+
+/// What a run makes that leaves a value: its text, and its image, where that is asked for. The text is made before the image is written, so that
+/// memory cannot run out for it then.
+///
+/// # Errors
+///
+/// Want of memory.
+pub fn shown<M: Mem + Drop>(
+    alloc: Global,
+    mut ran: Ran<M>,
+    names: &Texts,
+    image: bool,
+) -> Result<Made, Memory>
     requires alone { (M.view ran.memory).alone ≡ true }
     requires there { (q : ℕ) → q < 4096 * (M.view ran.memory).drawn → IsThere ((M.view ran.memory).cells q) }
     requires names { AreHeld ran.lowered.code.laid.table names.now.short }
     requires stands { SomeStandsIn names.now ran.lowered (M.view ran.memory) ran.root }
     requires few { (M.view ran.memory).limit ≤ 65536 }
     ensures shown { (p : ProgramTree) (depth : ℕ) (input : List ℕ) (s : StandsIn p names.now depth input ran.lowered (M.view ran.memory) ran.root)
-        → IfOk result (λ made. IsShownWith true ran.lowered.code.laid (M.view ran.memory) ran.root p names.now s.result (file_of made) made.end) }
+        → IfOk result (λ made. IsShownWith image ran.lowered.code.laid (M.view ran.memory) ran.root p names.now s.result (file_of made) made.end) }
     ensures alone { IfOk result (λ made. made.packed ≡ None) }
 {
-    let bytes = image_of(alloc, &mut ran)?;
+    let file = image_asked(alloc, &mut ran, image)?;
     let text = text_of(alloc, &mut ran, names)?;
     Ok(Made {
-        file: Some(bytes),
+        file,
         packed: None,
         end: End::Prints(text),
     })
-}
-
-/// What a run over an arena makes that leaves a value and is asked for an image.
-///
-/// # Errors
-///
-/// Want of memory.
-pub fn with_image(alloc: Global, mut value: Valued) -> Result<Made, Memory>
-    requires names { AreHeld value.ran.lowered.code.laid.table value.names.short }
-    requires stands { IsMeant value }
-    requires few { (⟦<SoleMem as Mem>⟧.view value.ran.memory).limit ≤ 65536 }
-    ensures shown { (p : ProgramTree) (depth : ℕ) (input : List ℕ) (s : IsMeantBy p value.names depth input value.ran)
-        → IfOk result (λ made. IsShownWith true value.ran.lowered.code.laid (⟦<SoleMem as Mem>⟧.view value.ran.memory) value.ran.root p value.names s.result
-        (file_of made) made.end) }
-    ensures alone { IfOk result (λ made. made.packed ≡ None) }
-{
-    value.ran.memory.owns_all();
-    imaged(alloc, value.ran, &value.names)
-}
-
-/// What a run by the events of a journal makes that leaves a value: its text, and its image, where that is asked for.
-///
-/// # Errors
-///
-/// Want of memory.
-pub fn shown(
-    alloc: Global,
-    mut ran: Ran<PlainMem>,
-    names: &Texts,
-    image: bool,
-) -> Result<Made, Memory>
-    requires names { AreHeld ran.lowered.code.laid.table names.now.short }
-    requires stands { SomeStandsIn names.now ran.lowered (⟦<PlainMem as Mem>⟧.view ran.memory) ran.root }
-    requires few { (⟦<PlainMem as Mem>⟧.view ran.memory).limit ≤ 65536 }
-    ensures shown { (p : ProgramTree) (depth : ℕ) (input : List ℕ)
-        (s : StandsIn p names.now depth input ran.lowered (⟦<PlainMem as Mem>⟧.view ran.memory) ran.root)
-        → IfOk result (λ made. IsShownWith image ran.lowered.code.laid (⟦<PlainMem as Mem>⟧.view ran.memory) ran.root p names.now s.result
-        (file_of made) made.end) }
-    ensures alone { IfOk result (λ made. made.packed ≡ None) }
-{
-    if image {
-        ran.memory.owns_all();
-        return imaged(alloc, ran, names);
-    }
-    match text_of(alloc, &mut ran, names) {
-        Ok(text) => Ok(only_prints(text)),
-        Err(memory) => Err(memory),
-    }
 }
 
 /// What a run over an arena makes that leaves a value: its text, and its image, where that is asked for.
@@ -147,13 +136,8 @@ pub fn with_text(alloc: Global, mut value: Valued, image: bool) -> Result<Made, 
         (file_of made) made.end) }
     ensures alone { IfOk result (λ made. made.packed ≡ None) }
 {
-    if image {
-        return with_image(alloc, value);
-    }
-    match text_of(alloc, &mut value.ran, &value.names) {
-        Ok(text) => Ok(only_prints(text)),
-        Err(memory) => Err(memory),
-    }
+    value.ran.memory.owns_all();
+    shown(alloc, value.ran, &value.names, image)
 }
 
 /// The image of what a run over an arena leaves, where that is asked for, without its text.
@@ -168,12 +152,6 @@ pub fn image_alone(alloc: Global, mut value: Valued, image: bool) -> Result<Opti
         → IfOk result (λ file. IsImageFile image value.ran.lowered.code.laid (output_type p)
         (⟦<SoleMem as Mem>⟧.view value.ran.memory) value.ran.root s.result (option_map (λ bytes. bytes.items) file)) }
 {
-    if !image {
-        return Ok(None);
-    }
     value.ran.memory.owns_all();
-    match image_of(alloc, &mut value.ran) {
-        Ok(bytes) => Ok(Some(bytes)),
-        Err(memory) => Err(memory),
-    }
+    image_asked(alloc, &mut value.ran, image)
 }

@@ -52,6 +52,7 @@ pub fn replay(
         Ok(ran) => ran,
         Err(why) => return Ok(no_value(Reason::Meant(why))),
     };
+    ran.memory.owns_all();
     match shown(alloc, ran, &compiled.names, image) {
         Ok(made) => Ok(made),
         Err(_) => Err(Stop::Memory),

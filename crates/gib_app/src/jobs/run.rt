@@ -1,11 +1,10 @@
 //! `run`: prints what a program means on an input.
 
-ghost use Rattle.std.specs.Prelude.{◌≡◌, ◌≤◌, ℕ, List, length, true, Some, None, IfOk, IfErr};
+ghost use Rattle.std.specs.Prelude.{◌≡◌, ◌≤◌, ℕ, List, length, Some, None, IfOk, IfErr};
 ghost use Rattle.gib_value.specs.Text.{AreHeld};
 ghost use Rattle.gib_syntax.specs.Declarations.{output_type};
 ghost use Rattle.gib_syntax.specs.Tree.{ProgramTree};
 ghost use Rattle.gib_syntax.specs.Parts.{program_of};
-ghost use Rattle.gib_words.specs.declared.plan.Options.{Options as OptionValues};
 ghost use Rattle.gib_app.specs.Cores.{layouts_asked};
 ghost use Rattle.gib_app.specs.Imaging.{IsShownWith};
 ghost use Rattle.gib_app.specs.Jobs.{Runs, RunsBoth};
@@ -17,7 +16,7 @@ ghost use Rattle.gib_app.specs.Replaying.{IsImageFile};
 ghost use Rattle.gib_app.specs.Stops.{IsReady, IsRunStop};
 
 use crate::compile::Compiled;
-use crate::imaging::{image_alone, with_image, with_text};
+use crate::imaging::{image_alone, with_text};
 use crate::machine_run::{RunEnd, run_packed};
 use crate::made::{End, Made, Reason, Valued};
 use crate::packed_result::packed_result;
@@ -41,26 +40,25 @@ fn finish<R: Threads + Sync>(
     alloc: Global,
     threads: &R,
     value: Valued,
-    image: bool,
-    workers: u32,
+    options: Options,
 ) -> Result<Made, Stop<'static>>
     requires names { AreHeld value.ran.lowered.code.laid.table value.names.short }
     requires stands { IsMeant value }
     requires few { (⟦<SoleMem as Mem>⟧.view value.ran.memory).limit ≤ 65536 }
-    ensures made { (p : ProgramTree) (options : OptionValues) (input : List ℕ) → value.ran.lowered.code.laid ≡ layouts_asked options p
-        → options.image ≡ image → (⟦<SoleMem as Mem>⟧.view value.ran.memory).limit ≤ options.chunks
+    ensures made { (p : ProgramTree) (input : List ℕ) → value.ran.lowered.code.laid ≡ layouts_asked options p
+        → (⟦<SoleMem as Mem>⟧.view value.ran.memory).limit ≤ options.chunks
         → (s : IsMeantBy p value.names options.depth input value.ran)
         → IfOk result (λ made. EndsBy (file_of made) made.end (Runs p value.names options input)) }
     // It comes from the memory that the run left.
-    ensures region { (p : ProgramTree) (options : OptionValues) (input : List ℕ) → options.image ≡ image → IsLeft p value.names options input value
+    ensures region { (p : ProgramTree) (input : List ℕ) → IsLeft p value.names options input value
         → IfOk result (λ made. ComesOfMemory p value.names options input (file_of made) made.end) }
     ensures memory { IfErr result (λ stop. stop ≡ Stop.Memory) }
     ensures alone { IfOk result (λ made. made.packed ≡ None) }
 {
-    if !image {
-        return Ok(printed_by(alloc, threads, value, workers));
+    if !options.image {
+        return Ok(printed_by(alloc, threads, value, options.workers));
     }
-    match with_image(alloc, value) {
+    match with_text(alloc, value, true) {
         Ok(made) => Ok(made),
         Err(_) => Err(Stop::Memory),
     }
@@ -111,39 +109,8 @@ fn without_packed(alloc: Global, value: Valued, image: bool) -> Result<Made, Sto
     }
 }
 
-/// What a run makes that leaves a value of this type, whose packed file is asked for. That is made before the text, which
-/// may then be of any length; and the text is made before anything is written, so that memory cannot run out for it behind a write.
-fn finish_packed<R: Threads + Sync>(
-    alloc: Global,
-    threads: &R,
-    value: Valued,
-    ty: Ty,
-    options: Options,
-) -> Result<Made, Stop<'static>>
-    requires names { AreHeld value.ran.lowered.code.laid.table value.names.short }
-    requires stands { IsMeantAs ty value }
-    requires packs { options.packs ≡ true }
-    requires few { (⟦<SoleMem as Mem>⟧.view value.ran.memory).limit ≤ 65536 }
-    ensures made { (p : ProgramTree) (input : List ℕ) → ty ≡ output_type p → value.ran.lowered.code.laid ≡ layouts_asked options p
-        → (⟦<SoleMem as Mem>⟧.view value.ran.memory).limit ≤ options.chunks
-        → (s : IsMeantBy p value.names options.depth input value.ran)
-        → IfOk result (λ made. EndsByBoth (file_of made) (packed_of made) made.end (RunsBoth p value.names options input)) }
-    // It comes from the memory that the run left.
-    ensures region { (p : ProgramTree) (input : List ℕ) → IsLeft p value.names options input value
-        → IfOk result (λ made. ComesOfMemory p value.names options input (file_of made) made.end) }
-    ensures memory { IfErr result (λ stop. stop ≡ Stop.Memory) }
-{
-    let (packed, value) = packed_result(alloc, threads, value, ty, options.workers);
-    match packed {
-        Ok(packed) => with_packed(alloc, value, options.image, packed),
-        Err(fault) => match fault {
-            CompactFault::Long => without_packed(alloc, value, options.image),
-            CompactFault::Memory => Err(Stop::Memory),
-        },
-    }
-}
-
-/// What a run makes that leaves a value of this type: its image and its packed file too, where these are asked for.
+/// What a run makes that leaves a value of this type: its image and its packed file too, where these are asked for. The packed file is made before
+/// the text, which may then be of any length; and the text is made before anything is written, so that memory cannot run out for it behind a write.
 fn finish_run<R: Threads + Sync>(
     alloc: Global,
     threads: &R,
@@ -163,10 +130,17 @@ fn finish_run<R: Threads + Sync>(
         → IfOk result (λ made. ComesOfMemory p value.names options input (file_of made) made.end) }
     ensures memory { IfErr result (λ stop. stop ≡ Stop.Memory) }
 {
-    if options.packs {
-        return finish_packed(alloc, threads, value, ty, options);
+    if !options.packs {
+        return finish(alloc, threads, value, options);
     }
-    finish(alloc, threads, value, options.image, options.workers)
+    let (packed, value) = packed_result(alloc, threads, value, ty, options.workers);
+    match packed {
+        Ok(packed) => with_packed(alloc, value, options.image, packed),
+        Err(fault) => match fault {
+            CompactFault::Long => without_packed(alloc, value, options.image),
+            CompactFault::Memory => Err(Stop::Memory),
+        },
+    }
 }
 
 /// What a program means on the bytes of an input, within the depth, in memory of so many chunks, by so many workers.

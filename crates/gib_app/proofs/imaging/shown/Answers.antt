@@ -1,22 +1,16 @@
-use Rattle.std.proofs.Common.{◌≡◌, Bool, ℕ, List, Option, None, option_map, refl, sym, subst, subst₂, ap, IfOk}
-use Rattle.gib_mem.specs.Plain.{plain_memory}
-use Rattle.gib_app.specs.declared.made.End.{End as KeptEnd}
-use Rattle.gib_app.specs.Imaging.{IsShownWith}
-use Rattle.gib_app.specs.Kept.{file_of}
+use Rattle.std.proofs.Common.{ap}
+use Rattle.gib_core.specs.LoweredParts.{LoweredParts}
+use Rattle.gib_syntax.specs.Declarations.{output_type}
+use Rattle.gib_app.proofs.Imaged.{text_moved}
 use Rattle.gib_app.proofs.imaging.shown.Goals as goal
 
-pub returns-then-image-clause-shown : goal.returns-then-image-clause-shown
-returns-then-image-clause-shown c = λ p depth input s.
-    let ran = c.args.ran in
-    let m = plain_memory ran.memory.bytes.items ran.memory.drawn ran.memory.limit in
-    subst (λ (b : Bool). IfOk c.imaged.result (λ made. IsShownWith b ran.lowered.code.laid m ran.root p c.args.names.now s.result (file_of made) made.end)) (sym c.if-image.true) (c.imaged.ensures.shown p depth input s)
-
-pub returns-in-Ok-clause-shown : goal.returns-in-Ok-clause-shown
-returns-in-Ok-clause-shown c = λ p depth input s.
-    let ran = c.args.ran in
-    let m = plain_memory ran.memory.bytes.items ran.memory.drawn ran.memory.limit in
-    let made = c.only_prints.result in
-    let none : file_of made ≡ None = ap (option_map (λ bytes. bytes.items)) c.only_prints.ensures.file in
-    let E : Option (List ℕ) → KeptEnd → Type 0 = λ f e. IsShownWith Rattle.std.specs.Prelude.false ran.lowered.code.laid m ran.root p c.args.names.now s.result f e in
-    let there : E (file_of made) made.end = subst₂ E (sym none) (sym c.only_prints.ensures.end) (refl, c.in-Ok.ensures p depth input s) in
-    subst (λ (b : Bool). IsShownWith b ran.lowered.code.laid m ran.root p c.args.names.now s.result (file_of made) made.end) (sym c.if-image.false) there
+pub returns-clause-shown : goal.returns-clause-shown
+returns-clause-shown g c = λ p depth input s.
+    let before = c.args.ran in
+    let after = c.image_asked.new.ran in
+    let made = c.in_ok-file.ensures in
+    let laid = before.lowered.code.laid in (
+      made.file (output_type p) s.result s.stands,
+      text_moved p depth input c.args.names.now c.in_ok-text.text.items laid after.lowered.code.laid (g.M.Mem.view before.memory) (g.M.Mem.view after.memory) before.root after.root
+          (ap (λ (l : LoweredParts). l.code.laid) made.kept) made.same made.root c.in_ok-text.ensures s,
+    )
