@@ -4,7 +4,7 @@ use Rattle.gib_base.specs.declared.Span.{Span}
 use Rattle.gib_types.specs.declared.types.TypeId.{TypeId}
 use Rattle.gib_types.specs.declared.types.TypeNode.{TypeNode}
 use Rattle.gib_types.specs.declared.types.TypeNode.TheVariants as node
-use Rattle.gib_types.specs.Form.{Form, Forms}
+use Rattle.gib_types.specs.Form.{Form, Forms, DataForm}
 use Rattle.gib_types.specs.Types.{form_at, forms_at, form_from, AreBelow, ArgumentsBelow}
 use Rattle.gib_syntax.specs.declared.tree.Ident.{Ident}
 use Rattle.gib_syntax.specs.declared.exprs.ExprId.{ExprId}
@@ -13,8 +13,8 @@ use Rattle.gib_syntax.specs.declared.written.Word.{Word}
 use Rattle.gib_syntax.specs.Declarations.{number_of}
 use Rattle.gib_syntax.specs.Forms.{WrittenType, WrittenTypes, formed, formed_all, assign}
 use Rattle.gib_syntax.specs.Results.{Results, One, map_results}
-use Rattle.gib_syntax.specs.GenericTree.{GenericParameterTree, GenericExpression, GenericRow}
-use Rattle.gib_syntax.specs.GenericTyping.{FormScope, variable_numbers, opaque}
+use Rattle.gib_syntax.specs.GenericTree.{GenericParameterTree, GenericExpression, GenericFunctionTree, GenericRow, GenericGlobals}
+use Rattle.gib_syntax.specs.GenericTyping.{FormScope, variable_numbers, opaque, field_forms, parameter_forms, result_forms}
 use Rattle.gib_syntax.specs.GenericParts.{GenericParts, parameter_in}
 use Rattle.gib_syntax.specs.GenericArena.{arguments_from}
 use Rattle.gib_syntax.specs.Forms.{Meant}
@@ -23,7 +23,7 @@ use Rattle.gib_check.specs.declared.counts.Counts.{Counts}
 use Rattle.gib_check.specs.declared.fault.TypeFault.{TypeFault}
 use Rattle.gib_check.specs.declared.fault.TypeFault.TheVariants as t
 use Rattle.gib_check.specs.Answers.{IsFaultOf}
-use Rattle.gib_check.specs.Faults.{Checked, and_then, FormPart, one_more, as_many, infer, infer_all, infer_arm, infer_case, infer_variable, infer_literal, row_named, fields_if, bind_all, variable, declared_type, ArmHead, head_names, all_declared, covered, all_counted, all_of, first_type}
+use Rattle.gib_check.specs.Faults.{Checked, and_then, FormPart, one_more, infer, infer_all, infer_arm, infer_case, infer_variable, infer_literal, row_named, fields_if, bind_all, variable, declared_type, ArmHead, head_names, all_declared, covered, all_counted, all_of, all_wanted, use_fits, called, made, first_type}
 use Rattle.gib_check.specs.NameViews.{generic_globals, generic_tree}
 use Rattle.gib_check.specs.Judging.{Judging, forms, in_scope, Grows, Keeps, Advances, forms_given, AreMet, IsClosed, meant_by, IsMeaningBelow}
 use Rattle.gib_check.proofs.Growing.{forms_grow, given_grows}
@@ -46,10 +46,6 @@ same_answer before after ty g h q = ap₂ answer_of (sym (given_grows before aft
 -- What a call knows of its types.
 pub given_types : (s2 s3 : Judging) (ids : List TypeId) (ws : WrittenTypes) → forms_at (forms s2) ids ≡ formed_all opaque ws → Grows s2.types s3.types → AreBelow (length s2.types) ids → forms_at (forms s3) ids ≡ formed_all opaque ws
 given_types s2 s3 ids ws e g h = forms_grow s2.types s3.types ids g h ∙ e
-
--- As many as there have to be, by other numbers that are the same.
-pub counted_as : (P : Checked (Unit {0}) → Type 0) (x : Ident) (n due m k : ℕ) → n ≡ m → due ≡ k → P (as_many n due x) → P (as_many m k x)
-counted_as P x n due m k e d h = subst (λ z. P (as_many m z x)) d (subst (λ z. P (as_many z due x)) e h)
 
 pub mapped_length : (words : List Word) (n : ℕ) (ps : List GenericParameter) → n ≡ length ps → n ≡ length (map (parameter_in words) ps)
 mapped_length words n ps q = q ∙ sym (length-map ps (parameter_in words))
@@ -74,13 +70,26 @@ meant_later s3 s4 m vs ws is js us e w j f g b =
     ∙ ap₂ (λ (xs : List Ident) (ks : List TypeId). assign xs (forms_at (forms s3) ks)) w j
     ∙ ap (assign vs) f
 
--- The answers of a call and of a constructor.
-pub call_answer : (s3 s4 s5 : Judging) (ty : ResultIds) (m n : Meant) (w v : Results WrittenType) → forms_given s5 ty ≡ map_results (formed m) w → m ≡ n → w ≡ v → s4.counts ≡ s3.counts → s5.counts ≡ s4.counts → answer_of (map_results (formed n) v) s3.counts ≡ answer s5 ty
-call_answer s3 s4 s5 ty m n w v e q p c d =
-    ap₂ answer_of (sym (e ∙ ap₂ (λ (k : Meant) (z : Results WrittenType). map_results (formed k) z) q p)) (sym (d ∙ c))
+-- What a function gives, by what was met of it.
+pub called_by : (h : GenericFunctionTree) (ts : Forms) (ps qs : List FormPart) (due : List Form) → qs ≡ ps → due ≡ parameter_forms h ts → called h ts ps ≡ and_then (all_wanted qs due) (λ _. Ok (result_forms h ts))
+called_by h ts ps qs due e d = ap₂ (λ (xs : List FormPart) (fs : List Form). and_then (all_wanted xs fs) (λ _. Ok (result_forms h ts))) (sym e) (sym d)
 
-pub make_answer : (s3 s5 : Judging) (ty : TypeId) (f : Form) (n : Counts) → form_at (forms s5) ty.0 ≡ f → s5.counts ≡ n → answer_of (One f) n ≡ answer_of (One (form_at (forms s5) ty.0)) s5.counts
-make_answer s3 s5 ty f n e c = ap₂ (λ (g : Form) (k : Counts). answer_of (One g) k) (sym e) (sym c)
+pub called_ok : (h : GenericFunctionTree) (ts : Forms) (ps qs : List FormPart) (due : List Form) → qs ≡ ps → due ≡ parameter_forms h ts → all_wanted qs due ≡ Ok (tt {0}) → called h ts ps ≡ Ok (result_forms h ts)
+called_ok h ts ps qs due e d w = called_by h ts ps qs due e d ∙ ap (λ z. and_then z (λ _. Ok (result_forms h ts))) w
+
+pub results_are : (s : Judging) (ty : ResultIds) (m n : Meant) (w : Results WrittenType) → forms_given s ty ≡ map_results (formed m) w → m ≡ n → map_results (formed n) w ≡ forms_given s ty
+results_are s ty m n w e q = sym (e ∙ ap (λ (k : Meant). map_results (formed k) w) q)
+
+-- So for a constructor.
+pub made_by : (row : GenericRow) (ts : Forms) (ps qs : List FormPart) (due : List Form) → qs ≡ ps → due ≡ field_forms row ts → made row ts ps ≡ and_then (all_wanted qs due) (λ _. Ok (One (DataForm row.owner ts)))
+made_by row ts ps qs due e d = ap₂ (λ (xs : List FormPart) (fs : List Form). and_then (all_wanted xs fs) (λ _. Ok (One (DataForm row.owner ts)))) (sym e) (sym d)
+
+pub made_ok : (row : GenericRow) (ts : Forms) (ps qs : List FormPart) (due : List Form) → qs ≡ ps → due ≡ field_forms row ts → all_wanted qs due ≡ Ok (tt {0}) → made row ts ps ≡ Ok (One (DataForm row.owner ts))
+made_ok row ts ps qs due e d w = made_by row ts ps qs due e d ∙ ap (λ z. and_then z (λ _. Ok (One (DataForm row.owner ts)))) w
+
+-- What is asked of a use, by other numbers that are the same.
+pub fits_as : (P : Checked (Unit {0}) → Type 0) (g : GenericGlobals) (vars : List ℕ) (x : Ident) (ws : WrittenTypes) (count n k due wanted : ℕ) → n ≡ due → k ≡ wanted → P (use_fits g vars x ws count n k) → P (use_fits g vars x ws count due wanted)
+fits_as P g vars x ws count n k due wanted e d h = subst (λ z. P (use_fits g vars x ws count due z)) d (subst (λ z. P (use_fits g vars x ws count z k)) e h)
 
 -- An arm.
 module _ (parts : GenericParts) (variables : List Ident) (st : Standing) (ts : Forms) (k : Ident) (xs : List Ident) (e : GenericExpression) where

@@ -19,7 +19,7 @@ use Rattle.gib_check.specs.declared.fault.Kind.TheVariants as kind
 use Rattle.gib_check.specs.declared.standing.Standing.{Standing}
 use Rattle.gib_check.specs.declared.standing.Standing.TheVariants as standing
 use Rattle.gib_check.specs.declared.standing.Standing.TheVariants.{NoTuple}
-use Rattle.gib_check.specs.Faults.{Checked, and_then, allowed, found, FormPart, one_more, new_variable, part_variable, as_many, known, all_known, row_named, same_lists, same_results, wanted, single_at, all_single, all_wanted, all_of, declared_type, argument_count, ArmHead, heads, head_names, all_declared, is_of, are_different, is_there, covers, field_count, fields_if, all_counted, bind_all, bind_parts, bind_given, bind_sides, parts_for, types_bound, may_stand, standing_for, MayGive, first_type, infer, infer_all, infer_arms, infer_arm, place}
+use Rattle.gib_check.specs.Faults.{Checked, and_then, allowed, found, FormPart, one_more, new_variable, part_variable, as_many, known, all_known, row_named, same_lists, same_results, wanted, single_at, all_single, all_wanted, use_fits, all_of, declared_type, argument_count, ArmHead, heads, head_names, all_declared, is_of, are_different, is_there, covers, field_count, fields_if, all_counted, bind_all, bind_parts, bind_given, bind_sides, parts_for, types_bound, may_stand, standing_for, MayGive, first_type, infer, infer_all, infer_arms, infer_arm, place}
 use Rattle.gib_check.proofs.Steps.{PartsAre, EachHas, AllDeclared, AllCounted, IsNew, IsOwn, row_join, given}
 use Rattle.gib_check.proofs.States.{part_new}
 use Rattle.gib_types.proofs.SameForms.{same_form_own}
@@ -194,6 +194,12 @@ types_bound_ok (x ∷ y ∷ ys) part (t ∷ []) some l e = absurd (omega (arith,
 types_bound_ok (x ∷ y ∷ ys) part (t ∷ u ∷ us) some l e =
     ap (parts_for (length (x ∷ y ∷ ys)) x part) e ∙ ap (λ z. and_then z (λ _. Ok (t ∷ u ∷ us))) (as_many_ok (length (t ∷ u ∷ us)) (length (x ∷ y ∷ ys)) x (sym l))
 
+use_fits_ok : (g : GenericGlobals) (vars : List ℕ) (x : Ident) (ws : WrittenTypes) (count variables due : ℕ) → count_written ws ≡ variables → AreKnownTypes g.datas vars ws → count ≡ due → use_fits g vars x ws count variables due ≡ Ok (tt {0})
+use_fits_ok g vars x ws count variables due many h long =
+    ap (λ z. and_then (and_then z (λ _. all_known g.datas vars ws)) (λ _. as_many count due x)) (as_many_ok (count_written ws) variables x many)
+    ∙ ap (λ z. and_then z (λ _. as_many count due x)) (all_known_ok g.datas vars ws h)
+    ∙ as_many_ok count due x long
+
 -- The variables of a binding come into scope.
 bind_given_yields : (scope : FormScope) (n : Counts) (xs : List Ident) (part : FormPart) (ts : List Form) (inner : FormScope) → AreNames xs → BindsForms scope xs ts inner → part.ty ≡ as_results ts → n.variables + length xs ≤ 200 → Yields (bind_given scope n xs part) (BoundTo n (length xs) inner)
 bind_given_yields scope n xs part ts inner few binds e le =
@@ -289,24 +295,20 @@ mutual
       let have : HaveForms g vars m scope xs (parameter_forms d (formed_all m ws)) = subst (λ z. HaveForms g vars m scope xs (parameter_forms z (formed_all m ws))) (sym q) h.5 in
       let many : count_written ws ≡ length d.variables = subst (λ (z : GenericFunctionTree). count_written ws ≡ length z.variables) (sym q) h.2 in
       let long = length-map d.parameters (λ (q : GenericParameterTree). formed (assign d.variables (formed_all m ws)) q.ty) in
-      then_yields (yields (tt {0}) (as_many_ok (count_written ws) (length d.variables) f many)) (λ _ _.
-      then_yields (yields (tt {0}) (all_known_ok g.datas vars ws h.3)) (λ _ _.
-      then_yields (yields (tt {0}) (as_many_ok (argument_count xs) (length d.parameters) f (have_long g vars m scope xs (parameter_forms d (formed_all m ws)) have ∙ long))) (λ _ _.
+      then_yields (yields (tt {0}) (use_fits_ok g vars f ws (argument_count xs) (length d.variables) (length d.parameters) many h.3 (have_long g vars m scope xs (parameter_forms d (formed_all m ws)) have ∙ long))) (λ _ _.
       then_yields (all_ok g vars m scope o xs (parameter_forms d (formed_all m ws)) have (omega (arith, le, k0)) (omega (arith, lv, k1))) (λ r s. let se = s.expressions in let sv = s.variables in
-      then_yields (yields (tt {0}) (all_wanted_ok r.0 (parameter_forms d (formed_all m ws)) s.types)) (λ _ _.
-      yields_ok (result_forms d (formed_all m ws), r.1) (record { type = ap (λ z. result_forms z (formed_all m ws)) q ∙ sym h.4; expressions = omega (arith, k0, se); variables = omega (arith, k1, sv) }))))))))
+      then_yields (yields (result_forms d (formed_all m ws)) (ap (λ z. and_then z (λ _. Ok (result_forms d (formed_all m ws)))) (all_wanted_ok r.0 (parameter_forms d (formed_all m ws)) s.types))) (λ v e.
+      yields_ok (v, r.1) (record { type = e ∙ ap (λ z. result_forms z (formed_all m ws)) q ∙ sym h.4; expressions = omega (arith, k0, se); variables = omega (arith, k1, sv) }))))))
   infer_ok g vars m st scope n (GenericMake c ws xs) t h u le lv =
       then_yields (one_more_yields n c.span (omega (arith, le))) (λ o p. let k0 = p.0 in let k1 = p.1 in
       then_yields (yields h.1 (found_ok (row_named g.rows (number_of c)) kind.Unknown c.span h.1 (row_join g.rows (place_named g.rows (number_of c)) h.0 h.1 h.2 h.3))) (λ d q.
       let have : HaveForms g vars m scope xs (field_forms d (formed_all m ws)) = subst (λ z. HaveForms g vars m scope xs (field_forms z (formed_all m ws))) (sym q) h.7 in
       let many : count_written ws ≡ length d.variables = subst (λ (z : GenericRow). count_written ws ≡ length z.variables) (sym q) h.4 in
       let long = length-map d.fields (formed (assign d.variables (formed_all m ws))) in
-      then_yields (yields (tt {0}) (as_many_ok (count_written ws) (length d.variables) c many)) (λ _ _.
-      then_yields (yields (tt {0}) (all_known_ok g.datas vars ws h.5)) (λ _ _.
-      then_yields (yields (tt {0}) (as_many_ok (argument_count xs) (length d.fields) c (have_long g vars m scope xs (field_forms d (formed_all m ws)) have ∙ long))) (λ _ _.
+      then_yields (yields (tt {0}) (use_fits_ok g vars c ws (argument_count xs) (length d.variables) (length d.fields) many h.5 (have_long g vars m scope xs (field_forms d (formed_all m ws)) have ∙ long))) (λ _ _.
       then_yields (all_ok g vars m scope o xs (field_forms d (formed_all m ws)) have (omega (arith, le, k0)) (omega (arith, lv, k1))) (λ r s. let se = s.expressions in let sv = s.variables in
-      then_yields (yields (tt {0}) (all_wanted_ok r.0 (field_forms d (formed_all m ws)) s.types)) (λ _ _.
-      yields_ok (One (DataForm d.owner (formed_all m ws)), r.1) (record { type = ap (λ (z : GenericRow). One (DataForm z.owner (formed_all m ws))) q ∙ sym h.6; expressions = omega (arith, k0, se); variables = omega (arith, k1, sv) }))))))))
+      then_yields (yields (One (DataForm d.owner (formed_all m ws))) (ap (λ z. and_then z (λ _. Ok (One (DataForm d.owner (formed_all m ws))))) (all_wanted_ok r.0 (field_forms d (formed_all m ws)) s.types))) (λ v e.
+      yields_ok (v, r.1) (record { type = e ∙ ap (λ (z : GenericRow). One (DataForm z.owner (formed_all m ws))) q ∙ sym h.6; expressions = omega (arith, k0, se); variables = omega (arith, k1, sv) }))))))
   infer_ok g vars m st scope n (GenericLet p xs a b) t h u le lv =
       let many = binds_long scope xs h.0 h.1 h.4 in
       then_yields (one_more_yields n p (omega (arith, le))) (λ o k. let k0 = k.0 in let k1 = k.1 in

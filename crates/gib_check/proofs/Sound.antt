@@ -14,7 +14,7 @@ use Rattle.gib_check.specs.declared.fault.Kind.TheVariants as kind
 use Rattle.gib_check.specs.declared.standing.Standing.{Standing}
 use Rattle.gib_check.specs.declared.standing.Standing.TheVariants.{NoTuple}
 use Rattle.gib_check.specs.Faults.{FormPart, argument_count, heads, head_names, row_named, fields_if, field_count, first_type, standing_for, may_stand, infer, infer_all, infer_arms, infer_arm, place}
-use Rattle.gib_check.proofs.Steps.{Holds, holds_ok, then_holds, found_holds, one_more_holds, new_variable_holds, as_many_holds, all_known_holds, wanted_holds, PartsAre, all_single_holds, bind_given_holds, bind_sides_holds, PartsHave, all_wanted_holds, EachHas, all_of_holds, declared_type_holds, AllCounted, all_counted_holds, covered_holds, bind_all_holds, IsOwn, row_split, row_join, fields_long}
+use Rattle.gib_check.proofs.Steps.{Holds, holds_ok, then_holds, found_holds, one_more_holds, new_variable_holds, wanted_holds, PartsAre, all_single_holds, bind_given_holds, bind_sides_holds, PartsHave, use_fits_holds, called_holds, made_holds, EachHas, all_of_holds, declared_type_holds, AllCounted, all_counted_holds, covered_holds, bind_all_holds, IsOwn, row_split, row_join, fields_long}
 
 pub record Sound (g : GenericGlobals) (vars : List ℕ) (m : Meant) (scope : FormScope) (n : Counts) (e : GenericExpression) (t : Results Form) (o : Counts) : Type 0 where
   pub has : HasForm g vars m scope e t
@@ -141,33 +141,31 @@ mutual
       }))))))
   infer_sound g vars m st scope n (GenericCall f ws xs) =
       then_holds (one_more_holds n f.span) (λ o h. then_holds (found_holds (generic_named g.functions (number_of f)) kind.Unknown f.span) (λ d q.
-      then_holds (as_many_holds (count_written ws) (length d.variables) f) (λ _ v. then_holds (all_known_holds g.datas vars ws) (λ _ k.
-      then_holds (as_many_holds (argument_count xs) (length d.parameters) f) (λ _ l. then_holds (all_sound g vars m scope o xs) (λ r s.
-      then_holds (all_wanted_holds r.0 (parameter_forms d (formed_all m ws))) (λ _ w.
+      then_holds (use_fits_holds g vars f ws (argument_count xs) (length d.variables) (length d.parameters)) (λ _ u. then_holds (all_sound g vars m scope o xs) (λ r s.
+      then_holds (called_holds d (formed_all m ws) r.0) (λ t w.
       let c = counted n o h.1 in let c0 = c.0 in let c1 = c.1 in let h0 = h.0 in let s0 = s.expressions in let s1 = s.variables in
       let long = length-map d.parameters (λ (q : GenericParameterTree). formed (assign d.variables (formed_all m ws)) q.ty) in
-      holds_ok (result_forms d (formed_all m ws), r.1) (record {
-        has = (d, q, v, k, refl, have_all g vars m scope xs r.0 (parameter_forms d (formed_all m ws)) s.have (l ∙ sym long) w);
+      holds_ok (t, r.1) (record {
+        has = (d, q, u.0, u.1, w.0, have_all g vars m scope xs r.0 (parameter_forms d (formed_all m ws)) s.have (u.2 ∙ sym long) w.1);
         expressions = omega (arith, c0, s0);
         variables = omega (arith, c1, s1);
         short = λ z. s.short (omega (arith, c0, h0));
         few = λ z. s.few (omega (arith, c1, z));
-      }))))))))
+      }))))))
   infer_sound g vars m st scope n (GenericMake c ws xs) =
       then_holds (one_more_holds n c.span) (λ o h. then_holds (found_holds (row_named g.rows (number_of c)) kind.Unknown c.span) (λ d q.
-      then_holds (as_many_holds (count_written ws) (length d.variables) c) (λ _ v. then_holds (all_known_holds g.datas vars ws) (λ _ k.
-      then_holds (as_many_holds (argument_count xs) (length d.fields) c) (λ _ l. then_holds (all_sound g vars m scope o xs) (λ r s.
-      then_holds (all_wanted_holds r.0 (field_forms d (formed_all m ws))) (λ _ w.
+      then_holds (use_fits_holds g vars c ws (argument_count xs) (length d.variables) (length d.fields)) (λ _ u. then_holds (all_sound g vars m scope o xs) (λ r s.
+      then_holds (made_holds d (formed_all m ws) r.0) (λ t w.
       let i = counted n o h.1 in let c0 = i.0 in let c1 = i.1 in let h0 = h.0 in let s0 = s.expressions in let s1 = s.variables in
       let long = length-map d.fields (formed (assign d.variables (formed_all m ws))) in
       let at = row_split g.rows (place_named g.rows (number_of c)) d q in
-      holds_ok (One (DataForm d.owner (formed_all m ws)), r.1) (record {
-        has = (at.0, d, at.1, at.2, v, k, refl, have_all g vars m scope xs r.0 (field_forms d (formed_all m ws)) s.have (l ∙ sym long) w);
+      holds_ok (t, r.1) (record {
+        has = (at.0, d, at.1, at.2, u.0, u.1, w.0, have_all g vars m scope xs r.0 (field_forms d (formed_all m ws)) s.have (u.2 ∙ sym long) w.1);
         expressions = omega (arith, c0, s0);
         variables = omega (arith, c1, s1);
         short = λ z. s.short (omega (arith, c0, h0));
         few = λ z. s.few (omega (arith, c1, z));
-      }))))))))
+      }))))))
   infer_sound g vars m st scope n (GenericLet p xs a b) =
       then_holds (one_more_holds n p) (λ o h. then_holds (infer_sound g vars m (standing_for xs) scope o a) (λ s sa.
       then_holds (bind_given_holds scope s.1 xs (record { ty = s.0; place = place a })) (λ inner v.

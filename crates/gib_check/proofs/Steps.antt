@@ -12,13 +12,13 @@ use Rattle.gib_types.specs.Form.{Form, Forms, WholeForm, TruthForm, VariableForm
 use Rattle.gib_types.specs.SameForm.{same_form}
 use Rattle.gib_types.proofs.SameForms.{same_form_is}
 use Rattle.gib_syntax.specs.Forms.{WrittenType, WrittenTypes, WholeAt, TruthAt, VariableAt, DataAt, NoType, MoreTypes, formed, assign, count_written}
-use Rattle.gib_syntax.specs.GenericTree.{GenericDataTree, GenericRow, place_named, data_named}
-use Rattle.gib_syntax.specs.GenericTyping.{FormScope, form_in, form_bound, BindsForms, AreNames, IsKnownType, AreKnownTypes, CoversType}
+use Rattle.gib_syntax.specs.GenericTree.{GenericDataTree, GenericRow, place_named, data_named, GenericGlobals, GenericFunctionTree}
+use Rattle.gib_syntax.specs.GenericTyping.{FormScope, form_in, form_bound, BindsForms, AreNames, IsKnownType, AreKnownTypes, CoversType, field_forms, parameter_forms, result_forms}
 use Rattle.gib_check.specs.declared.counts.Counts.{Counts}
 use Rattle.gib_check.specs.declared.fault.Fault.{Fault}
 use Rattle.gib_check.specs.declared.fault.Kind.{Kind}
 use Rattle.gib_check.specs.declared.fault.Kind.TheVariants as kind
-use Rattle.gib_check.specs.Faults.{Checked, and_then, allowed, found, FormPart, one_more, new_variable, part_variable, as_many, known, all_known, row_at, row_named, same_lists, same_results, wanted, single_at, all_single, all_wanted, all_of, declared_type, ArmHead, is_of, are_different, is_there, covers, covered, field_count, fields_if, all_counted, bind_all, parts_for, types_bound, bind_parts, bind_given, bind_sides}
+use Rattle.gib_check.specs.Faults.{Checked, and_then, allowed, found, FormPart, one_more, new_variable, part_variable, as_many, known, all_known, row_at, row_named, same_lists, same_results, wanted, single_at, all_single, all_wanted, use_types, use_fits, called, made, all_of, declared_type, ArmHead, is_of, are_different, is_there, covers, covered, field_count, fields_if, all_counted, bind_all, parts_for, types_bound, bind_parts, bind_given, bind_sides}
 
 -- What is answered is so.
 pub record Holds {A : Type 0} (c : Checked A) (P : A → Type 0) : Type 0 where
@@ -139,6 +139,20 @@ pub all_wanted_holds : (parts : List FormPart) (ts : List Form) → Holds (all_w
 all_wanted_holds [] ts = holds_ok (tt {0}) tt
 all_wanted_holds (part ∷ parts) [] = holds_ok (tt {0}) tt
 all_wanted_holds (part ∷ parts) (t ∷ ts) = then_holds (wanted_holds (One t) part) (λ _ p. record { by = λ x e. (p, (all_wanted_holds parts ts).by x e) })
+
+-- What is asked of a use before its arguments.
+use_types_holds : (g : GenericGlobals) (vars : List ℕ) (x : Ident) (ws : WrittenTypes) (variables : ℕ) → Holds (use_types g vars x ws variables) (λ _. (count_written ws ≡ variables) × AreKnownTypes g.datas vars ws)
+use_types_holds g vars x ws variables = then_holds (as_many_holds (count_written ws) variables x) (λ _ v. record { by = λ u e. (v, (all_known_holds g.datas vars ws).by u e) })
+
+pub use_fits_holds : (g : GenericGlobals) (vars : List ℕ) (x : Ident) (ws : WrittenTypes) (count variables due : ℕ) → Holds (use_fits g vars x ws count variables due) (λ _. (count_written ws ≡ variables) × AreKnownTypes g.datas vars ws × (count ≡ due))
+use_fits_holds g vars x ws count variables due = then_holds (use_types_holds g vars x ws variables) (λ _ k. record { by = λ u e. (k.0, k.1, (as_many_holds count due x).by u e) })
+
+-- What a function gives, and a constructor.
+pub called_holds : (h : GenericFunctionTree) (ts : Forms) (parts : List FormPart) → Holds (called h ts parts) (λ r. (r ≡ result_forms h ts) × PartsHave parts (parameter_forms h ts))
+called_holds h ts parts = then_holds (all_wanted_holds parts (parameter_forms h ts)) (λ _ w. holds_ok (result_forms h ts) (refl, w))
+
+pub made_holds : (row : GenericRow) (ts : Forms) (parts : List FormPart) → Holds (made row ts parts) (λ r. (r ≡ One (DataForm row.owner ts)) × PartsHave parts (field_forms row ts))
+made_holds row ts parts = then_holds (all_wanted_holds parts (field_forms row ts)) (λ _ w. holds_ok (One (DataForm row.owner ts)) (refl, w))
 
 -- Each part has the type.
 abbrev pub EachHas : Results Form → List FormPart → Type 0

@@ -15,7 +15,7 @@ use Rattle.gib_check.specs.declared.counts.Counts.{Counts}
 use Rattle.gib_check.specs.declared.fault.TypeFault.{TypeFault}
 use Rattle.gib_check.specs.declared.fault.TypeFault.TheVariants as t
 use Rattle.gib_check.specs.Answers.{IsFaultOf}
-use Rattle.gib_check.specs.Faults.{Checked, and_then, FormPart, place, one_more, as_many, all_known, function, constructor, wanted, all_single, standing_for, may_stand, bind_given, bind_sides, infer_tuple, all_wanted, infer, infer_call, infer_make}
+use Rattle.gib_check.specs.Faults.{Checked, and_then, FormPart, place, one_more, function, constructor, wanted, all_single, standing_for, may_stand, bind_given, bind_sides, infer_tuple, use_fits, use_gives, called, made, infer, infer_call, infer_make}
 use Rattle.gib_check.specs.NameViews.{generic_globals}
 use Rattle.gib_check.specs.Judging.{Judging, forms, in_scope, Advances, Met, AllMet, listed, forms_given, AreMet, part_in, parts_in}
 use Rattle.gib_check.proofs.Growing.{advances_on, given_grows, met_stays}
@@ -23,7 +23,6 @@ use Rattle.gib_check.specs.declared.rules.Part.{Part}
 use Rattle.gib_check.specs.declared.rules.ResultIds.{ResultIds}
 use Rattle.gib_check.specs.declared.standing.Standing.{Standing}
 use Rattle.gib_check.specs.declared.standing.Standing.TheVariants.{NoTuple}
-use Rattle.gib_check.proofs.KnownWords.{then_then}
 use Rattle.gib_check.proofs.Loops.{passed_on, along}
 
 -- A part, by what it is.
@@ -40,6 +39,9 @@ met_before old mid new ty m g = record { advances = advances_on old mid new m.ad
 module _ (parts : GenericParts) (variables : List Ident) where
   abbrev types_of : Standing → FormScope → Counts → GenericExpression → Checked (Results Form × Counts)
   types_of st scope n e = infer (generic_globals parts) (variable_numbers variables) opaque st scope n e
+
+  abbrev types_behind : Standing → GenericExpression → FormScope × Counts → Checked (Results Form × Counts)
+  types_behind st e inner = types_of st inner.0 inner.1 e
 
   -- An expression was judged, where it stands.
   pub record Judged (st : Standing) (before after : Judging) (e : GenericExpression) (ty : ResultIds) : Type 0 where
@@ -110,11 +112,8 @@ module _ (parts : GenericParts) (variables : List Ident) where
     abbrev let_of : Judging → Checked (Results Form × Counts)
     let_of s = types_of st (in_scope s) s.counts (GenericLet p xs a b)
 
-    abbrev let_body : FormScope × Counts → Checked (Results Form × Counts)
-    let_body inner = types_of st inner.0 inner.1 b
-
     abbrev let_behind : FormScope → Results Form × Counts → Checked (Results Form × Counts)
-    let_behind scope s = and_then (bind_given scope s.1 xs (record { ty = s.0; place = place a })) let_body
+    let_behind scope s = and_then (bind_given scope s.1 xs (record { ty = s.0; place = place a })) (types_behind st b)
 
     abbrev let_variables : Judging → ResultIds → Checked (FormScope × Counts)
     let_variables s v = bind_given (in_scope s) s.counts xs (part_in s (record { ty = v; place = place a }))
@@ -127,7 +126,7 @@ module _ (parts : GenericParts) (variables : List Ident) where
     pub let_fails : (e : TypeFault) (s0 s1 : Judging) → Counted s0 s1 p → IsFaultOf e (types_of (standing_for xs) (in_scope s1) s1.counts a) → IsFaultOf e (let_of s0)
     let_fails e s0 s1 o h = along e _ _ (let_counted s0 s1 o) (passed_on e _ _ h)
 
-    let_judged : (s0 s1 s2 : Judging) (v : ResultIds) → Counted s0 s1 p → Judged (standing_for xs) s1 s2 a v → let_of s0 ≡ and_then (let_variables s2 v) let_body
+    let_judged : (s0 s1 s2 : Judging) (v : ResultIds) → Counted s0 s1 p → Judged (standing_for xs) s1 s2 a v → let_of s0 ≡ and_then (let_variables s2 v) (types_behind st b)
     let_judged s0 s1 s2 v o ja =
         let_counted s0 s1 o ∙ ap (λ z. and_then z (let_behind (in_scope s1))) ja.read ∙ ap (λ scope. let_behind scope (forms_given s2 v, s2.counts)) (sym ja.kept)
 
@@ -135,18 +134,15 @@ module _ (parts : GenericParts) (variables : List Ident) where
     let_bind e s0 s1 s2 v o ja h = along e _ _ (let_judged s0 s1 s2 v o ja) (passed_on e _ _ h)
 
     pub let_is : (s0 s1 s2 s3 : Judging) (v : ResultIds) → Counted s0 s1 p → Judged (standing_for xs) s1 s2 a v → let_variables s2 v ≡ Ok (in_scope s3, s3.counts) → let_of s0 ≡ types_of st (in_scope s3) s3.counts b
-    let_is s0 s1 s2 s3 v o ja q = let_judged s0 s1 s2 v o ja ∙ ap (λ z. and_then z let_body) q
+    let_is s0 s1 s2 s3 v o ja q = let_judged s0 s1 s2 v o ja ∙ ap (λ z. and_then z (types_behind st b)) q
 
   -- A `let par`.
   module _ (st : Standing) (p : Span) (xs : List Ident) (a : GenericExpression) (ys : List Ident) (b c : GenericExpression) where
     abbrev par_of : Judging → Checked (Results Form × Counts)
     par_of s = types_of st (in_scope s) s.counts (GenericPar p xs a ys b c)
 
-    abbrev par_body : FormScope × Counts → Checked (Results Form × Counts)
-    par_body inner = types_of st inner.0 inner.1 c
-
     abbrev par_behind : FormScope → FormPart → Results Form × Counts → Checked (Results Form × Counts)
-    par_behind scope left t = and_then (bind_sides scope t.1 xs left ys (record { ty = t.0; place = place b })) par_body
+    par_behind scope left t = and_then (bind_sides scope t.1 xs left ys (record { ty = t.0; place = place b })) (types_behind st c)
 
     abbrev par_second : FormScope → Results Form × Counts → Checked (Results Form × Counts)
     par_second scope s = and_then (types_of (standing_for ys) scope s.1 b) (par_behind scope (record { ty = s.0; place = place a }))
@@ -169,7 +165,7 @@ module _ (parts : GenericParts) (variables : List Ident) where
     pub par_fails_right : (e : TypeFault) (s0 s1 s2 : Judging) (l : ResultIds) → Counted s0 s1 p → Judged (standing_for xs) s1 s2 a l → IsFaultOf e (types_of (standing_for ys) (in_scope s2) s2.counts b) → IsFaultOf e (par_of s0)
     par_fails_right e s0 s1 s2 l o ja h = along e _ _ (par_left s0 s1 s2 l o ja) (passed_on e _ _ h)
 
-    par_judged : (s0 s1 s2 s3 : Judging) (l r : ResultIds) → Counted s0 s1 p → Judged (standing_for xs) s1 s2 a l → Judged (standing_for ys) s2 s3 b r → par_of s0 ≡ and_then (par_variables s3 l r) par_body
+    par_judged : (s0 s1 s2 s3 : Judging) (l r : ResultIds) → Counted s0 s1 p → Judged (standing_for xs) s1 s2 a l → Judged (standing_for ys) s2 s3 b r → par_of s0 ≡ and_then (par_variables s3 l r) (types_behind st c)
     par_judged s0 s1 s2 s3 l r o ja jb =
         par_left s0 s1 s2 l o ja
         ∙ ap (λ z. and_then z (par_behind (in_scope s2) (part_in s2 (record { ty = l; place = place a })))) jb.read
@@ -179,7 +175,7 @@ module _ (parts : GenericParts) (variables : List Ident) where
     par_bind e s0 s1 s2 s3 l r o ja jb h = along e _ _ (par_judged s0 s1 s2 s3 l r o ja jb) (passed_on e _ _ h)
 
     pub par_is : (s0 s1 s2 s3 s4 : Judging) (l r : ResultIds) → Counted s0 s1 p → Judged (standing_for xs) s1 s2 a l → Judged (standing_for ys) s2 s3 b r → par_variables s3 l r ≡ Ok (in_scope s4, s4.counts) → par_of s0 ≡ types_of st (in_scope s4) s4.counts c
-    par_is s0 s1 s2 s3 s4 l r o ja jb q = par_judged s0 s1 s2 s3 l r o ja jb ∙ ap (λ z. and_then z par_body) q
+    par_is s0 s1 s2 s3 s4 l r o ja jb q = par_judged s0 s1 s2 s3 l r o ja jb ∙ ap (λ z. and_then z (types_behind st c)) q
 
   -- A tuple.
   module _ (st : Standing) (p : Span) (count : ℕ) (results : Counts → Checked (List FormPart × Counts)) where
@@ -216,98 +212,60 @@ module _ (parts : GenericParts) (variables : List Ident) where
     pub kept : in_scope after ≡ scope
     pub met : AllMet before after ps
 
-  -- A use of a function: what was looked at of it, and what is left.
+  -- A use: what was looked at of it, and what is left.
   module _ (f : Ident) (ws : WrittenTypes) (count : ℕ) (results : Counts → Checked (List FormPart × Counts)) where
-    abbrev pub use_types : ℕ → Checked (Unit {0})
-    use_types due = and_then (as_many (count_written ws) due f) (λ _. all_known (generic_globals parts).datas (variable_numbers variables) ws)
-
-    abbrev call_rest : Counts → GenericFunctionTree → Checked (Results Form × Counts)
-    call_rest n h =
-        and_then (as_many count (length h.parameters) f)
-        (λ _. and_then (results n)
-        (λ r. and_then (all_wanted r.0 (parameter_forms h (formed_all opaque ws)))
-        (λ _. Ok (result_forms h (formed_all opaque ws), r.1))))
+    abbrev pub fits : ℕ → ℕ → Checked (Unit {0})
+    fits due wanted = use_fits (generic_globals parts) (variable_numbers variables) f ws count due wanted
 
     abbrev pub call_of : Counts → Checked (Results Form × Counts)
     call_of n = infer_call (generic_globals parts) (variable_numbers variables) opaque n f ws count results
 
+    abbrev call_rest : Counts → GenericFunctionTree → Checked (Results Form × Counts)
+    call_rest n h = and_then (fits (length h.variables) (length h.parameters)) (λ _. use_gives (results n) (called h (formed_all opaque ws)))
+
+    call_counted : (s0 s1 : Judging) → Counted s0 s1 f.span → call_of s0.counts ≡ and_then (function (generic_globals parts).functions f) (call_rest s1.counts)
+    call_counted s0 s1 o = ap (λ z. and_then z (λ n. and_then (function (generic_globals parts).functions f) (call_rest n))) o.read
+
     pub call_function : (e : TypeFault) (s0 s1 : Judging) → Counted s0 s1 f.span → IsFaultOf e (function (generic_globals parts).functions f) → IsFaultOf e (call_of s0.counts)
-    call_function e s0 s1 o h = along e _ _ (ap (λ z. and_then z (λ n. and_then (function (generic_globals parts).functions f) (λ h. and_then (as_many (count_written ws) (length h.variables) f) (λ _. and_then (all_known (generic_globals parts).datas (variable_numbers variables) ws) (λ _. call_rest n h))))) o.read) (passed_on e _ _ h)
+    call_function e s0 s1 o h = along e _ _ (call_counted s0 s1 o) (passed_on e _ _ h)
 
-    call_types : (s0 s1 : Judging) (h : GenericFunctionTree) → Counted s0 s1 f.span → function (generic_globals parts).functions f ≡ Ok h → call_of s0.counts ≡ and_then (use_types (length h.variables)) (λ _. call_rest s1.counts h)
-    call_types s0 s1 h o q =
-        ap (λ z. and_then z (λ n. and_then (function (generic_globals parts).functions f) (λ h. and_then (as_many (count_written ws) (length h.variables) f) (λ _. and_then (all_known (generic_globals parts).datas (variable_numbers variables) ws) (λ _. call_rest n h))))) o.read
-        ∙ ap (λ z. and_then z (λ (h : GenericFunctionTree). and_then (as_many (count_written ws) (length h.variables) f) (λ _. and_then (all_known (generic_globals parts).datas (variable_numbers variables) ws) (λ _. call_rest s1.counts h)))) q
-        ∙ sym (then_then (as_many (count_written ws) (length h.variables) f) (λ _. all_known (generic_globals parts).datas (variable_numbers variables) ws) (λ _. call_rest s1.counts h))
-
-    pub call_arguments : (e : TypeFault) (s0 s1 : Judging) (h : GenericFunctionTree) → Counted s0 s1 f.span → function (generic_globals parts).functions f ≡ Ok h → IsFaultOf e (use_types (length h.variables)) → IsFaultOf e (call_of s0.counts)
-    call_arguments e s0 s1 h o q k = along e _ _ (call_types s0 s1 h o q) (passed_on e _ _ k)
-
-    call_counted : (s0 s1 : Judging) (h : GenericFunctionTree) → Counted s0 s1 f.span → function (generic_globals parts).functions f ≡ Ok h → use_types (length h.variables) ≡ Ok (tt {0}) → call_of s0.counts ≡ call_rest s1.counts h
-    call_counted s0 s1 h o q u = call_types s0 s1 h o q ∙ ap (λ z. and_then z (λ _. call_rest s1.counts h)) u
-
-    pub call_count : (e : TypeFault) (s0 s1 : Judging) (h : GenericFunctionTree) → Counted s0 s1 f.span → function (generic_globals parts).functions f ≡ Ok h → use_types (length h.variables) ≡ Ok (tt {0}) → IsFaultOf e (as_many count (length h.parameters) f) → IsFaultOf e (call_of s0.counts)
-    call_count e s0 s1 h o q u k = along e _ _ (call_counted s0 s1 h o q u) (passed_on e _ _ k)
-
-    call_results : (s0 s1 : Judging) (h : GenericFunctionTree) → Counted s0 s1 f.span → function (generic_globals parts).functions f ≡ Ok h → use_types (length h.variables) ≡ Ok (tt {0}) → as_many count (length h.parameters) f ≡ Ok (tt {0}) → call_of s0.counts ≡ and_then (results s1.counts) (λ r. and_then (all_wanted r.0 (parameter_forms h (formed_all opaque ws))) (λ _. Ok (result_forms h (formed_all opaque ws), r.1)))
-    call_results s0 s1 h o q u m = call_counted s0 s1 h o q u ∙ ap (λ z. and_then z (λ _. and_then (results s1.counts) (λ r. and_then (all_wanted r.0 (parameter_forms h (formed_all opaque ws))) (λ _. Ok (result_forms h (formed_all opaque ws), r.1))))) m
-
-    pub call_parts : (e : TypeFault) (s0 s1 : Judging) (h : GenericFunctionTree) → Counted s0 s1 f.span → function (generic_globals parts).functions f ≡ Ok h → use_types (length h.variables) ≡ Ok (tt {0}) → as_many count (length h.parameters) f ≡ Ok (tt {0}) → IsFaultOf e (results s1.counts) → IsFaultOf e (call_of s0.counts)
-    call_parts e s0 s1 h o q u m k = along e _ _ (call_results s0 s1 h o q u m) (passed_on e _ _ k)
-
-    call_wanted : (s0 s1 : Judging) (h : GenericFunctionTree) (ps qs : List FormPart) (due : List Form) (n : Counts) → Counted s0 s1 f.span → function (generic_globals parts).functions f ≡ Ok h → use_types (length h.variables) ≡ Ok (tt {0}) → as_many count (length h.parameters) f ≡ Ok (tt {0}) → results s1.counts ≡ Ok (ps, n) → qs ≡ ps → due ≡ parameter_forms h (formed_all opaque ws) → call_of s0.counts ≡ and_then (all_wanted qs due) (λ _. Ok (result_forms h (formed_all opaque ws), n))
-    call_wanted s0 s1 h ps qs due n o q u m r e d =
-        call_results s0 s1 h o q u m ∙ ap (λ z. and_then z (λ r. and_then (all_wanted r.0 (parameter_forms h (formed_all opaque ws))) (λ _. Ok (result_forms h (formed_all opaque ws), r.1)))) r
-        ∙ ap₂ (λ (xs : List FormPart) (fs : List Form). and_then (all_wanted xs fs) (λ _. Ok (result_forms h (formed_all opaque ws), n))) (sym e) (sym d)
-
-    pub call_shape : (e : TypeFault) (s0 s1 : Judging) (h : GenericFunctionTree) (ps qs : List FormPart) (due : List Form) (n : Counts) → Counted s0 s1 f.span → function (generic_globals parts).functions f ≡ Ok h → use_types (length h.variables) ≡ Ok (tt {0}) → as_many count (length h.parameters) f ≡ Ok (tt {0}) → results s1.counts ≡ Ok (ps, n) → qs ≡ ps → due ≡ parameter_forms h (formed_all opaque ws) → IsFaultOf e (all_wanted qs due) → IsFaultOf e (call_of s0.counts)
-    call_shape e s0 s1 h ps qs due n o q u m r k d w = along e _ _ (call_wanted s0 s1 h ps qs due n o q u m r k d) (passed_on e _ _ w)
-
-    pub call_ok : (s0 s1 : Judging) (h : GenericFunctionTree) (ps qs : List FormPart) (due : List Form) (n : Counts) → Counted s0 s1 f.span → function (generic_globals parts).functions f ≡ Ok h → use_types (length h.variables) ≡ Ok (tt {0}) → as_many count (length h.parameters) f ≡ Ok (tt {0}) → results s1.counts ≡ Ok (ps, n) → qs ≡ ps → due ≡ parameter_forms h (formed_all opaque ws) → all_wanted qs due ≡ Ok (tt {0}) → call_of s0.counts ≡ Ok (result_forms h (formed_all opaque ws), n)
-    call_ok s0 s1 h ps qs due n o q u m r k d w = call_wanted s0 s1 h ps qs due n o q u m r k d ∙ ap (λ z. and_then z (λ _. Ok (result_forms h (formed_all opaque ws), n))) w
-
-    -- So for a constructor.
-    abbrev make_rest : Counts → GenericRow → Checked (Results Form × Counts)
-    make_rest n row =
-        and_then (as_many count (length row.fields) f)
-        (λ _. and_then (results n)
-        (λ r. and_then (all_wanted r.0 (field_forms row (formed_all opaque ws)))
-        (λ _. Ok (One (DataForm row.owner (formed_all opaque ws)), r.1))))
+    pub call_found : (s0 s1 : Judging) (h : GenericFunctionTree) → Counted s0 s1 f.span → function (generic_globals parts).functions f ≡ Ok h → call_of s0.counts ≡ call_rest s1.counts h
+    call_found s0 s1 h o q = call_counted s0 s1 o ∙ ap (λ z. and_then z (call_rest s1.counts)) q
 
     abbrev pub make_of : Counts → Checked (Results Form × Counts)
     make_of n = infer_make (generic_globals parts) (variable_numbers variables) opaque n f ws count results
 
+    abbrev make_rest : Counts → GenericRow → Checked (Results Form × Counts)
+    make_rest n row = and_then (fits (length row.variables) (length row.fields)) (λ _. use_gives (results n) (made row (formed_all opaque ws)))
+
+    make_counted : (s0 s1 : Judging) → Counted s0 s1 f.span → make_of s0.counts ≡ and_then (constructor (generic_globals parts).rows f) (make_rest s1.counts)
+    make_counted s0 s1 o = ap (λ z. and_then z (λ n. and_then (constructor (generic_globals parts).rows f) (make_rest n))) o.read
+
     pub make_constructor : (e : TypeFault) (s0 s1 : Judging) → Counted s0 s1 f.span → IsFaultOf e (constructor (generic_globals parts).rows f) → IsFaultOf e (make_of s0.counts)
-    make_constructor e s0 s1 o h = along e _ _ (ap (λ z. and_then z (λ n. and_then (constructor (generic_globals parts).rows f) (λ h. and_then (as_many (count_written ws) (length h.variables) f) (λ _. and_then (all_known (generic_globals parts).datas (variable_numbers variables) ws) (λ _. make_rest n h))))) o.read) (passed_on e _ _ h)
+    make_constructor e s0 s1 o h = along e _ _ (make_counted s0 s1 o) (passed_on e _ _ h)
 
-    make_types : (s0 s1 : Judging) (h : GenericRow) → Counted s0 s1 f.span → constructor (generic_globals parts).rows f ≡ Ok h → make_of s0.counts ≡ and_then (use_types (length h.variables)) (λ _. make_rest s1.counts h)
-    make_types s0 s1 h o q =
-        ap (λ z. and_then z (λ n. and_then (constructor (generic_globals parts).rows f) (λ h. and_then (as_many (count_written ws) (length h.variables) f) (λ _. and_then (all_known (generic_globals parts).datas (variable_numbers variables) ws) (λ _. make_rest n h))))) o.read
-        ∙ ap (λ z. and_then z (λ (h : GenericRow). and_then (as_many (count_written ws) (length h.variables) f) (λ _. and_then (all_known (generic_globals parts).datas (variable_numbers variables) ws) (λ _. make_rest s1.counts h)))) q
-        ∙ sym (then_then (as_many (count_written ws) (length h.variables) f) (λ _. all_known (generic_globals parts).datas (variable_numbers variables) ws) (λ _. make_rest s1.counts h))
+    pub make_found : (s0 s1 : Judging) (row : GenericRow) → Counted s0 s1 f.span → constructor (generic_globals parts).rows f ≡ Ok row → make_of s0.counts ≡ make_rest s1.counts row
+    make_found s0 s1 row o q = make_counted s0 s1 o ∙ ap (λ z. and_then z (make_rest s1.counts)) q
 
-    pub make_arguments : (e : TypeFault) (s0 s1 : Judging) (h : GenericRow) → Counted s0 s1 f.span → constructor (generic_globals parts).rows f ≡ Ok h → IsFaultOf e (use_types (length h.variables)) → IsFaultOf e (make_of s0.counts)
-    make_arguments e s0 s1 h o q k = along e _ _ (make_types s0 s1 h o q) (passed_on e _ _ k)
+  -- What a use gives, once its declaration is found: its arguments are judged behind what is asked before them.
+  module _ (whole : Checked (Results Form × Counts)) (before : Checked (Unit {0})) (results : Checked (List FormPart × Counts)) (gives : List FormPart → Checked (Results Form)) (is : whole ≡ and_then before (λ _. use_gives results gives)) where
+    pub use_before : (e : TypeFault) → IsFaultOf e before → IsFaultOf e whole
+    use_before e h = along e _ _ is (passed_on e _ _ h)
 
-    make_counted : (s0 s1 : Judging) (h : GenericRow) → Counted s0 s1 f.span → constructor (generic_globals parts).rows f ≡ Ok h → use_types (length h.variables) ≡ Ok (tt {0}) → make_of s0.counts ≡ make_rest s1.counts h
-    make_counted s0 s1 h o q u = make_types s0 s1 h o q ∙ ap (λ z. and_then z (λ _. make_rest s1.counts h)) u
+    use_fitting : before ≡ Ok (tt {0}) → whole ≡ use_gives results gives
+    use_fitting q = is ∙ ap (λ z. and_then z (λ _. use_gives results gives)) q
 
-    pub make_count : (e : TypeFault) (s0 s1 : Judging) (h : GenericRow) → Counted s0 s1 f.span → constructor (generic_globals parts).rows f ≡ Ok h → use_types (length h.variables) ≡ Ok (tt {0}) → IsFaultOf e (as_many count (length h.fields) f) → IsFaultOf e (make_of s0.counts)
-    make_count e s0 s1 h o q u k = along e _ _ (make_counted s0 s1 h o q u) (passed_on e _ _ k)
+    pub use_arguments : (e : TypeFault) → before ≡ Ok (tt {0}) → IsFaultOf e results → IsFaultOf e whole
+    use_arguments e q h = along e _ _ (use_fitting q) (passed_on e _ _ h)
 
-    make_results : (s0 s1 : Judging) (h : GenericRow) → Counted s0 s1 f.span → constructor (generic_globals parts).rows f ≡ Ok h → use_types (length h.variables) ≡ Ok (tt {0}) → as_many count (length h.fields) f ≡ Ok (tt {0}) → make_of s0.counts ≡ and_then (results s1.counts) (λ r. and_then (all_wanted r.0 (field_forms h (formed_all opaque ws))) (λ _. Ok (One (DataForm h.owner (formed_all opaque ws)), r.1)))
-    make_results s0 s1 h o q u m = make_counted s0 s1 h o q u ∙ ap (λ z. and_then z (λ _. and_then (results s1.counts) (λ r. and_then (all_wanted r.0 (field_forms h (formed_all opaque ws))) (λ _. Ok (One (DataForm h.owner (formed_all opaque ws)), r.1))))) m
+    abbrev use_end : Checked (Results Form) → Counts → Checked (Results Form × Counts)
+    use_end given n = and_then given (λ t. Ok (t, n))
 
-    pub make_parts : (e : TypeFault) (s0 s1 : Judging) (h : GenericRow) → Counted s0 s1 f.span → constructor (generic_globals parts).rows f ≡ Ok h → use_types (length h.variables) ≡ Ok (tt {0}) → as_many count (length h.fields) f ≡ Ok (tt {0}) → IsFaultOf e (results s1.counts) → IsFaultOf e (make_of s0.counts)
-    make_parts e s0 s1 h o q u m k = along e _ _ (make_results s0 s1 h o q u m) (passed_on e _ _ k)
+    use_judged : (ps : List FormPart) (n : Counts) → before ≡ Ok (tt {0}) → results ≡ Ok (ps, n) → whole ≡ use_end (gives ps) n
+    use_judged ps n q r = use_fitting q ∙ ap (λ z. and_then z (λ r. use_end (gives r.0) r.1)) r
 
-    make_wanted : (s0 s1 : Judging) (h : GenericRow) (ps qs : List FormPart) (due : List Form) (n : Counts) → Counted s0 s1 f.span → constructor (generic_globals parts).rows f ≡ Ok h → use_types (length h.variables) ≡ Ok (tt {0}) → as_many count (length h.fields) f ≡ Ok (tt {0}) → results s1.counts ≡ Ok (ps, n) → qs ≡ ps → due ≡ field_forms h (formed_all opaque ws) → make_of s0.counts ≡ and_then (all_wanted qs due) (λ _. Ok (One (DataForm h.owner (formed_all opaque ws)), n))
-    make_wanted s0 s1 h ps qs due n o q u m r e d =
-        make_results s0 s1 h o q u m ∙ ap (λ z. and_then z (λ r. and_then (all_wanted r.0 (field_forms h (formed_all opaque ws))) (λ _. Ok (One (DataForm h.owner (formed_all opaque ws)), r.1)))) r
-        ∙ ap₂ (λ (xs : List FormPart) (fs : List Form). and_then (all_wanted xs fs) (λ _. Ok (One (DataForm h.owner (formed_all opaque ws)), n))) (sym e) (sym d)
+    pub use_given : (e : TypeFault) (ps : List FormPart) (n : Counts) → before ≡ Ok (tt {0}) → results ≡ Ok (ps, n) → IsFaultOf e (gives ps) → IsFaultOf e whole
+    use_given e ps n q r h = along e _ _ (use_judged ps n q r) (passed_on e _ _ h)
 
-    pub make_shape : (e : TypeFault) (s0 s1 : Judging) (h : GenericRow) (ps qs : List FormPart) (due : List Form) (n : Counts) → Counted s0 s1 f.span → constructor (generic_globals parts).rows f ≡ Ok h → use_types (length h.variables) ≡ Ok (tt {0}) → as_many count (length h.fields) f ≡ Ok (tt {0}) → results s1.counts ≡ Ok (ps, n) → qs ≡ ps → due ≡ field_forms h (formed_all opaque ws) → IsFaultOf e (all_wanted qs due) → IsFaultOf e (make_of s0.counts)
-    make_shape e s0 s1 h ps qs due n o q u m r k d w = along e _ _ (make_wanted s0 s1 h ps qs due n o q u m r k d) (passed_on e _ _ w)
-
-    pub make_ok : (s0 s1 : Judging) (h : GenericRow) (ps qs : List FormPart) (due : List Form) (n : Counts) → Counted s0 s1 f.span → constructor (generic_globals parts).rows f ≡ Ok h → use_types (length h.variables) ≡ Ok (tt {0}) → as_many count (length h.fields) f ≡ Ok (tt {0}) → results s1.counts ≡ Ok (ps, n) → qs ≡ ps → due ≡ field_forms h (formed_all opaque ws) → all_wanted qs due ≡ Ok (tt {0}) → make_of s0.counts ≡ Ok (One (DataForm h.owner (formed_all opaque ws)), n)
-    make_ok s0 s1 h ps qs due n o q u m r k d w = make_wanted s0 s1 h ps qs due n o q u m r k d ∙ ap (λ z. and_then z (λ _. Ok (One (DataForm h.owner (formed_all opaque ws)), n))) w
+    pub use_ok : (ps : List FormPart) (n : Counts) (t : Results Form) → before ≡ Ok (tt {0}) → results ≡ Ok (ps, n) → gives ps ≡ Ok t → whole ≡ Ok (t, n)
+    use_ok ps n t q r g = use_judged ps n q r ∙ ap (λ z. use_end z n) g

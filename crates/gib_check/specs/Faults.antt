@@ -314,30 +314,41 @@ infer_tuple st n p count results =
     (λ r. and_then (all_single r.0)
     (λ ts. Ok (Several ts, r.1)))))
 
--- A call with so many arguments: its function, the number of its type arguments, their names from left to right, the number of
--- arguments, the arguments, and their types.
+-- What is asked of the type arguments of a use: as many as type variables, and their names from left to right.
+abbrev pub use_types : GenericGlobals → List ℕ → Ident → WrittenTypes → ℕ → Checked (Unit {0})
+use_types g vars x ws variables = and_then (as_many (count_written ws) variables x) (λ _. all_known g.datas vars ws)
+
+-- What is asked of a use before its arguments: its type arguments, then as many arguments as there have to be.
+abbrev pub use_fits : GenericGlobals → List ℕ → Ident → WrittenTypes → ℕ → ℕ → ℕ → Checked (Unit {0})
+use_fits g vars x ws count variables due = and_then (use_types g vars x ws variables) (λ _. as_many count due x)
+
+-- What a function gives at these types, where these are its arguments.
+abbrev pub called : GenericFunctionTree → Forms → List FormPart → Checked (Results Form)
+called h ts parts = and_then (all_wanted parts (parameter_forms h ts)) (λ _. Ok (result_forms h ts))
+
+-- So for a constructor.
+abbrev pub made : GenericRow → Forms → List FormPart → Checked (Results Form)
+made row ts parts = and_then (all_wanted parts (field_forms row ts)) (λ _. Ok (One (DataForm row.owner ts)))
+
+-- What arguments, once they are checked, lead to, and the counts behind them.
+abbrev pub use_gives : Checked (List FormPart × Counts) → (List FormPart → Checked (Results Form)) → Checked (Results Form × Counts)
+use_gives results gives = and_then results (λ r. and_then (gives r.0) (λ t. Ok (t, r.1)))
+
+-- A call with so many arguments: its function, what is asked before its arguments, the arguments, and their types.
 abbrev pub infer_call : GenericGlobals → List ℕ → Meant → Counts → Ident → WrittenTypes → ℕ → (Counts → Checked (List FormPart × Counts)) → Checked (Results Form × Counts)
 infer_call g vars m n f ws count results =
     and_then (one_more n f.span)
     (λ k. and_then (function g.functions f)
-    (λ h. and_then (as_many (count_written ws) (length h.variables) f)
-    (λ _. and_then (all_known g.datas vars ws)
-    (λ _. and_then (as_many count (length h.parameters) f)
-    (λ _. and_then (results k)
-    (λ r. and_then (all_wanted r.0 (parameter_forms h (formed_all m ws)))
-    (λ _. Ok (result_forms h (formed_all m ws), r.1))))))))
+    (λ h. and_then (use_fits g vars f ws count (length h.variables) (length h.parameters))
+    (λ _. use_gives (results k) (called h (formed_all m ws)))))
 
 -- A constructor with so many arguments.
 abbrev pub infer_make : GenericGlobals → List ℕ → Meant → Counts → Ident → WrittenTypes → ℕ → (Counts → Checked (List FormPart × Counts)) → Checked (Results Form × Counts)
 infer_make g vars m n k ws count results =
     and_then (one_more n k.span)
     (λ o. and_then (constructor g.rows k)
-    (λ row. and_then (as_many (count_written ws) (length row.variables) k)
-    (λ _. and_then (all_known g.datas vars ws)
-    (λ _. and_then (as_many count (length row.fields) k)
-    (λ _. and_then (results o)
-    (λ r. and_then (all_wanted r.0 (field_forms row (formed_all m ws)))
-    (λ _. Ok (One (DataForm row.owner (formed_all m ws)), r.1))))))))
+    (λ row. and_then (use_fits g vars k ws count (length row.variables) (length row.fields))
+    (λ _. use_gives (results o) (made row (formed_all m ws)))))
 
 -- A case whose arms have these heads: its variable, the arms by their constructors, the arms, and that their
 -- results have the type of the first one. The arms are asked with the arguments of the variable's type.

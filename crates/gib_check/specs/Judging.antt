@@ -157,35 +157,29 @@ infer_each_arm g vars st ts f scope n (arm ∷ arms) =
     (λ x. and_then (infer_each_arm g vars st ts f scope x.1 arms)
     (λ r. Ok (record { ty = x.0; place = place (f arm.body.0) } ∷ r.0, r.1)))
 
--- The node binds variables to what an expression gives, or two.
-abbrev pub IsBindingNode : GenericNode → Type 0
-IsBindingNode (n.Variable x) = ⊥
-IsBindingNode (n.Whole p v) = ⊥
-IsBindingNode (n.Truth p b) = ⊥
-IsBindingNode (n.Paren p a) = ⊥
-IsBindingNode (n.Operation p f a b) = ⊥
-IsBindingNode (n.Call f ws xs) = ⊥
-IsBindingNode (n.Make k ws xs) = ⊥
-IsBindingNode (n.Let p xs a b) = Unit {0}
-IsBindingNode (n.LetPar p xs a ys b c) = Unit {0}
-IsBindingNode (n.If p a b c) = ⊥
-IsBindingNode (n.Case p x arms) = ⊥
-IsBindingNode (n.Tuple p xs) = ⊥
+-- Families of nodes.
+pub data Family : Type 0 where
+  -- its parts are checked in the scope where it stands
+  Plain : Family
+  -- variables are bound
+  Binding : Family
+  -- there are several ways on
+  Choosing : Family
 
--- The node has several ways on.
-abbrev pub IsChoiceNode : GenericNode → Type 0
-IsChoiceNode (n.Variable x) = ⊥
-IsChoiceNode (n.Whole p v) = ⊥
-IsChoiceNode (n.Truth p b) = ⊥
-IsChoiceNode (n.Paren p a) = ⊥
-IsChoiceNode (n.Operation p f a b) = ⊥
-IsChoiceNode (n.Call f ws xs) = ⊥
-IsChoiceNode (n.Make k ws xs) = ⊥
-IsChoiceNode (n.Let p xs a b) = ⊥
-IsChoiceNode (n.LetPar p xs a ys b c) = ⊥
-IsChoiceNode (n.If p a b c) = Unit {0}
-IsChoiceNode (n.Case p x arms) = Unit {0}
-IsChoiceNode (n.Tuple p xs) = ⊥
+-- The family of a node.
+abbrev pub family_of : GenericNode → Family
+family_of (n.Variable x) = Plain
+family_of (n.Whole p v) = Plain
+family_of (n.Truth p b) = Plain
+family_of (n.Paren p a) = Plain
+family_of (n.Operation p f a b) = Plain
+family_of (n.Call f ws xs) = Plain
+family_of (n.Make k ws xs) = Plain
+family_of (n.Let p xs a b) = Binding
+family_of (n.LetPar p xs a ys b c) = Binding
+family_of (n.If p a b c) = Choosing
+family_of (n.Case p x arms) = Choosing
+family_of (n.Tuple p xs) = Plain
 
 -- The type is `Int` or `Bool`.
 abbrev pub IsClosed : TypeNode → Type 0

@@ -2,26 +2,26 @@
 
 ghost use Rattle.std.specs.Prelude.{◌≡◌, ◌<◌, map, length, IfOk};
 ghost use Rattle.gib_types.specs.Types.{forms_at, AreBelow};
-ghost use Rattle.gib_syntax.specs.Forms.{formed, formed_all, count_written, assign};
+ghost use Rattle.gib_syntax.specs.Forms.{formed, formed_all, assign};
 ghost use Rattle.gib_syntax.specs.GenericTree.{GenericParameterTree};
 ghost use Rattle.gib_syntax.specs.GenericTyping.{variable_numbers, opaque, field_forms};
-ghost use Rattle.gib_syntax.specs.GenericParts.{parameter_in, results_in};
+ghost use Rattle.gib_syntax.specs.GenericParts.{function_in, parameter_in, results_in};
 ghost use Rattle.gib_syntax.specs.Results.{map_results};
 ghost use Rattle.gib_syntax.specs.Words.{IsTypesRun, type_in, types_in};
 ghost use Rattle.gib_check.specs.Answers.{Gives};
 ghost use Rattle.gib_check.specs.Faults as rule;
-ghost use Rattle.gib_check.specs.Judging.{forms, in_scope, listed, forms_given, Met, Keeps, meant_by, IsMeaningBelow};
+ghost use Rattle.gib_check.specs.Judging.{forms, in_scope, listed, forms_given, parts_in, ArePartsMet, Met, Keeps, meant_by, IsMeaningBelow};
 ghost use Rattle.gib_check.specs.NameViews.{generic_globals, row_in};
 
 use crate::fault::TypeFault;
 use crate::known::all_known;
 use crate::named::{Around, Named, RowDecl};
 use crate::reading::Meaning;
-use crate::rules::{ResultIds, as_many};
+use crate::rules::{Part, ResultIds, all_wanted, as_many};
 use crate::state::State;
 use gib_base::{Memory, Name};
-use gib_syntax::{GenericParameter, Ident, ResultRuns, Run};
-use gib_types::types::TypeId;
+use gib_syntax::{GenericFunction, GenericParameter, Ident, ResultRuns, Run};
+use gib_types::types::{TypeId, TypeNode};
 
 /// A called function or a constructor, with its type arguments.
 #[derive(Clone, Copy)]
@@ -39,8 +39,15 @@ impl Use {
     }
 }
 
+/// How many type arguments and arguments a use has to have.
+#[derive(Clone, Copy)]
+pub struct Due {
+    pub types: usize,
+    pub arguments: usize,
+}
+
 /// The type arguments at a use, of which there have to be as many as type variables: their number, their names.
-pub fn type_arguments(
+fn type_arguments(
     around: &Around,
     state: &mut State,
     due: usize,
@@ -48,7 +55,7 @@ pub fn type_arguments(
 ) -> Result<Vec<TypeId>, TypeFault>
     requires { IsTypesRun around.now.named.now.exprs.words used.types }
     ensures read { Gives (λ _. tt {0}) result
-        (rule.and_then (rule.as_many (count_written (types_in around.now.named.now.exprs.words used.types)) due used.name) (λ _. rule.all_known (generic_globals around.now.named.now).datas (variable_numbers around.now.variables.now) (types_in around.now.named.now.exprs.words used.types))) }
+        (rule.use_types (generic_globals around.now.named.now) (variable_numbers around.now.variables.now) used.name (types_in around.now.named.now.exprs.words used.types) due) }
     ensures types { IfOk result (λ ids. forms_at (forms state.new) ids.items ≡ formed_all opaque (types_in around.now.named.now.exprs.words used.types)) }
     ensures below { IfOk result (λ ids. AreBelow (length state.new.types) ids.items) }
     ensures keeps { Keeps state.old state.new }
@@ -59,8 +66,28 @@ pub fn type_arguments(
     Ok(ids)
 }
 
+/// The type arguments at a use with so many arguments, before these are looked at.
+pub fn use_types(
+    around: &Around,
+    state: &mut State,
+    used: Use,
+    count: usize,
+    due: Due,
+) -> Result<Vec<TypeId>, TypeFault>
+    requires { IsTypesRun around.now.named.now.exprs.words used.types }
+    ensures read { Gives (λ _. tt {0}) result
+        (rule.use_fits (generic_globals around.now.named.now) (variable_numbers around.now.variables.now) used.name (types_in around.now.named.now.exprs.words used.types) count due.types due.arguments) }
+    ensures types { IfOk result (λ ids. forms_at (forms state.new) ids.items ≡ formed_all opaque (types_in around.now.named.now.exprs.words used.types)) }
+    ensures below { IfOk result (λ ids. AreBelow (length state.new.types) ids.items) }
+    ensures keeps { Keeps state.old state.new }
+{
+    let types = type_arguments(around, state, due.types, used)?;
+    as_many(count, due.arguments, used.name)?;
+    Ok(types)
+}
+
 /// What these type variables stand for.
-pub fn given(state: &State, variables: &[Ident], types: &[TypeId]) -> Result<Meaning, Memory>
+fn given(state: &State, variables: &[Ident], types: &[TypeId]) -> Result<Meaning, Memory>
     requires { AreBelow (length state.now.types) types.now }
     ensures meant { IfOk result (λ meaning. meant_by (forms state.now) meaning ≡ assign variables.now (forms_at (forms state.now) types.now)) }
     ensures below { IfOk result (λ meaning. IsMeaningBelow (length state.now.types) meaning) }
@@ -71,7 +98,7 @@ pub fn given(state: &State, variables: &[Ident], types: &[TypeId]) -> Result<Mea
 }
 
 /// The types of a constructor's fields, where its type's variables stand for these types.
-pub fn row_fields(
+fn row_fields(
     named: &Named,
     state: &mut State,
     row: RowDecl,
@@ -109,7 +136,7 @@ pub fn fields_named(
 }
 
 /// The types of parameters.
-pub fn parameter_types(
+fn parameter_types(
     named: &Named,
     state: &mut State,
     meaning: &Meaning,
@@ -176,4 +203,49 @@ pub fn result_types(
             Ok(given)
         }
     }
+}
+
+/// What a call gives at these types, with these arguments.
+pub fn call_results(
+    named: &Named,
+    state: &mut State,
+    function: &GenericFunction,
+    types: &[TypeId],
+    parts: &[Part],
+) -> Result<ResultIds, TypeFault>
+    requires types { AreBelow (length state.old.types) types.now }
+    requires parts { ArePartsMet state.old parts.now }
+    ensures read { Gives (λ r. forms_given state.new r) result
+        (rule.called (function_in named.now.exprs function.now) (forms_at (forms state.old) types.now) (parts_in state.old parts.now)) }
+    ensures met { IfOk result (λ r. Met state.old state.new r) }
+    ensures counts { IfOk result (λ _. state.new.counts ≡ state.old.counts) }
+    ensures scope { IfOk result (λ _. (in_scope state.new) ≡ (in_scope state.old)) }
+{
+    let meaning = given(state, &function.variables, types)?;
+    let due = parameter_types(named, state, &meaning, &function.parameters)?;
+    all_wanted(state, parts, &due)?;
+    let results = result_types(named, state, &meaning, &function.result)?;
+    Ok(results)
+}
+
+/// What a constructor gives at these types, with these arguments.
+pub fn make_result(
+    named: &Named,
+    state: &mut State,
+    row: RowDecl,
+    types: Vec<TypeId>,
+    parts: &[Part],
+) -> Result<ResultIds, TypeFault>
+    requires types { AreBelow (length state.old.types) types.items }
+    requires parts { ArePartsMet state.old parts.now }
+    ensures read { Gives (λ r. forms_given state.new r) result
+        (rule.made (row_in named.now row) (forms_at (forms state.old) types.items) (parts_in state.old parts.now)) }
+    ensures met { IfOk result (λ r. Met state.old state.new r) }
+    ensures counts { IfOk result (λ _. state.new.counts ≡ state.old.counts) }
+    ensures scope { IfOk result (λ _. (in_scope state.new) ≡ (in_scope state.old)) }
+{
+    let fields = row_fields(named, state, row, &types)?;
+    all_wanted(state, parts, &fields)?;
+    let ty = state.put(TypeNode::Data(row.owner.0, types))?;
+    Ok(ResultIds::One(ty))
 }

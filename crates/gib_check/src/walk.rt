@@ -10,7 +10,7 @@ ghost use Rattle.gib_syntax.specs.GenericTyping.{variable_numbers, opaque, opera
 ghost use Rattle.gib_syntax.specs.Words.{IsTypesRun, types_in};
 ghost use Rattle.gib_check.specs.Answers.{Gives};
 ghost use Rattle.gib_check.specs.Faults as rule;
-ghost use Rattle.gib_check.specs.Judging.{forms, in_scope, forms_given, Met, AllMet, parts_in, ArePartsMet, arm_head, infer_each_arm, IsBindingNode, IsChoiceNode, IsClosed};
+ghost use Rattle.gib_check.specs.Judging.{forms, in_scope, forms_given, Met, AllMet, parts_in, ArePartsMet, arm_head, infer_each_arm, family_of, Binding, Choosing, IsClosed};
 ghost use Rattle.gib_check.specs.NameViews.{generic_globals, generic_tree};
 
 use crate::arms::{all_counted, all_declared, covered};
@@ -19,14 +19,11 @@ use crate::fault::TypeFault;
 use crate::named::Around;
 use crate::parts::part;
 use crate::rules::{
-    Part, ResultIds, all_of, all_single, all_wanted, as_many, declared_type, wanted, wanted_truth,
-    wanted_whole,
+    Part, ResultIds, all_of, all_single, declared_type, wanted, wanted_truth, wanted_whole,
 };
 use crate::standing::{Standing, may_stand, standing_for};
 use crate::state::State;
-use crate::uses::{
-    Use, fields_named, given, parameter_types, result_types, row_fields, type_arguments,
-};
+use crate::uses::{Due, Use, call_results, fields_named, make_result, use_types};
 use gib_base::Span;
 use gib_syntax::{Arm, ExprId, GenericNode, Ident};
 use gib_types::Operator;
@@ -179,7 +176,7 @@ fn infer_choice(
 ) -> Result<ResultIds, TypeFault>
     requires inside { id.0 < length around.now.named.now.exprs.nodes }
     requires opens { Opens around.now.named.now.exprs id.0 node.now }
-    requires choice { IsChoiceNode node.now }
+    requires choosing { family_of node.now ≡ Choosing }
     ensures read { Gives (λ r. (forms_given state.new r, state.new.counts)) result (rule.infer (generic_globals around.now.named.now) (variable_numbers around.now.variables.now) opaque standing (in_scope state.old) state.old.counts (generic_tree around.now.named.now id.0)) }
     ensures kept { IfOk result (λ _. (in_scope state.new) ≡ (in_scope state.old)) }
     ensures met { IfOk result (λ r. Met state.old state.new r) }
@@ -218,7 +215,7 @@ fn infer_binding(
 ) -> Result<ResultIds, TypeFault>
     requires inside { id.0 < length around.now.named.now.exprs.nodes }
     requires opens { Opens around.now.named.now.exprs id.0 node.now }
-    requires binding { IsBindingNode node.now }
+    requires binding { family_of node.now ≡ Binding }
     ensures read { Gives (λ r. (forms_given state.new r, state.new.counts)) result (rule.infer (generic_globals around.now.named.now) (variable_numbers around.now.variables.now) opaque standing (in_scope state.old) state.old.counts (generic_tree around.now.named.now id.0)) }
     ensures kept { IfOk result (λ _. (in_scope state.new) ≡ (in_scope state.old)) }
     ensures met { IfOk result (λ r. Met state.old state.new r) }
@@ -325,14 +322,13 @@ fn call(
 {
     state.one_more(called.name.span)?;
     let function = around.named.function(called.name)?;
-    let due = function.variables.len();
-    let types = type_arguments(around, state, due, called)?;
-    as_many(ids.len(), function.parameters.len(), called.name)?;
+    let due = Due {
+        types: function.variables.len(),
+        arguments: function.parameters.len(),
+    };
+    let types = use_types(around, state, called, ids.len(), due)?;
     let parts = arguments(around, state, id, ids)?;
-    let meaning = given(state, &function.variables, &types)?;
-    let wanted_types = parameter_types(around.named, state, &meaning, &function.parameters)?;
-    all_wanted(state, &parts, &wanted_types)?;
-    let given = result_types(around.named, state, &meaning, &function.result)?;
+    let given = call_results(around.named, state, function, &types, &parts)?;
     Ok(given)
 }
 
@@ -354,14 +350,14 @@ fn make(
 {
     state.one_more(made.name.span)?;
     let row = around.named.constructor(made.name)?;
-    let due = around.named.variables(row.declaration).len();
-    let types = type_arguments(around, state, due, made)?;
-    as_many(ids.len(), row.count, made.name)?;
+    let due = Due {
+        types: around.named.variables(row.declaration).len(),
+        arguments: row.count,
+    };
+    let types = use_types(around, state, made, ids.len(), due)?;
     let parts = arguments(around, state, id, ids)?;
-    let fields = row_fields(around.named, state, row, &types)?;
-    all_wanted(state, &parts, &fields)?;
-    let ty = state.put(TypeNode::Data(row.owner.0, types))?;
-    Ok(ResultIds::One(ty))
+    let given = make_result(around.named, state, row, types, &parts)?;
+    Ok(given)
 }
 
 /// The types of the parts of a tuple.

@@ -1,23 +1,25 @@
-use Rattle.std.proofs.Common.{◌≡◌, ◌<◌, ◌-◌, List, [], ap, ap₂, sym, refl, ◌∙◌, subst, subst₂, Some, length, rules}
+use Rattle.std.proofs.Common.{◌≡◌, ◌<◌, ◌-◌, List, [], ap, ap₂, sym, refl, ◌∙◌, subst, subst₂, Some, length, arith, rules}
 use Rattle.std.proofs.lemmas.Result.{err_from_is_err_and}
-use Rattle.gib_types.specs.Form.{Form, WholeForm, TruthForm}
-use Rattle.gib_types.specs.Types.{form_at, forms_of, AreBelow}
+use Rattle.gib_types.specs.Form.{Form, Forms, WholeForm, TruthForm}
+use Rattle.gib_types.specs.Types.{form_at, forms_at, forms_of, AreBelow}
 use Rattle.gib_check.specs.declared.counts.Counts.{Counts}
 use Rattle.gib_check.specs.declared.rules.Part.{Part}
 use Rattle.gib_check.specs.declared.uses.Use.{Use}
 use Rattle.gib_check.specs.declared.walk.At.{At}
 use Rattle.gib_check.specs.declared.walk.Sides.{Sides}
 use Rattle.gib_check.specs.Answers.{IsFaultOf}
-use Rattle.gib_check.specs.Faults.{place, bind_given, bind_sides, infer}
+use Rattle.gib_check.specs.Faults.{place, bind_given, bind_sides, called, made, infer, infer_all}
 use Rattle.gib_syntax.specs.Results.{Results, One, Several}
 use Rattle.gib_syntax.specs.GenericTree.{GenericCall, GenericMake, GenericLet, GenericPar, GenericCase, GenericTuple}
 use Rattle.gib_syntax.specs.GenericArena.{tree_of, layer, PartsBelow, arguments_from, case_from}
 use Rattle.gib_syntax.specs.GenericTyping.{variable_numbers, opaque}
 use Rattle.gib_syntax.specs.Words.{types_in}
-use Rattle.gib_check.specs.NameViews.{generic_globals, generic_tree}
+use Rattle.gib_syntax.specs.Forms.{formed_all}
+use Rattle.gib_syntax.specs.GenericParts.{function_in}
+use Rattle.gib_check.specs.NameViews.{generic_globals, generic_tree, row_in}
 use Rattle.gib_check.specs.Judging.{forms, in_scope, listed, forms_given, AreMet, part_in, parts_in, ArePartsMet}
 use Rattle.gib_check.proofs.Opening.{call_opened, make_opened, tuple_opened, case_opened, gives_same}
-use Rattle.gib_check.proofs.Growing.{advances_on, same_advance, keeps_advance, met_stays, parts_grow, parts_stay}
+use Rattle.gib_check.proofs.Growing.{below_more, advances_on, same_advance, keeps_advance, met_stays, parts_grow, parts_stay}
 use Rattle.gib_check.proofs.Loops.{along, ArgumentsSoFar, ArmsSoFar, arguments_start, arguments_next, arguments_stops, arguments_fails, arms_start, arms_next, arms_stops, arms_fails}
 use Rattle.gib_check.proofs.Walking as walking
 use Rattle.gib_check.proofs.Answering as answering
@@ -202,112 +204,86 @@ tuple-put_parts-requires t c =
 pub call-returns-in_err-function-clause-read : goal.call-returns-in_err-function-clause-read
 call-returns-in_err-function-clause-read t c =
     let p = err_from_is_err_and c.from_residual-in_err-function.result c.from_residual-in_err-function.ensures.1 in
-    rw (p.1, p.2) (walking.call_function c.args.around.now.named.now c.args.around.now.variables.now c.args.called.name (types_in c.args.around.now.named.now.exprs.words c.args.called.types) (length c.args.ids.now) (λ n. Rattle.gib_check.specs.Faults.infer_all (generic_globals c.args.around.now.named.now) (variable_numbers c.args.around.now.variables.now) Rattle.gib_syntax.specs.GenericTyping.opaque (in_scope c.args.state.now) n (Rattle.gib_syntax.specs.GenericArena.arguments_from (generic_tree c.args.around.now.named.now) c.args.ids.now)) c.in_err-function.field-0.0 c.args.state.now c.one_more.new.self (record { read = c.in_ok-one_more.ensures.counts; kept = c.one_more.ensures.scope; types = c.one_more.ensures.types }) c.in_err-function.ensures)
+    rw (p.1, p.2) (walking.call_function c.args.around.now.named.now c.args.around.now.variables.now c.args.called.name (types_in c.args.around.now.named.now.exprs.words c.args.called.types) (length c.args.ids.now) (λ n. infer_all (generic_globals c.args.around.now.named.now) (variable_numbers c.args.around.now.variables.now) opaque (in_scope c.args.state.now) n (arguments_from (generic_tree c.args.around.now.named.now) c.args.ids.now)) c.in_err-function.field-0.0 c.args.state.now c.one_more.new.self (record { read = c.in_ok-one_more.ensures.counts; kept = c.one_more.ensures.scope; types = c.one_more.ensures.types }) c.in_err-function.ensures)
 
 pub call-returns-in_err-types-clause-read : goal.call-returns-in_err-types-clause-read
 call-returns-in_err-types-clause-read t c =
     let p = err_from_is_err_and c.from_residual-in_err-types.result c.from_residual-in_err-types.ensures.1 in
-    rw (p.1, p.2) (walking.call_arguments c.args.around.now.named.now c.args.around.now.variables.now c.args.called.name (types_in c.args.around.now.named.now.exprs.words c.args.called.types) (length c.args.ids.now) (λ n. Rattle.gib_check.specs.Faults.infer_all (generic_globals c.args.around.now.named.now) (variable_numbers c.args.around.now.variables.now) Rattle.gib_syntax.specs.GenericTyping.opaque (in_scope c.args.state.now) n (Rattle.gib_syntax.specs.GenericArena.arguments_from (generic_tree c.args.around.now.named.now) c.args.ids.now)) c.in_err-types.field-0.0 c.args.state.now c.one_more.new.self (Rattle.gib_syntax.specs.GenericParts.function_in c.args.around.now.named.now.exprs c.in_ok-function.function.now) (record { read = c.in_ok-one_more.ensures.counts; kept = c.one_more.ensures.scope; types = c.one_more.ensures.types }) c.in_ok-function.ensures (subst (λ n. IsFaultOf c.in_err-types.field-0.0 (walking.use_types c.args.around.now.named.now c.args.around.now.variables.now c.args.called.name (types_in c.args.around.now.named.now.exprs.words c.args.called.types) (length c.args.ids.now) (λ n. Rattle.gib_check.specs.Faults.infer_all (generic_globals c.args.around.now.named.now) (variable_numbers c.args.around.now.variables.now) Rattle.gib_syntax.specs.GenericTyping.opaque (in_scope c.args.state.now) n (Rattle.gib_syntax.specs.GenericArena.arguments_from (generic_tree c.args.around.now.named.now) c.args.ids.now)) n)) (omega (Rattle.std.proofs.Common.arith, c.len-due.ensures, c.in_ok-function.function.now.variables.ok)) c.in_err-types.ensures.read))
-
-pub call-returns-in_err-as_many-clause-read : goal.call-returns-in_err-as_many-clause-read
-call-returns-in_err-as_many-clause-read t c =
-    let p = err_from_is_err_and c.from_residual-in_err-as_many.result c.from_residual-in_err-as_many.ensures.1 in
-    rw (p.1, p.2) (walking.call_count c.args.around.now.named.now c.args.around.now.variables.now c.args.called.name (types_in c.args.around.now.named.now.exprs.words c.args.called.types) (length c.args.ids.now) (λ n. Rattle.gib_check.specs.Faults.infer_all (generic_globals c.args.around.now.named.now) (variable_numbers c.args.around.now.variables.now) Rattle.gib_syntax.specs.GenericTyping.opaque (in_scope c.args.state.now) n (Rattle.gib_syntax.specs.GenericArena.arguments_from (generic_tree c.args.around.now.named.now) c.args.ids.now)) c.in_err-as_many.field-0.0 c.args.state.now c.one_more.new.self (Rattle.gib_syntax.specs.GenericParts.function_in c.args.around.now.named.now.exprs c.in_ok-function.function.now) (record { read = c.in_ok-one_more.ensures.counts; kept = c.one_more.ensures.scope; types = c.one_more.ensures.types }) c.in_ok-function.ensures (subst (λ n. walking.use_types c.args.around.now.named.now c.args.around.now.variables.now c.args.called.name (types_in c.args.around.now.named.now.exprs.words c.args.called.types) (length c.args.ids.now) (λ n. Rattle.gib_check.specs.Faults.infer_all (generic_globals c.args.around.now.named.now) (variable_numbers c.args.around.now.variables.now) Rattle.gib_syntax.specs.GenericTyping.opaque (in_scope c.args.state.now) n (Rattle.gib_syntax.specs.GenericArena.arguments_from (generic_tree c.args.around.now.named.now) c.args.ids.now)) n ≡ Rattle.std.proofs.Common.Ok (tt {0})) (omega (Rattle.std.proofs.Common.arith, c.len-due.ensures, c.in_ok-function.function.now.variables.ok)) c.in_ok-types.ensures.read) (answering.counted_as (λ z. IsFaultOf c.in_err-as_many.field-0.0 (z)) c.args.called.name (length c.args.ids.now) c.len.result (length c.args.ids.now) (length (Rattle.gib_syntax.specs.GenericParts.function_in c.args.around.now.named.now.exprs c.in_ok-function.function.now).parameters) refl (answering.mapped_length c.args.around.now.named.now.exprs.words c.len.result c.in_ok-function.function.now.parameters.items (omega (Rattle.std.proofs.Common.arith, c.len.ensures, c.in_ok-function.function.now.parameters.ok))) c.in_err-as_many.ensures))
+    rw (p.1, p.2) (walking.use_before c.args.around.now.named.now c.args.around.now.variables.now (walking.call_of c.args.around.now.named.now c.args.around.now.variables.now c.args.called.name (types_in c.args.around.now.named.now.exprs.words c.args.called.types) (length c.args.ids.now) (λ n. infer_all (generic_globals c.args.around.now.named.now) (variable_numbers c.args.around.now.variables.now) opaque (in_scope c.args.state.now) n (arguments_from (generic_tree c.args.around.now.named.now) c.args.ids.now)) c.args.state.now.counts) (walking.fits c.args.around.now.named.now c.args.around.now.variables.now c.args.called.name (types_in c.args.around.now.named.now.exprs.words c.args.called.types) (length c.args.ids.now) (λ n. infer_all (generic_globals c.args.around.now.named.now) (variable_numbers c.args.around.now.variables.now) opaque (in_scope c.args.state.now) n (arguments_from (generic_tree c.args.around.now.named.now) c.args.ids.now)) (length (function_in c.args.around.now.named.now.exprs c.in_ok-function.function.now).variables) (length (function_in c.args.around.now.named.now.exprs c.in_ok-function.function.now).parameters)) (infer_all (generic_globals c.args.around.now.named.now) (variable_numbers c.args.around.now.variables.now) opaque (in_scope c.args.state.now) c.one_more.new.self.counts (arguments_from (generic_tree c.args.around.now.named.now) c.args.ids.now)) (called (function_in c.args.around.now.named.now.exprs c.in_ok-function.function.now) (formed_all opaque (types_in c.args.around.now.named.now.exprs.words c.args.called.types))) (walking.call_found c.args.around.now.named.now c.args.around.now.variables.now c.args.called.name (types_in c.args.around.now.named.now.exprs.words c.args.called.types) (length c.args.ids.now) (λ n. infer_all (generic_globals c.args.around.now.named.now) (variable_numbers c.args.around.now.variables.now) opaque (in_scope c.args.state.now) n (arguments_from (generic_tree c.args.around.now.named.now) c.args.ids.now)) c.args.state.now c.one_more.new.self (function_in c.args.around.now.named.now.exprs c.in_ok-function.function.now) (record { read = c.in_ok-one_more.ensures.counts; kept = c.one_more.ensures.scope; types = c.one_more.ensures.types }) c.in_ok-function.ensures) c.in_err-types.field-0.0 (answering.fits_as (IsFaultOf c.in_err-types.field-0.0) (generic_globals c.args.around.now.named.now) (variable_numbers c.args.around.now.variables.now) c.args.called.name (types_in c.args.around.now.named.now.exprs.words c.args.called.types) (length c.args.ids.now) c.len.result c.len-2.result (length (function_in c.args.around.now.named.now.exprs c.in_ok-function.function.now).variables) (length (function_in c.args.around.now.named.now.exprs c.in_ok-function.function.now).parameters) (omega (arith, c.len.ensures, c.in_ok-function.function.now.variables.ok)) (answering.mapped_length c.args.around.now.named.now.exprs.words c.len-2.result c.in_ok-function.function.now.parameters.items (omega (arith, c.len-2.ensures, c.in_ok-function.function.now.parameters.ok))) c.in_err-types.ensures.read))
 
 pub call-returns-in_err-parts-clause-read : goal.call-returns-in_err-parts-clause-read
 call-returns-in_err-parts-clause-read t c =
     let p = err_from_is_err_and c.from_residual-in_err-parts.result c.from_residual-in_err-parts.ensures.1 in
-    rw (p.1, p.2) (walking.call_parts c.args.around.now.named.now c.args.around.now.variables.now c.args.called.name (types_in c.args.around.now.named.now.exprs.words c.args.called.types) (length c.args.ids.now) (λ n. Rattle.gib_check.specs.Faults.infer_all (generic_globals c.args.around.now.named.now) (variable_numbers c.args.around.now.variables.now) Rattle.gib_syntax.specs.GenericTyping.opaque (in_scope c.args.state.now) n (Rattle.gib_syntax.specs.GenericArena.arguments_from (generic_tree c.args.around.now.named.now) c.args.ids.now)) c.in_err-parts.field-0.0 c.args.state.now c.one_more.new.self (Rattle.gib_syntax.specs.GenericParts.function_in c.args.around.now.named.now.exprs c.in_ok-function.function.now) (record { read = c.in_ok-one_more.ensures.counts; kept = c.one_more.ensures.scope; types = c.one_more.ensures.types }) c.in_ok-function.ensures (subst (λ n. walking.use_types c.args.around.now.named.now c.args.around.now.variables.now c.args.called.name (types_in c.args.around.now.named.now.exprs.words c.args.called.types) (length c.args.ids.now) (λ n. Rattle.gib_check.specs.Faults.infer_all (generic_globals c.args.around.now.named.now) (variable_numbers c.args.around.now.variables.now) Rattle.gib_syntax.specs.GenericTyping.opaque (in_scope c.args.state.now) n (Rattle.gib_syntax.specs.GenericArena.arguments_from (generic_tree c.args.around.now.named.now) c.args.ids.now)) n ≡ Rattle.std.proofs.Common.Ok (tt {0})) (omega (Rattle.std.proofs.Common.arith, c.len-due.ensures, c.in_ok-function.function.now.variables.ok)) c.in_ok-types.ensures.read) (answering.counted_as (λ z. z ≡ Rattle.std.proofs.Common.Ok (tt {0})) c.args.called.name (length c.args.ids.now) c.len.result (length c.args.ids.now) (length (Rattle.gib_syntax.specs.GenericParts.function_in c.args.around.now.named.now.exprs c.in_ok-function.function.now).parameters) refl (answering.mapped_length c.args.around.now.named.now.exprs.words c.len.result c.in_ok-function.function.now.parameters.items (omega (Rattle.std.proofs.Common.arith, c.len.ensures, c.in_ok-function.function.now.parameters.ok))) c.in_ok-as_many.ensures) (Rattle.gib_check.proofs.Loops.along c.in_err-parts.field-0.0 _ _ (answering.results_moved c.args.around.now.named.now c.args.around.now.variables.now c.args.state.now c.one_more.new.self c.type_arguments.new.state c.args.ids.now c.type_arguments.ensures.keeps c.one_more.ensures.scope) c.in_err-parts.ensures.read))
+    rw (p.1, p.2) (walking.use_arguments c.args.around.now.named.now c.args.around.now.variables.now (walking.call_of c.args.around.now.named.now c.args.around.now.variables.now c.args.called.name (types_in c.args.around.now.named.now.exprs.words c.args.called.types) (length c.args.ids.now) (λ n. infer_all (generic_globals c.args.around.now.named.now) (variable_numbers c.args.around.now.variables.now) opaque (in_scope c.args.state.now) n (arguments_from (generic_tree c.args.around.now.named.now) c.args.ids.now)) c.args.state.now.counts) (walking.fits c.args.around.now.named.now c.args.around.now.variables.now c.args.called.name (types_in c.args.around.now.named.now.exprs.words c.args.called.types) (length c.args.ids.now) (λ n. infer_all (generic_globals c.args.around.now.named.now) (variable_numbers c.args.around.now.variables.now) opaque (in_scope c.args.state.now) n (arguments_from (generic_tree c.args.around.now.named.now) c.args.ids.now)) (length (function_in c.args.around.now.named.now.exprs c.in_ok-function.function.now).variables) (length (function_in c.args.around.now.named.now.exprs c.in_ok-function.function.now).parameters)) (infer_all (generic_globals c.args.around.now.named.now) (variable_numbers c.args.around.now.variables.now) opaque (in_scope c.args.state.now) c.one_more.new.self.counts (arguments_from (generic_tree c.args.around.now.named.now) c.args.ids.now)) (called (function_in c.args.around.now.named.now.exprs c.in_ok-function.function.now) (formed_all opaque (types_in c.args.around.now.named.now.exprs.words c.args.called.types))) (walking.call_found c.args.around.now.named.now c.args.around.now.variables.now c.args.called.name (types_in c.args.around.now.named.now.exprs.words c.args.called.types) (length c.args.ids.now) (λ n. infer_all (generic_globals c.args.around.now.named.now) (variable_numbers c.args.around.now.variables.now) opaque (in_scope c.args.state.now) n (arguments_from (generic_tree c.args.around.now.named.now) c.args.ids.now)) c.args.state.now c.one_more.new.self (function_in c.args.around.now.named.now.exprs c.in_ok-function.function.now) (record { read = c.in_ok-one_more.ensures.counts; kept = c.one_more.ensures.scope; types = c.one_more.ensures.types }) c.in_ok-function.ensures) c.in_err-parts.field-0.0 (answering.fits_as (λ z. z ≡ Rattle.std.proofs.Common.Ok (tt {0})) (generic_globals c.args.around.now.named.now) (variable_numbers c.args.around.now.variables.now) c.args.called.name (types_in c.args.around.now.named.now.exprs.words c.args.called.types) (length c.args.ids.now) c.len.result c.len-2.result (length (function_in c.args.around.now.named.now.exprs c.in_ok-function.function.now).variables) (length (function_in c.args.around.now.named.now.exprs c.in_ok-function.function.now).parameters) (omega (arith, c.len.ensures, c.in_ok-function.function.now.variables.ok)) (answering.mapped_length c.args.around.now.named.now.exprs.words c.len-2.result c.in_ok-function.function.now.parameters.items (omega (arith, c.len-2.ensures, c.in_ok-function.function.now.parameters.ok))) c.in_ok-types.ensures.read) (along c.in_err-parts.field-0.0 _ _ (answering.results_moved c.args.around.now.named.now c.args.around.now.variables.now c.args.state.now c.one_more.new.self c.use_types.new.state c.args.ids.now c.use_types.ensures.keeps c.one_more.ensures.scope) c.in_err-parts.ensures.read))
 
-pub call-returns-in_err-all_wanted-clause-read : goal.call-returns-in_err-all_wanted-clause-read
-call-returns-in_err-all_wanted-clause-read t c =
-    let p = err_from_is_err_and c.from_residual-in_err-all_wanted.result c.from_residual-in_err-all_wanted.ensures.1 in
-    rw (p.1, p.2) (walking.call_shape c.args.around.now.named.now c.args.around.now.variables.now c.args.called.name (types_in c.args.around.now.named.now.exprs.words c.args.called.types) (length c.args.ids.now) (λ n. Rattle.gib_check.specs.Faults.infer_all (generic_globals c.args.around.now.named.now) (variable_numbers c.args.around.now.variables.now) Rattle.gib_syntax.specs.GenericTyping.opaque (in_scope c.args.state.now) n (Rattle.gib_syntax.specs.GenericArena.arguments_from (generic_tree c.args.around.now.named.now) c.args.ids.now)) c.in_err-all_wanted.field-0.0 c.args.state.now c.one_more.new.self (Rattle.gib_syntax.specs.GenericParts.function_in c.args.around.now.named.now.exprs c.in_ok-function.function.now) (parts_in c.arguments.new.state c.in_ok-parts.parts.items) (parts_in c.parameter_types.new.state c.deref-4.result.now) (listed (forms c.parameter_types.new.state) c.deref-5.result.now) c.arguments.new.state.counts (record { read = c.in_ok-one_more.ensures.counts; kept = c.one_more.ensures.scope; types = c.one_more.ensures.types }) c.in_ok-function.ensures (subst (λ n. walking.use_types c.args.around.now.named.now c.args.around.now.variables.now c.args.called.name (types_in c.args.around.now.named.now.exprs.words c.args.called.types) (length c.args.ids.now) (λ n. Rattle.gib_check.specs.Faults.infer_all (generic_globals c.args.around.now.named.now) (variable_numbers c.args.around.now.variables.now) Rattle.gib_syntax.specs.GenericTyping.opaque (in_scope c.args.state.now) n (Rattle.gib_syntax.specs.GenericArena.arguments_from (generic_tree c.args.around.now.named.now) c.args.ids.now)) n ≡ Rattle.std.proofs.Common.Ok (tt {0})) (omega (Rattle.std.proofs.Common.arith, c.len-due.ensures, c.in_ok-function.function.now.variables.ok)) c.in_ok-types.ensures.read) (answering.counted_as (λ z. z ≡ Rattle.std.proofs.Common.Ok (tt {0})) c.args.called.name (length c.args.ids.now) c.len.result (length c.args.ids.now) (length (Rattle.gib_syntax.specs.GenericParts.function_in c.args.around.now.named.now.exprs c.in_ok-function.function.now).parameters) refl (answering.mapped_length c.args.around.now.named.now.exprs.words c.len.result c.in_ok-function.function.now.parameters.items (omega (Rattle.std.proofs.Common.arith, c.len.ensures, c.in_ok-function.function.now.parameters.ok))) c.in_ok-as_many.ensures) ((answering.results_moved c.args.around.now.named.now c.args.around.now.variables.now c.args.state.now c.one_more.new.self c.type_arguments.new.state c.args.ids.now c.type_arguments.ensures.keeps c.one_more.ensures.scope) ∙ c.in_ok-parts.ensures.read) (ap (parts_in c.parameter_types.new.state) c.deref-4.ensures.value ∙ parts_grow c.arguments.new.state c.parameter_types.new.state c.in_ok-parts.parts.items (keeps_advance c.arguments.new.state c.parameter_types.new.state c.in_ok-wanted_types.ensures.keeps) c.in_ok-parts.ensures.met.here) (ap (listed (forms c.parameter_types.new.state)) c.deref-5.ensures.value ∙ c.in_ok-wanted_types.ensures.types ∙ answering.parameters_are c.args.around.now.named.now.exprs.words c.in_ok-function.function.now.parameters.items c.deref-3.result.now (Rattle.gib_syntax.specs.GenericParts.function_in c.args.around.now.named.now.exprs c.in_ok-function.function.now).variables (Rattle.gib_check.specs.Judging.meant_by (forms c.arguments.new.state) c.in_ok-meaning.meaning) _ (Rattle.gib_syntax.specs.Forms.formed_all Rattle.gib_syntax.specs.GenericTyping.opaque (types_in c.args.around.now.named.now.exprs.words c.args.called.types)) c.deref-3.ensures.value (c.in_ok-meaning.ensures.meant ∙ ap (λ vs. Rattle.gib_syntax.specs.Forms.assign vs (Rattle.gib_types.specs.Types.forms_at (forms c.arguments.new.state) c.deref-2.result.now)) c.deref.ensures.value) (ap (Rattle.gib_types.specs.Types.forms_at (forms c.arguments.new.state)) c.deref-2.ensures.value ∙ (answering.given_types c.type_arguments.new.state c.arguments.new.state c.in_ok-types.types.items (types_in c.args.around.now.named.now.exprs.words c.args.called.types) c.in_ok-types.ensures.types c.in_ok-parts.ensures.met.advances.types c.in_ok-types.ensures.below))) c.in_err-all_wanted.ensures)
+pub call-returns-in_err-given-clause-read : goal.call-returns-in_err-given-clause-read
+call-returns-in_err-given-clause-read t c =
+    let p = err_from_is_err_and c.from_residual-in_err-given.result c.from_residual-in_err-given.ensures.1 in
+    rw (p.1, p.2) (walking.use_given c.args.around.now.named.now c.args.around.now.variables.now (walking.call_of c.args.around.now.named.now c.args.around.now.variables.now c.args.called.name (types_in c.args.around.now.named.now.exprs.words c.args.called.types) (length c.args.ids.now) (λ n. infer_all (generic_globals c.args.around.now.named.now) (variable_numbers c.args.around.now.variables.now) opaque (in_scope c.args.state.now) n (arguments_from (generic_tree c.args.around.now.named.now) c.args.ids.now)) c.args.state.now.counts) (walking.fits c.args.around.now.named.now c.args.around.now.variables.now c.args.called.name (types_in c.args.around.now.named.now.exprs.words c.args.called.types) (length c.args.ids.now) (λ n. infer_all (generic_globals c.args.around.now.named.now) (variable_numbers c.args.around.now.variables.now) opaque (in_scope c.args.state.now) n (arguments_from (generic_tree c.args.around.now.named.now) c.args.ids.now)) (length (function_in c.args.around.now.named.now.exprs c.in_ok-function.function.now).variables) (length (function_in c.args.around.now.named.now.exprs c.in_ok-function.function.now).parameters)) (infer_all (generic_globals c.args.around.now.named.now) (variable_numbers c.args.around.now.variables.now) opaque (in_scope c.args.state.now) c.one_more.new.self.counts (arguments_from (generic_tree c.args.around.now.named.now) c.args.ids.now)) (called (function_in c.args.around.now.named.now.exprs c.in_ok-function.function.now) (formed_all opaque (types_in c.args.around.now.named.now.exprs.words c.args.called.types))) (walking.call_found c.args.around.now.named.now c.args.around.now.variables.now c.args.called.name (types_in c.args.around.now.named.now.exprs.words c.args.called.types) (length c.args.ids.now) (λ n. infer_all (generic_globals c.args.around.now.named.now) (variable_numbers c.args.around.now.variables.now) opaque (in_scope c.args.state.now) n (arguments_from (generic_tree c.args.around.now.named.now) c.args.ids.now)) c.args.state.now c.one_more.new.self (function_in c.args.around.now.named.now.exprs c.in_ok-function.function.now) (record { read = c.in_ok-one_more.ensures.counts; kept = c.one_more.ensures.scope; types = c.one_more.ensures.types }) c.in_ok-function.ensures) c.in_err-given.field-0.0 (parts_in c.arguments.new.state c.in_ok-parts.parts.items) c.arguments.new.state.counts (answering.fits_as (λ z. z ≡ Rattle.std.proofs.Common.Ok (tt {0})) (generic_globals c.args.around.now.named.now) (variable_numbers c.args.around.now.variables.now) c.args.called.name (types_in c.args.around.now.named.now.exprs.words c.args.called.types) (length c.args.ids.now) c.len.result c.len-2.result (length (function_in c.args.around.now.named.now.exprs c.in_ok-function.function.now).variables) (length (function_in c.args.around.now.named.now.exprs c.in_ok-function.function.now).parameters) (omega (arith, c.len.ensures, c.in_ok-function.function.now.variables.ok)) (answering.mapped_length c.args.around.now.named.now.exprs.words c.len-2.result c.in_ok-function.function.now.parameters.items (omega (arith, c.len-2.ensures, c.in_ok-function.function.now.parameters.ok))) c.in_ok-types.ensures.read) ((answering.results_moved c.args.around.now.named.now c.args.around.now.variables.now c.args.state.now c.one_more.new.self c.use_types.new.state c.args.ids.now c.use_types.ensures.keeps c.one_more.ensures.scope) ∙ c.in_ok-parts.ensures.read) (subst₂ (λ (us : Forms) (ps : List Part). IsFaultOf c.in_err-given.field-0.0 (called (function_in c.args.around.now.named.now.exprs c.in_ok-function.function.now) us (parts_in c.arguments.new.state ps))) (ap (forms_at (forms c.arguments.new.state)) c.deref.ensures.value ∙ (answering.given_types c.use_types.new.state c.arguments.new.state c.in_ok-types.types.items (types_in c.args.around.now.named.now.exprs.words c.args.called.types) c.in_ok-types.ensures.types c.in_ok-parts.ensures.met.advances.types c.in_ok-types.ensures.below)) c.deref-2.ensures.value c.in_err-given.ensures.read))
 
 pub call-returns-clause-read : goal.call-returns-clause-read
 call-returns-clause-read t c =
-    walking.call_ok c.args.around.now.named.now c.args.around.now.variables.now c.args.called.name (types_in c.args.around.now.named.now.exprs.words c.args.called.types) (length c.args.ids.now) (λ n. Rattle.gib_check.specs.Faults.infer_all (generic_globals c.args.around.now.named.now) (variable_numbers c.args.around.now.variables.now) Rattle.gib_syntax.specs.GenericTyping.opaque (in_scope c.args.state.now) n (Rattle.gib_syntax.specs.GenericArena.arguments_from (generic_tree c.args.around.now.named.now) c.args.ids.now)) c.args.state.now c.one_more.new.self (Rattle.gib_syntax.specs.GenericParts.function_in c.args.around.now.named.now.exprs c.in_ok-function.function.now) (parts_in c.arguments.new.state c.in_ok-parts.parts.items) (parts_in c.parameter_types.new.state c.deref-4.result.now) (listed (forms c.parameter_types.new.state) c.deref-5.result.now) c.arguments.new.state.counts (record { read = c.in_ok-one_more.ensures.counts; kept = c.one_more.ensures.scope; types = c.one_more.ensures.types }) c.in_ok-function.ensures (subst (λ n. walking.use_types c.args.around.now.named.now c.args.around.now.variables.now c.args.called.name (types_in c.args.around.now.named.now.exprs.words c.args.called.types) (length c.args.ids.now) (λ n. Rattle.gib_check.specs.Faults.infer_all (generic_globals c.args.around.now.named.now) (variable_numbers c.args.around.now.variables.now) Rattle.gib_syntax.specs.GenericTyping.opaque (in_scope c.args.state.now) n (Rattle.gib_syntax.specs.GenericArena.arguments_from (generic_tree c.args.around.now.named.now) c.args.ids.now)) n ≡ Rattle.std.proofs.Common.Ok (tt {0})) (omega (Rattle.std.proofs.Common.arith, c.len-due.ensures, c.in_ok-function.function.now.variables.ok)) c.in_ok-types.ensures.read) (answering.counted_as (λ z. z ≡ Rattle.std.proofs.Common.Ok (tt {0})) c.args.called.name (length c.args.ids.now) c.len.result (length c.args.ids.now) (length (Rattle.gib_syntax.specs.GenericParts.function_in c.args.around.now.named.now.exprs c.in_ok-function.function.now).parameters) refl (answering.mapped_length c.args.around.now.named.now.exprs.words c.len.result c.in_ok-function.function.now.parameters.items (omega (Rattle.std.proofs.Common.arith, c.len.ensures, c.in_ok-function.function.now.parameters.ok))) c.in_ok-as_many.ensures) ((answering.results_moved c.args.around.now.named.now c.args.around.now.variables.now c.args.state.now c.one_more.new.self c.type_arguments.new.state c.args.ids.now c.type_arguments.ensures.keeps c.one_more.ensures.scope) ∙ c.in_ok-parts.ensures.read)
-    (ap (parts_in c.parameter_types.new.state) c.deref-4.ensures.value ∙ parts_grow c.arguments.new.state c.parameter_types.new.state c.in_ok-parts.parts.items (keeps_advance c.arguments.new.state c.parameter_types.new.state c.in_ok-wanted_types.ensures.keeps) c.in_ok-parts.ensures.met.here)
-    (ap (listed (forms c.parameter_types.new.state)) c.deref-5.ensures.value ∙ c.in_ok-wanted_types.ensures.types ∙ answering.parameters_are c.args.around.now.named.now.exprs.words c.in_ok-function.function.now.parameters.items c.deref-3.result.now (Rattle.gib_syntax.specs.GenericParts.function_in c.args.around.now.named.now.exprs c.in_ok-function.function.now).variables (Rattle.gib_check.specs.Judging.meant_by (forms c.arguments.new.state) c.in_ok-meaning.meaning) _ (Rattle.gib_syntax.specs.Forms.formed_all Rattle.gib_syntax.specs.GenericTyping.opaque (types_in c.args.around.now.named.now.exprs.words c.args.called.types)) c.deref-3.ensures.value (c.in_ok-meaning.ensures.meant ∙ ap (λ vs. Rattle.gib_syntax.specs.Forms.assign vs (Rattle.gib_types.specs.Types.forms_at (forms c.arguments.new.state) c.deref-2.result.now)) c.deref.ensures.value) (ap (Rattle.gib_types.specs.Types.forms_at (forms c.arguments.new.state)) c.deref-2.ensures.value ∙ (answering.given_types c.type_arguments.new.state c.arguments.new.state c.in_ok-types.types.items (types_in c.args.around.now.named.now.exprs.words c.args.called.types) c.in_ok-types.ensures.types c.in_ok-parts.ensures.met.advances.types c.in_ok-types.ensures.below)))
-    c.in_ok-all_wanted.ensures
-    ∙ answering.call_answer c.arguments.new.state c.parameter_types.new.state c.result_types.new.state c.in_ok-given.given _ _ _ (Rattle.gib_syntax.specs.GenericParts.results_in c.args.around.now.named.now.exprs.words c.in_ok-function.function.now.result) c.in_ok-given.ensures.forms (answering.meant_later c.arguments.new.state c.parameter_types.new.state c.in_ok-meaning.meaning (Rattle.gib_syntax.specs.GenericParts.function_in c.args.around.now.named.now.exprs c.in_ok-function.function.now).variables c.deref.result.now c.in_ok-types.types.items c.deref-2.result.now (Rattle.gib_syntax.specs.Forms.formed_all Rattle.gib_syntax.specs.GenericTyping.opaque (types_in c.args.around.now.named.now.exprs.words c.args.called.types)) c.in_ok-meaning.ensures.meant c.deref.ensures.value c.deref-2.ensures.value (answering.given_types c.type_arguments.new.state c.arguments.new.state c.in_ok-types.types.items (types_in c.args.around.now.named.now.exprs.words c.args.called.types) c.in_ok-types.ensures.types c.in_ok-parts.ensures.met.advances.types c.in_ok-types.ensures.below) c.in_ok-wanted_types.ensures.keeps.grows c.in_ok-meaning.ensures.below)
-    refl c.in_ok-wanted_types.ensures.keeps.counts c.in_ok-given.ensures.counts
+    walking.use_ok c.args.around.now.named.now c.args.around.now.variables.now (walking.call_of c.args.around.now.named.now c.args.around.now.variables.now c.args.called.name (types_in c.args.around.now.named.now.exprs.words c.args.called.types) (length c.args.ids.now) (λ n. infer_all (generic_globals c.args.around.now.named.now) (variable_numbers c.args.around.now.variables.now) opaque (in_scope c.args.state.now) n (arguments_from (generic_tree c.args.around.now.named.now) c.args.ids.now)) c.args.state.now.counts) (walking.fits c.args.around.now.named.now c.args.around.now.variables.now c.args.called.name (types_in c.args.around.now.named.now.exprs.words c.args.called.types) (length c.args.ids.now) (λ n. infer_all (generic_globals c.args.around.now.named.now) (variable_numbers c.args.around.now.variables.now) opaque (in_scope c.args.state.now) n (arguments_from (generic_tree c.args.around.now.named.now) c.args.ids.now)) (length (function_in c.args.around.now.named.now.exprs c.in_ok-function.function.now).variables) (length (function_in c.args.around.now.named.now.exprs c.in_ok-function.function.now).parameters)) (infer_all (generic_globals c.args.around.now.named.now) (variable_numbers c.args.around.now.variables.now) opaque (in_scope c.args.state.now) c.one_more.new.self.counts (arguments_from (generic_tree c.args.around.now.named.now) c.args.ids.now)) (called (function_in c.args.around.now.named.now.exprs c.in_ok-function.function.now) (formed_all opaque (types_in c.args.around.now.named.now.exprs.words c.args.called.types))) (walking.call_found c.args.around.now.named.now c.args.around.now.variables.now c.args.called.name (types_in c.args.around.now.named.now.exprs.words c.args.called.types) (length c.args.ids.now) (λ n. infer_all (generic_globals c.args.around.now.named.now) (variable_numbers c.args.around.now.variables.now) opaque (in_scope c.args.state.now) n (arguments_from (generic_tree c.args.around.now.named.now) c.args.ids.now)) c.args.state.now c.one_more.new.self (function_in c.args.around.now.named.now.exprs c.in_ok-function.function.now) (record { read = c.in_ok-one_more.ensures.counts; kept = c.one_more.ensures.scope; types = c.one_more.ensures.types }) c.in_ok-function.ensures) (parts_in c.arguments.new.state c.in_ok-parts.parts.items) c.arguments.new.state.counts (forms_given c.call_results.new.state c.in_ok-given.given) (answering.fits_as (λ z. z ≡ Rattle.std.proofs.Common.Ok (tt {0})) (generic_globals c.args.around.now.named.now) (variable_numbers c.args.around.now.variables.now) c.args.called.name (types_in c.args.around.now.named.now.exprs.words c.args.called.types) (length c.args.ids.now) c.len.result c.len-2.result (length (function_in c.args.around.now.named.now.exprs c.in_ok-function.function.now).variables) (length (function_in c.args.around.now.named.now.exprs c.in_ok-function.function.now).parameters) (omega (arith, c.len.ensures, c.in_ok-function.function.now.variables.ok)) (answering.mapped_length c.args.around.now.named.now.exprs.words c.len-2.result c.in_ok-function.function.now.parameters.items (omega (arith, c.len-2.ensures, c.in_ok-function.function.now.parameters.ok))) c.in_ok-types.ensures.read) ((answering.results_moved c.args.around.now.named.now c.args.around.now.variables.now c.args.state.now c.one_more.new.self c.use_types.new.state c.args.ids.now c.use_types.ensures.keeps c.one_more.ensures.scope) ∙ c.in_ok-parts.ensures.read)
+    (subst₂ (λ (us : Forms) (ps : List Part). called (function_in c.args.around.now.named.now.exprs c.in_ok-function.function.now) us (parts_in c.arguments.new.state ps) ≡ Rattle.std.proofs.Common.Ok (forms_given c.call_results.new.state c.in_ok-given.given)) (ap (forms_at (forms c.arguments.new.state)) c.deref.ensures.value ∙ (answering.given_types c.use_types.new.state c.arguments.new.state c.in_ok-types.types.items (types_in c.args.around.now.named.now.exprs.words c.args.called.types) c.in_ok-types.ensures.types c.in_ok-parts.ensures.met.advances.types c.in_ok-types.ensures.below)) c.deref-2.ensures.value c.in_ok-given.ensures.read)
+    ∙ ap (answering.answer_of (forms_given c.call_results.new.state c.in_ok-given.given)) (sym c.in_ok-given.ensures.counts)
 
-pub call-given-requires : goal.call-given-requires
-call-given-requires t c = subst (Rattle.gib_types.specs.Types.AreBelow (length c.arguments.new.state.types)) (sym c.deref-2.ensures.value) (Rattle.gib_check.proofs.Growing.below_more (length c.type_arguments.new.state.types) (length c.arguments.new.state.types) c.in_ok-types.types.items c.in_ok-parts.ensures.met.advances.types.longer c.in_ok-types.ensures.below)
+pub call-returns-clause-met : goal.call-returns-clause-met
+call-returns-clause-met t c =
+    record { advances = (advances_on c.args.state.now c.arguments.new.state c.call_results.new.state (advances_on c.args.state.now c.use_types.new.state c.arguments.new.state (advances_on c.args.state.now c.one_more.new.self c.use_types.new.state (same_advance c.args.state.now c.one_more.new.self c.one_more.ensures.types c.one_more.ensures.parts) (keeps_advance c.one_more.new.self c.use_types.new.state c.use_types.ensures.keeps)) c.in_ok-parts.ensures.met.advances) c.in_ok-given.ensures.met.advances); here = c.in_ok-given.ensures.met.here }
 
-pub call-all_wanted-requires-clause-parts : goal.call-all_wanted-requires-clause-parts
-call-all_wanted-requires-clause-parts t c =
-    subst (ArePartsMet c.parameter_types.new.state) (sym c.deref-4.ensures.value) (parts_stay c.arguments.new.state c.parameter_types.new.state c.in_ok-parts.parts.items (keeps_advance c.arguments.new.state c.parameter_types.new.state c.in_ok-wanted_types.ensures.keeps) c.in_ok-parts.ensures.met.here)
+pub call-returns-clause-kept : goal.call-returns-clause-kept
+call-returns-clause-kept t c =
+    c.in_ok-given.ensures.scope ∙ c.in_ok-parts.ensures.kept ∙ c.use_types.ensures.keeps.scope ∙ c.one_more.ensures.scope
 
-pub call-all_wanted-requires-clause-due : goal.call-all_wanted-requires-clause-due
-call-all_wanted-requires-clause-due t c =
-    subst (AreBelow (length c.parameter_types.new.state.types)) (sym c.deref-5.ensures.value) c.in_ok-wanted_types.ensures.below
+pub call-call_results-requires-clause-types : goal.call-call_results-requires-clause-types
+call-call_results-requires-clause-types t c =
+    subst (AreBelow (length c.arguments.new.state.types)) (sym c.deref.ensures.value) (below_more (length c.use_types.new.state.types) (length c.arguments.new.state.types) c.in_ok-types.types.items c.in_ok-parts.ensures.met.advances.types.longer c.in_ok-types.ensures.below)
+
+pub call-call_results-requires-clause-parts : goal.call-call_results-requires-clause-parts
+call-call_results-requires-clause-parts t c =
+    subst (ArePartsMet c.arguments.new.state) (sym c.deref-2.ensures.value) c.in_ok-parts.ensures.met.here
 
 pub make-returns-in_err-row-clause-read : goal.make-returns-in_err-row-clause-read
 make-returns-in_err-row-clause-read t c =
     let p = err_from_is_err_and c.from_residual-in_err-row.result c.from_residual-in_err-row.ensures.1 in
-    rw (p.1, p.2) (walking.make_constructor c.args.around.now.named.now c.args.around.now.variables.now c.args.made.name (types_in c.args.around.now.named.now.exprs.words c.args.made.types) (length c.args.ids.now) (λ n. Rattle.gib_check.specs.Faults.infer_all (generic_globals c.args.around.now.named.now) (variable_numbers c.args.around.now.variables.now) Rattle.gib_syntax.specs.GenericTyping.opaque (in_scope c.args.state.now) n (Rattle.gib_syntax.specs.GenericArena.arguments_from (generic_tree c.args.around.now.named.now) c.args.ids.now)) c.in_err-row.field-0.0 c.args.state.now c.one_more.new.self (record { read = c.in_ok-one_more.ensures.counts; kept = c.one_more.ensures.scope; types = c.one_more.ensures.types }) c.in_err-row.ensures.row)
+    rw (p.1, p.2) (walking.make_constructor c.args.around.now.named.now c.args.around.now.variables.now c.args.made.name (types_in c.args.around.now.named.now.exprs.words c.args.made.types) (length c.args.ids.now) (λ n. infer_all (generic_globals c.args.around.now.named.now) (variable_numbers c.args.around.now.variables.now) opaque (in_scope c.args.state.now) n (arguments_from (generic_tree c.args.around.now.named.now) c.args.ids.now)) c.in_err-row.field-0.0 c.args.state.now c.one_more.new.self (record { read = c.in_ok-one_more.ensures.counts; kept = c.one_more.ensures.scope; types = c.one_more.ensures.types }) c.in_err-row.ensures.row)
 
 pub make-returns-in_err-types-clause-read : goal.make-returns-in_err-types-clause-read
 make-returns-in_err-types-clause-read t c =
     let p = err_from_is_err_and c.from_residual-in_err-types.result c.from_residual-in_err-types.ensures.1 in
-    rw (p.1, p.2) (walking.make_arguments c.args.around.now.named.now c.args.around.now.variables.now c.args.made.name (types_in c.args.around.now.named.now.exprs.words c.args.made.types) (length c.args.ids.now) (λ n. Rattle.gib_check.specs.Faults.infer_all (generic_globals c.args.around.now.named.now) (variable_numbers c.args.around.now.variables.now) Rattle.gib_syntax.specs.GenericTyping.opaque (in_scope c.args.state.now) n (Rattle.gib_syntax.specs.GenericArena.arguments_from (generic_tree c.args.around.now.named.now) c.args.ids.now)) c.in_err-types.field-0.0 c.args.state.now c.one_more.new.self (Rattle.gib_check.specs.NameViews.row_in c.args.around.now.named.now c.in_ok-row.row) (record { read = c.in_ok-one_more.ensures.counts; kept = c.one_more.ensures.scope; types = c.one_more.ensures.types }) c.in_ok-row.ensures.row (subst (λ n. IsFaultOf c.in_err-types.field-0.0 (walking.use_types c.args.around.now.named.now c.args.around.now.variables.now c.args.made.name (types_in c.args.around.now.named.now.exprs.words c.args.made.types) (length c.args.ids.now) (λ n. Rattle.gib_check.specs.Faults.infer_all (generic_globals c.args.around.now.named.now) (variable_numbers c.args.around.now.variables.now) Rattle.gib_syntax.specs.GenericTyping.opaque (in_scope c.args.state.now) n (Rattle.gib_syntax.specs.GenericArena.arguments_from (generic_tree c.args.around.now.named.now) c.args.ids.now)) n)) (ap length c.variables-due.ensures) c.in_err-types.ensures.read))
-
-pub make-returns-in_err-as_many-clause-read : goal.make-returns-in_err-as_many-clause-read
-make-returns-in_err-as_many-clause-read t c =
-    let p = err_from_is_err_and c.from_residual-in_err-as_many.result c.from_residual-in_err-as_many.ensures.1 in
-    rw (p.1, p.2) (walking.make_count c.args.around.now.named.now c.args.around.now.variables.now c.args.made.name (types_in c.args.around.now.named.now.exprs.words c.args.made.types) (length c.args.ids.now) (λ n. Rattle.gib_check.specs.Faults.infer_all (generic_globals c.args.around.now.named.now) (variable_numbers c.args.around.now.variables.now) Rattle.gib_syntax.specs.GenericTyping.opaque (in_scope c.args.state.now) n (Rattle.gib_syntax.specs.GenericArena.arguments_from (generic_tree c.args.around.now.named.now) c.args.ids.now)) c.in_err-as_many.field-0.0 c.args.state.now c.one_more.new.self (Rattle.gib_check.specs.NameViews.row_in c.args.around.now.named.now c.in_ok-row.row) (record { read = c.in_ok-one_more.ensures.counts; kept = c.one_more.ensures.scope; types = c.one_more.ensures.types }) c.in_ok-row.ensures.row (subst (λ n. walking.use_types c.args.around.now.named.now c.args.around.now.variables.now c.args.made.name (types_in c.args.around.now.named.now.exprs.words c.args.made.types) (length c.args.ids.now) (λ n. Rattle.gib_check.specs.Faults.infer_all (generic_globals c.args.around.now.named.now) (variable_numbers c.args.around.now.variables.now) Rattle.gib_syntax.specs.GenericTyping.opaque (in_scope c.args.state.now) n (Rattle.gib_syntax.specs.GenericArena.arguments_from (generic_tree c.args.around.now.named.now) c.args.ids.now)) n ≡ Rattle.std.proofs.Common.Ok (tt {0})) (ap length c.variables-due.ensures) c.in_ok-types.ensures.read) (answering.counted_as (λ z. IsFaultOf c.in_err-as_many.field-0.0 (z)) c.args.made.name (length c.args.ids.now) c.in_ok-row.row.count (length c.args.ids.now) (length (Rattle.gib_check.specs.NameViews.row_in c.args.around.now.named.now c.in_ok-row.row).fields) refl c.in_ok-row.ensures.count c.in_err-as_many.ensures))
+    rw (p.1, p.2) (walking.use_before c.args.around.now.named.now c.args.around.now.variables.now (walking.make_of c.args.around.now.named.now c.args.around.now.variables.now c.args.made.name (types_in c.args.around.now.named.now.exprs.words c.args.made.types) (length c.args.ids.now) (λ n. infer_all (generic_globals c.args.around.now.named.now) (variable_numbers c.args.around.now.variables.now) opaque (in_scope c.args.state.now) n (arguments_from (generic_tree c.args.around.now.named.now) c.args.ids.now)) c.args.state.now.counts) (walking.fits c.args.around.now.named.now c.args.around.now.variables.now c.args.made.name (types_in c.args.around.now.named.now.exprs.words c.args.made.types) (length c.args.ids.now) (λ n. infer_all (generic_globals c.args.around.now.named.now) (variable_numbers c.args.around.now.variables.now) opaque (in_scope c.args.state.now) n (arguments_from (generic_tree c.args.around.now.named.now) c.args.ids.now)) (length (row_in c.args.around.now.named.now c.in_ok-row.row).variables) (length (row_in c.args.around.now.named.now c.in_ok-row.row).fields)) (infer_all (generic_globals c.args.around.now.named.now) (variable_numbers c.args.around.now.variables.now) opaque (in_scope c.args.state.now) c.one_more.new.self.counts (arguments_from (generic_tree c.args.around.now.named.now) c.args.ids.now)) (made (row_in c.args.around.now.named.now c.in_ok-row.row) (formed_all opaque (types_in c.args.around.now.named.now.exprs.words c.args.made.types))) (walking.make_found c.args.around.now.named.now c.args.around.now.variables.now c.args.made.name (types_in c.args.around.now.named.now.exprs.words c.args.made.types) (length c.args.ids.now) (λ n. infer_all (generic_globals c.args.around.now.named.now) (variable_numbers c.args.around.now.variables.now) opaque (in_scope c.args.state.now) n (arguments_from (generic_tree c.args.around.now.named.now) c.args.ids.now)) c.args.state.now c.one_more.new.self (row_in c.args.around.now.named.now c.in_ok-row.row) (record { read = c.in_ok-one_more.ensures.counts; kept = c.one_more.ensures.scope; types = c.one_more.ensures.types }) c.in_ok-row.ensures.row) c.in_err-types.field-0.0 (answering.fits_as (IsFaultOf c.in_err-types.field-0.0) (generic_globals c.args.around.now.named.now) (variable_numbers c.args.around.now.variables.now) c.args.made.name (types_in c.args.around.now.named.now.exprs.words c.args.made.types) (length c.args.ids.now) (length c.variables.result.now) c.in_ok-row.row.count (length (row_in c.args.around.now.named.now c.in_ok-row.row).variables) (length (row_in c.args.around.now.named.now c.in_ok-row.row).fields) (ap length c.variables.ensures) c.in_ok-row.ensures.count c.in_err-types.ensures.read))
 
 pub make-returns-in_err-parts-clause-read : goal.make-returns-in_err-parts-clause-read
 make-returns-in_err-parts-clause-read t c =
     let p = err_from_is_err_and c.from_residual-in_err-parts.result c.from_residual-in_err-parts.ensures.1 in
-    rw (p.1, p.2) (walking.make_parts c.args.around.now.named.now c.args.around.now.variables.now c.args.made.name (types_in c.args.around.now.named.now.exprs.words c.args.made.types) (length c.args.ids.now) (λ n. Rattle.gib_check.specs.Faults.infer_all (generic_globals c.args.around.now.named.now) (variable_numbers c.args.around.now.variables.now) Rattle.gib_syntax.specs.GenericTyping.opaque (in_scope c.args.state.now) n (Rattle.gib_syntax.specs.GenericArena.arguments_from (generic_tree c.args.around.now.named.now) c.args.ids.now)) c.in_err-parts.field-0.0 c.args.state.now c.one_more.new.self (Rattle.gib_check.specs.NameViews.row_in c.args.around.now.named.now c.in_ok-row.row) (record { read = c.in_ok-one_more.ensures.counts; kept = c.one_more.ensures.scope; types = c.one_more.ensures.types }) c.in_ok-row.ensures.row (subst (λ n. walking.use_types c.args.around.now.named.now c.args.around.now.variables.now c.args.made.name (types_in c.args.around.now.named.now.exprs.words c.args.made.types) (length c.args.ids.now) (λ n. Rattle.gib_check.specs.Faults.infer_all (generic_globals c.args.around.now.named.now) (variable_numbers c.args.around.now.variables.now) Rattle.gib_syntax.specs.GenericTyping.opaque (in_scope c.args.state.now) n (Rattle.gib_syntax.specs.GenericArena.arguments_from (generic_tree c.args.around.now.named.now) c.args.ids.now)) n ≡ Rattle.std.proofs.Common.Ok (tt {0})) (ap length c.variables-due.ensures) c.in_ok-types.ensures.read) (answering.counted_as (λ z. z ≡ Rattle.std.proofs.Common.Ok (tt {0})) c.args.made.name (length c.args.ids.now) c.in_ok-row.row.count (length c.args.ids.now) (length (Rattle.gib_check.specs.NameViews.row_in c.args.around.now.named.now c.in_ok-row.row).fields) refl c.in_ok-row.ensures.count c.in_ok-as_many.ensures) (Rattle.gib_check.proofs.Loops.along c.in_err-parts.field-0.0 _ _ (answering.results_moved c.args.around.now.named.now c.args.around.now.variables.now c.args.state.now c.one_more.new.self c.type_arguments.new.state c.args.ids.now c.type_arguments.ensures.keeps c.one_more.ensures.scope) c.in_err-parts.ensures.read))
+    rw (p.1, p.2) (walking.use_arguments c.args.around.now.named.now c.args.around.now.variables.now (walking.make_of c.args.around.now.named.now c.args.around.now.variables.now c.args.made.name (types_in c.args.around.now.named.now.exprs.words c.args.made.types) (length c.args.ids.now) (λ n. infer_all (generic_globals c.args.around.now.named.now) (variable_numbers c.args.around.now.variables.now) opaque (in_scope c.args.state.now) n (arguments_from (generic_tree c.args.around.now.named.now) c.args.ids.now)) c.args.state.now.counts) (walking.fits c.args.around.now.named.now c.args.around.now.variables.now c.args.made.name (types_in c.args.around.now.named.now.exprs.words c.args.made.types) (length c.args.ids.now) (λ n. infer_all (generic_globals c.args.around.now.named.now) (variable_numbers c.args.around.now.variables.now) opaque (in_scope c.args.state.now) n (arguments_from (generic_tree c.args.around.now.named.now) c.args.ids.now)) (length (row_in c.args.around.now.named.now c.in_ok-row.row).variables) (length (row_in c.args.around.now.named.now c.in_ok-row.row).fields)) (infer_all (generic_globals c.args.around.now.named.now) (variable_numbers c.args.around.now.variables.now) opaque (in_scope c.args.state.now) c.one_more.new.self.counts (arguments_from (generic_tree c.args.around.now.named.now) c.args.ids.now)) (made (row_in c.args.around.now.named.now c.in_ok-row.row) (formed_all opaque (types_in c.args.around.now.named.now.exprs.words c.args.made.types))) (walking.make_found c.args.around.now.named.now c.args.around.now.variables.now c.args.made.name (types_in c.args.around.now.named.now.exprs.words c.args.made.types) (length c.args.ids.now) (λ n. infer_all (generic_globals c.args.around.now.named.now) (variable_numbers c.args.around.now.variables.now) opaque (in_scope c.args.state.now) n (arguments_from (generic_tree c.args.around.now.named.now) c.args.ids.now)) c.args.state.now c.one_more.new.self (row_in c.args.around.now.named.now c.in_ok-row.row) (record { read = c.in_ok-one_more.ensures.counts; kept = c.one_more.ensures.scope; types = c.one_more.ensures.types }) c.in_ok-row.ensures.row) c.in_err-parts.field-0.0 (answering.fits_as (λ z. z ≡ Rattle.std.proofs.Common.Ok (tt {0})) (generic_globals c.args.around.now.named.now) (variable_numbers c.args.around.now.variables.now) c.args.made.name (types_in c.args.around.now.named.now.exprs.words c.args.made.types) (length c.args.ids.now) (length c.variables.result.now) c.in_ok-row.row.count (length (row_in c.args.around.now.named.now c.in_ok-row.row).variables) (length (row_in c.args.around.now.named.now c.in_ok-row.row).fields) (ap length c.variables.ensures) c.in_ok-row.ensures.count c.in_ok-types.ensures.read) (along c.in_err-parts.field-0.0 _ _ (answering.results_moved c.args.around.now.named.now c.args.around.now.variables.now c.args.state.now c.one_more.new.self c.use_types.new.state c.args.ids.now c.use_types.ensures.keeps c.one_more.ensures.scope) c.in_err-parts.ensures.read))
 
-pub make-returns-in_err-all_wanted-clause-read : goal.make-returns-in_err-all_wanted-clause-read
-make-returns-in_err-all_wanted-clause-read t c =
-    let p = err_from_is_err_and c.from_residual-in_err-all_wanted.result c.from_residual-in_err-all_wanted.ensures.1 in
-    rw (p.1, p.2) (walking.make_shape c.args.around.now.named.now c.args.around.now.variables.now c.args.made.name (types_in c.args.around.now.named.now.exprs.words c.args.made.types) (length c.args.ids.now) (λ n. Rattle.gib_check.specs.Faults.infer_all (generic_globals c.args.around.now.named.now) (variable_numbers c.args.around.now.variables.now) Rattle.gib_syntax.specs.GenericTyping.opaque (in_scope c.args.state.now) n (Rattle.gib_syntax.specs.GenericArena.arguments_from (generic_tree c.args.around.now.named.now) c.args.ids.now)) c.in_err-all_wanted.field-0.0 c.args.state.now c.one_more.new.self (Rattle.gib_check.specs.NameViews.row_in c.args.around.now.named.now c.in_ok-row.row) (parts_in c.arguments.new.state c.in_ok-parts.parts.items) (parts_in c.row_fields.new.state c.deref-2.result.now) (listed (forms c.row_fields.new.state) c.deref-3.result.now) c.arguments.new.state.counts (record { read = c.in_ok-one_more.ensures.counts; kept = c.one_more.ensures.scope; types = c.one_more.ensures.types }) c.in_ok-row.ensures.row (subst (λ n. walking.use_types c.args.around.now.named.now c.args.around.now.variables.now c.args.made.name (types_in c.args.around.now.named.now.exprs.words c.args.made.types) (length c.args.ids.now) (λ n. Rattle.gib_check.specs.Faults.infer_all (generic_globals c.args.around.now.named.now) (variable_numbers c.args.around.now.variables.now) Rattle.gib_syntax.specs.GenericTyping.opaque (in_scope c.args.state.now) n (Rattle.gib_syntax.specs.GenericArena.arguments_from (generic_tree c.args.around.now.named.now) c.args.ids.now)) n ≡ Rattle.std.proofs.Common.Ok (tt {0})) (ap length c.variables-due.ensures) c.in_ok-types.ensures.read) (answering.counted_as (λ z. z ≡ Rattle.std.proofs.Common.Ok (tt {0})) c.args.made.name (length c.args.ids.now) c.in_ok-row.row.count (length c.args.ids.now) (length (Rattle.gib_check.specs.NameViews.row_in c.args.around.now.named.now c.in_ok-row.row).fields) refl c.in_ok-row.ensures.count c.in_ok-as_many.ensures) ((answering.results_moved c.args.around.now.named.now c.args.around.now.variables.now c.args.state.now c.one_more.new.self c.type_arguments.new.state c.args.ids.now c.type_arguments.ensures.keeps c.one_more.ensures.scope) ∙ c.in_ok-parts.ensures.read) (ap (parts_in c.row_fields.new.state) c.deref-2.ensures.value ∙ parts_grow c.arguments.new.state c.row_fields.new.state c.in_ok-parts.parts.items (keeps_advance c.arguments.new.state c.row_fields.new.state c.row_fields.ensures.keeps) c.in_ok-parts.ensures.met.here) (ap (listed (forms c.row_fields.new.state)) c.deref-3.ensures.value ∙ c.in_ok-fields.ensures.types ∙ ap (Rattle.gib_syntax.specs.GenericTyping.field_forms (Rattle.gib_check.specs.NameViews.row_in c.args.around.now.named.now c.in_ok-row.row)) (ap (Rattle.gib_types.specs.Types.forms_at (forms c.arguments.new.state)) c.deref.ensures.value ∙ (answering.given_types c.type_arguments.new.state c.arguments.new.state c.in_ok-types.types.items (types_in c.args.around.now.named.now.exprs.words c.args.made.types) c.in_ok-types.ensures.types c.in_ok-parts.ensures.met.advances.types c.in_ok-types.ensures.below))) c.in_err-all_wanted.ensures)
+pub make-returns-in_err-given-clause-read : goal.make-returns-in_err-given-clause-read
+make-returns-in_err-given-clause-read t c =
+    let p = err_from_is_err_and c.from_residual-in_err-given.result c.from_residual-in_err-given.ensures.1 in
+    rw (p.1, p.2) (walking.use_given c.args.around.now.named.now c.args.around.now.variables.now (walking.make_of c.args.around.now.named.now c.args.around.now.variables.now c.args.made.name (types_in c.args.around.now.named.now.exprs.words c.args.made.types) (length c.args.ids.now) (λ n. infer_all (generic_globals c.args.around.now.named.now) (variable_numbers c.args.around.now.variables.now) opaque (in_scope c.args.state.now) n (arguments_from (generic_tree c.args.around.now.named.now) c.args.ids.now)) c.args.state.now.counts) (walking.fits c.args.around.now.named.now c.args.around.now.variables.now c.args.made.name (types_in c.args.around.now.named.now.exprs.words c.args.made.types) (length c.args.ids.now) (λ n. infer_all (generic_globals c.args.around.now.named.now) (variable_numbers c.args.around.now.variables.now) opaque (in_scope c.args.state.now) n (arguments_from (generic_tree c.args.around.now.named.now) c.args.ids.now)) (length (row_in c.args.around.now.named.now c.in_ok-row.row).variables) (length (row_in c.args.around.now.named.now c.in_ok-row.row).fields)) (infer_all (generic_globals c.args.around.now.named.now) (variable_numbers c.args.around.now.variables.now) opaque (in_scope c.args.state.now) c.one_more.new.self.counts (arguments_from (generic_tree c.args.around.now.named.now) c.args.ids.now)) (made (row_in c.args.around.now.named.now c.in_ok-row.row) (formed_all opaque (types_in c.args.around.now.named.now.exprs.words c.args.made.types))) (walking.make_found c.args.around.now.named.now c.args.around.now.variables.now c.args.made.name (types_in c.args.around.now.named.now.exprs.words c.args.made.types) (length c.args.ids.now) (λ n. infer_all (generic_globals c.args.around.now.named.now) (variable_numbers c.args.around.now.variables.now) opaque (in_scope c.args.state.now) n (arguments_from (generic_tree c.args.around.now.named.now) c.args.ids.now)) c.args.state.now c.one_more.new.self (row_in c.args.around.now.named.now c.in_ok-row.row) (record { read = c.in_ok-one_more.ensures.counts; kept = c.one_more.ensures.scope; types = c.one_more.ensures.types }) c.in_ok-row.ensures.row) c.in_err-given.field-0.0 (parts_in c.arguments.new.state c.in_ok-parts.parts.items) c.arguments.new.state.counts (answering.fits_as (λ z. z ≡ Rattle.std.proofs.Common.Ok (tt {0})) (generic_globals c.args.around.now.named.now) (variable_numbers c.args.around.now.variables.now) c.args.made.name (types_in c.args.around.now.named.now.exprs.words c.args.made.types) (length c.args.ids.now) (length c.variables.result.now) c.in_ok-row.row.count (length (row_in c.args.around.now.named.now c.in_ok-row.row).variables) (length (row_in c.args.around.now.named.now c.in_ok-row.row).fields) (ap length c.variables.ensures) c.in_ok-row.ensures.count c.in_ok-types.ensures.read) ((answering.results_moved c.args.around.now.named.now c.args.around.now.variables.now c.args.state.now c.one_more.new.self c.use_types.new.state c.args.ids.now c.use_types.ensures.keeps c.one_more.ensures.scope) ∙ c.in_ok-parts.ensures.read) (subst₂ (λ (us : Forms) (ps : List Part). IsFaultOf c.in_err-given.field-0.0 (made (row_in c.args.around.now.named.now c.in_ok-row.row) us (parts_in c.arguments.new.state ps))) (answering.given_types c.use_types.new.state c.arguments.new.state c.in_ok-types.types.items (types_in c.args.around.now.named.now.exprs.words c.args.made.types) c.in_ok-types.ensures.types c.in_ok-parts.ensures.met.advances.types c.in_ok-types.ensures.below) c.deref.ensures.value c.in_err-given.ensures.read))
 
 pub make-returns-clause-read : goal.make-returns-clause-read
 make-returns-clause-read t c =
-    walking.make_ok c.args.around.now.named.now c.args.around.now.variables.now c.args.made.name (types_in c.args.around.now.named.now.exprs.words c.args.made.types) (length c.args.ids.now) (λ n. Rattle.gib_check.specs.Faults.infer_all (generic_globals c.args.around.now.named.now) (variable_numbers c.args.around.now.variables.now) Rattle.gib_syntax.specs.GenericTyping.opaque (in_scope c.args.state.now) n (Rattle.gib_syntax.specs.GenericArena.arguments_from (generic_tree c.args.around.now.named.now) c.args.ids.now)) c.args.state.now c.one_more.new.self (Rattle.gib_check.specs.NameViews.row_in c.args.around.now.named.now c.in_ok-row.row) (parts_in c.arguments.new.state c.in_ok-parts.parts.items) (parts_in c.row_fields.new.state c.deref-2.result.now) (listed (forms c.row_fields.new.state) c.deref-3.result.now) c.arguments.new.state.counts (record { read = c.in_ok-one_more.ensures.counts; kept = c.one_more.ensures.scope; types = c.one_more.ensures.types }) c.in_ok-row.ensures.row (subst (λ n. walking.use_types c.args.around.now.named.now c.args.around.now.variables.now c.args.made.name (types_in c.args.around.now.named.now.exprs.words c.args.made.types) (length c.args.ids.now) (λ n. Rattle.gib_check.specs.Faults.infer_all (generic_globals c.args.around.now.named.now) (variable_numbers c.args.around.now.variables.now) Rattle.gib_syntax.specs.GenericTyping.opaque (in_scope c.args.state.now) n (Rattle.gib_syntax.specs.GenericArena.arguments_from (generic_tree c.args.around.now.named.now) c.args.ids.now)) n ≡ Rattle.std.proofs.Common.Ok (tt {0})) (ap length c.variables-due.ensures) c.in_ok-types.ensures.read) (answering.counted_as (λ z. z ≡ Rattle.std.proofs.Common.Ok (tt {0})) c.args.made.name (length c.args.ids.now) c.in_ok-row.row.count (length c.args.ids.now) (length (Rattle.gib_check.specs.NameViews.row_in c.args.around.now.named.now c.in_ok-row.row).fields) refl c.in_ok-row.ensures.count c.in_ok-as_many.ensures) ((answering.results_moved c.args.around.now.named.now c.args.around.now.variables.now c.args.state.now c.one_more.new.self c.type_arguments.new.state c.args.ids.now c.type_arguments.ensures.keeps c.one_more.ensures.scope) ∙ c.in_ok-parts.ensures.read)
-    (ap (parts_in c.row_fields.new.state) c.deref-2.ensures.value ∙ parts_grow c.arguments.new.state c.row_fields.new.state c.in_ok-parts.parts.items (keeps_advance c.arguments.new.state c.row_fields.new.state c.row_fields.ensures.keeps) c.in_ok-parts.ensures.met.here)
-    (ap (listed (forms c.row_fields.new.state)) c.deref-3.ensures.value ∙ c.in_ok-fields.ensures.types ∙ ap (Rattle.gib_syntax.specs.GenericTyping.field_forms (Rattle.gib_check.specs.NameViews.row_in c.args.around.now.named.now c.in_ok-row.row)) (ap (Rattle.gib_types.specs.Types.forms_at (forms c.arguments.new.state)) c.deref.ensures.value ∙ (answering.given_types c.type_arguments.new.state c.arguments.new.state c.in_ok-types.types.items (types_in c.args.around.now.named.now.exprs.words c.args.made.types) c.in_ok-types.ensures.types c.in_ok-parts.ensures.met.advances.types c.in_ok-types.ensures.below)))
-    c.in_ok-all_wanted.ensures
-    ∙ answering.make_answer c.arguments.new.state c.put.new.self c.in_ok-ty.ty _ c.arguments.new.state.counts (c.in_ok-ty.ensures.met.form ∙ ap (Rattle.gib_types.specs.Form.DataForm c.in_ok-row.row.owner.0) (Rattle.gib_check.proofs.Growing.forms_grow c.arguments.new.state.types c.row_fields.new.state.types c.in_ok-types.types.items c.row_fields.ensures.keeps.grows (Rattle.gib_check.proofs.Growing.below_more (length c.type_arguments.new.state.types) (length c.arguments.new.state.types) c.in_ok-types.types.items c.in_ok-parts.ensures.met.advances.types.longer c.in_ok-types.ensures.below) ∙ (answering.given_types c.type_arguments.new.state c.arguments.new.state c.in_ok-types.types.items (types_in c.args.around.now.named.now.exprs.words c.args.made.types) c.in_ok-types.ensures.types c.in_ok-parts.ensures.met.advances.types c.in_ok-types.ensures.below))) (c.put.ensures.keeps.counts ∙ c.row_fields.ensures.keeps.counts)
-
-pub make-row_fields-requires : goal.make-row_fields-requires
-make-row_fields-requires t c = subst (Rattle.gib_types.specs.Types.AreBelow (length c.arguments.new.state.types)) (sym c.deref.ensures.value) (Rattle.gib_check.proofs.Growing.below_more (length c.type_arguments.new.state.types) (length c.arguments.new.state.types) c.in_ok-types.types.items c.in_ok-parts.ensures.met.advances.types.longer c.in_ok-types.ensures.below)
-
-pub make-all_wanted-requires-clause-parts : goal.make-all_wanted-requires-clause-parts
-make-all_wanted-requires-clause-parts t c =
-    subst (ArePartsMet c.row_fields.new.state) (sym c.deref-2.ensures.value) (parts_stay c.arguments.new.state c.row_fields.new.state c.in_ok-parts.parts.items (keeps_advance c.arguments.new.state c.row_fields.new.state c.row_fields.ensures.keeps) c.in_ok-parts.ensures.met.here)
-
-pub make-all_wanted-requires-clause-due : goal.make-all_wanted-requires-clause-due
-make-all_wanted-requires-clause-due t c =
-    subst (AreBelow (length c.row_fields.new.state.types)) (sym c.deref-3.ensures.value) c.in_ok-fields.ensures.below
-
-pub make-put-requires : goal.make-put-requires
-make-put-requires t c = Rattle.gib_check.proofs.Growing.below_more (length c.arguments.new.state.types) (length c.row_fields.new.state.types) c.in_ok-types.types.items c.row_fields.ensures.keeps.grows.longer (Rattle.gib_check.proofs.Growing.below_more (length c.type_arguments.new.state.types) (length c.arguments.new.state.types) c.in_ok-types.types.items c.in_ok-parts.ensures.met.advances.types.longer c.in_ok-types.ensures.below)
-
-pub call-returns-clause-met : goal.call-returns-clause-met
-call-returns-clause-met t c =
-    record { advances = (advances_on c.args.state.now c.parameter_types.new.state c.result_types.new.state (advances_on c.args.state.now c.arguments.new.state c.parameter_types.new.state (advances_on c.args.state.now c.type_arguments.new.state c.arguments.new.state (advances_on c.args.state.now c.one_more.new.self c.type_arguments.new.state (same_advance c.args.state.now c.one_more.new.self c.one_more.ensures.types c.one_more.ensures.parts) (keeps_advance c.one_more.new.self c.type_arguments.new.state c.type_arguments.ensures.keeps)) c.in_ok-parts.ensures.met.advances) (keeps_advance c.arguments.new.state c.parameter_types.new.state c.in_ok-wanted_types.ensures.keeps)) c.in_ok-given.ensures.met.advances); here = c.in_ok-given.ensures.met.here }
-
-pub call-returns-clause-kept : goal.call-returns-clause-kept
-call-returns-clause-kept t c =
-    c.in_ok-given.ensures.scope ∙ c.in_ok-wanted_types.ensures.keeps.scope ∙ c.in_ok-parts.ensures.kept ∙ c.type_arguments.ensures.keeps.scope ∙ c.one_more.ensures.scope
+    walking.use_ok c.args.around.now.named.now c.args.around.now.variables.now (walking.make_of c.args.around.now.named.now c.args.around.now.variables.now c.args.made.name (types_in c.args.around.now.named.now.exprs.words c.args.made.types) (length c.args.ids.now) (λ n. infer_all (generic_globals c.args.around.now.named.now) (variable_numbers c.args.around.now.variables.now) opaque (in_scope c.args.state.now) n (arguments_from (generic_tree c.args.around.now.named.now) c.args.ids.now)) c.args.state.now.counts) (walking.fits c.args.around.now.named.now c.args.around.now.variables.now c.args.made.name (types_in c.args.around.now.named.now.exprs.words c.args.made.types) (length c.args.ids.now) (λ n. infer_all (generic_globals c.args.around.now.named.now) (variable_numbers c.args.around.now.variables.now) opaque (in_scope c.args.state.now) n (arguments_from (generic_tree c.args.around.now.named.now) c.args.ids.now)) (length (row_in c.args.around.now.named.now c.in_ok-row.row).variables) (length (row_in c.args.around.now.named.now c.in_ok-row.row).fields)) (infer_all (generic_globals c.args.around.now.named.now) (variable_numbers c.args.around.now.variables.now) opaque (in_scope c.args.state.now) c.one_more.new.self.counts (arguments_from (generic_tree c.args.around.now.named.now) c.args.ids.now)) (made (row_in c.args.around.now.named.now c.in_ok-row.row) (formed_all opaque (types_in c.args.around.now.named.now.exprs.words c.args.made.types))) (walking.make_found c.args.around.now.named.now c.args.around.now.variables.now c.args.made.name (types_in c.args.around.now.named.now.exprs.words c.args.made.types) (length c.args.ids.now) (λ n. infer_all (generic_globals c.args.around.now.named.now) (variable_numbers c.args.around.now.variables.now) opaque (in_scope c.args.state.now) n (arguments_from (generic_tree c.args.around.now.named.now) c.args.ids.now)) c.args.state.now c.one_more.new.self (row_in c.args.around.now.named.now c.in_ok-row.row) (record { read = c.in_ok-one_more.ensures.counts; kept = c.one_more.ensures.scope; types = c.one_more.ensures.types }) c.in_ok-row.ensures.row) (parts_in c.arguments.new.state c.in_ok-parts.parts.items) c.arguments.new.state.counts (forms_given c.make_result.new.state c.in_ok-given.given) (answering.fits_as (λ z. z ≡ Rattle.std.proofs.Common.Ok (tt {0})) (generic_globals c.args.around.now.named.now) (variable_numbers c.args.around.now.variables.now) c.args.made.name (types_in c.args.around.now.named.now.exprs.words c.args.made.types) (length c.args.ids.now) (length c.variables.result.now) c.in_ok-row.row.count (length (row_in c.args.around.now.named.now c.in_ok-row.row).variables) (length (row_in c.args.around.now.named.now c.in_ok-row.row).fields) (ap length c.variables.ensures) c.in_ok-row.ensures.count c.in_ok-types.ensures.read) ((answering.results_moved c.args.around.now.named.now c.args.around.now.variables.now c.args.state.now c.one_more.new.self c.use_types.new.state c.args.ids.now c.use_types.ensures.keeps c.one_more.ensures.scope) ∙ c.in_ok-parts.ensures.read)
+    (subst₂ (λ (us : Forms) (ps : List Part). made (row_in c.args.around.now.named.now c.in_ok-row.row) us (parts_in c.arguments.new.state ps) ≡ Rattle.std.proofs.Common.Ok (forms_given c.make_result.new.state c.in_ok-given.given)) (answering.given_types c.use_types.new.state c.arguments.new.state c.in_ok-types.types.items (types_in c.args.around.now.named.now.exprs.words c.args.made.types) c.in_ok-types.ensures.types c.in_ok-parts.ensures.met.advances.types c.in_ok-types.ensures.below) c.deref.ensures.value c.in_ok-given.ensures.read)
+    ∙ ap (answering.answer_of (forms_given c.make_result.new.state c.in_ok-given.given)) (sym c.in_ok-given.ensures.counts)
 
 pub make-returns-clause-met : goal.make-returns-clause-met
 make-returns-clause-met t c =
-    record { advances = (advances_on c.args.state.now c.row_fields.new.state c.put.new.self (advances_on c.args.state.now c.arguments.new.state c.row_fields.new.state (advances_on c.args.state.now c.type_arguments.new.state c.arguments.new.state (advances_on c.args.state.now c.one_more.new.self c.type_arguments.new.state (same_advance c.args.state.now c.one_more.new.self c.one_more.ensures.types c.one_more.ensures.parts) (keeps_advance c.one_more.new.self c.type_arguments.new.state c.type_arguments.ensures.keeps)) c.in_ok-parts.ensures.met.advances) (keeps_advance c.arguments.new.state c.row_fields.new.state c.row_fields.ensures.keeps)) (keeps_advance c.row_fields.new.state c.put.new.self c.put.ensures.keeps)); here = c.in_ok-ty.ensures.met.below }
+    record { advances = (advances_on c.args.state.now c.arguments.new.state c.make_result.new.state (advances_on c.args.state.now c.use_types.new.state c.arguments.new.state (advances_on c.args.state.now c.one_more.new.self c.use_types.new.state (same_advance c.args.state.now c.one_more.new.self c.one_more.ensures.types c.one_more.ensures.parts) (keeps_advance c.one_more.new.self c.use_types.new.state c.use_types.ensures.keeps)) c.in_ok-parts.ensures.met.advances) c.in_ok-given.ensures.met.advances); here = c.in_ok-given.ensures.met.here }
 
 pub make-returns-clause-kept : goal.make-returns-clause-kept
-make-returns-clause-kept t c = c.put.ensures.keeps.scope ∙ c.row_fields.ensures.keeps.scope ∙ c.in_ok-parts.ensures.kept ∙ c.type_arguments.ensures.keeps.scope ∙ c.one_more.ensures.scope
+make-returns-clause-kept t c =
+    c.in_ok-given.ensures.scope ∙ c.in_ok-parts.ensures.kept ∙ c.use_types.ensures.keeps.scope ∙ c.one_more.ensures.scope
 
-pub call-result_types-requires : goal.call-result_types-requires
-call-result_types-requires t c = Rattle.gib_check.proofs.Loops.meaning_more (length c.arguments.new.state.types) (length c.parameter_types.new.state.types) c.in_ok-meaning.meaning c.in_ok-wanted_types.ensures.keeps.grows.longer c.in_ok-meaning.ensures.below
+pub make-make_result-requires-clause-types : goal.make-make_result-requires-clause-types
+make-make_result-requires-clause-types t c =
+    (below_more (length c.use_types.new.state.types) (length c.arguments.new.state.types) c.in_ok-types.types.items c.in_ok-parts.ensures.met.advances.types.longer c.in_ok-types.ensures.below)
+
+pub make-make_result-requires-clause-parts : goal.make-make_result-requires-clause-parts
+make-make_result-requires-clause-parts t c =
+    subst (ArePartsMet c.arguments.new.state) (sym c.deref.ensures.value) c.in_ok-parts.ensures.met.here
 
 pub arm_result-returns-in_err-bind_all-clause-read : goal.arm_result-returns-in_err-bind_all-clause-read
 arm_result-returns-in_err-bind_all-clause-read t c =
