@@ -71,15 +71,7 @@ fn put_part<M: Mem, O: Sink>(
     ensures same { M.view mem.new ≡ M.view mem.old }
 {
     waiting.put_byte(sink, b' ')?;
-    walk_once(
-        printing.alloc,
-        mem,
-        printing.names,
-        printing.layouts,
-        at,
-        waiting,
-        sink,
-    )
+    walk_once(mem, printing, at, waiting, sink)
 }
 
 /// Puts an item.
