@@ -8,8 +8,8 @@ use Rattle.gib_syntax.specs.Declarations.{number_of}
 use Rattle.gib_syntax.specs.Typing.{Globals}
 use Rattle.gib_syntax.specs.Results.{Results, One, Several, map_results, as_results, list_results}
 use Rattle.gib_syntax.specs.Forms.{WrittenType, WrittenTypes, WholeAt, TruthAt, VariableAt, DataAt, NoType, MoreTypes, Form, Forms, WholeForm, TruthForm, NoForm, MoreForms, Meant, formed, formed_all, assign}
-use Rattle.gib_syntax.specs.GenericTree.{GenericExpression, GenericArguments, GenericArms, GenericVar, GenericNum, GenericBit, GenericParen, GenericOp, GenericCall, GenericMake, GenericLet, GenericPar, GenericIf, GenericCase, GenericTuple, GenericLetSeveral, GenericParSeveral, GenericNoArgument, GenericArgument, GenericLastArm, GenericNextArm, GenericConstructorTree, GenericDataTree, GenericParameterTree, GenericFunctionTree, GenericRow, GenericGlobals, place_named, generic_named, data_named}
-use Rattle.gib_syntax.specs.GenericTyping.{FormScope, form_bound, IsKnownType, AreKnownTypes, AreKnownResults, HasForm, HaveForms, ArmsHaveForm, field_forms, parameter_forms, HasKnownForm, HasKnownGenericFields}
+use Rattle.gib_syntax.specs.GenericTree.{GenericExpression, GenericArguments, GenericArms, GenericVar, GenericNum, GenericBit, GenericParen, GenericOp, GenericCall, GenericMake, GenericLet, GenericPar, GenericIf, GenericCase, GenericTuple, GenericNoArgument, GenericArgument, GenericLastArm, GenericNextArm, GenericConstructorTree, GenericDataTree, GenericParameterTree, GenericFunctionTree, GenericRow, GenericGlobals, place_named, generic_named, data_named}
+use Rattle.gib_syntax.specs.GenericTyping.{FormScope, IsKnownType, AreKnownTypes, AreKnownResults, HasForm, HaveForms, ArmsHaveForm, field_forms, parameter_forms, HasKnownForm, HasKnownGenericFields}
 use Rattle.gib_mono.specs.Copying.{Naming, owner_named}
 use Rattle.gib_mono.specs.Copied.{Item, IsItem, IsHere, AreHere, Setting, IsAsked, AreAsked, ArmsAsked}
 use Rattle.gib_types.specs.SameForm.{same_forms}
@@ -152,17 +152,17 @@ mutual
         ),
         (types, here_both (type_items found) (writtens_asks m ws) (all_asks g.rows m xs) (writtens_uses g found vars m here ws h.5 both.0) y.1),
       )
-  uses_asked g nm to base found rows vars m here (GenericLet p x a b) ty scope h k =
+  uses_asked g nm to base found rows vars m here (GenericLet p xs a b) ty scope h k =
       let both = answered_split g found (asks g.rows m a) (asks g.rows m b) k in
-      let u = uses_asked g nm to base found rows vars m here a (One h.0) scope h.1 both.0 in
-      let v = uses_asked g nm to base found rows vars m here b ty (form_bound x h.0 scope) h.3 both.1 in
+      let u = uses_asked g nm to base found rows vars m here a (as_results h.0) scope h.3 both.0 in
+      let v = uses_asked g nm to base found rows vars m here b ty h.1 h.5 both.1 in
       ((u.0, v.0), here_both (type_items found) (asks g.rows m a) (asks g.rows m b) u.1 v.1)
-  uses_asked g nm to base found rows vars m here (GenericPar p x a y b c) ty scope h k =
+  uses_asked g nm to base found rows vars m here (GenericPar p xs a ys b c) ty scope h k =
       let both = answered_split g found (asks g.rows m a) (asks g.rows m b ++ asks g.rows m c) k in
       let last = answered_split g found (asks g.rows m b) (asks g.rows m c) both.1 in
-      let u = uses_asked g nm to base found rows vars m here a (One h.0) scope h.2 both.0 in
-      let v = uses_asked g nm to base found rows vars m here b (One h.1) scope h.3 last.0 in
-      let w = uses_asked g nm to base found rows vars m here c ty (form_bound y h.1 (form_bound x h.0 scope)) h.6 last.1 in
+      let u = uses_asked g nm to base found rows vars m here a (as_results h.0) scope h.6 both.0 in
+      let v = uses_asked g nm to base found rows vars m here b (as_results h.1) scope h.7 last.0 in
+      let w = uses_asked g nm to base found rows vars m here c ty h.3 h.10 last.1 in
       ((u.0, v.0, w.0), here_both (type_items found) (asks g.rows m a) (asks g.rows m b ++ asks g.rows m c) u.1 (here_both (type_items found) (asks g.rows m b) (asks g.rows m c) v.1 w.1))
   uses_asked g nm to base found rows vars m here (GenericIf p a b c) ty scope h k =
       let both = answered_split g found (asks g.rows m a) (asks g.rows m b ++ asks g.rows m c) k in
@@ -173,18 +173,6 @@ mutual
       ((u.0, v.0, w.0), here_both (type_items found) (asks g.rows m a) (asks g.rows m b ++ asks g.rows m c) u.1 (here_both (type_items found) (asks g.rows m b) (asks g.rows m c) v.1 w.1))
   uses_asked g nm to base found rows vars m here (GenericCase p x arms) ty scope h k = arms_uses_asked g nm to base found rows vars m here arms ty scope h.0 h.1 h.4 k
   uses_asked g nm to base found rows vars m here (GenericTuple p xs) ty scope h k = all_uses_asked g nm to base found rows vars m here xs h.0 scope h.2 k
-  uses_asked g nm to base found rows vars m here (GenericLetSeveral p xs a b) ty scope h k =
-      let both = answered_split g found (asks g.rows m a) (asks g.rows m b) k in
-      let u = uses_asked g nm to base found rows vars m here a (as_results h.0) scope h.3 both.0 in
-      let v = uses_asked g nm to base found rows vars m here b ty h.1 h.5 both.1 in
-      ((u.0, v.0), here_both (type_items found) (asks g.rows m a) (asks g.rows m b) u.1 v.1)
-  uses_asked g nm to base found rows vars m here (GenericParSeveral p xs a ys b c) ty scope h k =
-      let both = answered_split g found (asks g.rows m a) (asks g.rows m b ++ asks g.rows m c) k in
-      let last = answered_split g found (asks g.rows m b) (asks g.rows m c) both.1 in
-      let u = uses_asked g nm to base found rows vars m here a (as_results h.0) scope h.6 both.0 in
-      let v = uses_asked g nm to base found rows vars m here b (as_results h.1) scope h.7 last.0 in
-      let w = uses_asked g nm to base found rows vars m here c ty h.3 h.10 last.1 in
-      ((u.0, v.0, w.0), here_both (type_items found) (asks g.rows m a) (asks g.rows m b ++ asks g.rows m c) u.1 (here_both (type_items found) (asks g.rows m b) (asks g.rows m c) v.1 w.1))
 
   all_uses_asked : (g : GenericGlobals) (nm : Naming) (to : Globals) (base : ℕ → ℕ) (found : List Copy) → RowsDeclared g → (vars : List ℕ) (m : Meant) → MeantHere (type_items found) m → (xs : GenericArguments) (fs : List Form) (scope : FormScope) →
       HaveForms g vars m scope xs fs → AreAnswered g found (all_asks g.rows m xs) → AreAsked (found_setting g nm to base found) m xs × AllAskHere (type_items found) (all_asks g.rows m xs)

@@ -1,5 +1,5 @@
 -- A typed program without type parameters is copied as it stands.
-use Rattle.std.proofs.Common.{◌≡◌, ℕ, zero, suc, ◌+◌, Bool, true, false, ◌==◌, ◌||◌, if◌then◌else◌, List, [], ◌∷◌, ◌++◌, map, length, Option, Some, None, refl, sym, ap, ap₂, ◌∙◌, subst}
+use Rattle.std.proofs.Common.{◌≡◌, ℕ, zero, suc, ◌+◌, Bool, true, false, ◌==◌, if◌then◌else◌, List, [], ◌∷◌, ◌++◌, map, length, Option, Some, None, refl, sym, ap, ap₂, ◌∙◌, subst}
 use Rattle.std.specs.Prelude.{slice_get, Result, Ok}
 use Rattle.std.specs.List.{AllByRecursion}
 use Rattle.std.proofs.lemmas.Option.{same_Some}
@@ -10,19 +10,20 @@ use Rattle.gib_syntax.specs.declared.tree.TypeName.{TypeName}
 use Rattle.gib_syntax.specs.declared.tree.TypeName.TheVariants as ty
 use Rattle.gib_syntax.specs.declared.tree.Parameter.{Parameter}
 use Rattle.gib_syntax.specs.Declarations.{number_of, place_of}
-use Rattle.gib_syntax.specs.Tree.{Expression, Arguments, ConstructorTree, DataTree, FunctionTree, MainTree, ProgramTree}
+use Rattle.gib_syntax.specs.Tree.{Expression, ConstructorTree, DataTree, FunctionTree, MainTree, ProgramTree}
 use Rattle.gib_syntax.specs.Plain.{as_generic, all_as_generic, arms_as_generic}
-use Rattle.gib_syntax.specs.Results.{Results, One, Several, map_results, list_results}
+use Rattle.gib_syntax.specs.Results.{Results, One, Several, map_results, as_results, list_results}
 use Rattle.gib_syntax.specs.Forms.{WrittenType, WrittenTypes, WholeAt, TruthAt, VariableAt, DataAt, NoType, MoreTypes, Form, Forms, WholeForm, TruthForm, DataForm, NoForm, Meant, formed, formed_all, assign, count_written}
-use Rattle.gib_syntax.specs.GenericTree.{GenericExpression, GenericArguments, GenericArms, GenericVar, GenericNum, GenericBit, GenericParen, GenericOp, GenericCall, GenericMake, GenericLet, GenericPar, GenericIf, GenericCase, GenericTuple, GenericLetSeveral, GenericParSeveral, GenericNoArgument, GenericArgument, GenericLastArm, GenericNextArm, GenericConstructorTree, GenericDataTree, GenericParameterTree, GenericFunctionTree, GenericMainTree, GenericProgramTree, GenericRow, row_of, rows_of, GenericGlobals, globals_of_generic, generic_named, data_named}
-use Rattle.gib_syntax.specs.GenericTyping.{FormScope, form_bound, HasForm, HaveForms, ArmsHaveForm, IsKnownType, AreKnownResults, HasKnownForm, HasKnownGenericFields, IsKnownData, IsTypedGenericFunction, IsTypedGenericHere, IsTypedGeneric, field_forms, parameter_forms, variable_numbers}
-use Rattle.gib_mono.specs.Copying.{Naming, IsPlainNaming, renamed, copy_written, name_of_form, copy_constructor, copy_data, copy_parameter, copy_function, copy_main, parameter_scope, copy, bind_forms}
+use Rattle.gib_syntax.specs.GenericTree.{GenericExpression, GenericArguments, GenericArms, GenericVar, GenericNum, GenericBit, GenericParen, GenericOp, GenericCall, GenericMake, GenericLet, GenericPar, GenericIf, GenericCase, GenericTuple, GenericNoArgument, GenericArgument, GenericLastArm, GenericNextArm, GenericConstructorTree, GenericDataTree, GenericParameterTree, GenericFunctionTree, GenericMainTree, GenericProgramTree, GenericRow, row_of, rows_of, GenericGlobals, globals_of_generic, generic_named, data_named}
+use Rattle.gib_syntax.specs.GenericTyping.{FormScope, HasForm, HaveForms, ArmsHaveForm, IsKnownType, AreKnownResults, HasKnownForm, HasKnownGenericFields, IsKnownData, IsTypedGenericFunction, IsTypedGenericHere, IsTypedGeneric, field_forms, parameter_forms, variable_numbers}
+use Rattle.gib_mono.specs.Copying.{Naming, IsPlainNaming, renamed, copy_written, name_of_form, copy_constructor, copy_data, copy_parameter, copy_function, copy_main, parameter_scope, copy}
 use Rattle.gib_mono.specs.Walk.{Ask, Copy, DataOf, FunctionOf, DataCopy, FunctionCopy, data_asked, function_asked, asked, same_copy, is_found, add_short, add_ask, with_found, add_asks, walk_one, walk, written_asks, results_asks, types_asks, asks, constructor_asks, function_asks, copy_asks, copies_asks, main_asks, plain_data, plain_datas, plain_function, plain_functions, plain_copies, copies_of, datas_in, function_copies, copied_program}
 use Rattle.gib_types.specs.Form.{has_long}
-use Rattle.gib_mono.specs.Bare.{IsPlainData, IsPlainFunction, IsPlainProgram, IsSingle, AreSingle, HasSingle, IsSingleFunction, bare_written, bare, all_bare, arms_bare, bare_constructor, bare_data, bare_parameter, bare_function, bare_main, bare_program}
+use Rattle.gib_mono.specs.Bindings.{only_name, let_of, par_of}
+use Rattle.gib_mono.specs.Bare.{IsOne, IsPlainData, IsPlainFunction, IsPlainProgram, IsSingle, AreSingle, HasSingle, IsSingleFunction, bare_written, bare, all_bare, arms_bare, bare_constructor, bare_data, bare_parameter, bare_function, bare_main, bare_program}
 use Rattle.gib_mono.proofs.Closing.{data_found, parts_same}
 use Rattle.gib_mono.proofs.Here.{get_split, map_found}
-use Rattle.gib_mono.proofs.OwnCopy.{IsBare, BareScope, BareGlobals, bare_binds, bare_nothing, copy_own}
+use Rattle.gib_mono.proofs.OwnCopy.{IsBare, BareGlobals, bare_binds, bare_nothing, copy_own}
 use Rattle.gib_mono.proofs.OwnWalk.{Bare, bare_both, bare_asks, short_own, past}
 
 -- Declarations without type variables
@@ -58,6 +59,17 @@ no_types : (ws : WrittenTypes) → count_written ws ≡ 0 → ws ≡ NoType
 no_types NoType e = refl
 no_types (MoreTypes w ws) e = absurd cc
 
+-- a binding of one name is one when its type arguments are left out
+let_back : (p : Span) (xs : List Ident) (a b : Expression) → IsOne xs → as_generic (let_of p (only_name xs) [] a b) ≡ GenericLet p xs (as_generic a) (as_generic b)
+let_back p xs a b one = subst (λ (ys : List Ident). as_generic (let_of p (only_name ys) [] a b) ≡ GenericLet p ys (as_generic a) (as_generic b)) (sym one.1) refl
+
+-- so are two sides of one name each
+par_back : (p : Span) (xs ys : List Ident) (a b c : Expression) → IsOne xs → IsOne ys →
+    as_generic (par_of p (only_name xs) [] a (only_name ys) [] b c) ≡ GenericPar p xs (as_generic a) ys (as_generic b) (as_generic c)
+par_back p xs ys a b c one other =
+    subst (λ (us : List Ident). as_generic (par_of p (only_name us) [] a (only_name ys) [] b c) ≡ GenericPar p us (as_generic a) ys (as_generic b) (as_generic c)) (sym one.1)
+    (subst (λ (us : List Ident). as_generic (par_of p (Some one.0) [] a (only_name us) [] b c) ≡ GenericPar p (one.0 ∷ []) (as_generic a) us (as_generic b) (as_generic c)) (sym other.1) refl)
+
 mutual
   own_tree : (g : GenericGlobals) → PlainGlobals g → (vars : List ℕ) (m : Meant) (e : GenericExpression) (scope : FormScope) (t : Results Form) → IsSingle e → HasForm g vars m scope e t → as_generic (bare e) ≡ e
   own_tree g plain vars m (GenericVar x) scope t single h = refl
@@ -69,17 +81,17 @@ mutual
       ap₂ (GenericCall f) (sym (no_types ws (h.2 ∙ ap length (function_plain g.functions (number_of f) h.0 plain.functions h.1)))) (own_trees g plain vars m xs scope (parameter_forms h.0 (formed_all m ws)) single h.5)
   own_tree g plain vars m (GenericMake k ws xs) scope t single h =
       ap₂ (GenericMake k) (sym (no_types ws (h.4 ∙ ap length (plain.rows h.0 h.1 h.3)))) (own_trees g plain vars m xs scope (field_forms h.1 (formed_all m ws)) single h.7)
-  own_tree g plain vars m (GenericLet p x a b) scope t single h = ap₂ (GenericLet p x) (own_tree g plain vars m a scope (One h.0) single.0 h.1) (own_tree g plain vars m b (form_bound x h.0 scope) t single.1 h.3)
-  own_tree g plain vars m (GenericPar p x a y b c) scope t single h =
-      ap (λ (u : GenericExpression). GenericPar p x u y (as_generic (bare b)) (as_generic (bare c))) (own_tree g plain vars m a scope (One h.0) single.0 h.2)
-      ∙ ap₂ (λ (u v : GenericExpression). GenericPar p x a y u v) (own_tree g plain vars m b scope (One h.1) single.1 h.3) (own_tree g plain vars m c (form_bound y h.1 (form_bound x h.0 scope)) t single.2 h.6)
+  own_tree g plain vars m (GenericLet p xs a b) scope t single h =
+      let_back p xs (bare a) (bare b) single.0 ∙ ap₂ (GenericLet p xs) (own_tree g plain vars m a scope (as_results h.0) single.1 h.3) (own_tree g plain vars m b h.1 t single.2 h.5)
+  own_tree g plain vars m (GenericPar p xs a ys b c) scope t single h =
+      par_back p xs ys (bare a) (bare b) (bare c) single.0 single.1
+      ∙ ap (λ (u : GenericExpression). GenericPar p xs u ys (as_generic (bare b)) (as_generic (bare c))) (own_tree g plain vars m a scope (as_results h.0) single.2 h.6)
+      ∙ ap₂ (GenericPar p xs a ys) (own_tree g plain vars m b scope (as_results h.1) single.3 h.7) (own_tree g plain vars m c h.3 t single.4 h.10)
   own_tree g plain vars m (GenericIf p a b c) scope t single h =
       ap (λ (u : GenericExpression). GenericIf p u (as_generic (bare b)) (as_generic (bare c))) (own_tree g plain vars m a scope (One TruthForm) single.0 h.0)
       ∙ ap₂ (λ (u v : GenericExpression). GenericIf p a u v) (own_tree g plain vars m b scope t single.1 h.1) (own_tree g plain vars m c scope t single.2 h.2)
   own_tree g plain vars m (GenericCase p x arms) scope t single h = ap (GenericCase p x) (own_arms g plain vars m arms scope h.0 h.1 t single h.4)
   own_tree g plain vars m (GenericTuple p xs) scope t single h = absurd single
-  own_tree g plain vars m (GenericLetSeveral p xs a b) scope t single h = absurd single
-  own_tree g plain vars m (GenericParSeveral p xs a ys b c) scope t single h = absurd single
 
   own_trees : (g : GenericGlobals) → PlainGlobals g → (vars : List ℕ) (m : Meant) (xs : GenericArguments) (scope : FormScope) (ts : List Form) → AreSingle xs → HaveForms g vars m scope xs ts → all_as_generic (all_bare xs) ≡ xs
   own_trees g plain vars m GenericNoArgument scope ts single h = refl
@@ -353,6 +365,7 @@ body_own : (g : GenericGlobals) → BareGlobals g → (nm : Naming) → IsPlainN
 body_own g bared nm plain m qs e h k single =
     ap (copy g nm m (parameter_scope m qs)) (sym k)
     ∙ copy_own g bared nm plain m (bare e) (parameter_scope m qs) (bare_binds (map (λ (q : GenericParameterTree). q.name) qs) (map (λ (q : GenericParameterTree). formed m q.ty) qs) [] bare_nothing (parameter_forms_bare m qs h)) (subst IsSingle (sym k) single)
+    ∙ ap bare k
 
 function_own : (g : GenericGlobals) → BareGlobals g → (nm : Naming) → IsPlainNaming nm → (f : GenericFunctionTree) → FunctionBare f.parameters f.result f.body → copy_function g nm f NoForm ≡ bare_function f
 function_own g bared nm plain f h =

@@ -24,7 +24,7 @@ use Rattle.gib_syntax.specs.Declarations.{number_of}
 use Rattle.gib_syntax.specs.Forms.{WrittenType, NoForm}
 use Rattle.gib_syntax.specs.GenericArena.{Arena, IsArena, PartsBelow as GenericBelow, ArmsBelow as GenericArmsBelow, IsArmBelow as GenericArmBelow, arguments_from as generic_arguments, arms_from as generic_arms, case_from as generic_case, layer as generic_layer, tree_of as generic_of}
 use Rattle.gib_syntax.specs.GenericParts.{AreInside as GenericInside, IsFunctionInside as GenericFunctionInside, GenericParts, constructor_in, data_in, function_in, results_in, generic_program_of, main_in}
-use Rattle.gib_syntax.specs.GenericTree.{GenericExpression, GenericArguments, GenericArms, GenericCase, GenericConstructorTree, GenericDataTree}
+use Rattle.gib_syntax.specs.GenericTree.{GenericExpression, GenericCase, GenericConstructorTree, GenericDataTree}
 use Rattle.gib_syntax.specs.Parts.{AreInside, IsFunctionInside, Parts, data_tree, results_tree, function_tree, main_tree, program_of}
 use Rattle.gib_syntax.specs.Tree.{DataTree, FunctionTree, MainTree, ProgramTree, Expression, Op, Call, Make, Let, Par, If, Case, Paren, Argument, LastArm, NextArm}
 use Rattle.gib_syntax.specs.declared.written.ResultRuns.{ResultRuns}
@@ -32,7 +32,8 @@ use Rattle.gib_syntax.specs.declared.written.ResultRuns.TheVariants as result
 use Rattle.gib_syntax.specs.Results.{One}
 use Rattle.gib_syntax.specs.Words.{left, read_word, stack_of, type_in}
 use Rattle.gib_syntax.proofs.GenericLayers.{tree_of-node}
-use Rattle.gib_mono.specs.Bare.{AreBare, AreSingleTrees, IsSingleNode, GivesOne, IsSingle, AreSingle, HasSingle, IsSingleFunction, IsPlainData, IsPlainFunction, IsPlainHere, IsPlainKept, IsPlainProgram, all_bare, arms_bare, bare, bare_constructor, bare_data, bare_function, bare_main, bare_node, bare_program, bare_tree, bare_written, data_names, datas_names, function_names}
+use Rattle.gib_mono.specs.Bindings.{only_name, let_of, par_of}
+use Rattle.gib_mono.specs.Bare.{AreBare, AreSingleTrees, IsOne, IsSingleNode, one_name, GivesOne, IsSingle, AreSingle, HasSingle, IsSingleFunction, IsPlainData, IsPlainFunction, IsPlainHere, IsPlainKept, IsPlainProgram, all_bare, arms_bare, bare, bare_constructor, bare_data, bare_function, bare_main, bare_node, bare_program, bare_tree, bare_written, data_names, datas_names, function_names}
 use Rattle.gib_mono.specs.Copied.{Item}
 use Rattle.gib_mono.specs.Declaring.{own_entry}
 use Rattle.gib_mono.specs.Naming.{copy_entries, entries, entry, listed_entries, with_entries, with_entry}
@@ -58,6 +59,16 @@ case_plain : (f : ℕ → GenericExpression) (h : ℕ → Expression) (b : ℕ) 
 case_plain f h b [] p x e l = absurd l
 case_plain f h b (arm ∷ arms) p x e l = ap (Case p x) (arms_plain f h b arm arms e l.0 l.1)
 
+-- a binding of one name is so in both forms
+let_bare : (p : Span) (xs : List Ident) (a b : Expression) → IsOne xs → Let p (one_name xs) a b ≡ let_of p (only_name xs) [] a b
+let_bare p xs a b one = subst (λ (ys : List Ident). Let p (one_name ys) a b ≡ let_of p (only_name ys) [] a b) (sym one.1) refl
+
+-- so are two sides of one name each
+par_bare : (p : Span) (xs ys : List Ident) (a b c : Expression) → IsOne xs → IsOne ys → Par p (one_name xs) a (one_name ys) b c ≡ par_of p (only_name xs) [] a (only_name ys) [] b c
+par_bare p xs ys a b c one other =
+    subst (λ (us : List Ident). Par p (one_name us) a (one_name ys) b c ≡ par_of p (only_name us) [] a (only_name ys) [] b c) (sym one.1)
+    (subst (λ (us : List Ident). Par p one.0 a (one_name us) b c ≡ par_of p (Some one.0) [] a (only_name us) [] b c) (sym other.1) refl)
+
 layer_bare : (f : ℕ → GenericExpression) (h : ℕ → Expression) (words : List Word) (b : ℕ) (node : GenericNode) → Plain f h b → GenericBelow node b → IsSingleNode node → layer h (Some (bare_node node)) ≡ bare (generic_layer words f (Some node))
 layer_bare f h words b (g.Variable x) e l one = refl
 layer_bare f h words b (g.Whole p v) e l one = refl
@@ -66,13 +77,13 @@ layer_bare f h words b (g.Paren p a) e l one = ap (Paren p) (e a.0 l)
 layer_bare f h words b (g.Operation p o a c) e l one = ap₂ (Op p o) (e a.0 l.0) (e c.0 l.1)
 layer_bare f h words b (g.Call x ws ids) e l one = ap (Call x) (arguments_bare f h b ids.items e l)
 layer_bare f h words b (g.Make x ws ids) e l one = ap (Make x) (arguments_bare f h b ids.items e l)
-layer_bare f h words b (g.Let p x a c) e l one = ap₂ (Let p x) (e a.0 l.0) (e c.0 l.1)
-layer_bare f h words b (g.LetPar p x a y c d) e l one = ap (λ (u : Expression). Par p x u y (h c.0) (h d.0)) (e a.0 l.0) ∙ ap₂ (Par p x (bare (f a.0)) y) (e c.0 l.1) (e d.0 l.2)
+layer_bare f h words b (g.Let p xs a c) e l one = let_bare p xs (h a.0) (h c.0) one ∙ ap₂ (let_of p (only_name xs) []) (e a.0 l.0) (e c.0 l.1)
+layer_bare f h words b (g.LetPar p xs a ys c d) e l one =
+    par_bare p xs ys (h a.0) (h c.0) (h d.0) one.0 one.1 ∙ ap (λ (u : Expression). par_of p (only_name xs) [] u (only_name ys) [] (h c.0) (h d.0)) (e a.0 l.0)
+    ∙ ap₂ (par_of p (only_name xs) [] (bare (f a.0)) (only_name ys) []) (e c.0 l.1) (e d.0 l.2)
 layer_bare f h words b (g.If p a c d) e l one = ap (λ (u : Expression). If p u (h c.0) (h d.0)) (e a.0 l.0) ∙ ap₂ (If p (bare (f a.0))) (e c.0 l.1) (e d.0 l.2)
 layer_bare f h words b (g.Case p x arms) e l one = case_plain f h b arms.items p x e l
 layer_bare f h words b (g.Tuple p xs) e l one = absurd one
-layer_bare f h words b (g.LetSeveral p xs a c) e l one = absurd one
-layer_bare f h words b (g.ParSeveral p xs a ys c d) e l one = absurd one
 
 arms_below : (b c : ℕ) (arms : List Arm) → b ≤ c → AllByRecursion (GenericArmBelow b) arms → AllByRecursion (IsArmBelow c) arms
 arms_below b c [] le h = tt {0}
@@ -90,13 +101,11 @@ parts_below b c (g.Paren p a) le h one = omega (arith, h, le)
 parts_below b c (g.Operation p o x y) le h one = let (l, k) = h in (omega (arith, l, le), omega (arith, k, le))
 parts_below b c (g.Call x ws ids) le h one = all_inside b c ids.items le h
 parts_below b c (g.Make x ws ids) le h one = all_inside b c ids.items le h
-parts_below b c (g.Let p x y z) le h one = let l = h.0 in let k = h.1 in (omega (arith, l, le), omega (arith, k, le))
-parts_below b c (g.LetPar p x a y d e) le h one = let l = h.0 in let k = h.1 in let m = h.2 in (omega (arith, l, le), omega (arith, k, le), omega (arith, m, le))
+parts_below b c (g.Let p xs y z) le h one = let l = h.0 in let k = h.1 in (omega (arith, l, le), omega (arith, k, le))
+parts_below b c (g.LetPar p xs a ys d e) le h one = let l = h.0 in let k = h.1 in let m = h.2 in (omega (arith, l, le), omega (arith, k, le), omega (arith, m, le))
 parts_below b c (g.If p x y z) le h one = let l = h.0 in let k = h.1 in let m = h.2 in (omega (arith, l, le), omega (arith, k, le), omega (arith, m, le))
 parts_below b c (g.Case p x arms) le h one = case_below b c arms.items le h
 parts_below b c (g.Tuple p xs) le h one = absurd one
-parts_below b c (g.LetSeveral p xs x y) le h one = absurd one
-parts_below b c (g.ParSeveral p xs x ys y z) le h one = absurd one
 
 -- All expressions, in their order
 
@@ -125,6 +134,11 @@ over [] n e = omega arith
 over (y ∷ xs) zero e = absurd cc
 over (y ∷ xs) (suc n) e = let l = over xs n e in omega (arith, l)
 
+pub one_there : (xs : List Ident) → 1 ≤ length xs → length xs < 2 → IsOne xs
+one_there [] l k = absurd (omega (arith, l))
+one_there (x ∷ []) l k = (x, refl)
+one_there (x ∷ y ∷ ys) l k = absurd (omega (arith, k))
+
 node_single : (words : List Word) (f : ℕ → GenericExpression) (node : GenericNode) → IsSingle (generic_layer words f (Some node)) → IsSingleNode node
 node_single words f (g.Variable x) h = tt {0}
 node_single words f (g.Whole p v) h = tt {0}
@@ -133,13 +147,11 @@ node_single words f (g.Paren p a) h = tt {0}
 node_single words f (g.Operation p o x y) h = tt {0}
 node_single words f (g.Call x ws ids) h = tt {0}
 node_single words f (g.Make x ws ids) h = tt {0}
-node_single words f (g.Let p x y z) h = tt {0}
-node_single words f (g.LetPar p x a y d e) h = tt {0}
+node_single words f (g.Let p xs y z) h = h.0
+node_single words f (g.LetPar p xs a ys d e) h = (h.0, h.1)
 node_single words f (g.If p x y z) h = tt {0}
 node_single words f (g.Case p x arms) h = tt {0}
 node_single words f (g.Tuple p xs) h = absurd h
-node_single words f (g.LetSeveral p xs x y) h = absurd h
-node_single words f (g.ParSeveral p xs x ys y z) h = absurd h
 
 single_at : (a : Arena) (i : ℕ) (node : GenericNode) → IsArena a → AreSingleTrees a → slice_get a.nodes i ≡ Some node → IsSingleNode node
 single_at a i node arena h e = node_single a.words (generic_of a) node (subst IsSingle (tree_of-node a i node arena e) (h i (slice_get_within a.nodes i node e)))
@@ -252,13 +264,11 @@ layer_single words f b (g.Paren p a) k h one = k a.0 h
 layer_single words f b (g.Operation p o x y) k h one = (k x.0 h.0, k y.0 h.1)
 layer_single words f b (g.Call x ws ids) k h one = arguments_single f b ids.items k h
 layer_single words f b (g.Make x ws ids) k h one = arguments_single f b ids.items k h
-layer_single words f b (g.Let p x y z) k h one = (k y.0 h.0, k z.0 h.1)
-layer_single words f b (g.LetPar p x a y d e) k h one = (k a.0 h.0, k d.0 h.1, k e.0 h.2)
+layer_single words f b (g.Let p xs y z) k h one = (one, k y.0 h.0, k z.0 h.1)
+layer_single words f b (g.LetPar p xs a ys d e) k h one = (one.0, one.1, k a.0 h.0, k d.0 h.1, k e.0 h.2)
 layer_single words f b (g.If p x y z) k h one = (k x.0 h.0, k y.0 h.1, k z.0 h.2)
 layer_single words f b (g.Case p x arms) k h one = case_single f b arms.items p x k h
 layer_single words f b (g.Tuple p xs) k h one = absurd one
-layer_single words f b (g.LetSeveral p xs x y) k h one = absurd one
-layer_single words f b (g.ParSeveral p xs x ys y z) k h one = absurd one
 
 -- those before a number are
 abbrev pub SingleBefore : Arena → ℕ → Type 0

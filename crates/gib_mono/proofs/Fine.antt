@@ -1,15 +1,15 @@
 -- The copy of a tree of the grammar is one.
-use Rattle.std.proofs.Common.{◌≡◌, List, [], ◌∷◌, refl, ◌∙◌}
-use Rattle.gib_syntax.specs.declared.tree.Ident.{Ident}
-use Rattle.gib_syntax.specs.Results.{AreSeveral, AreSides}
+use Rattle.std.proofs.Common.{◌≡◌, refl, ◌∙◌}
 use Rattle.gib_syntax.specs.Fine.{is_atom, is_application, IsFine, AreParts, AreFine, HasFine}
-use Rattle.gib_syntax.specs.Forms.{Form, Forms, Meant}
-use Rattle.gib_syntax.specs.GenericTree.{GenericExpression, GenericArguments, GenericArms, GenericVar, GenericNum, GenericBit, GenericParen, GenericOp, GenericCall, GenericMake, GenericLet, GenericPar, GenericIf, GenericCase, GenericTuple, GenericLetSeveral, GenericParSeveral, GenericNoArgument, GenericArgument, GenericLastArm, GenericNextArm, GenericGlobals, place_named}
+use Rattle.gib_syntax.specs.Forms.{Forms, Meant}
+use Rattle.gib_syntax.specs.GenericTree.{GenericExpression, GenericArguments, GenericArms, GenericVar, GenericNum, GenericBit, GenericParen, GenericOp, GenericCall, GenericMake, GenericLet, GenericPar, GenericIf, GenericCase, GenericTuple, GenericNoArgument, GenericArgument, GenericLastArm, GenericNextArm, GenericGlobals, place_named}
 use Rattle.gib_syntax.specs.GenericFine.{is_generic_atom, is_generic_application, IsGenericFine, AreGenericParts, AreGenericFine, HasGenericFine}
-use Rattle.gib_syntax.specs.GenericTyping.{FormScope, form_in, form_bound}
-use Rattle.gib_mono.specs.Copying.{Naming, form_of, bound_forms, copy_variables, arguments_of, forms_named, bind_forms, copy, copy_all, copy_arms}
+use Rattle.gib_syntax.specs.GenericTyping.{FormScope, form_in}
+use Rattle.gib_mono.specs.Bindings.{only_name}
+use Rattle.gib_mono.specs.Copying.{Naming, bound_forms, copy_variables, arguments_of, forms_named, bind_forms, copy, copy_all, copy_arms}
 use Rattle.gib_types.specs.Form.{form_or}
 use Rattle.gib_syntax.specs.Declarations.{number_of}
+use Rattle.gib_mono.proofs.Bindings.{let_atom, par_atom, let_application, par_application, let_fine, par_fine, variable_names}
 
 pub atom_copied : (g : GenericGlobals) (nm : Naming) (m : Meant) (scope : FormScope) (e : GenericExpression) → is_atom (copy g nm m scope e) ≡ is_generic_atom e
 atom_copied g nm m scope (GenericVar x) = refl
@@ -20,13 +20,12 @@ atom_copied g nm m scope (GenericOp p f a b) = refl
 atom_copied g nm m scope (GenericCall f ws xs) = refl
 atom_copied g nm m scope (GenericMake k ws GenericNoArgument) = refl
 atom_copied g nm m scope (GenericMake k ws (GenericArgument a xs)) = refl
-atom_copied g nm m scope (GenericLet p x a b) = refl
-atom_copied g nm m scope (GenericPar p x a y b c) = refl
+atom_copied g nm m scope (GenericLet p xs a b) = let_atom p (only_name xs) (copy_variables nm xs (bound_forms g m scope a)) (copy g nm m scope a) (copy g nm m (bind_forms xs (bound_forms g m scope a) scope) b)
+atom_copied g nm m scope (GenericPar p xs a ys b c) =
+    par_atom p (only_name xs) (copy_variables nm xs (bound_forms g m scope a)) (copy g nm m scope a) (only_name ys) (copy_variables nm ys (bound_forms g m scope b)) (copy g nm m scope b) (copy g nm m (bind_forms ys (bound_forms g m scope b) (bind_forms xs (bound_forms g m scope a) scope)) c)
 atom_copied g nm m scope (GenericIf p a b c) = refl
 atom_copied g nm m scope (GenericCase p x arms) = refl
 atom_copied g nm m scope (GenericTuple p xs) = refl
-atom_copied g nm m scope (GenericLetSeveral p xs a b) = refl
-atom_copied g nm m scope (GenericParSeveral p xs a ys b c) = refl
 
 pub application_copied : (g : GenericGlobals) (nm : Naming) (m : Meant) (scope : FormScope) (e : GenericExpression) → is_application (copy g nm m scope e) ≡ is_generic_application e
 application_copied g nm m scope (GenericVar x) = refl
@@ -36,37 +35,12 @@ application_copied g nm m scope (GenericParen p e) = refl
 application_copied g nm m scope (GenericOp p f a b) = refl
 application_copied g nm m scope (GenericCall f ws xs) = refl
 application_copied g nm m scope (GenericMake k ws xs) = refl
-application_copied g nm m scope (GenericLet p x a b) = refl
-application_copied g nm m scope (GenericPar p x a y b c) = refl
+application_copied g nm m scope (GenericLet p xs a b) = let_application p (only_name xs) (copy_variables nm xs (bound_forms g m scope a)) (copy g nm m scope a) (copy g nm m (bind_forms xs (bound_forms g m scope a) scope) b)
+application_copied g nm m scope (GenericPar p xs a ys b c) =
+    par_application p (only_name xs) (copy_variables nm xs (bound_forms g m scope a)) (copy g nm m scope a) (only_name ys) (copy_variables nm ys (bound_forms g m scope b)) (copy g nm m scope b) (copy g nm m (bind_forms ys (bound_forms g m scope b) (bind_forms xs (bound_forms g m scope a) scope)) c)
 application_copied g nm m scope (GenericIf p a b c) = refl
 application_copied g nm m scope (GenericCase p x arms) = refl
 application_copied g nm m scope (GenericTuple p xs) = refl
-application_copied g nm m scope (GenericLetSeveral p xs a b) = refl
-application_copied g nm m scope (GenericParSeveral p xs a ys b c) = refl
-
-several_copied : (nm : Naming) (xs : List Ident) (ts : List Form) → AreSeveral xs → AreSeveral (copy_variables nm xs ts)
-several_copied nm [] ts h = absurd h
-several_copied nm (x ∷ []) ts h = absurd h
-several_copied nm (x ∷ y ∷ xs) [] h = tt {0}
-several_copied nm (x ∷ y ∷ xs) (t ∷ []) h = tt {0}
-several_copied nm (x ∷ y ∷ xs) (t ∷ u ∷ us) h = tt {0}
-
-sides_copied : (nm : Naming) (xs ys : List Ident) (ts us : List Form) → AreSides xs ys → AreSides (copy_variables nm xs ts) (copy_variables nm ys us)
-sides_copied nm [] ys ts us h = absurd h
-sides_copied nm (x ∷ xs) [] ts us h = absurd h
-sides_copied nm (x ∷ []) (y ∷ []) ts us h = absurd h
-sides_copied nm (x ∷ []) (y ∷ z ∷ zs) [] [] h = tt {0}
-sides_copied nm (x ∷ []) (y ∷ z ∷ zs) [] (u ∷ []) h = tt {0}
-sides_copied nm (x ∷ []) (y ∷ z ∷ zs) [] (u ∷ v ∷ us) h = tt {0}
-sides_copied nm (x ∷ []) (y ∷ z ∷ zs) (t ∷ ts) [] h = tt {0}
-sides_copied nm (x ∷ []) (y ∷ z ∷ zs) (t ∷ ts) (u ∷ []) h = tt {0}
-sides_copied nm (x ∷ []) (y ∷ z ∷ zs) (t ∷ ts) (u ∷ v ∷ us) h = tt {0}
-sides_copied nm (x ∷ w ∷ ws) (y ∷ ys) [] [] h = tt {0}
-sides_copied nm (x ∷ w ∷ ws) (y ∷ ys) [] (u ∷ us) h = tt {0}
-sides_copied nm (x ∷ w ∷ ws) (y ∷ ys) (t ∷ []) [] h = tt {0}
-sides_copied nm (x ∷ w ∷ ws) (y ∷ ys) (t ∷ []) (u ∷ us) h = tt {0}
-sides_copied nm (x ∷ w ∷ ws) (y ∷ ys) (t ∷ s ∷ ts) [] h = tt {0}
-sides_copied nm (x ∷ w ∷ ws) (y ∷ ys) (t ∷ s ∷ ts) (u ∷ us) h = tt {0}
 
 mutual
   pub fine_copied : (g : GenericGlobals) (nm : Naming) (m : Meant) (scope : FormScope) (e : GenericExpression) → IsGenericFine e → IsFine (copy g nm m scope e)
@@ -79,22 +53,18 @@ mutual
   fine_copied g nm m scope (GenericCall f ws GenericNoArgument) h = absurd h
   fine_copied g nm m scope (GenericCall f ws (GenericArgument a xs)) h = (fine_copied g nm m scope a h.0, atom_copied g nm m scope a ∙ h.1, all_fine_copied g nm m scope xs h.2)
   fine_copied g nm m scope (GenericMake k ws xs) h = all_fine_copied g nm m scope xs h
-  fine_copied g nm m scope (GenericLet p x a b) h = (fine_copied g nm m scope a h.0, fine_copied g nm m (form_bound x (form_of g m scope a) scope) b h.1)
-  fine_copied g nm m scope (GenericPar p x a y b c) h =
-      (fine_copied g nm m scope a h.0, fine_copied g nm m scope b h.1, fine_copied g nm m (form_bound y (form_of g m scope b) (form_bound x (form_of g m scope a) scope)) c h.2)
+  fine_copied g nm m scope (GenericLet p xs a b) h =
+      let_fine p xs (copy_variables nm xs (bound_forms g m scope a)) (copy g nm m scope a) (copy g nm m (bind_forms xs (bound_forms g m scope a) scope) b) (variable_names nm xs (bound_forms g m scope a)) h.0
+      (fine_copied g nm m scope a h.1) (fine_copied g nm m (bind_forms xs (bound_forms g m scope a) scope) b h.2)
+  fine_copied g nm m scope (GenericPar p xs a ys b c) h =
+      par_fine p xs ys (copy_variables nm xs (bound_forms g m scope a)) (copy_variables nm ys (bound_forms g m scope b)) (copy g nm m scope a) (copy g nm m scope b) (copy g nm m (bind_forms ys (bound_forms g m scope b) (bind_forms xs (bound_forms g m scope a) scope)) c)
+      (variable_names nm xs (bound_forms g m scope a)) (variable_names nm ys (bound_forms g m scope b)) h.0 h.1
+      (fine_copied g nm m scope a h.2) (fine_copied g nm m scope b h.3) (fine_copied g nm m (bind_forms ys (bound_forms g m scope b) (bind_forms xs (bound_forms g m scope a) scope)) c h.4)
   fine_copied g nm m scope (GenericIf p a b c) h = (fine_copied g nm m scope a h.0, fine_copied g nm m scope b h.1, fine_copied g nm m scope c h.2)
   fine_copied g nm m scope (GenericCase p x arms) h = arms_fine_copied g nm m scope (arguments_of (form_or (form_in scope (number_of x)))) arms h
   fine_copied g nm m scope (GenericTuple p GenericNoArgument) h = absurd h
   fine_copied g nm m scope (GenericTuple p (GenericArgument a GenericNoArgument)) h = absurd h
   fine_copied g nm m scope (GenericTuple p (GenericArgument a (GenericArgument b xs))) h = (fine_copied g nm m scope a h.0, parts_fine_copied g nm m scope (GenericArgument b xs) h.1)
-  fine_copied g nm m scope (GenericLetSeveral p xs a b) h =
-      (several_copied nm xs (bound_forms g m scope a) h.0, fine_copied g nm m scope a h.1, fine_copied g nm m (bind_forms xs (bound_forms g m scope a) scope) b h.2)
-  fine_copied g nm m scope (GenericParSeveral p xs a ys b c) h = (
-    sides_copied nm xs ys (bound_forms g m scope a) (bound_forms g m scope b) h.0,
-    fine_copied g nm m scope a h.1,
-    fine_copied g nm m scope b h.2,
-    fine_copied g nm m (bind_forms ys (bound_forms g m scope b) (bind_forms xs (bound_forms g m scope a) scope)) c h.3,
-  )
 
   parts_fine_copied : (g : GenericGlobals) (nm : Naming) (m : Meant) (scope : FormScope) (xs : GenericArguments) → AreGenericParts xs → AreParts (copy_all g nm m scope xs)
   parts_fine_copied g nm m scope GenericNoArgument h = tt {0}

@@ -1,6 +1,7 @@
 -- A table of contents: each group says what it is for; a file's first line says what it is.
 
 -- The copy is typed and means what the program means: expressions first.
+pub mod Bindings
 pub mod Scopes
 pub mod Covering
 pub mod Typing

@@ -6,19 +6,18 @@ use Rattle.std.specs.Global.{Vec}
 use Rattle.gib_base.specs.declared.Span.{Span}
 use Rattle.gib_types.specs.declared.types.TypeId.{TypeId}
 use Rattle.gib_types.specs.Form.{Form, Forms, NoForm, MoreForms, Meant, WholeForm, TruthForm, DataForm, form_or}
-use Rattle.gib_types.specs.Types.{form_at, forms_at, forms_of, AreBelow}
+use Rattle.gib_types.specs.Types.{form_at, forms_at, forms_of, AreBelow, GrowsTo}
 use Rattle.gib_syntax.specs.declared.exprs.ExprId.{ExprId}
 use Rattle.gib_syntax.specs.declared.exprs.Arm.{Arm}
 use Rattle.gib_syntax.specs.declared.exprs.Node.{Node}
 use Rattle.gib_syntax.specs.declared.exprs.Node.TheVariants as n
 use Rattle.gib_syntax.specs.declared.tree.Ident.{Ident}
 use Rattle.gib_types.specs.declared.operator.Operator.{Operator}
-use Rattle.gib_syntax.specs.declared.tree.Parameter.{Parameter}
 use Rattle.gib_syntax.specs.declared.tree.TypeName.{TypeName}
 use Rattle.gib_syntax.specs.Results.{One, Several, list_results}
 use Rattle.gib_check.specs.declared.rules.ResultIds.{ResultIds}
 use Rattle.gib_check.specs.declared.rules.ResultIds.TheVariants as ids
-use Rattle.gib_syntax.specs.Tree.{Expression, Arguments, NoArgument, Argument, LastArm, NextArm, Paren, Op, Call, Make, Let, Par, If, Case, Tuple, LetSeveral, ParSeveral}
+use Rattle.gib_syntax.specs.Tree.{Expression, Arguments, NoArgument, Argument, LastArm, NextArm, Paren, Op, Call, Make, If, Case, Tuple}
 use Rattle.gib_syntax.specs.Arena.{tree_of, layer, Grows, arguments_from, arms_from, case_from, ArmsBelow, IsArmBelow}
 use Rattle.gib_syntax.specs.GenericArena.{arguments_from as generic_from, arms_from as generic_arms, case_from as generic_case, ArmsBelow as GenericArmsBelow, IsArmBelow as IsGenericArmBelow}
 use Rattle.gib_syntax.specs.Declarations.{number_of}
@@ -26,16 +25,17 @@ use Rattle.gib_syntax.specs.Forms.{WrittenType, WrittenTypes, formed, formed_all
 use Rattle.gib_syntax.specs.declared.written.Word.{Word}
 use Rattle.gib_syntax.specs.declared.written.Run.{Run}
 use Rattle.gib_syntax.specs.Words.{all_types, stack_of, run_words, types_in}
-use Rattle.gib_syntax.specs.GenericTree.{GenericExpression, GenericArguments, GenericNoArgument, GenericArgument, GenericGlobals, GenericVar, GenericNum, GenericBit, GenericParen, GenericOp, GenericCall, GenericMake, GenericLet, GenericPar, GenericIf, GenericCase, GenericTuple, GenericLetSeveral, GenericParSeveral, generic_named, place_named}
-use Rattle.gib_syntax.specs.GenericTyping.{FormScope, form_in, form_bound, operator_form}
+use Rattle.gib_syntax.specs.GenericTree.{GenericExpression, GenericArguments, GenericNoArgument, GenericArgument, GenericGlobals, GenericVar, GenericNum, GenericBit, GenericParen, GenericOp, GenericCall, GenericMake, GenericLet, GenericPar, GenericIf, GenericCase, GenericTuple, generic_named, place_named}
+use Rattle.gib_syntax.specs.GenericTyping.{FormScope, form_in, operator_form}
 use Rattle.gib_mono.specs.declared.copier.Copier.{Copier}
 use Rattle.gib_mono.specs.declared.copier.Copied.{Copied}
+use Rattle.gib_mono.specs.Bindings.{only_name, let_of, par_of}
 use Rattle.gib_mono.specs.Copying.{Naming, renamed, name_of_form, copy, copy_all, copy_arms, copy_variables, form_of, one_form, results_of, results_of_arms, forms_of_all, bound_forms, results_at, owner_named, forms_named, bind_forms, arguments_of}
 use Rattle.gib_mono.specs.Naming.{naming_of, number_with}
 use Rattle.gib_mono.specs.declared.scene.InScope.{InScope}
 use Rattle.gib_mono.specs.Scenes.{Scenery, IsScenery, forms, meaning, scope_onto, scope_in, names_in, Keeps}
 use Rattle.gib_mono.specs.Reading.{listed}
-use Rattle.gib_mono.specs.Made.{naming, run_of, forms_given, AreMet, MoreParts, Stays, Meets, Gives, MeetsAll, Puts, Copies, CopiesAll, CopiesTuple, CopiesArm, CopiesArms, ArmIs, ArmsAre, arm_scope, Binds, Leaves}
+use Rattle.gib_mono.specs.Made.{naming, run_of, forms_given, variables_given, AreMet, MoreParts, Stays, Meets, Gives, MeetsAll, Puts, Copies, CopiesAll, CopiesTuple, CopiesArm, CopiesArms, ArmIs, ArmsAre, arm_scope, Binds, Leaves}
 use Rattle.gib_mono.proofs.InScene.{keeps_same, keeps_on, scope_grows}
 use Rattle.gib_mono.proofs.Read.{form_grows, forms_grow, listed_grow, grows_on as types_grow_on, ap₃}
 use Rattle.gib_check.proofs.Growing.{below_more, run_more}
@@ -69,18 +69,24 @@ stays_on a b c h k = record { keeps = keeps_on a.scene b.scene c.scene h.keeps k
 pub naming_stays : (a b : Copier) → Stays a b → naming b ≡ naming a
 naming_stays a b h = ap₂ naming_of h.base h.keeps.names
 
--- what was given stays
+-- what was given stays where types and parts were met
+pub given_grows : (a b : Copier) (r : ResultIds) → GrowsTo (forms a.scene) (forms b.scene) → MoreParts a b → AreMet a r → forms_given b r ≡ forms_given a r
+given_grows a b (ids.One id) s m h = ap One (form_grows a.scene.types b.scene.types id s h)
+given_grows a b (ids.Several start count) s m h =
+    ap Several (ap (listed (forms b.scene)) (run_stays a b start count m h.0) ∙ listed_grow a.scene.types b.scene.types (run_of a start count) s h.1)
+
+pub met_grows : (a b : Copier) (r : ResultIds) → length a.scene.types ≤ length b.scene.types → MoreParts a b → AreMet a r → AreMet b r
+met_grows a b (ids.One id) l m h = omega (arith, h, l)
+met_grows a b (ids.Several start count) l m h = (
+  (let k = h.0 in let e = ap (λ (l : List TypeId). length l) m.is in let f = length-append a.parts.items m.more in omega (arith, k, e, f)),
+  subst (AreBelow (length b.scene.types)) (sym (run_stays a b start count m h.0)) (below_more (length a.scene.types) (length b.scene.types) (run_of a start count) l h.1),
+)
+
 pub given_stays : (a b : Copier) (r : ResultIds) → Stays a b → AreMet a r → forms_given b r ≡ forms_given a r
-given_stays a b (ids.One id) s h = ap One (form_grows a.scene.types b.scene.types id s.keeps.grows h)
-given_stays a b (ids.Several start count) s h =
-    ap Several (ap (listed (forms b.scene)) (run_stays a b start count s.parts h.0) ∙ listed_grow a.scene.types b.scene.types (run_of a start count) s.keeps.grows h.1)
+given_stays a b r s h = given_grows a b r s.keeps.grows s.parts h
 
 pub met_stays : (a b : Copier) (r : ResultIds) → Stays a b → AreMet a r → AreMet b r
-met_stays a b (ids.One id) s h = let l = s.keeps.longer in omega (arith, h, l)
-met_stays a b (ids.Several start count) s h = (
-  (let k = h.0 in let e = ap (λ (l : List TypeId). length l) s.parts.is in let f = length-append a.parts.items s.parts.more in omega (arith, k, e, f)),
-  subst (AreBelow (length b.scene.types)) (sym (run_stays a b start count s.parts h.0)) (below_more (length a.scene.types) (length b.scene.types) (run_of a start count) s.keeps.longer h.1),
-)
+met_stays a b r s h = met_grows a b r s.keeps.longer s.parts h
 
 -- and is the same where types and parts are
 pub given_same : (a b : Copier) (r : ResultIds) → b.scene.types ≡ a.scene.types → b.parts ≡ a.parts → forms_given b r ≡ forms_given a r
@@ -208,49 +214,49 @@ left_given s3 s4 len r e = given_same s3 s4 r (left_types s3 s4 len e) e.parts
 left_tree : (s3 s4 : Copier) (len : ℕ) (i : ExprId) → Leaves s3 s4 len → tree_of s4.exprs i.0 ≡ tree_of s3.exprs i.0
 left_tree s3 s4 len i e = ap (λ (xs : List Node). tree_of xs i.0) e.exprs
 
-pub let_below : (g : GenericGlobals) (s0 s1 s2 s3 s4 : Copier) (len : ℕ) (inner : FormScope) (v c : Copied) (a b : GenericExpression) → Copies g s0 s1 v a → IsScenery s1.scene → len ≡ length s1.scene.scope → Binds s1 s2 inner → Copies g s2 s3 c b → Leaves s3 s4 len
-    → (v.expr.0 < length s4.exprs) × (c.expr.0 < length s4.exprs)
-let_below g s0 s1 s2 s3 s4 len inner v c a b h known is binds i e =
-    let back = left_scope s1 s2 s3 s4 len inner known is binds i.stays e in
-    ((copied_stays g s0 s1 s4 v a h back).inside, left_inside s3 s4 len c.expr e i.inside)
-
 -- the one type of what a bound expression gives
 pub one_met : (g : GenericGlobals) (s0 s1 s2 : Copier) (v : Copied) (a : GenericExpression) (t : TypeId) → Copies g s0 s1 v a → Meets s1 s2 t (one_form (forms_given s1 v.given)) → form_at (forms s2.scene) t.0 ≡ form_of g (meaning s0.scene) (scope_in s0.scene) a
 one_met g s0 s1 s2 v a t h m = m.form ∙ ap one_form h.forms
 
-pub let_made : (g : GenericGlobals) (s0 s1 s2 s3 s4 s5 s6 : Copier) (len : ℕ) (id : ExprId) (v c : Copied) (t : TypeId) (p : Span) (x : Ident) (a b : GenericExpression) → Copies g s0 s1 v a → Meets s1 s2 t (one_form (forms_given s1 v.given)) → IsScenery s2.scene → len ≡ length s2.scene.scope
-    → Binds s2 s3 (form_bound x (form_at (forms s2.scene) t.0) (scope_in s2.scene)) → Copies g s3 s4 c b → Leaves s4 s5 len → Puts s5 s6 id (n.Let p x v.expr c.expr) → Copies g s0 s6 (record { expr = id; given = c.given }) (GenericLet p x a b)
-let_made g s0 s1 s2 s3 s4 s5 s6 len id v c t p x a b h one known is binds i e w =
-    let inner = form_bound x (form_at (forms s2.scene) t.0) (scope_in s2.scene) in
-    let there = stays_on s0 s1 s2 h.stays one.stays in
-    let back = left_scope s2 s3 s4 s5 len inner known is binds i.stays e in
-    let first = copied_stays g s0 s1 s5 v a h (stays_on s1 s2 s5 one.stays back) in
-    let nm = naming_binds s2 s3 inner binds ∙ naming_stays s0 s2 there in
+-- what was copied stands when the names that were bound behind it leave
+pub bound_there : (g : GenericGlobals) (s0 s1 s2 s3 s4 : Copier) (len : ℕ) (inner : FormScope) (v : Copied) (a : GenericExpression) → Copies g s0 s1 v a → IsScenery s1.scene → len ≡ length s1.scene.scope → Binds s1 s2 inner → Stays s2 s3 → Leaves s3 s4 len → Copies g s0 s4 v a
+bound_there g s0 s1 s2 s3 s4 len inner v a h known is binds i e = copied_stays g s0 s1 s4 v a h (left_scope s1 s2 s3 s4 len inner known is binds i e)
+
+-- and so is the body
+pub body_below : (g : GenericGlobals) (s2 s3 s4 : Copier) (len : ℕ) (c : Copied) (b : GenericExpression) → Copies g s2 s3 c b → Leaves s3 s4 len → c.expr.0 < length s4.exprs
+body_below g s2 s3 s4 len c b i e = left_inside s3 s4 len c.expr e i.inside
+
+-- the body of names that are bound behind a start
+record BodyIs (g : GenericGlobals) (s0 new : Copier) (c : Copied) (inner : FormScope) (b : GenericExpression) : Type 0 where
+  expr : tree_of new.exprs c.expr.0 ≡ copy g (naming s0) (meaning s0.scene) inner b
+  met : AreMet new c.given
+  forms : forms_given new c.given ≡ results_of g (meaning s0.scene) inner b
+
+body_is : (g : GenericGlobals) (s0 s1 s2 s3 s4 : Copier) (len : ℕ) (bound inner : FormScope) (c : Copied) (b : GenericExpression) → Stays s0 s1 → Binds s1 s2 bound → bound ≡ inner → Copies g s2 s3 c b → Leaves s3 s4 len → BodyIs g s0 s4 c inner b
+body_is g s0 s1 s2 s3 s4 len bound inner c b there binds is i e =
     let m = binds.meaning ∙ there.keeps.meaning in
-    let sc = binds.scope ∙ ap₂ (λ f sc. form_bound x f sc) (one_met g s0 s1 s2 v a t h one) there.keeps.scope in
-    node_made g s0 s5 s6 id (n.Let p x v.expr c.expr) c.given (GenericLet p x a b) first.stays w
-    (ap₂ (Let p x) first.expr (left_tree s4 s5 len c.expr e ∙ i.expr ∙ ap₃ (λ k q r. copy g k q r b) nm m sc))
-    (left_met s4 s5 len c.given e i.met) (left_given s4 s5 len c.given e ∙ i.forms ∙ ap₂ (λ q r. results_of g q r b) m sc)
+    let sc = binds.scope ∙ is in
+    record {
+      expr = left_tree s3 s4 len c.expr e ∙ i.expr ∙ ap₃ (λ k q r. copy g k q r b) (naming_binds s1 s2 bound binds ∙ naming_stays s0 s1 there) m sc;
+      met = left_met s3 s4 len c.given e i.met;
+      forms = left_given s3 s4 len c.given e ∙ i.forms ∙ ap₂ (λ q r. results_of g q r b) m sc;
+    }
 
--- two variables, one after the other
-pub bound_both : (s2 s3 s4 : Copier) (x y : Ident) (v w : TypeId) → Binds s2 s3 (form_bound x (form_at (forms s2.scene) v.0) (scope_in s2.scene)) → s3.scene.types ≡ s2.scene.types → Binds s3 s4 (form_bound y (form_at (forms s3.scene) w.0) (scope_in s3.scene))
-    → Binds s2 s4 (form_bound y (form_at (forms s2.scene) w.0) (form_bound x (form_at (forms s2.scene) v.0) (scope_in s2.scene)))
-bound_both s2 s3 s4 x y v w a same b = record {
-  puts = grows_on s2.exprs s3.exprs s4.exprs a.puts b.puts;
-  parts = parts_on s2 s3 s4 a.parts b.parts;
-  base = b.base ∙ a.base;
-  grows = types_grow_on s2.scene.types s3.scene.types s4.scene.types a.grows b.grows;
-  longer = (let l = a.longer in let m = b.longer in omega (arith, l, m));
-  meaning = b.meaning ∙ a.meaning;
-  names = b.names ∙ a.names;
-  scope = b.scope ∙ ap₂ (λ f sc. form_bound y f sc) (ap (λ ns. form_at (forms_of ns) w.0) same) a.scope;
-  more = a.more ++ b.more;
-  kept = b.kept ∙ ap (λ l. l ++ b.more) a.kept ∙ append_assoc s2.scene.scope a.more b.more;
-} where
-  append_assoc : (xs ys zs : List InScope) → (xs ++ ys) ++ zs ≡ xs ++ (ys ++ zs)
-  append_assoc [] ys zs = refl
-  append_assoc (x ∷ xs) ys zs = ap (λ l. x ∷ l) (append_assoc xs ys zs)
+-- the variables of names are those of the copy
+variables_are : (g : GenericGlobals) (s0 new : Copier) (v : Copied) (xs : List Ident) (a : GenericExpression) → Copies g s0 new v a → variables_given new xs v.given ≡ copy_variables (naming s0) xs (bound_forms g (meaning s0.scene) (scope_in s0.scene) a)
+variables_are g s0 new v xs a h = ap₂ (λ k l. copy_variables k xs l) (naming_stays s0 new h.stays) (ap list_results h.forms)
 
+pub let_made : (g : GenericGlobals) (s0 s1 s2 s3 s4 s5 : Copier) (len : ℕ) (id : ExprId) (v c : Copied) (node : Node) (p : Span) (xs : List Ident) (a b : GenericExpression) → Copies g s0 s1 v a → IsScenery s1.scene → len ≡ length s1.scene.scope
+    → Binds s1 s2 (bind_forms xs (list_results (forms_given s1 v.given)) (scope_in s1.scene)) → Copies g s2 s3 c b → Leaves s3 s4 len
+    → ((f : ℕ → Expression) → layer f (Some node) ≡ let_of p (only_name xs) (variables_given s4 xs v.given) (f v.expr.0) (f c.expr.0)) → Puts s4 s5 id node → Copies g s0 s5 (record { expr = id; given = c.given }) (GenericLet p xs a b)
+let_made g s0 s1 s2 s3 s4 s5 len id v c node p xs a b h known is binds i e tree w =
+    let inner = bind_forms xs (list_results (forms_given s1 v.given)) (scope_in s1.scene) in
+    let first = bound_there g s0 s1 s2 s3 s4 len inner v a h known is binds i.stays e in
+    let body = body_is g s0 s1 s2 s3 s4 len inner (bind_forms xs (bound_forms g (meaning s0.scene) (scope_in s0.scene) a) (scope_in s0.scene)) c b h.stays binds (ap₂ (bind_forms xs) (ap list_results h.forms) h.stays.keeps.scope) i e in
+    node_made g s0 s4 s5 id node c.given (GenericLet p xs a b) first.stays w
+    (tree (tree_of s4.exprs) ∙ ap₃ (let_of p (only_name xs)) (variables_are g s0 s4 v xs a first) first.expr body.expr) body.met body.forms
+
+-- names behind others
 pub bound_again : (s2 s3 s4 : Copier) (middle inner : FormScope) → Binds s2 s3 middle → Binds s3 s4 inner → Binds s2 s4 inner
 bound_again s2 s3 s4 middle inner a b = record {
   puts = grows_on s2.exprs s3.exprs s4.exprs a.puts b.puts;
@@ -265,78 +271,43 @@ bound_again s2 s3 s4 middle inner a b = record {
   kept = b.kept ∙ ap (λ l. l ++ b.more) a.kept ∙ append_assoc s2.scene.scope a.more b.more;
 }
 
-pub let_par_below : (g : GenericGlobals) (s0 s1 s2 s3 s4 s5 s6 : Copier) (len : ℕ) (inner : FormScope) (v w c : Copied) (a b q : GenericExpression) → Copies g s0 s1 v a → Copies g s1 s2 w b → Stays s2 s3 → IsScenery s3.scene → len ≡ length s3.scene.scope → Binds s3 s4 inner → Copies g s4 s5 c q → Leaves s5 s6 len
-    → (v.expr.0 < length s6.exprs) × (w.expr.0 < length s6.exprs) × (c.expr.0 < length s6.exprs)
-let_par_below g s0 s1 s2 s3 s4 s5 s6 len inner v w c a b q h i more known is binds j e =
-    let back = stays_on s2 s3 s6 more (left_scope s3 s4 s5 s6 len inner known is binds j.stays e) in
-    let two = parts_below g s0 s1 s2 s6 v w a b h i back in
-    (two.0, two.1, left_inside s5 s6 len c.expr e j.inside)
+-- what is bound to the second side is met when the names of the first are there
+pub right_met : (g : GenericGlobals) (s1 s2 s3 : Copier) (middle : FormScope) (w : Copied) (b : GenericExpression) → Copies g s1 s2 w b → Binds s2 s3 middle → AreMet s3 w.given
+right_met g s1 s2 s3 middle w b i binds = met_grows s2 s3 w.given binds.longer binds.parts i.met
 
-pub let_par_made : (g : GenericGlobals) (s0 s1 s2 s3 s4 s5 s6 s7 s8 : Copier) (len : ℕ) (id : ExprId) (v w c : Copied) (t u : TypeId) (p : Span) (x y : Ident) (a b q : GenericExpression) → Copies g s0 s1 v a → Copies g s1 s2 w b
-    → Meets s2 s3 t (one_form (forms_given s2 v.given)) → Meets s3 s4 u (one_form (forms_given s3 w.given)) → IsScenery s4.scene → len ≡ length s4.scene.scope
-    → Binds s4 s5 (form_bound y (form_at (forms s4.scene) u.0) (form_bound x (form_at (forms s4.scene) t.0) (scope_in s4.scene))) → Copies g s5 s6 c q → Leaves s6 s7 len → Puts s7 s8 id (n.LetPar p x v.expr y w.expr c.expr)
-    → Copies g s0 s8 (record { expr = id; given = c.given }) (GenericPar p x a y b q)
-let_par_made g s0 s1 s2 s3 s4 s5 s6 s7 s8 len id v w c t u p x y a b q h i one two known is binds j e makes =
-    let inner = form_bound y (form_at (forms s4.scene) u.0) (form_bound x (form_at (forms s4.scene) t.0) (scope_in s4.scene)) in
-    let back = left_scope s4 s5 s6 s7 len inner known is binds j.stays e in
-    let met = stays_on s2 s3 s4 one.stays two.stays in
+-- both sides, when all names have left
+pub record SidesAre (g : GenericGlobals) (s0 new : Copier) (v w : Copied) (a b : GenericExpression) : Type 0 where
+  pub left : Copies g s0 new v a
+  pub right : Copies g s0 new w b
+
+pub sides_there : (g : GenericGlobals) (s0 s1 s2 s3 s4 s5 s6 : Copier) (len : ℕ) (middle inner : FormScope) (v w : Copied) (a b : GenericExpression) → Copies g s0 s1 v a → Copies g s1 s2 w b → IsScenery s2.scene → len ≡ length s2.scene.scope
+    → Binds s2 s3 middle → Binds s3 s4 inner → Stays s4 s5 → Leaves s5 s6 len → SidesAre g s0 s6 v w a b
+sides_there g s0 s1 s2 s3 s4 s5 s6 len middle inner v w a b h i known is first second j e =
+    let both = bound_again s2 s3 s4 middle inner first second in record {
+      left = bound_there g s0 s2 s4 s5 s6 len inner v a (copied_stays g s0 s1 s2 v a h i.stays) known is both j e;
+      right = bound_there g s0 s2 s4 s5 s6 len inner w b (copied_from g s0 s1 s2 w b h.stays i) known is both j e;
+    }
+
+pub par_made : (g : GenericGlobals) (s0 s1 s2 s3 s4 s5 s6 s7 : Copier) (len : ℕ) (id : ExprId) (v w c : Copied) (node : Node) (p : Span) (xs ys : List Ident) (a b q : GenericExpression) → Copies g s0 s1 v a → Copies g s1 s2 w b
+    → IsScenery s2.scene → len ≡ length s2.scene.scope → Binds s2 s3 (bind_forms xs (list_results (forms_given s2 v.given)) (scope_in s2.scene)) → Binds s3 s4 (bind_forms ys (list_results (forms_given s3 w.given)) (scope_in s3.scene))
+    → Copies g s4 s5 c q → Leaves s5 s6 len
+    → ((f : ℕ → Expression) → layer f (Some node) ≡ par_of p (only_name xs) (variables_given s6 xs v.given) (f v.expr.0) (only_name ys) (variables_given s6 ys w.given) (f w.expr.0) (f c.expr.0))
+    → Puts s6 s7 id node → Copies g s0 s7 (record { expr = id; given = c.given }) (GenericPar p xs a ys b q)
+par_made g s0 s1 s2 s3 s4 s5 s6 s7 len id v w c node p xs ys a b q h i known is first second j e tree makes =
+    let middle = bind_forms xs (list_results (forms_given s2 v.given)) (scope_in s2.scene) in
+    let inner = bind_forms ys (list_results (forms_given s3 w.given)) (scope_in s3.scene) in
     let left = copied_stays g s0 s1 s2 v a h i.stays in
     let right = copied_from g s0 s1 s2 w b h.stays i in
-    let there = stays_on s0 s2 s4 left.stays met in
-    let first = copied_stays g s0 s2 s7 v a left (stays_on s2 s4 s7 met back) in
-    let second = copied_stays g s0 s2 s7 w b right (stays_on s2 s4 s7 met back) in
-    let right_there = copied_stays g s0 s2 s3 w b right one.stays in
-    let left_form : form_at (forms s4.scene) t.0 ≡ form_of g (meaning s0.scene) (scope_in s0.scene) a = form_grows s3.scene.types s4.scene.types t two.stays.keeps.grows one.below ∙ one_met g s0 s2 s3 v a t left one in
-    let right_form : form_at (forms s4.scene) u.0 ≡ form_of g (meaning s0.scene) (scope_in s0.scene) b = one_met g s0 s3 s4 w b u right_there two in
-    let nm = naming_binds s4 s5 inner binds ∙ naming_stays s0 s4 there in
-    let m = binds.meaning ∙ there.keeps.meaning in
-    let sc = binds.scope ∙ ap₃ (λ f k r. form_bound y f (form_bound x k r)) right_form left_form there.keeps.scope in
-    node_made g s0 s7 s8 id (n.LetPar p x v.expr y w.expr c.expr) c.given (GenericPar p x a y b q) first.stays makes
-    (ap₃ (λ k l r. Par p x k y l r) first.expr second.expr (left_tree s6 s7 len c.expr e ∙ j.expr ∙ ap₃ (λ k l r. copy g k l r q) nm m sc))
-    (left_met s6 s7 len c.given e j.met) (left_given s6 s7 len c.given e ∙ j.forms ∙ ap₂ (λ l r. results_of g l r q) m sc)
-
--- bindings of parts
-
-pub let_several_made : (g : GenericGlobals) (s0 s1 s2 s3 s4 s5 : Copier) (len : ℕ) (id : ExprId) (v c : Copied) (ts : List TypeId) (qs : Vec Parameter) (p : Span) (xs : List Ident) (a b : GenericExpression) → Copies g s0 s1 v a → listed (forms s1.scene) ts ≡ list_results (forms_given s1 v.given)
-    → qs.items ≡ copy_variables (naming s1) xs (listed (forms s1.scene) ts) → IsScenery s1.scene → len ≡ length s1.scene.scope → Binds s1 s2 (bind_forms xs (listed (forms s1.scene) ts) (scope_in s1.scene)) → Copies g s2 s3 c b → Leaves s3 s4 len
-    → Puts s4 s5 id (n.LetSeveral p qs v.expr c.expr) → Copies g s0 s5 (record { expr = id; given = c.given }) (GenericLetSeveral p xs a b)
-let_several_made g s0 s1 s2 s3 s4 s5 len id v c ts qs p xs a b h types names known is binds i e w =
-    let inner = bind_forms xs (listed (forms s1.scene) ts) (scope_in s1.scene) in
-    let back = left_scope s1 s2 s3 s4 len inner known is binds i.stays e in
-    let first = copied_stays g s0 s1 s4 v a h back in
-    let bound : listed (forms s1.scene) ts ≡ bound_forms g (meaning s0.scene) (scope_in s0.scene) a = types ∙ ap list_results h.forms in
-    let nm = naming_binds s1 s2 inner binds ∙ naming_stays s0 s1 h.stays in
-    let m = binds.meaning ∙ h.stays.keeps.meaning in
-    let sc = binds.scope ∙ ap₂ (bind_forms xs) bound h.stays.keeps.scope in
-    node_made g s0 s4 s5 id (n.LetSeveral p qs v.expr c.expr) c.given (GenericLetSeveral p xs a b) first.stays w
-    (ap₃ (LetSeveral p) (names ∙ ap₂ (λ k l. copy_variables k xs l) (naming_stays s0 s1 h.stays) bound) first.expr (left_tree s3 s4 len c.expr e ∙ i.expr ∙ ap₃ (λ k q r. copy g k q r b) nm m sc))
-    (left_met s3 s4 len c.given e i.met) (left_given s3 s4 len c.given e ∙ i.forms ∙ ap₂ (λ q r. results_of g q r b) m sc)
-
-pub par_several_made : (g : GenericGlobals) (s0 s1 s2 s3 s4 s5 s6 s7 : Copier) (len : ℕ) (id : ExprId) (v w c : Copied) (ts us : List TypeId) (qs rs : Vec Parameter) (p : Span) (xs ys : List Ident) (a b q : GenericExpression) → Copies g s0 s1 v a → Copies g s1 s2 w b
-    → listed (forms s2.scene) ts ≡ list_results (forms_given s2 v.given) → listed (forms s2.scene) us ≡ list_results (forms_given s2 w.given) → qs.items ≡ copy_variables (naming s2) xs (listed (forms s2.scene) ts) → rs.items ≡ copy_variables (naming s2) ys (listed (forms s2.scene) us)
-    → AreBelow (length s2.scene.types) us → IsScenery s2.scene → len ≡ length s2.scene.scope → Binds s2 s3 (bind_forms xs (listed (forms s2.scene) ts) (scope_in s2.scene)) → Binds s3 s4 (bind_forms ys (listed (forms s3.scene) us) (scope_in s3.scene)) → Copies g s4 s5 c q → Leaves s5 s6 len
-    → Puts s6 s7 id (n.ParSeveral p qs v.expr rs w.expr c.expr) → Copies g s0 s7 (record { expr = id; given = c.given }) (GenericParSeveral p xs a ys b q)
-par_several_made g s0 s1 s2 s3 s4 s5 s6 s7 len id v w c ts us qs rs p xs ys a b q h i left_types right_types lefts rights low known is first_binds second_binds j e makes =
-    let there : listed (forms s3.scene) us ≡ listed (forms s2.scene) us = listed_grow s2.scene.types s3.scene.types us first_binds.grows low in
-    let inner = bind_forms ys (listed (forms s2.scene) us) (bind_forms xs (listed (forms s2.scene) ts) (scope_in s2.scene)) in
-    let binds : Binds s2 s4 inner = bound_again s2 s3 s4 (bind_forms xs (listed (forms s2.scene) ts) (scope_in s2.scene)) inner first_binds
-    (subst (Binds s3 s4) (ap₂ (bind_forms ys) there first_binds.scope) second_binds) in
-    let back = left_scope s2 s4 s5 s6 len inner known is binds j.stays e in
-    let left = copied_stays g s0 s1 s2 v a h i.stays in
-    let right = copied_from g s0 s1 s2 w b h.stays i in
-    let first = copied_stays g s0 s2 s6 v a left back in
-    let second = copied_stays g s0 s2 s6 w b right back in
-    let left_bound : listed (forms s2.scene) ts ≡ bound_forms g (meaning s0.scene) (scope_in s0.scene) a = left_types ∙ ap list_results left.forms in
-    let right_bound : listed (forms s2.scene) us ≡ bound_forms g (meaning s0.scene) (scope_in s0.scene) b = right_types ∙ ap list_results right.forms in
-    let nm = naming_binds s2 s4 inner binds ∙ naming_stays s0 s2 left.stays in
-    let m = binds.meaning ∙ left.stays.keeps.meaning in
-    let sc = binds.scope ∙ ap₃ (λ f k r. bind_forms ys f (bind_forms xs k r)) right_bound left_bound left.stays.keeps.scope in
-    let near = naming_stays s0 s2 left.stays in
-    node_made g s0 s6 s7 id (n.ParSeveral p qs v.expr rs w.expr c.expr) c.given (GenericParSeveral p xs a ys b q) first.stays makes
-    (ap₂ (λ k l. ParSeveral p k (tree_of s6.exprs v.expr.0) l (tree_of s6.exprs w.expr.0) (tree_of s6.exprs c.expr.0)) (lefts ∙ ap₂ (λ k l. copy_variables k xs l) near left_bound) (rights ∙ ap₂ (λ k l. copy_variables k ys l) near right_bound)
-    ∙ ap₃ (λ k l r. ParSeveral p (copy_variables (naming s0) xs (bound_forms g (meaning s0.scene) (scope_in s0.scene) a)) k (copy_variables (naming s0) ys (bound_forms g (meaning s0.scene) (scope_in s0.scene) b)) l r)
-    first.expr second.expr (left_tree s5 s6 len c.expr e ∙ j.expr ∙ ap₃ (λ k l r. copy g k l r q) nm m sc))
-    (left_met s5 s6 len c.given e j.met) (left_given s5 s6 len c.given e ∙ j.forms ∙ ap₂ (λ l r. results_of g l r q) m sc)
+    let all = sides_there g s0 s1 s2 s3 s4 s5 s6 len middle inner v w a b h i known is first second j.stays e in
+    let sc : inner ≡ bind_forms ys (bound_forms g (meaning s0.scene) (scope_in s0.scene) b) (bind_forms xs (bound_forms g (meaning s0.scene) (scope_in s0.scene) a) (scope_in s0.scene)) =
+    ap₂ (bind_forms ys) (ap list_results (given_grows s2 s3 w.given first.grows first.parts i.met ∙ right.forms)) (first.scope ∙ ap₂ (bind_forms xs) (ap list_results left.forms) left.stays.keeps.scope) in
+    let body = body_is g s0 s2 s4 s5 s6 len inner (bind_forms ys (bound_forms g (meaning s0.scene) (scope_in s0.scene) b) (bind_forms xs (bound_forms g (meaning s0.scene) (scope_in s0.scene) a) (scope_in s0.scene))) c q
+    left.stays (bound_again s2 s3 s4 middle inner first second) sc j e in
+    node_made g s0 s6 s7 id node c.given (GenericPar p xs a ys b q) all.left.stays makes
+    (tree (tree_of s6.exprs)
+    ∙ ap₂ (λ k l. par_of p (only_name xs) k (tree_of s6.exprs v.expr.0) (only_name ys) l (tree_of s6.exprs w.expr.0) (tree_of s6.exprs c.expr.0)) (variables_are g s0 s6 v xs a all.left) (variables_are g s0 s6 w ys b all.right)
+    ∙ ap₃ (λ k l r. par_of p (only_name xs) (copy_variables (naming s0) xs (bound_forms g (meaning s0.scene) (scope_in s0.scene) a)) k (only_name ys) (copy_variables (naming s0) ys (bound_forms g (meaning s0.scene) (scope_in s0.scene) b)) l r)
+    all.left.expr all.right.expr body.expr) body.met body.forms
 
 -- arguments
 

@@ -12,20 +12,21 @@ use Rattle.gib_types.specs.Tree.{Datum, whole, truth, con, Data, none, more, dat
 use Rattle.gib_syntax.specs.declared.tree.Ident.{Ident}
 use Rattle.gib_types.specs.declared.operator.Operator.{Operator}
 use Rattle.gib_syntax.specs.Declarations.{number_of, AreDifferent, type_of_name, constructor_names, constructor_named}
-use Rattle.gib_syntax.specs.Meaning.{Outcome, Gives, Stops, Environment, value_in, bind, bind_results, tuple, with_value, with_values, with_fields, number_in, is_true, is_made_by, parts, operate, is_by_zero, outcome_unless, outcome, made, choose, eval, eval_all, eval_arms, HasResults, OutcomeGives, OutcomeHas, names_of}
-use Rattle.gib_syntax.proofs.Soundness.{Agrees, AllHave, CallsHave, place_within, binds_agree, agrees_bound, results_agree, data_list, eval_has, all_have}
+use Rattle.gib_syntax.specs.Meaning.{Outcome, Gives, Stops, Environment, value_in, bind, bind_results, tuple, with_value, with_values, with_fields, number_in, is_true, is_made_by, parts, operate, is_by_zero, outcome_unless, outcome, made, choose, eval, eval_all, eval_arms, HasResults, OutcomeGives}
+use Rattle.gib_syntax.proofs.Soundness.{Agrees, AllHave, CallsHave, place_within, binds_agree, results_agree, data_list, eval_has, all_have}
 use Rattle.gib_syntax.specs.Forms.{Form, Forms, WholeForm, TruthForm, VariableForm, DataForm, Meant, formed_all}
-use Rattle.gib_syntax.specs.GenericTree.{GenericExpression, GenericArguments, GenericArms, GenericVar, GenericNum, GenericBit, GenericParen, GenericOp, GenericCall, GenericMake, GenericLet, GenericPar, GenericIf, GenericCase, GenericTuple, GenericLetSeveral, GenericParSeveral, GenericNoArgument, GenericArgument, GenericLastArm, GenericNextArm, GenericFunctionTree, GenericRow, place_named, generic_named}
+use Rattle.gib_syntax.specs.GenericTree.{GenericExpression, GenericArguments, GenericArms, GenericVar, GenericNum, GenericBit, GenericParen, GenericOp, GenericCall, GenericMake, GenericLet, GenericPar, GenericIf, GenericCase, GenericTuple, GenericNoArgument, GenericArgument, GenericLastArm, GenericNextArm, GenericFunctionTree, GenericRow, place_named, generic_named}
 use Rattle.gib_syntax.specs.GenericFine.{IsGenericFine, AreGenericParts, AreGenericFine, HasGenericFine}
 use Rattle.gib_syntax.specs.Results.{Results, One, Several, map_results, as_results}
-use Rattle.gib_syntax.specs.GenericTyping.{FormScope, form_in, form_bound, BindsForms, operator_form, field_forms, parameter_forms, result_forms, HasForm, HaveForms, ArmsHaveForm}
+use Rattle.gib_syntax.specs.GenericTyping.{FormScope, form_in, BindsForms, operator_form, field_forms, parameter_forms, result_forms, HasForm, HaveForms, ArmsHaveForm}
 use Rattle.gib_syntax.proofs.Operators.{either_value}
 use Rattle.gib_syntax.specs.GenericMeaning.{kind_of, kinds_at, made_at, meant, meant_all, meant_arms}
-use Rattle.gib_mono.specs.Copying.{copy, copy_all, copy_arms, copy_variables, name_of_form, form_of, forms_of_all, bound_forms, forms_named, bind_forms}
+use Rattle.gib_mono.specs.Copying.{copy, copy_all, copy_arms, copy_variables, name_of_form, forms_of_all, bound_forms, forms_named, bind_forms}
 use Rattle.gib_mono.specs.Copied.{IsItem, IsHere, Setting, plain, IsCopyOf, IsAsked, AreAsked, ArmsAsked, IsCopied, ScopeHere, plain_scope, shown, shown_all, shown_results, shown_outcome, shown_given, shown_environment}
-use Rattle.gib_mono.proofs.Scopes.{in_plain, binds_plain, binds_inner, bound_here, binds_here, forms_is, owner_is, arguments_is, form_is, forms_are, bound_is, results_here, all_here, bound_all_here, type_here}
+use Rattle.gib_mono.proofs.Scopes.{in_plain, binds_plain, binds_inner, binds_here, forms_is, owner_is, arguments_is, forms_are, bound_is, results_here, all_here, bound_all_here}
 use Rattle.gib_mono.proofs.Covering.{own_copy}
-use Rattle.gib_mono.proofs.Typing.{names_plain, variable_names, plain_as, copy_has, copies_have}
+use Rattle.gib_mono.proofs.Bindings.{let_eval, par_eval, variable_names}
+use Rattle.gib_mono.proofs.Typing.{names_plain, plain_as, copy_has, copies_have}
 use Rattle.gib_mono.proofs.Fine.{fine_copied, all_fine_copied}
 
 -- Values and outcomes
@@ -297,25 +298,41 @@ mutual
       ∙ ap (λ (p : Option ℕ). made_at s.from.rows p (formed_all m ws) (map (shown_outcome s.base) (eval_all s.to.table call (copy_all s.from s.naming m scope xs) env))) (sym h.2)
       ∙ ap (λ (qs : List Outcome). made_at s.from.rows (place_named s.from.rows (number_of k)) (formed_all m ws) qs)
       (all_shown s copied distinct call calls well show vars m xs (field_forms h.1 (formed_all m ws)) scope env fine here asked.2 h.7 agrees)
-  eval_shown s copied distinct call calls well show vars m (GenericLet p x a b) ty scope env fine here asked h agrees =
-      with_given_shown s.base s.to.table (One h.0) (One (plain s h.0)) ty _ _ _ _ (gives_type s copied distinct call well vars m a (One h.0) scope env fine.0 here asked.0 h.1 agrees)
-      (eval_shown s copied distinct call calls well show vars m a (One h.0) scope env fine.0 here asked.0 h.1 agrees)
-      (λ v hv. subst (λ (f : Form). MeansSame s call calls m b ty ((number_of x, v) ∷ env) (form_bound x f scope)) (sym (form_is s.from vars m a h.0 scope h.1))
-      (eval_shown s copied distinct call calls well show vars m b ty (form_bound x h.0 scope) ((number_of x, v) ∷ env) fine.1
-      (bound_here s scope x h.0 here (type_here s copied vars m a h.0 scope here asked.0 h.1)) asked.1 h.3
-      (agrees_bound s.to.table (plain_scope s scope) env (number_of x) (plain s h.0) v hv agrees)))
-  eval_shown s copied distinct call calls well show vars m (GenericPar p x a y b c) ty scope env fine here asked h agrees =
-      with_given_shown s.base s.to.table (One h.0) (One (plain s h.0)) ty _ _ _ _ (gives_type s copied distinct call well vars m a (One h.0) scope env fine.0 here asked.0 h.2 agrees)
-      (eval_shown s copied distinct call calls well show vars m a (One h.0) scope env fine.0 here asked.0 h.2 agrees)
-      (λ v hv. with_given_shown s.base s.to.table (One h.1) (One (plain s h.1)) ty _ _ _ _ (gives_type s copied distinct call well vars m b (One h.1) scope env fine.1 here asked.1 h.3 agrees)
-      (eval_shown s copied distinct call calls well show vars m b (One h.1) scope env fine.1 here asked.1 h.3 agrees)
-      (λ w hw. subst (λ (f : Form). MeansSame s call calls m c ty ((number_of y, w) ∷ (number_of x, v) ∷ env) (form_bound y (form_of s.from m scope b) (form_bound x f scope))) (sym (form_is s.from vars m a h.0 scope h.2))
-      (subst (λ (f : Form). MeansSame s call calls m c ty ((number_of y, w) ∷ (number_of x, v) ∷ env) (form_bound y f (form_bound x h.0 scope))) (sym (form_is s.from vars m b h.1 scope h.3))
-      (eval_shown s copied distinct call calls well show vars m c ty (form_bound y h.1 (form_bound x h.0 scope)) ((number_of y, w) ∷ (number_of x, v) ∷ env) fine.2
-      (bound_here s (form_bound x h.0 scope) y h.1 (bound_here s scope x h.0 here (type_here s copied vars m a h.0 scope here asked.0 h.2)) (type_here s copied vars m b h.1 scope here asked.1 h.3))
-      asked.2 h.6
-      (agrees_bound s.to.table ((number_of x, plain s h.0) ∷ plain_scope s scope) ((number_of x, v) ∷ env) (number_of y) (plain s h.1) w hw
-      (agrees_bound s.to.table (plain_scope s scope) env (number_of x) (plain s h.0) v hv agrees))))))
+  eval_shown s copied distinct call calls well show vars m (GenericLet p xs a b) ty scope env fine here asked h agrees =
+      let fs = bound_forms s.from m scope a in
+      let forms : fs ≡ h.0 = bound_is s.from vars m a h.0 scope h.3 in
+      let all = bound_all_here s h.0 (results_here s copied vars m a (as_results h.0) scope here asked.0 h.3) in
+      let inner : bind_forms xs fs scope ≡ h.1 = ap (λ (fs : List Form). bind_forms xs fs scope) forms ∙ sym (binds_inner xs h.0 scope h.1 h.4) in
+      ap (shown_given s.base ty) (let_eval s.to.table call p xs (copy_variables s.naming xs fs) (copy s.from s.naming m scope a) (copy s.from s.naming m (bind_forms xs fs scope) b) env (variable_names s.naming xs fs))
+      ∙ with_given_shown s.base s.to.table (as_results h.0) (map_results (plain s) (as_results h.0)) ty _ _ _ _ (gives_type s copied distinct call well vars m a (as_results h.0) scope env fine.1 here asked.0 h.3 agrees)
+      (eval_shown s copied distinct call calls well show vars m a (as_results h.0) scope env fine.1 here asked.0 h.3 agrees)
+      (λ v hv. subst (MeansSame s call calls m b ty (bind_results xs v env)) (sym inner)
+      (eval_shown s copied distinct call calls well show vars m b ty h.1 (bind_results xs v env) fine.2 (binds_here s xs h.0 scope h.1 h.4 here all) asked.1 h.5
+      (results_agree s.to.table xs (map (plain s) h.0) v (plain_scope s scope) (plain_scope s h.1) env (binds_plain s xs h.0 scope h.1 h.4) (subst (HasResults s.to.table v) (plain_as s h.0) hv) agrees))
+      ∙ ap (λ (u : Environment). meant s.from calls m (bind_forms xs fs scope) b u) (results_shown s xs h.0 v scope h.1 env h.4 hv))
+  eval_shown s copied distinct call calls well show vars m (GenericPar p xs a ys b c) ty scope env fine here asked h agrees =
+      let fs = bound_forms s.from m scope a in
+      let gs = bound_forms s.from m scope b in
+      let left : fs ≡ h.0 = bound_is s.from vars m a h.0 scope h.6 in
+      let right : gs ≡ h.1 = bound_is s.from vars m b h.1 scope h.7 in
+      let lefts = bound_all_here s h.0 (results_here s copied vars m a (as_results h.0) scope here asked.0 h.6) in
+      let rights = bound_all_here s h.1 (results_here s copied vars m b (as_results h.1) scope here asked.1 h.7) in
+      let middle : bind_forms xs fs scope ≡ h.2 = ap (λ (fs : List Form). bind_forms xs fs scope) left ∙ sym (binds_inner xs h.0 scope h.2 h.8) in
+      let inner : bind_forms ys gs (bind_forms xs fs scope) ≡ h.3 = ap (bind_forms ys gs) middle ∙ ap (λ (fs : List Form). bind_forms ys fs h.2) right ∙ sym (binds_inner ys h.1 h.2 h.3 h.9) in
+      ap (shown_given s.base ty)
+      (par_eval s.to.table call p xs ys (copy_variables s.naming xs fs) (copy_variables s.naming ys gs) (copy s.from s.naming m scope a) (copy s.from s.naming m scope b)
+      (copy s.from s.naming m (bind_forms ys gs (bind_forms xs fs scope)) c) env (variable_names s.naming xs fs) (variable_names s.naming ys gs))
+      ∙ with_given_shown s.base s.to.table (as_results h.0) (map_results (plain s) (as_results h.0)) ty _ _ _ _ (gives_type s copied distinct call well vars m a (as_results h.0) scope env fine.2 here asked.0 h.6 agrees)
+      (eval_shown s copied distinct call calls well show vars m a (as_results h.0) scope env fine.2 here asked.0 h.6 agrees)
+      (λ v hv. with_given_shown s.base s.to.table (as_results h.1) (map_results (plain s) (as_results h.1)) ty _ _ _ _ (gives_type s copied distinct call well vars m b (as_results h.1) scope env fine.3 here asked.1 h.7 agrees)
+      (eval_shown s copied distinct call calls well show vars m b (as_results h.1) scope env fine.3 here asked.1 h.7 agrees)
+      (λ w hw. subst (MeansSame s call calls m c ty (bind_results ys w (bind_results xs v env))) (sym inner)
+      (eval_shown s copied distinct call calls well show vars m c ty h.3 (bind_results ys w (bind_results xs v env)) fine.4
+      (binds_here s ys h.1 h.2 h.3 h.9 (binds_here s xs h.0 scope h.2 h.8 here lefts) rights) asked.2 h.10
+      (results_agree s.to.table ys (map (plain s) h.1) w (plain_scope s h.2) (plain_scope s h.3) (bind_results xs v env) (binds_plain s ys h.1 h.2 h.3 h.9) (subst (HasResults s.to.table w) (plain_as s h.1) hw)
+      (results_agree s.to.table xs (map (plain s) h.0) v (plain_scope s scope) (plain_scope s h.2) env (binds_plain s xs h.0 scope h.2 h.8) (subst (HasResults s.to.table v) (plain_as s h.0) hv) agrees)))
+      ∙ ap (λ (u : Environment). meant s.from calls m (bind_forms ys gs (bind_forms xs fs scope)) c u)
+      (results_shown s ys h.1 w h.2 h.3 (bind_results xs v env) h.9 hw ∙ ap (bind_results ys (shown_results s.base (as_results h.1) w)) (results_shown s xs h.0 v scope h.2 env h.8 hv))))
   eval_shown s copied distinct call calls well show vars m (GenericIf p a b c) ty scope env fine here asked h agrees =
       with_given_shown s.base s.to.table (One TruthForm) (One Truth) ty _ _ _ _ (gives_type s copied distinct call well vars m a (One TruthForm) scope env fine.0 here asked.0 h.0 agrees)
       (eval_shown s copied distinct call calls well show vars m a (One TruthForm) scope env fine.0 here asked.0 h.0 agrees)
@@ -340,42 +357,6 @@ mutual
       (ap (λ (us : List Ty). shown_given s.base (Several h.0) (with_fields us (eval_all s.to.table call (copy_all s.from s.naming m scope xs) env) (λ vs. Gives (tuple vs)))) (names_plain s p h.0)
       ∙ with_fields_shown s (Several h.0) h.0 (eval_all s.to.table call (copy_all s.from s.naming m scope xs) env) (λ vs. Gives (tuple vs)) (λ vs. Gives (tuple vs)) copied (all_here s copied vars m xs h.0 scope here asked h.2) (parts_shown s.base h.0)
       ∙ ap (λ (qs : List Outcome). with_fields (map kind_of h.0) qs (λ vs. Gives (tuple vs))) (parts_all_shown s copied distinct call calls well show vars m xs h.0 scope env (fine_parts p xs fine) here asked h.2 agrees))
-  eval_shown s copied distinct call calls well show vars m (GenericLetSeveral p xs a b) ty scope env fine here asked h agrees =
-      let forms : bound_forms s.from m scope a ≡ h.0 = bound_is s.from vars m a h.0 scope h.3 in
-      let all = bound_all_here s h.0 (results_here s copied vars m a (as_results h.0) scope here asked.0 h.3) in
-      let inner : bind_forms xs (bound_forms s.from m scope a) scope ≡ h.1 = ap (λ (fs : List Form). bind_forms xs fs scope) forms ∙ sym (binds_inner xs h.0 scope h.1 h.4) in
-      let names : names_of (copy_variables s.naming xs (bound_forms s.from m scope a)) ≡ xs = ap (λ (fs : List Form). names_of (copy_variables s.naming xs fs)) forms ∙ variable_names s xs h.0 scope h.1 h.4 in
-      with_given_shown s.base s.to.table (as_results h.0) (map_results (plain s) (as_results h.0)) ty _ _ _ _ (gives_type s copied distinct call well vars m a (as_results h.0) scope env fine.1 here asked.0 h.3 agrees)
-      (eval_shown s copied distinct call calls well show vars m a (as_results h.0) scope env fine.1 here asked.0 h.3 agrees)
-      (λ v hv. ap (λ (zs : List Ident). shown_given s.base ty (eval s.to.table call (copy s.from s.naming m (bind_forms xs (bound_forms s.from m scope a) scope) b) (bind_results zs v env))) names
-      ∙ subst (MeansSame s call calls m b ty (bind_results xs v env)) (sym inner)
-      (eval_shown s copied distinct call calls well show vars m b ty h.1 (bind_results xs v env) fine.2 (binds_here s xs h.0 scope h.1 h.4 here all) asked.1 h.5
-      (results_agree s.to.table xs (map (plain s) h.0) v (plain_scope s scope) (plain_scope s h.1) env (binds_plain s xs h.0 scope h.1 h.4) (subst (HasResults s.to.table v) (plain_as s h.0) hv) agrees))
-      ∙ ap (λ (u : Environment). meant s.from calls m (bind_forms xs (bound_forms s.from m scope a) scope) b u) (results_shown s xs h.0 v scope h.1 env h.4 hv))
-  eval_shown s copied distinct call calls well show vars m (GenericParSeveral p xs a ys b c) ty scope env fine here asked h agrees =
-      let left : bound_forms s.from m scope a ≡ h.0 = bound_is s.from vars m a h.0 scope h.6 in
-      let right : bound_forms s.from m scope b ≡ h.1 = bound_is s.from vars m b h.1 scope h.7 in
-      let lefts = bound_all_here s h.0 (results_here s copied vars m a (as_results h.0) scope here asked.0 h.6) in
-      let rights = bound_all_here s h.1 (results_here s copied vars m b (as_results h.1) scope here asked.1 h.7) in
-      let middle : bind_forms xs (bound_forms s.from m scope a) scope ≡ h.2 = ap (λ (fs : List Form). bind_forms xs fs scope) left ∙ sym (binds_inner xs h.0 scope h.2 h.8) in
-      let inner : bind_forms ys (bound_forms s.from m scope b) (bind_forms xs (bound_forms s.from m scope a) scope) ≡ h.3 =
-      ap (bind_forms ys (bound_forms s.from m scope b)) middle ∙ ap (λ (fs : List Form). bind_forms ys fs h.2) right ∙ sym (binds_inner ys h.1 h.2 h.3 h.9) in
-      let left_names : names_of (copy_variables s.naming xs (bound_forms s.from m scope a)) ≡ xs = ap (λ (fs : List Form). names_of (copy_variables s.naming xs fs)) left ∙ variable_names s xs h.0 scope h.2 h.8 in
-      let right_names : names_of (copy_variables s.naming ys (bound_forms s.from m scope b)) ≡ ys = ap (λ (fs : List Form). names_of (copy_variables s.naming ys fs)) right ∙ variable_names s ys h.1 h.2 h.3 h.9 in
-      with_given_shown s.base s.to.table (as_results h.0) (map_results (plain s) (as_results h.0)) ty _ _ _ _ (gives_type s copied distinct call well vars m a (as_results h.0) scope env fine.1 here asked.0 h.6 agrees)
-      (eval_shown s copied distinct call calls well show vars m a (as_results h.0) scope env fine.1 here asked.0 h.6 agrees)
-      (λ v hv. with_given_shown s.base s.to.table (as_results h.1) (map_results (plain s) (as_results h.1)) ty _ _ _ _ (gives_type s copied distinct call well vars m b (as_results h.1) scope env fine.2 here asked.1 h.7 agrees)
-      (eval_shown s copied distinct call calls well show vars m b (as_results h.1) scope env fine.2 here asked.1 h.7 agrees)
-      (λ w hw. ap (λ (zs : List Ident). shown_given s.base ty (eval s.to.table call (copy s.from s.naming m (bind_forms ys (bound_forms s.from m scope b) (bind_forms xs (bound_forms s.from m scope a) scope)) c)
-      (bind_results (names_of (copy_variables s.naming ys (bound_forms s.from m scope b))) w (bind_results zs v env)))) left_names
-      ∙ ap (λ (zs : List Ident). shown_given s.base ty (eval s.to.table call (copy s.from s.naming m (bind_forms ys (bound_forms s.from m scope b) (bind_forms xs (bound_forms s.from m scope a) scope)) c) (bind_results zs w (bind_results xs v env)))) right_names
-      ∙ subst (MeansSame s call calls m c ty (bind_results ys w (bind_results xs v env))) (sym inner)
-      (eval_shown s copied distinct call calls well show vars m c ty h.3 (bind_results ys w (bind_results xs v env)) fine.3
-      (binds_here s ys h.1 h.2 h.3 h.9 (binds_here s xs h.0 scope h.2 h.8 here lefts) rights) asked.2 h.10
-      (results_agree s.to.table ys (map (plain s) h.1) w (plain_scope s h.2) (plain_scope s h.3) (bind_results xs v env) (binds_plain s ys h.1 h.2 h.3 h.9) (subst (HasResults s.to.table w) (plain_as s h.1) hw)
-      (results_agree s.to.table xs (map (plain s) h.0) v (plain_scope s scope) (plain_scope s h.2) env (binds_plain s xs h.0 scope h.2 h.8) (subst (HasResults s.to.table v) (plain_as s h.0) hv) agrees)))
-      ∙ ap (λ (u : Environment). meant s.from calls m (bind_forms ys (bound_forms s.from m scope b) (bind_forms xs (bound_forms s.from m scope a) scope)) c u)
-      (results_shown s ys h.1 w h.2 h.3 (bind_results xs v env) h.9 hw ∙ ap (bind_results ys (shown_results s.base (as_results h.1) w)) (results_shown s xs h.0 v scope h.2 env h.8 hv))))
 
   arms_shown : (s : Setting) (copied : IsCopied s) (distinct : AreDifferent (constructor_names s.to.table)) (call : ℕ → List Datum → Outcome) (calls : ℕ → Forms → List Datum → Outcome) (well : CallsHave s.to call) (show : CallsShow s call calls)
       (vars : List ℕ) (m : Meant) (arms : GenericArms) (ty : Results Form) (scope : FormScope) (env : Environment) (t : ℕ) (ts : Forms) (i k : ℕ) (ws : Data) →

@@ -1,5 +1,5 @@
 -- A program without type parameters is its own copy.
-use Rattle.std.proofs.Common.{◌≡◌, ℕ, zero, suc, ◌+◌, Bool, true, false, ◌==◌, ◌&&◌, ◌||◌, if◌then◌else◌, List, [], ◌∷◌, ◌++◌, map, length, Option, Some, None, refl, sym, ap, ◌∙◌, subst}
+use Rattle.std.proofs.Common.{◌≡◌, ℕ, ◌+◌, Bool, true, false, ◌==◌, if◌then◌else◌, ap₂, List, [], ◌∷◌, ◌++◌, map, length, Option, Some, None, refl, sym, ap, ◌∙◌, subst}
 use Rattle.std.specs.Prelude.{slice_get}
 use Rattle.std.specs.List.{AllByRecursion}
 use Rattle.std.proofs.lemmas.Option.{same_Some}
@@ -10,14 +10,18 @@ use Rattle.gib_syntax.specs.declared.tree.TypeName.TheVariants as ty
 use Rattle.gib_syntax.specs.declared.tree.Parameter.{Parameter}
 use Rattle.gib_syntax.specs.Declarations.{number_of}
 use Rattle.gib_syntax.specs.Tree.{Expression, Arguments, Arms, Var, Num, Bit, Paren, Op, Call, Make, Let, Par, If, Case, Tuple, LetSeveral, ParSeveral, NoArgument, Argument, LastArm, NextArm, ConstructorTree, DataTree, FunctionTree, MainTree, ProgramTree}
-use Rattle.gib_syntax.specs.Forms.{WrittenType, Form, Forms, WholeForm, DataForm, NoForm, Meant, formed, assign}
+use Rattle.gib_syntax.specs.Forms.{WrittenType, Form, Forms, NoForm, Meant, formed, assign}
 use Rattle.gib_syntax.specs.GenericTree.{GenericConstructorTree, GenericParameterTree, GenericFunctionTree, GenericRow, row_of, rows_of, GenericGlobals, globals_of_generic, place_named, generic_named}
 use Rattle.gib_syntax.specs.GenericTyping.{FormScope, form_in, form_bound, operator_form}
 use Rattle.gib_syntax.proofs.Operators.{either_scalar}
-use Rattle.gib_syntax.specs.Results.{Results, One, Several, map_results, list_results}
-use Rattle.gib_syntax.specs.Single.{IsSingle, AreSingle, HasSingle, IsSingleFunction, IsSingleProgram}
+use Rattle.gib_syntax.specs.Fine.{IsFine, AreFine, HasFine, IsFineFunction, IsFineProgram}
+use Rattle.gib_syntax.specs.Results.{Results, One, Several, map_results, list_results, AreSeveral, AreSides}
+use Rattle.gib_syntax.specs.Single.{IsOne, IsSingle, AreSingle, HasSingle, IsSingleFunction, IsSingleProgram}
 use Rattle.gib_syntax.specs.Typing.{names_of}
-use Rattle.gib_mono.specs.Copying.{Naming, renamed, copy_written, copy_constructor, copy_data, copy_parameter, copy_function, copy_main, arguments_of, forms_at, forms_named, results_at, one_form, results_of, forms_of_all, results_of_arms, bind_forms, form_of, bound_forms, parameter_scope, copy, copy_all, copy_arms}
+use Rattle.gib_base.specs.declared.Span.{Span}
+use Rattle.gib_mono.specs.Bare.{bare, all_bare, arms_bare}
+use Rattle.gib_mono.specs.Bindings.{only_name, let_of, par_of}
+use Rattle.gib_mono.specs.Copying.{Naming, renamed, copy_variables, copy_written, copy_constructor, copy_data, copy_parameter, copy_function, copy_main, arguments_of, forms_at, forms_named, results_at, one_form, results_of, forms_of_all, results_of_arms, bind_forms, bound_forms, parameter_scope, copy, copy_all, copy_arms}
 use Rattle.gib_types.specs.Form.{form_or}
 use Rattle.gib_mono.specs.Walk.{DataCopy, FunctionCopy, datas_in, function_copies, plain_datas, plain_functions, plain_copies, copied_program}
 use Rattle.gib_syntax.specs.Plain.{written_of, as_generic, all_as_generic, arms_as_generic, generic_constructor, generic_data, generic_parameter, generic_function, generic_main, generic_of}
@@ -65,17 +69,17 @@ pub record BareGlobals (g : GenericGlobals) : Type 0 where
   pub functions : (x : ℕ) (h : GenericFunctionTree) → generic_named g.functions x ≡ Some h → (ts : Forms) → AreBareResults (results_at (Some h) ts)
 
 bare_fields : (g : GenericGlobals) → BareGlobals g → (p : Option ℕ) (ts : Forms) → AllByRecursion IsBare (forms_named g.rows p ts)
-bare_fields g bare None ts = tt {0}
-bare_fields g bare (Some c) ts = step (slice_get g.rows c) refl where
+bare_fields g bared None ts = tt {0}
+bare_fields g bared (Some c) ts = step (slice_get g.rows c) refl where
   step : (o : Option GenericRow) → slice_get g.rows c ≡ o → AllByRecursion IsBare (forms_at o ts)
   step None e = tt {0}
-  step (Some row) e = bare.rows c row e ts
+  step (Some row) e = bared.rows c row e ts
 
 bare_result : (g : GenericGlobals) → BareGlobals g → (x : ℕ) (ts : Forms) → AreBareResults (results_at (generic_named g.functions x) ts)
-bare_result g bare x ts = step (generic_named g.functions x) refl where
+bare_result g bared x ts = step (generic_named g.functions x) refl where
   step : (o : Option GenericFunctionTree) → generic_named g.functions x ≡ o → AreBareResults (results_at o ts)
   step None e = (refl, tt {0})
-  step (Some h) e = bare.functions x h e ts
+  step (Some h) e = bared.functions x h e ts
 
 bare_operator : (f : Operator) → IsBare (operator_form f)
 bare_operator f = either_scalar (λ g u. IsBare g) refl refl f
@@ -88,89 +92,153 @@ bare_found scope x h = step (form_in scope x) refl where
 
 mutual
   bare_of : (g : GenericGlobals) → BareGlobals g → (m : Meant) (e : Expression) (scope : FormScope) → BareScope scope → AreBareResults (results_of g m scope (as_generic e))
-  bare_of g bare m (Var x) scope h = (bare_found scope (number_of x) h, tt {0})
-  bare_of g bare m (Num p n) scope h = (refl, tt {0})
-  bare_of g bare m (Bit p b) scope h = (refl, tt {0})
-  bare_of g bare m (Paren p e) scope h = bare_of g bare m e scope h
-  bare_of g bare m (Op p f a b) scope h = (bare_operator f, tt {0})
-  bare_of g bare m (Call f xs) scope h = bare_result g bare (number_of f) NoForm
-  bare_of g bare m (Make k xs) scope h = (refl, tt {0})
-  bare_of g bare m (Let p x a b) scope h =
-      bare_of g bare m b (form_bound x (form_of g m scope (as_generic a)) scope)
-      (bare_bound scope x (form_of g m scope (as_generic a)) h (bare_one (results_of g m scope (as_generic a)) (bare_of g bare m a scope h)))
-  bare_of g bare m (Par p x a y b c) scope h =
-      bare_of g bare m c (form_bound y (form_of g m scope (as_generic b)) (form_bound x (form_of g m scope (as_generic a)) scope))
-      (bare_bound (form_bound x (form_of g m scope (as_generic a)) scope) y (form_of g m scope (as_generic b)) (bare_bound scope x (form_of g m scope (as_generic a)) h (bare_one (results_of g m scope (as_generic a)) (bare_of g bare m a scope h))) (bare_one (results_of g m scope (as_generic b)) (bare_of g bare m b scope h)))
-  bare_of g bare m (If p a b c) scope h = bare_of g bare m b scope h
-  bare_of g bare m (Case p x arms) scope h = bare_of_arms g bare m arms scope (arguments_of (form_or (form_in scope (number_of x)))) h
-  bare_of g bare m (Tuple p as' xs) scope h = bare_of_all g bare m xs scope h
-  bare_of g bare m (LetSeveral p qs a b) scope h =
-      bare_of g bare m b (bind_forms (names_of qs) (bound_forms g m scope (as_generic a)) scope) (bare_binds (names_of qs) (bound_forms g m scope (as_generic a)) scope h (bare_of g bare m a scope h))
-  bare_of g bare m (ParSeveral p qs a rs b c) scope h =
-      bare_of g bare m c (bind_forms (names_of rs) (bound_forms g m scope (as_generic b)) (bind_forms (names_of qs) (bound_forms g m scope (as_generic a)) scope))
+  bare_of g bared m (Var x) scope h = (bare_found scope (number_of x) h, tt {0})
+  bare_of g bared m (Num p n) scope h = (refl, tt {0})
+  bare_of g bared m (Bit p b) scope h = (refl, tt {0})
+  bare_of g bared m (Paren p e) scope h = bare_of g bared m e scope h
+  bare_of g bared m (Op p f a b) scope h = (bare_operator f, tt {0})
+  bare_of g bared m (Call f xs) scope h = bare_result g bared (number_of f) NoForm
+  bare_of g bared m (Make k xs) scope h = (refl, tt {0})
+  bare_of g bared m (Let p x a b) scope h =
+      bare_of g bared m b (bind_forms (x ∷ []) (bound_forms g m scope (as_generic a)) scope) (bare_binds (x ∷ []) (bound_forms g m scope (as_generic a)) scope h (bare_of g bared m a scope h))
+  bare_of g bared m (Par p x a y b c) scope h =
+      bare_of g bared m c (bind_forms (y ∷ []) (bound_forms g m scope (as_generic b)) (bind_forms (x ∷ []) (bound_forms g m scope (as_generic a)) scope))
+      (bare_binds (y ∷ []) (bound_forms g m scope (as_generic b)) (bind_forms (x ∷ []) (bound_forms g m scope (as_generic a)) scope)
+      (bare_binds (x ∷ []) (bound_forms g m scope (as_generic a)) scope h (bare_of g bared m a scope h)) (bare_of g bared m b scope h))
+  bare_of g bared m (If p a b c) scope h = bare_of g bared m b scope h
+  bare_of g bared m (Case p x arms) scope h = bare_of_arms g bared m arms scope (arguments_of (form_or (form_in scope (number_of x)))) h
+  bare_of g bared m (Tuple p as' xs) scope h = bare_of_all g bared m xs scope h
+  bare_of g bared m (LetSeveral p qs a b) scope h =
+      bare_of g bared m b (bind_forms (names_of qs) (bound_forms g m scope (as_generic a)) scope) (bare_binds (names_of qs) (bound_forms g m scope (as_generic a)) scope h (bare_of g bared m a scope h))
+  bare_of g bared m (ParSeveral p qs a rs b c) scope h =
+      bare_of g bared m c (bind_forms (names_of rs) (bound_forms g m scope (as_generic b)) (bind_forms (names_of qs) (bound_forms g m scope (as_generic a)) scope))
       (bare_binds (names_of rs) (bound_forms g m scope (as_generic b)) (bind_forms (names_of qs) (bound_forms g m scope (as_generic a)) scope)
-      (bare_binds (names_of qs) (bound_forms g m scope (as_generic a)) scope h (bare_of g bare m a scope h)) (bare_of g bare m b scope h))
+      (bare_binds (names_of qs) (bound_forms g m scope (as_generic a)) scope h (bare_of g bared m a scope h)) (bare_of g bared m b scope h))
 
   bare_of_all : (g : GenericGlobals) → BareGlobals g → (m : Meant) (xs : Arguments) (scope : FormScope) → BareScope scope → AllByRecursion IsBare (forms_of_all g m scope (all_as_generic xs))
-  bare_of_all g bare m NoArgument scope h = tt {0}
-  bare_of_all g bare m (Argument a xs) scope h = (bare_one (results_of g m scope (as_generic a)) (bare_of g bare m a scope h), bare_of_all g bare m xs scope h)
+  bare_of_all g bared m NoArgument scope h = tt {0}
+  bare_of_all g bared m (Argument a xs) scope h = (bare_one (results_of g m scope (as_generic a)) (bare_of g bared m a scope h), bare_of_all g bared m xs scope h)
 
   bare_of_arms : (g : GenericGlobals) → BareGlobals g → (m : Meant) (arms : Arms) (scope : FormScope) (ts : Forms) → BareScope scope → AreBareResults (results_of_arms g m scope ts (arms_as_generic arms))
-  bare_of_arms g bare m (LastArm k xs e) scope ts h =
-      bare_of g bare m e (bind_forms xs (forms_named g.rows (place_named g.rows (number_of k)) ts) scope) (bare_binds xs (forms_named g.rows (place_named g.rows (number_of k)) ts) scope h (bare_fields g bare (place_named g.rows (number_of k)) ts))
-  bare_of_arms g bare m (NextArm k xs e arms) scope ts h =
-      bare_of g bare m e (bind_forms xs (forms_named g.rows (place_named g.rows (number_of k)) ts) scope) (bare_binds xs (forms_named g.rows (place_named g.rows (number_of k)) ts) scope h (bare_fields g bare (place_named g.rows (number_of k)) ts))
+  bare_of_arms g bared m (LastArm k xs e) scope ts h =
+      bare_of g bared m e (bind_forms xs (forms_named g.rows (place_named g.rows (number_of k)) ts) scope) (bare_binds xs (forms_named g.rows (place_named g.rows (number_of k)) ts) scope h (bare_fields g bared (place_named g.rows (number_of k)) ts))
+  bare_of_arms g bared m (NextArm k xs e arms) scope ts h =
+      bare_of g bared m e (bind_forms xs (forms_named g.rows (place_named g.rows (number_of k)) ts) scope) (bare_binds xs (forms_named g.rows (place_named g.rows (number_of k)) ts) scope h (bare_fields g bared (place_named g.rows (number_of k)) ts))
 
-bare_form : (g : GenericGlobals) → BareGlobals g → (m : Meant) (e : Expression) (scope : FormScope) → BareScope scope → IsBare (form_of g m scope (as_generic e))
-bare_form g bare m e scope h = bare_one (results_of g m scope (as_generic e)) (bare_of g bare m e scope h)
+-- The copy of an expression is the expression without its type arguments
 
--- The copy of an expression is the expression
+-- a binding of one name is so whatever its variables are
+let_same : (p : Span) (xs : List Ident) (qs rs : List Parameter) (a b c d : Expression) → IsOne xs → a ≡ c → b ≡ d → let_of p (only_name xs) qs a b ≡ let_of p (only_name xs) rs c d
+let_same p xs qs rs a b c d one e f = subst (λ (ys : List Ident). let_of p (only_name ys) qs a b ≡ let_of p (only_name ys) rs c d) (sym one.1) (ap₂ (Let p one.0) e f)
+
+-- so are two sides of one name each
+par_same : (p : Span) (xs ys : List Ident) (qs rs ss ts : List Parameter) (a b c d e f : Expression) → IsOne xs → IsOne ys → a ≡ d → b ≡ e → c ≡ f →
+    par_of p (only_name xs) qs a (only_name ys) rs b c ≡ par_of p (only_name xs) ss d (only_name ys) ts e f
+par_same p xs ys qs rs ss ts a b c d e f one other h k l =
+    subst (λ (us : List Ident). par_of p (only_name us) qs a (only_name ys) rs b c ≡ par_of p (only_name us) ss d (only_name ys) ts e f) (sym one.1)
+    (subst (λ (us : List Ident). par_of p (Some one.0) qs a (only_name us) rs b c ≡ par_of p (Some one.0) ss d (only_name us) ts e f) (sym other.1)
+    (ap (λ (u : Expression). Par p one.0 u other.0 b c) h ∙ ap₂ (Par p one.0 d other.0) k l))
 
 mutual
-  pub copy_own : (g : GenericGlobals) → BareGlobals g → (nm : Naming) → IsPlainNaming nm → (m : Meant) (e : Expression) (scope : FormScope) → BareScope scope → IsSingle (as_generic e) → copy g nm m scope (as_generic e) ≡ e
-  copy_own g bare nm plain m (Var x) scope h single = refl
-  copy_own g bare nm plain m (Num p n) scope h single = refl
-  copy_own g bare nm plain m (Bit p b) scope h single = refl
-  copy_own g bare nm plain m (Paren p e) scope h single = ap (Paren p) (copy_own g bare nm plain m e scope h single)
-  copy_own g bare nm plain m (Op p f a b) scope h single =
-      ap (λ (u : Expression). Op p f u (copy g nm m scope (as_generic b))) (copy_own g bare nm plain m a scope h single.0) ∙ ap (Op p f a) (copy_own g bare nm plain m b scope h single.1)
-  copy_own g bare nm plain m (Call f xs) scope h single =
-      ap (λ (n : ℕ). Call (renamed f n) (copy_all g nm m scope (all_as_generic xs))) (plain.functions (number_of f)) ∙ ap (Call f) (all_copy_own g bare nm plain m xs scope h single)
-  copy_own g bare nm plain m (Make k xs) scope h single =
-      ap (λ (n : ℕ). Make (renamed k n) (copy_all g nm m scope (all_as_generic xs))) (plain.constructors (number_of k)) ∙ ap (Make k) (all_copy_own g bare nm plain m xs scope h single)
-  copy_own g bare nm plain m (Let p x a b) scope h single =
-      ap (λ (u : Expression). Let p x u (copy g nm m (form_bound x (form_of g m scope (as_generic a)) scope) (as_generic b))) (copy_own g bare nm plain m a scope h single.0)
-      ∙ ap (Let p x a) (copy_own g bare nm plain m b (form_bound x (form_of g m scope (as_generic a)) scope) (bare_bound scope x (form_of g m scope (as_generic a)) h (bare_form g bare m a scope h)) single.1)
-  copy_own g bare nm plain m (Par p x a y b c) scope h single =
-      let inner = form_bound y (form_of g m scope (as_generic b)) (form_bound x (form_of g m scope (as_generic a)) scope) in
-      ap (λ (u : Expression). Par p x u y (copy g nm m scope (as_generic b)) (copy g nm m inner (as_generic c))) (copy_own g bare nm plain m a scope h single.0)
-      ∙ ap (λ (u : Expression). Par p x a y u (copy g nm m inner (as_generic c))) (copy_own g bare nm plain m b scope h single.1)
-      ∙ ap (Par p x a y b) (copy_own g bare nm plain m c inner
-      (bare_bound (form_bound x (form_of g m scope (as_generic a)) scope) y (form_of g m scope (as_generic b)) (bare_bound scope x (form_of g m scope (as_generic a)) h (bare_form g bare m a scope h)) (bare_form g bare m b scope h)) single.2)
-  copy_own g bare nm plain m (If p a b c) scope h single =
-      ap (λ (u : Expression). If p u (copy g nm m scope (as_generic b)) (copy g nm m scope (as_generic c))) (copy_own g bare nm plain m a scope h single.0)
-      ∙ ap (λ (u : Expression). If p a u (copy g nm m scope (as_generic c))) (copy_own g bare nm plain m b scope h single.1) ∙ ap (If p a b) (copy_own g bare nm plain m c scope h single.2)
-  copy_own g bare nm plain m (Case p x arms) scope h single =
-      ap (λ (ts : Forms). Case p x (copy_arms g nm m scope ts (arms_as_generic arms))) (bare_found scope (number_of x) h) ∙ ap (Case p x) (arms_copy_own g bare nm plain m arms scope h single)
-  copy_own g bare nm plain m (Tuple p as' xs) scope h single = absurd single
-  copy_own g bare nm plain m (LetSeveral p qs a b) scope h single = absurd single
-  copy_own g bare nm plain m (ParSeveral p qs a rs b c) scope h single = absurd single
+  pub copy_own : (g : GenericGlobals) → BareGlobals g → (nm : Naming) → IsPlainNaming nm → (m : Meant) (e : Expression) (scope : FormScope) → BareScope scope → IsSingle (as_generic e) → copy g nm m scope (as_generic e) ≡ bare (as_generic e)
+  copy_own g bared nm plain m (Var x) scope h single = refl
+  copy_own g bared nm plain m (Num p n) scope h single = refl
+  copy_own g bared nm plain m (Bit p b) scope h single = refl
+  copy_own g bared nm plain m (Paren p e) scope h single = ap (Paren p) (copy_own g bared nm plain m e scope h single)
+  copy_own g bared nm plain m (Op p f a b) scope h single = ap₂ (Op p f) (copy_own g bared nm plain m a scope h single.0) (copy_own g bared nm plain m b scope h single.1)
+  copy_own g bared nm plain m (Call f xs) scope h single =
+      ap₂ (λ (n : ℕ) (us : Arguments). Call (renamed f n) us) (plain.functions (number_of f)) (all_copy_own g bared nm plain m xs scope h single)
+  copy_own g bared nm plain m (Make k xs) scope h single =
+      ap₂ (λ (n : ℕ) (us : Arguments). Make (renamed k n) us) (plain.constructors (number_of k)) (all_copy_own g bared nm plain m xs scope h single)
+  copy_own g bared nm plain m (Let p x a b) scope h single =
+      let fs = bound_forms g m scope (as_generic a) in
+      ap₂ (Let p x) (copy_own g bared nm plain m a scope h single.1) (copy_own g bared nm plain m b (bind_forms (x ∷ []) fs scope) (bare_binds (x ∷ []) fs scope h (bare_of g bared m a scope h)) single.2)
+  copy_own g bared nm plain m (Par p x a y b c) scope h single =
+      let fs = bound_forms g m scope (as_generic a) in
+      let gs = bound_forms g m scope (as_generic b) in
+      let inner = bind_forms (y ∷ []) gs (bind_forms (x ∷ []) fs scope) in
+      ap (λ (u : Expression). Par p x u y (copy g nm m scope (as_generic b)) (copy g nm m inner (as_generic c))) (copy_own g bared nm plain m a scope h single.2)
+      ∙ ap₂ (Par p x (bare (as_generic a)) y) (copy_own g bared nm plain m b scope h single.3)
+      (copy_own g bared nm plain m c inner (bare_binds (y ∷ []) gs (bind_forms (x ∷ []) fs scope) (bare_binds (x ∷ []) fs scope h (bare_of g bared m a scope h)) (bare_of g bared m b scope h)) single.4)
+  copy_own g bared nm plain m (If p a b c) scope h single =
+      ap (λ (u : Expression). If p u (copy g nm m scope (as_generic b)) (copy g nm m scope (as_generic c))) (copy_own g bared nm plain m a scope h single.0)
+      ∙ ap₂ (If p (bare (as_generic a))) (copy_own g bared nm plain m b scope h single.1) (copy_own g bared nm plain m c scope h single.2)
+  copy_own g bared nm plain m (Case p x arms) scope h single =
+      ap (λ (ts : Forms). Case p x (copy_arms g nm m scope ts (arms_as_generic arms))) (bare_found scope (number_of x) h) ∙ ap (Case p x) (arms_copy_own g bared nm plain m arms scope h single)
+  copy_own g bared nm plain m (Tuple p as' xs) scope h single = absurd single
+  copy_own g bared nm plain m (LetSeveral p qs a b) scope h single =
+      let xs = names_of qs in
+      let fs = bound_forms g m scope (as_generic a) in
+      let inner = bind_forms xs fs scope in
+      let_same p xs (copy_variables nm xs fs) [] (copy g nm m scope (as_generic a)) (copy g nm m inner (as_generic b)) (bare (as_generic a)) (bare (as_generic b)) single.0
+      (copy_own g bared nm plain m a scope h single.1) (copy_own g bared nm plain m b inner (bare_binds xs fs scope h (bare_of g bared m a scope h)) single.2)
+  copy_own g bared nm plain m (ParSeveral p qs a rs b c) scope h single =
+      let xs = names_of qs in
+      let ys = names_of rs in
+      let fs = bound_forms g m scope (as_generic a) in
+      let gs = bound_forms g m scope (as_generic b) in
+      let inner = bind_forms ys gs (bind_forms xs fs scope) in
+      par_same p xs ys (copy_variables nm xs fs) (copy_variables nm ys gs) [] [] (copy g nm m scope (as_generic a)) (copy g nm m scope (as_generic b)) (copy g nm m inner (as_generic c))
+      (bare (as_generic a)) (bare (as_generic b)) (bare (as_generic c)) single.0 single.1 (copy_own g bared nm plain m a scope h single.2) (copy_own g bared nm plain m b scope h single.3)
+      (copy_own g bared nm plain m c inner (bare_binds ys gs (bind_forms xs fs scope) (bare_binds xs fs scope h (bare_of g bared m a scope h)) (bare_of g bared m b scope h)) single.4)
 
-  all_copy_own : (g : GenericGlobals) → BareGlobals g → (nm : Naming) → IsPlainNaming nm → (m : Meant) (xs : Arguments) (scope : FormScope) → BareScope scope → AreSingle (all_as_generic xs) → copy_all g nm m scope (all_as_generic xs) ≡ xs
-  all_copy_own g bare nm plain m NoArgument scope h single = refl
-  all_copy_own g bare nm plain m (Argument a xs) scope h single =
-      ap (λ (u : Expression). Argument u (copy_all g nm m scope (all_as_generic xs))) (copy_own g bare nm plain m a scope h single.0) ∙ ap (Argument a) (all_copy_own g bare nm plain m xs scope h single.1)
+  all_copy_own : (g : GenericGlobals) → BareGlobals g → (nm : Naming) → IsPlainNaming nm → (m : Meant) (xs : Arguments) (scope : FormScope) → BareScope scope → AreSingle (all_as_generic xs) → copy_all g nm m scope (all_as_generic xs) ≡ all_bare (all_as_generic xs)
+  all_copy_own g bared nm plain m NoArgument scope h single = refl
+  all_copy_own g bared nm plain m (Argument a xs) scope h single =
+      ap (λ (u : Expression). Argument u (copy_all g nm m scope (all_as_generic xs))) (copy_own g bared nm plain m a scope h single.0) ∙ ap (Argument (bare (as_generic a))) (all_copy_own g bared nm plain m xs scope h single.1)
 
-  arms_copy_own : (g : GenericGlobals) → BareGlobals g → (nm : Naming) → IsPlainNaming nm → (m : Meant) (arms : Arms) (scope : FormScope) → BareScope scope → HasSingle (arms_as_generic arms) → copy_arms g nm m scope NoForm (arms_as_generic arms) ≡ arms
-  arms_copy_own g bare nm plain m (LastArm k xs e) scope h single =
+  arms_copy_own : (g : GenericGlobals) → BareGlobals g → (nm : Naming) → IsPlainNaming nm → (m : Meant) (arms : Arms) (scope : FormScope) → BareScope scope → HasSingle (arms_as_generic arms) → copy_arms g nm m scope NoForm (arms_as_generic arms) ≡ arms_bare (arms_as_generic arms)
+  arms_copy_own g bared nm plain m (LastArm k xs e) scope h single =
       let inner = bind_forms xs (forms_named g.rows (place_named g.rows (number_of k)) NoForm) scope in
       ap (λ (n : ℕ). LastArm (renamed k n) xs (copy g nm m inner (as_generic e))) (plain.constructors (number_of k))
-      ∙ ap (LastArm k xs) (copy_own g bare nm plain m e inner (bare_binds xs (forms_named g.rows (place_named g.rows (number_of k)) NoForm) scope h (bare_fields g bare (place_named g.rows (number_of k)) NoForm)) single)
-  arms_copy_own g bare nm plain m (NextArm k xs e arms) scope h single =
+      ∙ ap (LastArm k xs) (copy_own g bared nm plain m e inner (bare_binds xs (forms_named g.rows (place_named g.rows (number_of k)) NoForm) scope h (bare_fields g bared (place_named g.rows (number_of k)) NoForm)) single)
+  arms_copy_own g bared nm plain m (NextArm k xs e arms) scope h single =
       let inner = bind_forms xs (forms_named g.rows (place_named g.rows (number_of k)) NoForm) scope in
       ap (λ (n : ℕ). NextArm (renamed k n) xs (copy g nm m inner (as_generic e)) (copy_arms g nm m scope NoForm (arms_as_generic arms))) (plain.constructors (number_of k))
-      ∙ ap (λ (u : Expression). NextArm k xs u (copy_arms g nm m scope NoForm (arms_as_generic arms))) (copy_own g bare nm plain m e inner (bare_binds xs (forms_named g.rows (place_named g.rows (number_of k)) NoForm) scope h (bare_fields g bare (place_named g.rows (number_of k)) NoForm)) single.0)
-      ∙ ap (NextArm k xs e) (arms_copy_own g bare nm plain m arms scope h single.1)
+      ∙ ap (λ (u : Expression). NextArm k xs u (copy_arms g nm m scope NoForm (arms_as_generic arms))) (copy_own g bared nm plain m e inner (bare_binds xs (forms_named g.rows (place_named g.rows (number_of k)) NoForm) scope h (bare_fields g bared (place_named g.rows (number_of k)) NoForm)) single.0)
+      ∙ ap (NextArm k xs (bare (as_generic e))) (arms_copy_own g bared nm plain m arms scope h single.1)
+
+-- A tree of the grammar that has no type arguments is one without them
+
+several_none : (qs : List Parameter) → AreSeveral qs → IsOne (names_of qs) → ⊥
+several_none [] h one = h
+several_none (q ∷ []) h one = h
+several_none (q ∷ r ∷ qs) h one = let e = one.1 in cc
+
+sides_none : (qs rs : List Parameter) → AreSides qs rs → IsOne (names_of qs) → IsOne (names_of rs) → ⊥
+sides_none [] rs h one other = h
+sides_none (q ∷ qs) [] h one other = h
+sides_none (q ∷ []) (r ∷ []) h one other = h
+sides_none (q ∷ []) (r ∷ s ∷ rs) h one other = let e = other.1 in cc
+sides_none (q ∷ o ∷ qs) (r ∷ rs) h one other = let e = one.1 in cc
+
+mutual
+  bare_own : (e : Expression) → IsFine e → IsSingle (as_generic e) → bare (as_generic e) ≡ e
+  bare_own (Var x) fine single = refl
+  bare_own (Num p n) fine single = refl
+  bare_own (Bit p b) fine single = refl
+  bare_own (Paren p e) fine single = ap (Paren p) (bare_own e fine single)
+  bare_own (Op p f a b) fine single = ap₂ (Op p f) (bare_own a fine.0 single.0) (bare_own b fine.1 single.1)
+  bare_own (Call f NoArgument) fine single = refl
+  bare_own (Call f (Argument a xs)) fine single = ap₂ (λ (u : Expression) (us : Arguments). Call f (Argument u us)) (bare_own a fine.0 single.0) (all_bare_own xs fine.2 single.1)
+  bare_own (Make k xs) fine single = ap (Make k) (all_bare_own xs fine single)
+  bare_own (Let p x a b) fine single = ap₂ (Let p x) (bare_own a fine.0 single.1) (bare_own b fine.1 single.2)
+  bare_own (Par p x a y b c) fine single =
+      ap (λ (u : Expression). Par p x u y (bare (as_generic b)) (bare (as_generic c))) (bare_own a fine.0 single.2) ∙ ap₂ (Par p x a y) (bare_own b fine.1 single.3) (bare_own c fine.2 single.4)
+  bare_own (If p a b c) fine single =
+      ap (λ (u : Expression). If p u (bare (as_generic b)) (bare (as_generic c))) (bare_own a fine.0 single.0) ∙ ap₂ (If p a) (bare_own b fine.1 single.1) (bare_own c fine.2 single.2)
+  bare_own (Case p x arms) fine single = ap (Case p x) (arms_bare_own arms fine single)
+  bare_own (Tuple p as' xs) fine single = absurd single
+  bare_own (LetSeveral p qs a b) fine single = absurd (several_none qs fine.0 single.0)
+  bare_own (ParSeveral p qs a rs b c) fine single = absurd (sides_none qs rs fine.0 single.0 single.1)
+
+  all_bare_own : (xs : Arguments) → AreFine xs → AreSingle (all_as_generic xs) → all_bare (all_as_generic xs) ≡ xs
+  all_bare_own NoArgument fine single = refl
+  all_bare_own (Argument a xs) fine single = ap₂ Argument (bare_own a fine.0 single.0) (all_bare_own xs fine.2 single.1)
+
+  arms_bare_own : (arms : Arms) → HasFine arms → HasSingle (arms_as_generic arms) → arms_bare (arms_as_generic arms) ≡ arms
+  arms_bare_own (LastArm k xs e) fine single = ap (LastArm k xs) (bare_own e fine single)
+  arms_bare_own (NextArm k xs e arms) fine single = ap₂ (NextArm k xs) (bare_own e fine.0 single.0) (arms_bare_own arms fine.1 single.1)
 
 -- Declarations
 
@@ -211,23 +279,23 @@ pub results_own : (nm : Naming) → IsPlainNaming nm → (m : Meant) (r : Result
 results_own nm plain m (One a) = ap One (written_own nm plain m a)
 results_own nm plain m (Several as') = ap Several (map_own TypeName WrittenType written_of (copy_written nm m) (written_own nm plain m) as')
 
-function_own_copy : (g : GenericGlobals) → BareGlobals g → (nm : Naming) → IsPlainNaming nm → (f : FunctionTree) → IsSingle (as_generic f.body) → copy_function g nm (generic_function f) NoForm ≡ f
-function_own_copy g bare nm plain f single =
+function_own_copy : (g : GenericGlobals) → BareGlobals g → (nm : Naming) → IsPlainNaming nm → (f : FunctionTree) → IsFine f.body → IsSingle (as_generic f.body) → copy_function g nm (generic_function f) NoForm ≡ f
+function_own_copy g bared nm plain f fine single =
     let m = assign [] NoForm in
     let scope = parameter_scope m (map generic_parameter f.parameters) in
     ap (λ (n : ℕ). let t : FunctionTree = record { name = renamed f.name n; parameters = map (copy_parameter nm m) (map generic_parameter f.parameters); result = map_results (copy_written nm m) (map_results written_of f.result); body = copy g nm m scope (as_generic f.body) } in t) (plain.functions (number_of f.name))
     ∙ ap (λ (qs : List Parameter). let t : FunctionTree = record { name = f.name; parameters = qs; result = map_results (copy_written nm m) (map_results written_of f.result); body = copy g nm m scope (as_generic f.body) } in t)
     (map_own Parameter GenericParameterTree generic_parameter (copy_parameter nm m) (parameter_own nm plain m) f.parameters)
     ∙ ap (λ (a : Results TypeName). let t : FunctionTree = record { name = f.name; parameters = f.parameters; result = a; body = copy g nm m scope (as_generic f.body) } in t) (results_own nm plain m f.result)
-    ∙ ap (λ (e : Expression). let t : FunctionTree = record { name = f.name; parameters = f.parameters; result = f.result; body = e } in t) (copy_own g bare nm plain m f.body scope (bare_scope m f.parameters) single)
+    ∙ ap (λ (e : Expression). let t : FunctionTree = record { name = f.name; parameters = f.parameters; result = f.result; body = e } in t) (copy_own g bared nm plain m f.body scope (bare_scope m f.parameters) single ∙ bare_own f.body fine single)
 
-main_own_copy : (g : GenericGlobals) → BareGlobals g → (nm : Naming) → IsPlainNaming nm → (f : MainTree) → IsSingle (as_generic f.body) → copy_main g nm (generic_main f) ≡ f
-main_own_copy g bare nm plain f single =
+main_own_copy : (g : GenericGlobals) → BareGlobals g → (nm : Naming) → IsPlainNaming nm → (f : MainTree) → IsFine f.body → IsSingle (as_generic f.body) → copy_main g nm (generic_main f) ≡ f
+main_own_copy g bared nm plain f fine single =
     let m = assign [] NoForm in
     let scope = parameter_scope m (generic_parameter f.parameter ∷ []) in
     ap (λ (q : Parameter). let t : MainTree = record { parameter = q; result = copy_written nm m (written_of f.result); body = copy g nm m scope (as_generic f.body) } in t) (parameter_own nm plain m f.parameter)
     ∙ ap (λ (a : TypeName). let t : MainTree = record { parameter = f.parameter; result = a; body = copy g nm m scope (as_generic f.body) } in t) (written_own nm plain m f.result)
-    ∙ ap (λ (e : Expression). let t : MainTree = record { parameter = f.parameter; result = f.result; body = e } in t) (copy_own g bare nm plain m f.body scope (bare_scope m (f.parameter ∷ [])) single)
+    ∙ ap (λ (e : Expression). let t : MainTree = record { parameter = f.parameter; result = f.result; body = e } in t) (copy_own g bared nm plain m f.body scope (bare_scope m (f.parameter ∷ [])) single ∙ bare_own f.body fine single)
 
 -- Programs
 
@@ -266,18 +334,18 @@ datas_own nm plain (d ∷ ds) fs =
     ap (λ (u : DataTree). u ∷ map (λ (c : DataCopy). copy_data nm c.decl c.types) (datas_in (plain_datas (map generic_data ds) ++ plain_functions (map generic_function fs)))) (data_own_copy nm plain d)
     ∙ ap (λ (us : List DataTree). d ∷ us) (datas_own nm plain ds fs)
 
-functions_own : (g : GenericGlobals) → BareGlobals g → (nm : Naming) → IsPlainNaming nm → (ds : List DataTree) (fs : List FunctionTree) → AllByRecursion IsSingleFunction (map generic_function fs) →
+functions_own : (g : GenericGlobals) → BareGlobals g → (nm : Naming) → IsPlainNaming nm → (ds : List DataTree) (fs : List FunctionTree) → AllByRecursion IsFineFunction fs → AllByRecursion IsSingleFunction (map generic_function fs) →
     map (λ (c : FunctionCopy). copy_function g nm c.function c.types) (function_copies (plain_datas (map generic_data ds) ++ plain_functions (map generic_function fs))) ≡ fs
-functions_own g bare nm plain [] [] single = refl
-functions_own g bare nm plain [] (f ∷ fs) single =
-    ap (λ (u : FunctionTree). u ∷ map (λ (c : FunctionCopy). copy_function g nm c.function c.types) (function_copies (plain_functions (map generic_function fs)))) (function_own_copy g bare nm plain f single.0.1)
-    ∙ ap (λ (us : List FunctionTree). f ∷ us) (functions_own g bare nm plain [] fs single.1)
-functions_own g bare nm plain (d ∷ ds) fs single = functions_own g bare nm plain ds fs single
+functions_own g bared nm plain [] [] fine single = refl
+functions_own g bared nm plain [] (f ∷ fs) fine single =
+    ap (λ (u : FunctionTree). u ∷ map (λ (c : FunctionCopy). copy_function g nm c.function c.types) (function_copies (plain_functions (map generic_function fs)))) (function_own_copy g bared nm plain f fine.0.1 single.0.1)
+    ∙ ap (λ (us : List FunctionTree). f ∷ us) (functions_own g bared nm plain [] fs fine.1 single.1)
+functions_own g bared nm plain (d ∷ ds) fs fine single = functions_own g bared nm plain ds fs fine single
 
-pub own_copy : (p : ProgramTree) (nm : Naming) → IsPlainNaming nm → IsSingleProgram (generic_of p) → copied_program (generic_of p) nm (plain_copies (generic_of p)) ≡ p
-own_copy p nm plain single =
+pub own_copy : (p : ProgramTree) (nm : Naming) → IsPlainNaming nm → IsFineProgram p → IsSingleProgram (generic_of p) → copied_program (generic_of p) nm (plain_copies (generic_of p)) ≡ p
+own_copy p nm plain fine single =
     let g = globals_of_generic (generic_of p) in
     let found = plain_copies (generic_of p) in
     ap (λ (ds : List DataTree). let t : ProgramTree = record { datas = ds; functions = map (λ (c : FunctionCopy). copy_function g nm c.function c.types) (function_copies found); main = copy_main g nm (generic_main p.main) } in t) (datas_own nm plain p.datas p.functions)
-    ∙ ap (λ (fs : List FunctionTree). let t : ProgramTree = record { datas = p.datas; functions = fs; main = copy_main g nm (generic_main p.main) } in t) (functions_own g (bare_globals p) nm plain p.datas p.functions single.functions)
-    ∙ ap (λ (f : MainTree). let t : ProgramTree = record { datas = p.datas; functions = p.functions; main = f } in t) (main_own_copy g (bare_globals p) nm plain p.main single.main)
+    ∙ ap (λ (fs : List FunctionTree). let t : ProgramTree = record { datas = p.datas; functions = fs; main = copy_main g nm (generic_main p.main) } in t) (functions_own g (bare_globals p) nm plain p.datas p.functions fine.functions single.functions)
+    ∙ ap (λ (f : MainTree). let t : ProgramTree = record { datas = p.datas; functions = p.functions; main = f } in t) (main_own_copy g (bare_globals p) nm plain p.main fine.main single.main)

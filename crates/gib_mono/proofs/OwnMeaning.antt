@@ -1,5 +1,5 @@
 -- A program without type parameters means what it means as one that may have some.
-use Rattle.std.proofs.Common.{◌≡◌, ℕ, zero, suc, pos, Bool, true, false, ◌==◌, if◌then◌else◌, List, [], ◌∷◌, ◌++◌, map, Option, Some, None, refl, sym, ap, ◌∙◌}
+use Rattle.std.proofs.Common.{◌≡◌, ℕ, zero, suc, pos, Bool, true, false, if◌then◌else◌, List, [], ◌∷◌, ◌++◌, map, Option, Some, None, refl, sym, ap, ◌∙◌}
 use Rattle.std.specs.Prelude.{slice_get}
 use Rattle.std.specs.List.{AllByRecursion}
 use Rattle.gib_types.specs.declared.table.Ty.{Ty}
@@ -12,12 +12,12 @@ use Rattle.gib_syntax.specs.declared.tree.Parameter.{Parameter}
 use Rattle.gib_syntax.specs.Tree.{Expression, Arguments, Arms, Var, Num, Bit, Paren, Op, Call, Make, Let, Par, If, Case, Tuple, LetSeveral, ParSeveral, NoArgument, Argument, LastArm, NextArm, ConstructorTree, DataTree, ProgramTree}
 use Rattle.gib_syntax.specs.Declarations.{number_of, place_of, type_names, type_of_name, type_or, tree_type, row_in, rows_from, table_of_program, constructor_names, constructor_named}
 use Rattle.gib_syntax.specs.Typing.{IsKnown, HasKnownFields, HasKnownConstructors, IsTypedProgram}
-use Rattle.gib_syntax.specs.Meaning.{Outcome, Gives, Stops, Environment, value_in, bind, with_value, with_values, is_true, is_made_by, parts, made, choose, eval, eval_all, eval_arms, names_of, calls}
+use Rattle.gib_syntax.specs.Meaning.{Outcome, Gives, Stops, Environment, value_in, bind, bind_results, with_value, with_values, is_true, is_made_by, parts, made, choose, eval, eval_all, eval_arms, names_of, calls}
 use Rattle.gib_syntax.specs.Forms.{Forms, NoForm, Meant, formed, assign}
 use Rattle.gib_syntax.specs.GenericTree.{GenericRow, row_of, rows_of, globals_of_generic, place_named}
 use Rattle.gib_types.specs.Form.{form_or}
-use Rattle.gib_syntax.specs.GenericTyping.{FormScope, form_in, form_bound}
-use Rattle.gib_syntax.specs.Inferred.{arguments_of, forms_named, bind_forms, form_of}
+use Rattle.gib_syntax.specs.GenericTyping.{FormScope, form_in}
+use Rattle.gib_syntax.specs.Inferred.{arguments_of, forms_named, bind_forms, bound_forms}
 use Rattle.gib_syntax.specs.Single.{IsSingle, AreSingle, HasSingle}
 use Rattle.gib_syntax.specs.GenericMeaning.{kind_of, kinds_at, made_at, meant, meant_all, meant_arms, generic_names}
 use Rattle.gib_syntax.specs.Plain.{written_of, as_generic, all_as_generic, arms_as_generic, generic_constructor, generic_data, generic_parameter, generic_of}
@@ -132,21 +132,29 @@ mutual
       ∙ ap (λ (o : Option ℕ). made_at (rows_of (map generic_data p.datas)) o NoForm (eval_all (table_of_program p) call xs env)) (place_same p (number_of k))
       ∙ made_same p typed (constructor_named (table_of_program p) (number_of k)) (eval_all (table_of_program p) call xs env)
   same_meant p typed calls' call same m scope (Let q x a b) env single =
-      value_goes _ _ _ _ (same_meant p typed calls' call same m scope a env single.0)
-      (λ v. same_meant p typed calls' call same m (form_bound x (form_of (globals_of_generic (generic_of p)) m scope (as_generic a)) scope) b ((number_of x, v) ∷ env) single.1)
+      value_goes _ _ _ _ (same_meant p typed calls' call same m scope a env single.1)
+      (λ v. same_meant p typed calls' call same m (bind_forms (x ∷ []) (bound_forms (globals_of_generic (generic_of p)) m scope (as_generic a)) scope) b (bind_results (x ∷ []) v env) single.2)
   same_meant p typed calls' call same m scope (Par q x a y b c) env single =
       let g = globals_of_generic (generic_of p) in
-      value_goes _ _ _ _ (same_meant p typed calls' call same m scope a env single.0)
-      (λ v. value_goes _ _ _ _ (same_meant p typed calls' call same m scope b env single.1)
-      (λ w. same_meant p typed calls' call same m (form_bound y (form_of g m scope (as_generic b)) (form_bound x (form_of g m scope (as_generic a)) scope)) c ((number_of y, w) ∷ (number_of x, v) ∷ env) single.2))
+      let inner = bind_forms (y ∷ []) (bound_forms g m scope (as_generic b)) (bind_forms (x ∷ []) (bound_forms g m scope (as_generic a)) scope) in
+      value_goes _ _ _ _ (same_meant p typed calls' call same m scope a env single.2)
+      (λ v. value_goes _ _ _ _ (same_meant p typed calls' call same m scope b env single.3)
+      (λ w. same_meant p typed calls' call same m inner c (bind_results (y ∷ []) w (bind_results (x ∷ []) v env)) single.4))
   same_meant p typed calls' call same m scope (If q a b c) env single =
       value_goes _ _ _ _ (same_meant p typed calls' call same m scope a env single.0)
       (λ v. choice_same (is_true v) _ _ _ _ (same_meant p typed calls' call same m scope b env single.1) (same_meant p typed calls' call same m scope c env single.2))
   same_meant p typed calls' call same m scope (Case q x arms) env single =
       arms_same_meant p typed calls' call same m scope (arguments_of (form_or (form_in scope (number_of x)))) arms (value_in env (number_of x)) env single
   same_meant p typed calls' call same m scope (Tuple q as' xs) env single = absurd single
-  same_meant p typed calls' call same m scope (LetSeveral q qs a b) env single = absurd single
-  same_meant p typed calls' call same m scope (ParSeveral q qs a rs b c) env single = absurd single
+  same_meant p typed calls' call same m scope (LetSeveral q qs a b) env single =
+      value_goes _ _ _ _ (same_meant p typed calls' call same m scope a env single.1)
+      (λ v. same_meant p typed calls' call same m (bind_forms (names_of qs) (bound_forms (globals_of_generic (generic_of p)) m scope (as_generic a)) scope) b (bind_results (names_of qs) v env) single.2)
+  same_meant p typed calls' call same m scope (ParSeveral q qs a rs b c) env single =
+      let g = globals_of_generic (generic_of p) in
+      let inner = bind_forms (names_of rs) (bound_forms g m scope (as_generic b)) (bind_forms (names_of qs) (bound_forms g m scope (as_generic a)) scope) in
+      value_goes _ _ _ _ (same_meant p typed calls' call same m scope a env single.2)
+      (λ v. value_goes _ _ _ _ (same_meant p typed calls' call same m scope b env single.3)
+      (λ w. same_meant p typed calls' call same m inner c (bind_results (names_of rs) w (bind_results (names_of qs) v env)) single.4))
 
   all_same_meant : (p : ProgramTree) → IsTypedProgram p → (calls' : ℕ → Forms → List Datum → Outcome) (call : ℕ → List Datum → Outcome) → SameCalls calls' call → (m : Meant) (scope : FormScope) (xs : Arguments) (env : Environment) → AreSingle (all_as_generic xs) →
       meant_all (globals_of_generic (generic_of p)) calls' m scope (all_as_generic xs) env ≡ eval_all (table_of_program p) call xs env

@@ -1,5 +1,5 @@
 -- A typed program without type parameters is its own copy, but that the types of its parts stand in the copy where the parts do.
-use Rattle.std.proofs.Common.{◌≡◌, ℕ, zero, suc, Bool, true, false, ◌==◌, if◌then◌else◌, ◌+◌, List, [], ◌∷◌, ◌++◌, map, Option, Some, None, refl, sym, ap, ◌∙◌, subst, arith}
+use Rattle.std.proofs.Common.{◌≡◌, ℕ, zero, suc, Bool, true, false, ◌==◌, if◌then◌else◌, ◌+◌, List, [], ◌∷◌, ◌++◌, map, Option, Some, None, refl, sym, ap, ap₂, ◌∙◌, subst, arith}
 use Rattle.std.specs.Prelude.{slice_get}
 use Rattle.std.specs.List.{AllByRecursion}
 use Rattle.std.proofs.lemmas.Option.{same_Some}
@@ -16,15 +16,16 @@ use Rattle.gib_types.specs.declared.operator.Operator.{Operator}
 use Rattle.gib_syntax.specs.Tree.{Expression, Arguments, Arms, Var, Num, Bit, Paren, Op, Call, Make, Let, Par, If, Case, Tuple, LetSeveral, ParSeveral, NoArgument, Argument, LastArm, NextArm, ConstructorTree, DataTree, FunctionTree, MainTree, ProgramTree}
 use Rattle.gib_syntax.specs.Declarations.{number_of, place_of, type_names, type_of_name, type_or, tree_type, row_in, rows_from, table_of_program, constructor_names, constructor_named, function_named}
 use Rattle.gib_syntax.specs.Results.{Results, One, Several, map_results, as_results, list_results}
-use Rattle.gib_syntax.specs.Typing.{Globals, globals_of, Scope, type_in, bound, BindsAll, names_of, types_of, parameter_types, result_types, IsKnown, HasKnownType, HasKnownFields, HasKnownConstructors, AreKnown, Has, HaveAll, HaveArms, IsTypedHere, IsTypedProgram}
+use Rattle.gib_syntax.specs.Typing.{Globals, globals_of, Scope, IsNew, type_in, bound, BindsAll, names_of, types_of, parameter_types, result_types, IsKnown, HasKnownType, HasKnownFields, HasKnownConstructors, AreKnown, Has, HaveAll, HaveArms, IsTypedHere, IsTypedProgram}
 use Rattle.gib_types.specs.Operators.{operator_type}
 use Rattle.gib_syntax.specs.Forms.{Form, Forms, WholeForm, TruthForm, DataForm, NoForm, Meant, formed, assign}
 use Rattle.gib_syntax.specs.GenericTree.{GenericParameterTree, GenericRow, row_of, rows_of, globals_of_generic, place_named, generic_named}
 use Rattle.gib_syntax.specs.GenericTyping.{FormScope, form_in, form_bound, operator_form}
 use Rattle.gib_syntax.proofs.Operators.{either_scalar}
-use Rattle.gib_syntax.specs.Inferred.{one_form, arguments_of, forms_at, forms_named, owner_at_row, owner_named, bind_forms, results_at, results_of, forms_of_all, results_of_arms, form_of, bound_forms}
+use Rattle.gib_syntax.specs.Inferred.{one_form, arguments_of, forms_at, forms_named, owner_at_row, owner_named, bind_forms, results_at, results_of, forms_of_all, results_of_arms, bound_forms}
 use Rattle.gib_syntax.specs.Plain.{written_of, as_generic, all_as_generic, arms_as_generic, generic_constructor, generic_data, generic_parameter, generic_function, generic_main, generic_of}
 use Rattle.gib_syntax.proofs.Soundness.{place_found, place_within}
+use Rattle.gib_mono.specs.Bindings.{only_name, let_of, par_of}
 use Rattle.gib_mono.specs.Copying.{Naming, IsPlainNaming, renamed, name_of_form, copy_written, copy_variables, copy_parameter, copy_function, copy_main, parameter_scope, copy, copy_all, copy_arms}
 use Rattle.gib_mono.specs.Placed.{written_at, placed_variable, placed, all_placed, arms_placed, placed_function, placed_program}
 use Rattle.gib_mono.specs.Walk.{FunctionCopy, function_copies, plain_datas, plain_functions, plain_copies, copied_program}
@@ -204,6 +205,11 @@ named_fits g (f ∷ fs) typed x h e ts = step (number_of f.name == x) e (named_f
 operator_fits : (types : List ℕ) (f : Operator) → Fits types (operator_form f) (operator_type f)
 operator_fits types f = either_scalar (λ g u. Fits types g u) refl refl f
 
+-- the name of what gives one thing
+one_bound_fits : (types : List ℕ) (scope : Scope) (forms : FormScope) (x : Ident) (r : Results Form) (t : Ty) → ScopeFits types scope forms → IsNew scope x → ResultsFit types r (One t) →
+    ScopeFits types (bound x t scope) (bind_forms (x ∷ []) (list_results r) forms)
+one_bound_fits types scope forms x r t same new h = binds_fit types (x ∷ []) (t ∷ []) (list_results r) scope (bound x t scope) forms (new, refl) (listed_fit types r (t ∷ []) h) same
+
 -- What expressions give
 
 mutual
@@ -221,14 +227,15 @@ mutual
       subst (λ (u : Results Ty). ResultsFit (type_names p) (results_of (globals_of_generic (generic_of p)) m forms (as_generic (Make k xs))) u) (sym h.2)
       (owner_named (rows_of (map generic_data p.datas)) (place_named (rows_of (map generic_data p.datas)) (number_of k)), refl, owner_fits p typed (number_of k) h.0 h.1)
   results_fit p typed m scope forms (Let q x a b) r same h =
-      let f = form_of (globals_of_generic (generic_of p)) m forms (as_generic a) in
-      results_fit p typed m (bound x h.0 scope) (form_bound x f forms) b r (bound_fits (type_names p) scope forms x f h.0 same (one_fits (type_names p) (results_of (globals_of_generic (generic_of p)) m forms (as_generic a)) h.0 (results_fit p typed m scope forms a (One h.0) same h.1))) h.3
+      let rs = results_of (globals_of_generic (generic_of p)) m forms (as_generic a) in
+      results_fit p typed m (bound x h.0 scope) (bind_forms (x ∷ []) (list_results rs) forms) b r (one_bound_fits (type_names p) scope forms x rs h.0 same h.2 (results_fit p typed m scope forms a (One h.0) same h.1)) h.3
   results_fit p typed m scope forms (Par q x a y b c) r same h =
-      let g = globals_of_generic (generic_of p) in
-      let f = form_of g m forms (as_generic a) in
-      let k = form_of g m forms (as_generic b) in
-      results_fit p typed m (bound y h.1 (bound x h.0 scope)) (form_bound y k (form_bound x f forms)) c r
-      (bound_fits (type_names p) (bound x h.0 scope) (form_bound x f forms) y k h.1 (bound_fits (type_names p) scope forms x f h.0 same (one_fits (type_names p) (results_of (globals_of_generic (generic_of p)) m forms (as_generic a)) h.0 (results_fit p typed m scope forms a (One h.0) same h.2))) (one_fits (type_names p) (results_of (globals_of_generic (generic_of p)) m forms (as_generic b)) h.1 (results_fit p typed m scope forms b (One h.1) same h.3))) h.6
+      let rs = results_of (globals_of_generic (generic_of p)) m forms (as_generic a) in
+      let ss = results_of (globals_of_generic (generic_of p)) m forms (as_generic b) in
+      let middle = bind_forms (x ∷ []) (list_results rs) forms in
+      results_fit p typed m (bound y h.1 (bound x h.0 scope)) (bind_forms (y ∷ []) (list_results ss) middle) c r
+      (one_bound_fits (type_names p) (bound x h.0 scope) middle y ss h.1 (one_bound_fits (type_names p) scope forms x rs h.0 same h.4 (results_fit p typed m scope forms a (One h.0) same h.2)) h.5
+      (results_fit p typed m scope forms b (One h.1) same h.3)) h.6
   results_fit p typed m scope forms (If q a b c) r same h = results_fit p typed m scope forms b r same h.1
   results_fit p typed m scope forms (Case q x arms) r same h = arms_fit p typed m scope forms (arguments_of (form_or (form_in forms (number_of x)))) arms r same h.3
   results_fit p typed m scope forms (Tuple q as' xs) r same h =
@@ -260,10 +267,6 @@ mutual
       let fs = forms_named rows (place_named rows (number_of k)) ts in
       let a = h.0 in
       results_fit p typed m a.1 (bind_forms xs fs forms) e r (binds_fit (type_names p) xs (fields_at (table_of_program p) a.0) fs scope a.1 forms a.3 (arm_fits p typed (number_of k) ts a.0 a.2) same) a.4
-
-form_fits : (p : ProgramTree) → IsTypedProgram p → (m : Meant) (scope : Scope) (forms : FormScope) (e : Expression) (t : Ty) → ScopeFits (type_names p) scope forms → Has (globals_of p) scope e (One t) →
-    Fits (type_names p) (form_of (globals_of_generic (generic_of p)) m forms (as_generic e)) t
-form_fits p typed m scope forms e t same h = one_fits (type_names p) (results_of (globals_of_generic (generic_of p)) m forms (as_generic e)) t (results_fit p typed m scope forms e (One t) same h)
 
 -- names bound to parts, in another scope
 sides_fit : (p : ProgramTree) → IsTypedProgram p → (m : Meant) (scope : Scope) (forms : FormScope) (middle inner : Scope) (others : FormScope) (qs : List Parameter) (a : Expression) → ScopeFits (type_names p) scope forms →
@@ -306,19 +309,21 @@ mutual
   copy_placed p typed nm plain m scope forms (Make k xs) r fits h =
       ap (λ (n : ℕ). Make (renamed k n) (copy_all (globals_of_generic (generic_of p)) nm m forms (all_as_generic xs))) (plain.constructors (number_of k)) ∙ ap (Make k) (all_copy_placed p typed nm plain m scope forms xs (fields_at (table_of_program p) h.0) fits h.3)
   copy_placed p typed nm plain m scope forms (Let q x a b) r fits h =
-      let g = globals_of_generic (generic_of p) in
-      let f = form_of g m forms (as_generic a) in
-      ap (λ (u : Expression). Let q x u (copy g nm m (form_bound x f forms) (as_generic b))) (copy_placed p typed nm plain m scope forms a (One h.0) fits h.1)
-      ∙ ap (Let q x (placed a)) (copy_placed p typed nm plain m (bound x h.0 scope) (form_bound x f forms) b r (bound_fits (type_names p) scope forms x f h.0 fits (form_fits p typed m scope forms a h.0 fits h.1)) h.3)
+      let rs = results_of (globals_of_generic (generic_of p)) m forms (as_generic a) in
+      ap₂ (Let q x) (copy_placed p typed nm plain m scope forms a (One h.0) fits h.1)
+      (copy_placed p typed nm plain m (bound x h.0 scope) (bind_forms (x ∷ []) (list_results rs) forms) b r
+      (one_bound_fits (type_names p) scope forms x rs h.0 fits h.2 (results_fit p typed m scope forms a (One h.0) fits h.1)) h.3)
   copy_placed p typed nm plain m scope forms (Par q x a y b c) r fits h =
       let g = globals_of_generic (generic_of p) in
-      let f = form_of g m forms (as_generic a) in
-      let k = form_of g m forms (as_generic b) in
-      let inner = form_bound y k (form_bound x f forms) in
+      let rs = results_of g m forms (as_generic a) in
+      let ss = results_of g m forms (as_generic b) in
+      let middle = bind_forms (x ∷ []) (list_results rs) forms in
+      let inner = bind_forms (y ∷ []) (list_results ss) middle in
       ap (λ (u : Expression). Par q x u y (copy g nm m forms (as_generic b)) (copy g nm m inner (as_generic c))) (copy_placed p typed nm plain m scope forms a (One h.0) fits h.2)
-      ∙ ap (λ (u : Expression). Par q x (placed a) y u (copy g nm m inner (as_generic c))) (copy_placed p typed nm plain m scope forms b (One h.1) fits h.3)
-      ∙ ap (Par q x (placed a) y (placed b)) (copy_placed p typed nm plain m (bound y h.1 (bound x h.0 scope)) inner c r
-      (bound_fits (type_names p) (bound x h.0 scope) (form_bound x f forms) y k h.1 (bound_fits (type_names p) scope forms x f h.0 fits (form_fits p typed m scope forms a h.0 fits h.2)) (form_fits p typed m scope forms b h.1 fits h.3)) h.6)
+      ∙ ap₂ (Par q x (placed a) y) (copy_placed p typed nm plain m scope forms b (One h.1) fits h.3)
+      (copy_placed p typed nm plain m (bound y h.1 (bound x h.0 scope)) inner c r
+      (one_bound_fits (type_names p) (bound x h.0 scope) middle y ss h.1 (one_bound_fits (type_names p) scope forms x rs h.0 fits h.4 (results_fit p typed m scope forms a (One h.0) fits h.2)) h.5
+      (results_fit p typed m scope forms b (One h.1) fits h.3)) h.6)
   copy_placed p typed nm plain m scope forms (If q a b c) r fits h =
       let g = globals_of_generic (generic_of p) in
       ap (λ (u : Expression). If q u (copy g nm m forms (as_generic b)) (copy g nm m forms (as_generic c))) (copy_placed p typed nm plain m scope forms a (One Truth) fits h.0)
@@ -335,21 +340,23 @@ mutual
   copy_placed p typed nm plain m scope forms (LetSeveral q qs a b) r fits h =
       let g = globals_of_generic (generic_of p) in
       let inner = bind_forms (names_of qs) (bound_forms g m forms (as_generic a)) forms in
-      ap (λ (vs : List Parameter). LetSeveral q vs (copy g nm m forms (as_generic a)) (copy g nm m inner (as_generic b))) (variables_placed p typed nm plain m scope forms qs a fits h.1.2 h.2)
-      ∙ ap (λ (u : Expression). LetSeveral q (map placed_variable qs) u (copy g nm m inner (as_generic b))) (copy_placed p typed nm plain m scope forms a (as_results (types_of (type_names p) qs)) fits h.2)
-      ∙ ap (LetSeveral q (map placed_variable qs) (placed a)) (copy_placed p typed nm plain m h.0 inner b r (several_fit p typed m scope forms h.0 qs a fits h.2 h.3) h.4)
+      ap (λ (vs : List Parameter). let_of q (only_name (names_of qs)) vs (copy g nm m forms (as_generic a)) (copy g nm m inner (as_generic b))) (variables_placed p typed nm plain m scope forms qs a fits h.1.2 h.2)
+      ∙ ap (λ (u : Expression). let_of q (only_name (names_of qs)) (map placed_variable qs) u (copy g nm m inner (as_generic b))) (copy_placed p typed nm plain m scope forms a (as_results (types_of (type_names p) qs)) fits h.2)
+      ∙ ap (let_of q (only_name (names_of qs)) (map placed_variable qs) (placed a)) (copy_placed p typed nm plain m h.0 inner b r (several_fit p typed m scope forms h.0 qs a fits h.2 h.3) h.4)
   copy_placed p typed nm plain m scope forms (ParSeveral q qs a rs b c) r fits h =
       let g = globals_of_generic (generic_of p) in
       let middle = bind_forms (names_of qs) (bound_forms g m forms (as_generic a)) forms in
       let inner = bind_forms (names_of rs) (bound_forms g m forms (as_generic b)) middle in
+      let xs = only_name (names_of qs) in
+      let ys = only_name (names_of rs) in
       let vs = map placed_variable qs in
       let ws = map placed_variable rs in
-      ap (λ (us : List Parameter). ParSeveral q us (copy g nm m forms (as_generic a)) (copy_variables nm (names_of rs) (bound_forms g m forms (as_generic b))) (copy g nm m forms (as_generic b)) (copy g nm m inner (as_generic c)))
+      ap (λ (us : List Parameter). par_of q xs us (copy g nm m forms (as_generic a)) ys (copy_variables nm (names_of rs) (bound_forms g m forms (as_generic b))) (copy g nm m forms (as_generic b)) (copy g nm m inner (as_generic c)))
       (variables_placed p typed nm plain m scope forms qs a fits h.2.2 h.4)
-      ∙ ap (λ (u : Expression). ParSeveral q vs u (copy_variables nm (names_of rs) (bound_forms g m forms (as_generic b))) (copy g nm m forms (as_generic b)) (copy g nm m inner (as_generic c))) (copy_placed p typed nm plain m scope forms a (as_results (types_of (type_names p) qs)) fits h.4)
-      ∙ ap (λ (us : List Parameter). ParSeveral q vs (placed a) us (copy g nm m forms (as_generic b)) (copy g nm m inner (as_generic c))) (variables_placed p typed nm plain m scope forms rs b fits h.3.2 h.5)
-      ∙ ap (λ (u : Expression). ParSeveral q vs (placed a) ws u (copy g nm m inner (as_generic c))) (copy_placed p typed nm plain m scope forms b (as_results (types_of (type_names p) rs)) fits h.5)
-      ∙ ap (ParSeveral q vs (placed a) ws (placed b)) (copy_placed p typed nm plain m h.1 inner c r (sides_fit p typed m scope forms h.0 h.1 middle rs b fits (several_fit p typed m scope forms h.0 qs a fits h.4 h.6) h.5 h.7) h.8)
+      ∙ ap (λ (u : Expression). par_of q xs vs u ys (copy_variables nm (names_of rs) (bound_forms g m forms (as_generic b))) (copy g nm m forms (as_generic b)) (copy g nm m inner (as_generic c))) (copy_placed p typed nm plain m scope forms a (as_results (types_of (type_names p) qs)) fits h.4)
+      ∙ ap (λ (us : List Parameter). par_of q xs vs (placed a) ys us (copy g nm m forms (as_generic b)) (copy g nm m inner (as_generic c))) (variables_placed p typed nm plain m scope forms rs b fits h.3.2 h.5)
+      ∙ ap (λ (u : Expression). par_of q xs vs (placed a) ys ws u (copy g nm m inner (as_generic c))) (copy_placed p typed nm plain m scope forms b (as_results (types_of (type_names p) rs)) fits h.5)
+      ∙ ap (par_of q xs vs (placed a) ys ws (placed b)) (copy_placed p typed nm plain m h.1 inner c r (sides_fit p typed m scope forms h.0 h.1 middle rs b fits (several_fit p typed m scope forms h.0 qs a fits h.4 h.6) h.5 h.7) h.8)
 
   all_copy_placed : (p : ProgramTree) → IsTypedProgram p → (nm : Naming) → IsPlainNaming nm → (m : Meant) (scope : Scope) (forms : FormScope) (xs : Arguments) (ts : List Ty) → ScopeFits (type_names p) scope forms → HaveAll (globals_of p) scope xs ts →
       copy_all (globals_of_generic (generic_of p)) nm m forms (all_as_generic xs) ≡ all_placed xs

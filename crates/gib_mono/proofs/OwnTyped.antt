@@ -15,14 +15,14 @@ use Rattle.gib_types.specs.declared.operator.Operator.{Operator}
 use Rattle.gib_syntax.specs.Tree.{Expression, Arguments, Arms, Var, Num, Bit, Paren, Op, Call, Make, Let, Par, If, Case, Tuple, LetSeveral, ParSeveral, NoArgument, Argument, LastArm, NextArm, FunctionTree, ProgramTree}
 use Rattle.gib_syntax.specs.Declarations.{number_of, type_names, type_of_name, table_of_program, constructor_named, function_named}
 use Rattle.gib_syntax.specs.Results.{Results, One, Several, map_results, as_results, list_results}
-use Rattle.gib_syntax.specs.Typing.{Globals, globals_of, Scope, type_in, bound, BindsAll, names_of, types_of, parameter_types, result_types, HasKnownType, AreKnown, Has, HaveAll, HaveArms, IsTypedHere, IsTypedProgram}
+use Rattle.gib_syntax.specs.Typing.{Globals, globals_of, Scope, IsNew, type_in, bound, BindsAll, names_of, types_of, parameter_types, result_types, HasKnownType, AreKnown, Has, HaveAll, HaveArms, IsTypedHere, IsTypedProgram}
 use Rattle.gib_types.specs.Operators.{operator_type}
 use Rattle.gib_syntax.specs.Meaning.{Outcome, Gives, Environment, value_in, bind, bind_results, tuple, with_values, with_fields, is_true, is_made_by, parts, choose, eval, eval_all, eval_arms, of_function, calls, means, run}
 use Rattle.gib_syntax.specs.Forms.{Form, Forms, WholeForm, TruthForm, NoForm, Meant, formed, assign}
 use Rattle.gib_syntax.specs.GenericTree.{GenericParameterTree, GenericFunctionTree, GenericRow, rows_of, globals_of_generic, place_named, generic_named}
 use Rattle.gib_syntax.specs.GenericTyping.{FormScope, form_in, form_bound, operator_form}
 use Rattle.gib_syntax.proofs.Operators.{either_scalar}
-use Rattle.gib_syntax.specs.Inferred.{one_form, arguments_of, forms_at, forms_named, bind_forms, results_at, results_of, forms_of_all, results_of_arms, form_of, bound_forms}
+use Rattle.gib_syntax.specs.Inferred.{one_form, arguments_of, forms_at, forms_named, bind_forms, results_at, results_of, forms_of_all, results_of_arms, bound_forms}
 use Rattle.gib_syntax.specs.Single.{IsSingle}
 use Rattle.gib_syntax.specs.GenericMeaning.{kind_of, kinds_at, meant, meant_all, meant_arms, made_at, generic_names, parameter_scope, of_generic, calls_meant, means_generic, run_generic}
 use Rattle.gib_syntax.specs.Plain.{written_of, as_generic, all_as_generic, arms_as_generic, generic_data, generic_parameter, generic_function, generic_of}
@@ -104,6 +104,10 @@ named_same g (f ∷ fs) typed x h e ts = step (number_of f.name == x) e (named_s
 operator_same : (f : Operator) → is_scalar (kind_of (operator_form f)) ≡ is_scalar (operator_type f)
 operator_same f = either_scalar (λ g u. is_scalar (kind_of g) ≡ is_scalar u) refl refl f
 
+-- the name of what gives one thing
+one_bound_same : (scope : Scope) (forms : FormScope) (x : Ident) (r : Results Form) (t : Ty) → SameScalars scope forms → IsNew scope x → SameResults r (One t) → SameScalars (bound x t scope) (bind_forms (x ∷ []) (list_results r) forms)
+one_bound_same scope forms x r t same new h = binds_same (x ∷ []) (t ∷ []) (list_results r) scope (bound x t scope) forms (new, refl) (listed_same r (t ∷ []) h) same
+
 -- What expressions give
 
 mutual
@@ -120,14 +124,14 @@ mutual
   results_same p typed m scope forms (Make k xs) r same h =
       subst (λ (u : Results Ty). SameResults (results_of (globals_of_generic (generic_of p)) m forms (as_generic (Make k xs))) u) (sym h.2) refl
   results_same p typed m scope forms (Let q x a b) r same h =
-      let f = form_of (globals_of_generic (generic_of p)) m forms (as_generic a) in
-      results_same p typed m (bound x h.0 scope) (form_bound x f forms) b r (bound_same scope forms x f h.0 same (one_same (results_of (globals_of_generic (generic_of p)) m forms (as_generic a)) h.0 (results_same p typed m scope forms a (One h.0) same h.1))) h.3
+      let rs = results_of (globals_of_generic (generic_of p)) m forms (as_generic a) in
+      results_same p typed m (bound x h.0 scope) (bind_forms (x ∷ []) (list_results rs) forms) b r (one_bound_same scope forms x rs h.0 same h.2 (results_same p typed m scope forms a (One h.0) same h.1)) h.3
   results_same p typed m scope forms (Par q x a y b c) r same h =
-      let g = globals_of_generic (generic_of p) in
-      let f = form_of g m forms (as_generic a) in
-      let k = form_of g m forms (as_generic b) in
-      results_same p typed m (bound y h.1 (bound x h.0 scope)) (form_bound y k (form_bound x f forms)) c r
-      (bound_same (bound x h.0 scope) (form_bound x f forms) y k h.1 (bound_same scope forms x f h.0 same (one_same (results_of (globals_of_generic (generic_of p)) m forms (as_generic a)) h.0 (results_same p typed m scope forms a (One h.0) same h.2))) (one_same (results_of (globals_of_generic (generic_of p)) m forms (as_generic b)) h.1 (results_same p typed m scope forms b (One h.1) same h.3))) h.6
+      let rs = results_of (globals_of_generic (generic_of p)) m forms (as_generic a) in
+      let ss = results_of (globals_of_generic (generic_of p)) m forms (as_generic b) in
+      let middle = bind_forms (x ∷ []) (list_results rs) forms in
+      results_same p typed m (bound y h.1 (bound x h.0 scope)) (bind_forms (y ∷ []) (list_results ss) middle) c r
+      (one_bound_same (bound x h.0 scope) middle y ss h.1 (one_bound_same scope forms x rs h.0 same h.4 (results_same p typed m scope forms a (One h.0) same h.2)) h.5 (results_same p typed m scope forms b (One h.1) same h.3)) h.6
   results_same p typed m scope forms (If q a b c) r same h = results_same p typed m scope forms b r same h.1
   results_same p typed m scope forms (Case q x arms) r same h = arms_same p typed m scope forms (arguments_of (form_or (form_in forms (number_of x)))) arms r same h.3
   results_same p typed m scope forms (Tuple q as' xs) r same h =
@@ -159,10 +163,6 @@ mutual
       let fs = forms_named rows (place_named rows (number_of k)) ts in
       let a = h.0 in
       results_same p typed m a.1 (bind_forms xs fs forms) e r (binds_same xs (fields_at (table_of_program p) a.0) fs scope a.1 forms a.3 (arm_kinds p typed (number_of k) ts a.0 a.2) same) a.4
-
-form_same : (p : ProgramTree) → IsTypedProgram p → (m : Meant) (scope : Scope) (forms : FormScope) (e : Expression) (t : Ty) → SameScalars scope forms → Has (globals_of p) scope e (One t) →
-    is_scalar (kind_of (form_of (globals_of_generic (generic_of p)) m forms (as_generic e))) ≡ is_scalar t
-form_same p typed m scope forms e t same h = one_same (results_of (globals_of_generic (generic_of p)) m forms (as_generic e)) t (results_same p typed m scope forms e (One t) same h)
 
 -- names bound to parts, in another scope
 sides_same : (p : ProgramTree) → IsTypedProgram p → (m : Meant) (scope : Scope) (forms : FormScope) (middle inner : Scope) (others : FormScope) (qs : List Parameter) (a : Expression) → SameScalars scope forms →
@@ -205,17 +205,18 @@ mutual
       ∙ ap (λ (i : Option ℕ). made_at rows i NoForm (eval_all (table_of_program p) call xs env)) (place_same p (number_of k))
       ∙ made_same p typed (constructor_named (table_of_program p) (number_of k)) (eval_all (table_of_program p) call xs env)
   typed_meant p typed calls' call go m scope forms (Let q x a b) env r same h =
-      let f = form_of (globals_of_generic (generic_of p)) m forms (as_generic a) in
+      let rs = results_of (globals_of_generic (generic_of p)) m forms (as_generic a) in
       value_goes _ _ _ _ (typed_meant p typed calls' call go m scope forms a env (One h.0) same h.1)
-      (λ v. typed_meant p typed calls' call go m (bound x h.0 scope) (form_bound x f forms) b ((number_of x, v) ∷ env) r (bound_same scope forms x f h.0 same (form_same p typed m scope forms a h.0 same h.1)) h.3)
+      (λ v. typed_meant p typed calls' call go m (bound x h.0 scope) (bind_forms (x ∷ []) (list_results rs) forms) b (bind_results (x ∷ []) v env) r
+      (one_bound_same scope forms x rs h.0 same h.2 (results_same p typed m scope forms a (One h.0) same h.1)) h.3)
   typed_meant p typed calls' call go m scope forms (Par q x a y b c) env r same h =
-      let g = globals_of_generic (generic_of p) in
-      let f = form_of g m forms (as_generic a) in
-      let k = form_of g m forms (as_generic b) in
+      let rs = results_of (globals_of_generic (generic_of p)) m forms (as_generic a) in
+      let ss = results_of (globals_of_generic (generic_of p)) m forms (as_generic b) in
+      let middle = bind_forms (x ∷ []) (list_results rs) forms in
       value_goes _ _ _ _ (typed_meant p typed calls' call go m scope forms a env (One h.0) same h.2)
       (λ v. value_goes _ _ _ _ (typed_meant p typed calls' call go m scope forms b env (One h.1) same h.3)
-      (λ w. typed_meant p typed calls' call go m (bound y h.1 (bound x h.0 scope)) (form_bound y k (form_bound x f forms)) c ((number_of y, w) ∷ (number_of x, v) ∷ env) r
-      (bound_same (bound x h.0 scope) (form_bound x f forms) y k h.1 (bound_same scope forms x f h.0 same (form_same p typed m scope forms a h.0 same h.2)) (form_same p typed m scope forms b h.1 same h.3)) h.6))
+      (λ w. typed_meant p typed calls' call go m (bound y h.1 (bound x h.0 scope)) (bind_forms (y ∷ []) (list_results ss) middle) c (bind_results (y ∷ []) w (bind_results (x ∷ []) v env)) r
+      (one_bound_same (bound x h.0 scope) middle y ss h.1 (one_bound_same scope forms x rs h.0 same h.4 (results_same p typed m scope forms a (One h.0) same h.2)) h.5 (results_same p typed m scope forms b (One h.1) same h.3)) h.6))
   typed_meant p typed calls' call go m scope forms (If q a b c) env r same h =
       value_goes _ _ _ _ (typed_meant p typed calls' call go m scope forms a env (One Truth) same h.0)
       (λ v. choice_same (is_true v) _ _ _ _ (typed_meant p typed calls' call go m scope forms b env r same h.1) (typed_meant p typed calls' call go m scope forms c env r same h.2))

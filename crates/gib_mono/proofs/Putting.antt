@@ -6,7 +6,7 @@ use Rattle.gib_types.specs.declared.operator.Operator.{Operator}
 use Rattle.gib_syntax.specs.Declarations.{number_of}
 use Rattle.gib_syntax.specs.Results.{Results, One, Several, map_results, as_results}
 use Rattle.gib_syntax.specs.Forms.{WrittenType, WrittenTypes, WholeAt, TruthAt, VariableAt, DataAt, NoType, MoreTypes, Form, Forms, WholeForm, TruthForm, DataForm, NoForm, MoreForms, Meant, formed, formed_all, put, put_all, assign}
-use Rattle.gib_syntax.specs.GenericTree.{GenericExpression, GenericArguments, GenericArms, GenericVar, GenericNum, GenericBit, GenericParen, GenericOp, GenericCall, GenericMake, GenericLet, GenericPar, GenericIf, GenericCase, GenericTuple, GenericLetSeveral, GenericParSeveral, GenericNoArgument, GenericArgument, GenericLastArm, GenericNextArm, GenericParameterTree, GenericGlobals}
+use Rattle.gib_syntax.specs.GenericTree.{GenericExpression, GenericArguments, GenericArms, GenericVar, GenericNum, GenericBit, GenericParen, GenericOp, GenericCall, GenericMake, GenericLet, GenericPar, GenericIf, GenericCase, GenericTuple, GenericNoArgument, GenericArgument, GenericLastArm, GenericNextArm, GenericParameterTree, GenericGlobals}
 use Rattle.gib_syntax.specs.GenericTyping.{FormScope, form_in, form_bound, BindsForms, operator_form, field_forms, parameter_forms, result_forms, HasForm, HaveForms, ArmsHaveForm}
 use Rattle.gib_syntax.proofs.Operators.{either_scalar}
 
@@ -114,22 +114,7 @@ mutual
             (put_fields r (h.1).variables (formed_all m ws) (h.1).fields ∙ ap (field_forms h.1) fs)
             (all_put g vars r m n k xs (field_forms h.1 (formed_all m ws)) scope h.7),
       )
-  put_has g vars r m n k (GenericLet p x a b) ty scope h =
-      (put r h.0, put_has g vars r m n k a (One h.0) scope h.1, new_put r scope (number_of x) h.2, put_has g vars r m n k b ty (form_bound x h.0 scope) h.3)
-  put_has g vars r m n k (GenericPar p x a y b c) ty scope h = (
-    put r h.0,
-    put r h.1,
-    put_has g vars r m n k a (One h.0) scope h.2,
-    put_has g vars r m n k b (One h.1) scope h.3,
-    new_put r scope (number_of x) h.4,
-    new_put r (form_bound x h.0 scope) (number_of y) h.5,
-    put_has g vars r m n k c ty (form_bound y h.1 (form_bound x h.0 scope)) h.6,
-  )
-  put_has g vars r m n k (GenericIf p a b c) ty scope h = (put_has g vars r m n k a (One TruthForm) scope h.0, put_has g vars r m n k b ty scope h.1, put_has g vars r m n k c ty scope h.2)
-  put_has g vars r m n k (GenericCase p x arms) ty scope h =
-      (h.0, put_all r h.1, in_put r scope (number_of x) (DataForm h.0 h.1) h.2, h.3, arms_put g vars r m n k arms ty scope h.0 h.1 h.4)
-  put_has g vars r m n k (GenericTuple p xs) ty scope h = (map (put r) h.0, ap (map_results (put r)) h.1, all_put g vars r m n k xs h.0 scope h.2)
-  put_has g vars r m n k (GenericLetSeveral p xs a b) ty scope h = (
+  put_has g vars r m n k (GenericLet p xs a b) ty scope h = (
     map (put r) h.0,
     put_scope r h.1,
     h.2,
@@ -137,7 +122,7 @@ mutual
     binds_put r xs h.0 scope h.1 h.4,
     put_has g vars r m n k b ty h.1 h.5,
   )
-  put_has g vars r m n k (GenericParSeveral p xs a ys b c) ty scope h = (
+  put_has g vars r m n k (GenericPar p xs a ys b c) ty scope h = (
     map (put r) h.0,
     map (put r) h.1,
     put_scope r h.2,
@@ -150,6 +135,10 @@ mutual
     binds_put r ys h.1 h.2 h.3 h.9,
     put_has g vars r m n k c ty h.3 h.10,
   )
+  put_has g vars r m n k (GenericIf p a b c) ty scope h = (put_has g vars r m n k a (One TruthForm) scope h.0, put_has g vars r m n k b ty scope h.1, put_has g vars r m n k c ty scope h.2)
+  put_has g vars r m n k (GenericCase p x arms) ty scope h =
+      (h.0, put_all r h.1, in_put r scope (number_of x) (DataForm h.0 h.1) h.2, h.3, arms_put g vars r m n k arms ty scope h.0 h.1 h.4)
+  put_has g vars r m n k (GenericTuple p xs) ty scope h = (map (put r) h.0, ap (map_results (put r)) h.1, all_put g vars r m n k xs h.0 scope h.2)
 
   all_put : (g : GenericGlobals) (vars : List ℕ) (r m n : Meant) → ((x : ℕ) → put r (m x) ≡ n x) → (xs : GenericArguments) (fs : List Form) (scope : FormScope) → HaveForms g vars m scope xs fs → HaveForms g vars n (put_scope r scope) xs (map (put r) fs)
   all_put g vars r m n k GenericNoArgument [] scope h = tt {0}

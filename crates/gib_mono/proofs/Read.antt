@@ -10,21 +10,17 @@ use Rattle.gib_syntax.specs.declared.tree.Ident.{Ident}
 use Rattle.gib_syntax.specs.declared.written.Word.{Word}
 use Rattle.gib_syntax.specs.declared.written.Word.TheVariants as w
 use Rattle.gib_syntax.specs.Declarations.{number_of}
-use Rattle.gib_syntax.specs.Forms.{WrittenType, formed, formed_all, written_place}
+use Rattle.gib_syntax.specs.Forms.{WrittenType, formed, written_place}
 use Rattle.gib_syntax.specs.Words.{taken, left, read_word, stack_of}
 use Rattle.gib_mono.specs.declared.reading.Use.{Use}
 use Rattle.gib_mono.specs.declared.reading.Reading.{Reading}
 use Rattle.gib_mono.specs.Walk.{Ask, written_asks, writtens_asks, types_asks}
-use Rattle.gib_mono.specs.Reading.{Read, nothing_read, taken_forms, put_form, read_data, read_one, read_words, use_ask, listed, read_of, AreUsesBelow, IsReadBelow, MakesType, ReadsOn, HasRead}
+use Rattle.gib_check.specs.Judging.{Meets}
+use Rattle.gib_mono.specs.Reading.{Read, nothing_read, taken_forms, put_form, read_data, read_one, read_words, use_ask, listed, read_of, AreUsesBelow, IsReadBelow, ReadsOn, HasRead}
 use Rattle.gib_check.proofs.Growing.{many, below_more}
-use Rattle.gib_check.proofs.Read.{left_formed, left_listed, below_taken, below_left, place_left}
+use Rattle.gib_check.proofs.Read.{left_formed, left_listed, taken_formed, taken_listed, below_taken, below_left, place_left}
 
 -- Definitions: reading words is what they mean
-
-taken_formed : (m : Meant) (n : ℕ) (st : List WrittenType) → taken_forms n (map (formed m) st) ≡ formed_all m (taken n st)
-taken_formed m zero st = refl
-taken_formed m (suc n) [] = refl
-taken_formed m (suc n) (x ∷ st) = ap (MoreForms (formed m x)) (taken_formed m n st)
 
 pub ap₃ : {A B C D : Type 0} (f : A → B → C → D) {x y : A} {u v : B} {s t : C} → x ≡ y → u ≡ v → s ≡ t → f x u s ≡ f y v t
 ap₃ f {x} {y} {u} {v} {s} {t} e g h = ap (λ a. f a u s) e ∙ ap (λ b. f y b s) g ∙ ap (f y v) h
@@ -56,11 +52,6 @@ words_last m [] x r = refl
 words_last m (y ∷ ws) x r = ap (read_one m y) (words_last m ws x r)
 
 -- Numbers
-
-taken_listed : (fs : List Form) (n : ℕ) (is : List TypeId) → taken_forms n (listed fs is) ≡ forms_at fs (take n is)
-taken_listed fs zero is = refl
-taken_listed fs (suc n) [] = refl
-taken_listed fs (suc n) (i ∷ is) = ap (MoreForms (form_at fs i.0)) (taken_listed fs n is)
 
 uses_more : (b c : ℕ) (us : List Use) → b ≤ c → AreUsesBelow b us → AreUsesBelow c us
 uses_more b c [] l h = tt
@@ -107,34 +98,34 @@ reading_more old new r l h = (below_more (length old) (length new) r.types l h.0
 pub reading_grows : (old new : List TypeNode) (r : Reading) → GrowsTo (forms_of old) (forms_of new) → IsReadBelow (length old) r → read_of (forms_of new) r ≡ read_of (forms_of old) r
 reading_grows old new r g h = ap₂ (λ (fs : List Form) (as' : List Ask). record { types = fs; places = r.places; asks = as' }) (listed_grow old new r.types g h.0) (uses_grow old new r.uses g h.1)
 
-pub plain_read : (old new : List TypeNode) (before : Reading) (ids : List TypeId) (places : List Span) (id : TypeId) (f : Form) (p : Span) → IsReadBelow (length old) before → MakesType old new id f → ids ≡ id ∷ before.types → places ≡ p ∷ before.places
+pub plain_read : (old new : List TypeNode) (before : Reading) (ids : List TypeId) (places : List Span) (id : TypeId) (f : Form) (p : Span) → IsReadBelow (length old) before → Meets old new id f → ids ≡ id ∷ before.types → places ≡ p ∷ before.places
     → ReadsOn old new before (record { types = ids; places = places; uses = before.uses }) (put_form f p)
 plain_read old new before ids places id f p h made e e' = rw (e, e') (record {
-  grows = made.grows;
-  longer = made.longer;
-  below = ((made.below, (reading_more old new before made.longer h).0), (reading_more old new before made.longer h).1);
-  read = ap₂ (λ (g : Form) (r : Read). put_form g p r) made.form (reading_grows old new before made.grows h);
+  grows = made.grows.grows;
+  longer = made.grows.longer;
+  below = ((made.below, (reading_more old new before made.grows.longer h).0), (reading_more old new before made.grows.longer h).1);
+  read = ap₂ (λ (g : Form) (r : Read). put_form g p r) made.form (reading_grows old new before made.grows.grows h);
 })
 
 pub data_read : (old new : List TypeNode) (before : Reading) (middle ids : List TypeId) (left_places places : List Span) (uses : List Use) (p : Span) (x : Ident) (n : ℕ) (arguments : List TypeId) (u : Use) (id : TypeId) →
-    IsReadBelow (length old) before → arguments ≡ take n before.types → middle ≡ drop n before.types → MakesType old new id (DataForm (number_of x) (forms_at (forms_of old) arguments)) → ids ≡ id ∷ middle →
+    IsReadBelow (length old) before → arguments ≡ take n before.types → middle ≡ drop n before.types → Meets old new id (DataForm (number_of x) (forms_at (forms_of old) arguments)) → ids ≡ id ∷ middle →
     left_places ≡ drop n before.places → places ≡ p ∷ left_places → uses ≡ u ∷ before.uses → u.name ≡ x.name → u.types.items ≡ arguments → u.span ≡ x.span → ReadsOn old new before (record { types = ids; places = places; uses = uses }) (read_data p x n)
 data_read old new before middle ids left_places places uses p x n arguments u id h is_taken is_left made e skipped placed f name ts span =
-    let less = reading_more old new before made.longer h in
+    let less = reading_more old new before made.grows.longer h in
     let taken_is : forms_at (forms_of old) arguments ≡ taken_forms n (listed (forms_of old) before.types) = ap (forms_at (forms_of old)) is_taken ∙ sym (taken_listed (forms_of old) n before.types) in
     let args_below : AreBelow (length old) arguments = subst (AreBelow (length old)) (sym is_taken) (below_taken (length old) n before.types h.0) in
     rw (e, f) (record {
-      grows = made.grows;
-      longer = made.longer;
-      below = ((made.below, subst (AreBelow (length new)) (sym is_left) (below_left (length new) n before.types less.0)), (subst (AreBelow (length new)) (sym ts) (below_more (length old) (length new) arguments made.longer args_below), less.1));
+      grows = made.grows.grows;
+      longer = made.grows.longer;
+      below = ((made.below, subst (AreBelow (length new)) (sym is_left) (below_left (length new) n before.types less.0)), (subst (AreBelow (length new)) (sym ts) (below_more (length old) (length new) arguments made.grows.longer args_below), less.1));
       read = ap₃ (λ (fs : List Form) (ps : List Span) (as' : List Ask). record { types = fs; places = ps; asks = as' })
           (ap₂ (λ (g : Form) (gs : List Form). g ∷ gs) (made.form ∙ ap (DataForm (number_of x)) taken_is)
-          (ap (listed (forms_of new)) is_left ∙ sym (left_listed (forms_of new) n before.types) ∙ ap (drop n) (listed_grow old new before.types made.grows h.0)))
+          (ap (listed (forms_of new)) is_left ∙ sym (left_listed (forms_of new) n before.types) ∙ ap (drop n) (listed_grow old new before.types made.grows.grows h.0)))
           (placed ∙ ap (λ ps. p ∷ ps) skipped)
           (ap₂ (λ (a : Ask) (as' : List Ask). a ∷ as')
-          (ap₂ (λ (z : ℕ) (q : Forms). record { function = false; name = z; types = q; span = u.span }) (ap (λ (k : Rattle.gib_base.specs.declared.name.Name.Name). k.0) name) (ap (forms_at (forms_of new)) ts ∙ forms_grow old new arguments made.grows args_below ∙ taken_is)
+          (ap₂ (λ (z : ℕ) (q : Forms). record { function = false; name = z; types = q; span = u.span }) (ap (λ (k : Rattle.gib_base.specs.declared.name.Name.Name). k.0) name) (ap (forms_at (forms_of new)) ts ∙ forms_grow old new arguments made.grows.grows args_below ∙ taken_is)
           ∙ ap (λ s. record { function = false; name = number_of x; types = taken_forms n (listed (forms_of old) before.types); span = s }) span)
-          (uses_grow old new before.uses made.grows h.1));
+          (uses_grow old new before.uses made.grows.grows h.1));
     })
 
 -- The loop

@@ -13,7 +13,7 @@ use Rattle.gib_syntax.specs.Typing.{type_in, BindsAll, parameter_types, result_t
 use Rattle.gib_types.specs.Operators.{operator_type}
 use Rattle.gib_syntax.specs.Forms.{WrittenType, Form, Forms, WholeForm, TruthForm, VariableForm, DataForm, Meant, written_place, formed, formed_all, assign}
 use Rattle.gib_syntax.specs.Results.{Results, One, Several, map_results, as_results, list_results}
-use Rattle.gib_syntax.specs.GenericTree.{GenericExpression, GenericArguments, GenericNoArgument, GenericArgument, GenericArms, GenericVar, GenericNum, GenericBit, GenericParen, GenericOp, GenericCall, GenericMake, GenericLet, GenericPar, GenericIf, GenericCase, GenericTuple, GenericLetSeveral, GenericParSeveral, GenericLastArm, GenericNextArm, GenericParameterTree, GenericFunctionTree, GenericRow, GenericGlobals, place_named}
+use Rattle.gib_syntax.specs.GenericTree.{GenericExpression, GenericArguments, GenericNoArgument, GenericArgument, GenericArms, GenericVar, GenericNum, GenericBit, GenericParen, GenericOp, GenericCall, GenericMake, GenericLet, GenericPar, GenericIf, GenericCase, GenericTuple, GenericLastArm, GenericNextArm, GenericParameterTree, GenericFunctionTree, GenericRow, GenericGlobals, place_named}
 use Rattle.gib_syntax.specs.GenericTyping.{FormScope, form_in, form_bound, BindsForms, operator_form, field_forms, parameter_forms, result_forms, HasForm, HaveForms, ArmsHaveForm}
 use Rattle.gib_syntax.proofs.Operators.{either_scalar}
 use Rattle.gib_mono.specs.Copying.{Naming, name_of_form, copy_written, plain_type, arguments_of, forms_named, owner_named, bind_forms, one_form, results_at, results_of, results_of_arms, forms_of_all, form_of, bound_forms, copy_parameter, copy_function}
@@ -99,24 +99,18 @@ mutual
   results_are g vars m (GenericOp p f a b) r scope h = sym h.0
   results_are g vars m (GenericCall f ws xs) r scope h = ap (λ (u : Option GenericFunctionTree). results_at u (formed_all m ws)) h.1 ∙ sym h.4
   results_are g vars m (GenericMake k ws xs) r scope h = ap (λ (n : ℕ). One (DataForm n (formed_all m ws))) (owner_is g.rows (place_named g.rows (number_of k)) h.0 h.1 h.2 h.3) ∙ sym h.6
-  results_are g vars m (GenericLet p x a b) r scope h =
-      ap (λ (f : Form). results_of g m (form_bound x f scope) b) (one_is (results_of g m scope a) h.0 (results_are g vars m a (One h.0) scope h.1)) ∙ results_are g vars m b r (form_bound x h.0 scope) h.3
-  results_are g vars m (GenericPar p x a y b c) r scope h =
-      ap (λ (f : Form). results_of g m (form_bound y (form_of g m scope b) (form_bound x f scope)) c) (one_is (results_of g m scope a) h.0 (results_are g vars m a (One h.0) scope h.2))
-      ∙ ap (λ (f : Form). results_of g m (form_bound y f (form_bound x h.0 scope)) c) (one_is (results_of g m scope b) h.1 (results_are g vars m b (One h.1) scope h.3))
-      ∙ results_are g vars m c r (form_bound y h.1 (form_bound x h.0 scope)) h.6
-  results_are g vars m (GenericIf p a b c) r scope h = results_are g vars m b r scope h.1
-  results_are g vars m (GenericCase p x arms) r scope h =
-      ap (λ (us : Forms). results_of_arms g m scope us arms) (arguments_is (form_in scope (number_of x)) h.0 h.1 h.2) ∙ arms_are g vars m arms r scope h.0 h.1 h.4
-  results_are g vars m (GenericTuple p xs) r scope h = ap Several (forms_are g vars m xs h.0 scope h.2) ∙ sym h.1
-  results_are g vars m (GenericLetSeveral p xs a b) r scope h =
+  results_are g vars m (GenericLet p xs a b) r scope h =
       ap (λ (fs : List Form). results_of g m (bind_forms xs fs scope) b) (list_is (results_of g m scope a) h.0 (results_are g vars m a (as_results h.0) scope h.3))
       ∙ ap (λ (u : FormScope). results_of g m u b) (sym (binds_inner xs h.0 scope h.1 h.4)) ∙ results_are g vars m b r h.1 h.5
-  results_are g vars m (GenericParSeveral p xs a ys b c) r scope h =
+  results_are g vars m (GenericPar p xs a ys b c) r scope h =
       ap (λ (fs : List Form). results_of g m (bind_forms ys (bound_forms g m scope b) (bind_forms xs fs scope)) c) (list_is (results_of g m scope a) h.0 (results_are g vars m a (as_results h.0) scope h.6))
       ∙ ap (λ (fs : List Form). results_of g m (bind_forms ys fs (bind_forms xs h.0 scope)) c) (list_is (results_of g m scope b) h.1 (results_are g vars m b (as_results h.1) scope h.7))
       ∙ ap (λ (u : FormScope). results_of g m (bind_forms ys h.1 u) c) (sym (binds_inner xs h.0 scope h.2 h.8))
       ∙ ap (λ (u : FormScope). results_of g m u c) (sym (binds_inner ys h.1 h.2 h.3 h.9)) ∙ results_are g vars m c r h.3 h.10
+  results_are g vars m (GenericIf p a b c) r scope h = results_are g vars m b r scope h.1
+  results_are g vars m (GenericCase p x arms) r scope h =
+      ap (λ (us : Forms). results_of_arms g m scope us arms) (arguments_is (form_in scope (number_of x)) h.0 h.1 h.2) ∙ arms_are g vars m arms r scope h.0 h.1 h.4
+  results_are g vars m (GenericTuple p xs) r scope h = ap Several (forms_are g vars m xs h.0 scope h.2) ∙ sym h.1
 
   pub forms_are : (g : GenericGlobals) (vars : List ℕ) (m : Meant) (xs : GenericArguments) (ts : List Form) (scope : FormScope) → HaveForms g vars m scope xs ts → forms_of_all g m scope xs ≡ ts
   forms_are g vars m GenericNoArgument [] scope h = refl
@@ -132,9 +126,6 @@ mutual
   arms_are g vars m (GenericNextArm k xs e arms) r scope t ts h =
       ap (λ (fs : List Form). results_of g m (bind_forms xs fs scope) e) (forms_is g.rows (place_named g.rows (number_of k)) h.0.0 h.0.1 ts h.0.3 h.0.4)
       ∙ ap (λ (u : FormScope). results_of g m u e) (sym (binds_inner xs (field_forms h.0.1 ts) scope h.0.2 h.0.6)) ∙ results_are g vars m e r h.0.2 h.0.7
-
-pub form_is : (g : GenericGlobals) (vars : List ℕ) (m : Meant) (e : GenericExpression) (t : Form) (scope : FormScope) → HasForm g vars m scope e (One t) → form_of g m scope e ≡ t
-form_is g vars m e t scope h = one_is (results_of g m scope e) t (results_are g vars m e (One t) scope h)
 
 pub bound_is : (g : GenericGlobals) (vars : List ℕ) (m : Meant) (e : GenericExpression) (ts : List Form) (scope : FormScope) → HasForm g vars m scope e (as_results ts) → bound_forms g m scope e ≡ ts
 bound_is g vars m e ts scope h = list_is (results_of g m scope e) ts (results_are g vars m e (as_results ts) scope h)
@@ -166,21 +157,15 @@ mutual
   results_here s copied vars m (GenericMake k ws xs) r scope here asked h =
       one_here s r (DataForm h.1.owner (formed_all m ws)) h.6
       (subst (λ (n : ℕ). IsItem s.types n (formed_all m ws)) (owner_is s.from.rows (place_named s.from.rows (number_of k)) h.0 h.1 h.2 h.3) asked.0, asked.1)
-  results_here s copied vars m (GenericLet p x a b) r scope here asked h =
-      results_here s copied vars m b r (form_bound x h.0 scope) (bound_here s scope x h.0 here (results_here s copied vars m a (One h.0) scope here asked.0 h.1).0) asked.1 h.3
-  results_here s copied vars m (GenericPar p x a y b c) r scope here asked h =
-      results_here s copied vars m c r (form_bound y h.1 (form_bound x h.0 scope))
-      (bound_here s (form_bound x h.0 scope) y h.1 (bound_here s scope x h.0 here (results_here s copied vars m a (One h.0) scope here asked.0 h.2).0) (results_here s copied vars m b (One h.1) scope here asked.1 h.3).0)
-      asked.2 h.6
-  results_here s copied vars m (GenericIf p a b c) r scope here asked h = results_here s copied vars m b r scope here asked.1 h.1
-  results_here s copied vars m (GenericCase p x arms) r scope here asked h = arms_here s copied vars m arms r scope h.0 h.1 here (here (number_of x) (DataForm h.0 h.1) h.2).0 asked h.4
-  results_here s copied vars m (GenericTuple p xs) r scope here asked h = subst (AreHereAll s.types) (sym h.1) (all_here s copied vars m xs h.0 scope here asked h.2)
-  results_here s copied vars m (GenericLetSeveral p xs a b) r scope here asked h =
+  results_here s copied vars m (GenericLet p xs a b) r scope here asked h =
       results_here s copied vars m b r h.1 (binds_here s xs h.0 scope h.1 h.4 here (bound_all_here s h.0 (results_here s copied vars m a (as_results h.0) scope here asked.0 h.3))) asked.1 h.5
-  results_here s copied vars m (GenericParSeveral p xs a ys b c) r scope here asked h =
+  results_here s copied vars m (GenericPar p xs a ys b c) r scope here asked h =
       results_here s copied vars m c r h.3
       (binds_here s ys h.1 h.2 h.3 h.9 (binds_here s xs h.0 scope h.2 h.8 here (bound_all_here s h.0 (results_here s copied vars m a (as_results h.0) scope here asked.0 h.6))) (bound_all_here s h.1 (results_here s copied vars m b (as_results h.1) scope here asked.1 h.7)))
       asked.2 h.10
+  results_here s copied vars m (GenericIf p a b c) r scope here asked h = results_here s copied vars m b r scope here asked.1 h.1
+  results_here s copied vars m (GenericCase p x arms) r scope here asked h = arms_here s copied vars m arms r scope h.0 h.1 here (here (number_of x) (DataForm h.0 h.1) h.2).0 asked h.4
+  results_here s copied vars m (GenericTuple p xs) r scope here asked h = subst (AreHereAll s.types) (sym h.1) (all_here s copied vars m xs h.0 scope here asked h.2)
 
   pub all_here : (s : Setting) (copied : IsCopied s) (vars : List ℕ) (m : Meant) (xs : GenericArguments) (ts : List Form) (scope : FormScope) →
       ScopeHere s scope → AreAsked s m xs → HaveForms s.from vars m scope xs ts → AllByRecursion (IsHere s.types) ts
@@ -197,10 +182,6 @@ mutual
   arms_here s copied vars m (GenericNextArm k xs e arms) r scope t ts here item asked h =
       results_here s copied vars m e r h.0.2
       (binds_here s xs (field_forms h.0.1 ts) scope h.0.2 h.0.6 here (copied.fields_here h.0.0 h.0.1 ts h.0.4 (subst (λ (n : ℕ). IsItem s.types n ts) (sym h.0.5) item))) asked.0 h.0.7
-
-pub type_here : (s : Setting) (copied : IsCopied s) (vars : List ℕ) (m : Meant) (e : GenericExpression) (t : Form) (scope : FormScope) →
-    ScopeHere s scope → IsAsked s m e → HasForm s.from vars m scope e (One t) → IsHere s.types t
-type_here s copied vars m e t scope here asked h = (results_here s copied vars m e (One t) scope here asked h).0
 
 -- types of parameters and of a result
 pub parameters_step : (nm : Naming) (types : List ℕ) (m : Meant) (qs : List GenericParameterTree) →

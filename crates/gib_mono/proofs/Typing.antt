@@ -1,20 +1,22 @@
 -- The copy of a typed expression is typed.
-use Rattle.std.proofs.Common.{◌≡◌, ◌≤◌, ℕ, List, [], ◌∷◌, map, length, Option, Some, None, refl, sym, ap, ap₂, ◌∙◌, subst, arith}
+use Rattle.std.proofs.Common.{◌≡◌, ℕ, List, [], ◌∷◌, map, Option, Some, None, refl, sym, ap, ap₂, ◌∙◌, subst, arith}
 use Rattle.std.specs.List.{AllByRecursion}
 use Rattle.gib_base.specs.declared.Span.{Span}
 use Rattle.gib_syntax.specs.declared.tree.Ident.{Ident}
 use Rattle.gib_types.specs.declared.table.Ty.{Ty}
 use Rattle.gib_types.specs.declared.table.Ty.TheVariants.{Whole, Truth, Tree}
-use Rattle.gib_syntax.specs.Tree.{Expression, FunctionTree, Tuple, LetSeveral, ParSeveral}
+use Rattle.gib_syntax.specs.Tree.{Expression, Tuple}
 use Rattle.gib_syntax.specs.Results.{Results, One, Several, map_results, as_results}
 use Rattle.gib_syntax.specs.Declarations.{number_of, place_of, tree_type, type_or, type_of_name}
 use Rattle.gib_syntax.specs.Typing.{Scope, BindsAll, names_of, types_of, IsKnown, HasKnownType, AreVariables, Has, HaveAll, HaveArms}
 use Rattle.gib_syntax.specs.Forms.{Form, Forms, WholeForm, TruthForm, VariableForm, DataForm, Meant, formed_all}
-use Rattle.gib_syntax.specs.GenericTree.{GenericExpression, GenericArguments, GenericArms, GenericVar, GenericNum, GenericBit, GenericParen, GenericOp, GenericCall, GenericMake, GenericLet, GenericPar, GenericIf, GenericCase, GenericTuple, GenericLetSeveral, GenericParSeveral, GenericNoArgument, GenericArgument, GenericLastArm, GenericNextArm, place_named}
+use Rattle.gib_syntax.specs.GenericTree.{GenericExpression, GenericArguments, GenericArms, GenericVar, GenericNum, GenericBit, GenericParen, GenericOp, GenericCall, GenericMake, GenericLet, GenericPar, GenericIf, GenericCase, GenericTuple, GenericNoArgument, GenericArgument, GenericLastArm, GenericNextArm, place_named}
 use Rattle.gib_syntax.specs.GenericTyping.{AreNames, FormScope, form_in, form_bound, BindsForms, field_forms, parameter_forms, HasForm, HaveForms, ArmsHaveForm}
-use Rattle.gib_mono.specs.Copying.{copy, copy_all, copy_arms, copy_variables, copy_function, name_of_form, form_of, forms_of_all, bound_forms, forms_named, bind_forms}
+use Rattle.gib_mono.specs.Bindings.{only_name, let_of, par_of}
+use Rattle.gib_mono.specs.Copying.{copy, copy_all, copy_arms, copy_variables, copy_function, name_of_form, forms_of_all, bound_forms, forms_named, bind_forms}
 use Rattle.gib_mono.specs.Copied.{IsItem, IsHere, Setting, plain, IsAsked, AreAsked, ArmsAsked, IsCopied, ScopeHere, plain_scope}
-use Rattle.gib_mono.proofs.Scopes.{named_plain, in_plain, new_plain, binds_plain, binds_inner, bound_here, binds_here, operator_plain, forms_is, owner_is, arguments_is, form_is, bound_is, forms_are, results_here, all_here, bound_all_here, type_here, parameters_plain, result_plain}
+use Rattle.gib_mono.proofs.Scopes.{named_plain, in_plain, binds_plain, binds_inner, binds_here, operator_plain, forms_is, owner_is, arguments_is, bound_is, forms_are, results_here, all_here, bound_all_here, parameters_plain, result_plain}
+use Rattle.gib_mono.proofs.Bindings.{let_has, par_has, variable_names, variables_long}
 use Rattle.gib_mono.proofs.Covering.{own_copy, covers_plain}
 
 -- The variables of a binding of parts in the copy.
@@ -38,11 +40,6 @@ names_known : (s : Setting) → IsCopied s → (p : Span) (fs : List Form) → A
 names_known s copied p [] h = tt {0}
 names_known s copied p (f ∷ fs) h = (name_known s copied p f h.0, names_known s copied p fs h.1)
 
-pub variable_names : (s : Setting) (xs : List Ident) (fs : List Form) (scope inner : FormScope) → BindsForms scope xs fs inner → names_of (copy_variables s.naming xs fs) ≡ xs
-variable_names s [] fs scope inner h = refl
-variable_names s (x ∷ xs) [] scope inner h = absurd h
-variable_names s (x ∷ xs) (f ∷ fs) scope inner h = ap (λ (ys : List Ident). x ∷ ys) (variable_names s xs fs (form_bound x f scope) inner h.1)
-
 variable_types : (s : Setting) (xs : List Ident) (fs : List Form) (scope inner : FormScope) → BindsForms scope xs fs inner → types_of s.to.table.types (copy_variables s.naming xs fs) ≡ map (plain s) fs
 variable_types s [] [] scope inner h = refl
 variable_types s [] (f ∷ fs) scope inner h = absurd h
@@ -54,19 +51,14 @@ variables_all_known s copied [] fs scope inner h all = tt {0}
 variables_all_known s copied (x ∷ xs) [] scope inner h all = absurd h
 variables_all_known s copied (x ∷ xs) (f ∷ fs) scope inner h all = (name_known s copied x.span f all.0, variables_all_known s copied xs fs (form_bound x f scope) inner h.1 all.1)
 
-variables_many : (s : Setting) (xs : List Ident) (fs : List Form) (scope inner : FormScope) → BindsForms scope xs fs inner → length (copy_variables s.naming xs fs) ≡ length xs
-variables_many s [] fs scope inner h = refl
-variables_many s (x ∷ xs) [] scope inner h = absurd h
-variables_many s (x ∷ xs) (f ∷ fs) scope inner h = let e = variables_many s xs fs (form_bound x f scope) inner h.1 in omega (arith, e)
-
 variables_known : (s : Setting) → IsCopied s → (xs : List Ident) (fs : List Form) (scope inner : FormScope) → AreNames xs → BindsForms scope xs fs inner → AllByRecursion (IsHere s.types) fs → AreVariables s.to.table.types (copy_variables s.naming xs fs)
 variables_known s copied xs fs scope inner few h all =
-    let e = variables_many s xs fs scope inner h in let some = few.0 in let eight = few.1 in
+    let e = variables_long s.naming xs fs in let some = few.0 in let eight = few.1 in
     (omega (arith, e, some), omega (arith, e, eight), variables_all_known s copied xs fs scope inner h all)
 
 binds_variables : (s : Setting) (xs : List Ident) (fs : List Form) (scope inner : FormScope) → BindsForms scope xs fs inner → BindsAll (plain_scope s scope) (names_of (copy_variables s.naming xs fs)) (types_of s.to.table.types (copy_variables s.naming xs fs)) (plain_scope s inner)
 binds_variables s xs fs scope inner h =
-    subst (λ (ys : List Ident). BindsAll (plain_scope s scope) ys (types_of s.to.table.types (copy_variables s.naming xs fs)) (plain_scope s inner)) (sym (variable_names s xs fs scope inner h))
+    subst (λ (ys : List Ident). BindsAll (plain_scope s scope) ys (types_of s.to.table.types (copy_variables s.naming xs fs)) (plain_scope s inner)) (sym (variable_names s.naming xs fs))
     (subst (λ (us : List Ty). BindsAll (plain_scope s scope) xs us (plain_scope s inner)) (sym (variable_types s xs fs scope inner h)) (binds_plain s xs fs scope inner h))
 
 pub plain_as : (s : Setting) (fs : List Form) → map_results (plain s) (as_results fs) ≡ as_results (map (plain s) fs)
@@ -102,26 +94,41 @@ mutual
         subst (λ (us : List Ty). HaveAll s.to (plain_scope s scope) (copy_all s.from s.naming m scope xs) us) (sym c.1.fields)
             (copies_have s copied vars m xs (field_forms h.1 (formed_all m ws)) scope here asked.2 h.7),
       )
-  copy_has s copied vars m (GenericLet p x a b) ty scope here asked h = (
-    plain s h.0,
-    copy_has s copied vars m a (One h.0) scope here asked.0 h.1,
-    new_plain s scope (number_of x) h.2,
-    subst (λ (f : Form). Has s.to ((number_of x, plain s h.0) ∷ plain_scope s scope) (copy s.from s.naming m (form_bound x f scope) b) (map_results (plain s) ty)) (sym (form_is s.from vars m a h.0 scope h.1))
-        (copy_has s copied vars m b ty (form_bound x h.0 scope) (bound_here s scope x h.0 here (type_here s copied vars m a h.0 scope here asked.0 h.1)) asked.1 h.3),
-  )
-  copy_has s copied vars m (GenericPar p x a y b c) ty scope here asked h = (
-    plain s h.0,
-    plain s h.1,
-    copy_has s copied vars m a (One h.0) scope here asked.0 h.2,
-    copy_has s copied vars m b (One h.1) scope here asked.1 h.3,
-    new_plain s scope (number_of x) h.4,
-    new_plain s (form_bound x h.0 scope) (number_of y) h.5,
-    subst (λ (f : Form). Has s.to ((number_of y, plain s h.1) ∷ (number_of x, plain s h.0) ∷ plain_scope s scope) (copy s.from s.naming m (form_bound y (form_of s.from m scope b) (form_bound x f scope)) c) (map_results (plain s) ty)) (sym (form_is s.from vars m a h.0 scope h.2))
-        (subst (λ (f : Form). Has s.to ((number_of y, plain s h.1) ∷ (number_of x, plain s h.0) ∷ plain_scope s scope) (copy s.from s.naming m (form_bound y f (form_bound x h.0 scope)) c) (map_results (plain s) ty)) (sym (form_is s.from vars m b h.1 scope h.3))
-        (copy_has s copied vars m c ty (form_bound y h.1 (form_bound x h.0 scope))
-        (bound_here s (form_bound x h.0 scope) y h.1 (bound_here s scope x h.0 here (type_here s copied vars m a h.0 scope here asked.0 h.2)) (type_here s copied vars m b h.1 scope here asked.1 h.3))
-        asked.2 h.6)),
-  )
+  copy_has s copied vars m (GenericLet p xs a b) ty scope here asked h =
+      let forms : bound_forms s.from m scope a ≡ h.0 = bound_is s.from vars m a h.0 scope h.3 in
+      let all = bound_all_here s h.0 (results_here s copied vars m a (as_results h.0) scope here asked.0 h.3) in
+      let inner = binds_inner xs h.0 scope h.1 h.4 in
+      subst (λ (fs : List Form). Has s.to (plain_scope s scope) (let_of p (only_name xs) (copy_variables s.naming xs fs) (copy s.from s.naming m scope a) (copy s.from s.naming m (bind_forms xs fs scope) b)) (map_results (plain s) ty)) (sym forms)
+      (let_has s.to (plain_scope s scope) p xs (copy_variables s.naming xs h.0) (copy s.from s.naming m scope a) (copy s.from s.naming m (bind_forms xs h.0 scope) b) (map_results (plain s) ty) (variable_names s.naming xs h.0) (
+        plain_scope s h.1,
+        variables_known s copied xs h.0 scope h.1 h.2 h.4 all,
+        has_parts s xs h.0 scope h.1 (plain_scope s scope) (copy s.from s.naming m scope a) h.4 (copy_has s copied vars m a (as_results h.0) scope here asked.0 h.3),
+        binds_variables s xs h.0 scope h.1 h.4,
+        subst (λ (u : FormScope). Has s.to (plain_scope s h.1) (copy s.from s.naming m u b) (map_results (plain s) ty)) inner (copy_has s copied vars m b ty h.1 (binds_here s xs h.0 scope h.1 h.4 here all) asked.1 h.5),
+      ))
+  copy_has s copied vars m (GenericPar p xs a ys b c) ty scope here asked h =
+      let left : bound_forms s.from m scope a ≡ h.0 = bound_is s.from vars m a h.0 scope h.6 in
+      let right : bound_forms s.from m scope b ≡ h.1 = bound_is s.from vars m b h.1 scope h.7 in
+      let lefts = bound_all_here s h.0 (results_here s copied vars m a (as_results h.0) scope here asked.0 h.6) in
+      let rights = bound_all_here s h.1 (results_here s copied vars m b (as_results h.1) scope here asked.1 h.7) in
+      let middle = binds_inner xs h.0 scope h.2 h.8 in
+      let inner = binds_inner ys h.1 h.2 h.3 h.9 in
+      subst (λ (fs : List Form). Has s.to (plain_scope s scope) (par_of p (only_name xs) (copy_variables s.naming xs fs) (copy s.from s.naming m scope a) (only_name ys) (copy_variables s.naming ys (bound_forms s.from m scope b)) (copy s.from s.naming m scope b) (copy s.from s.naming m (bind_forms ys (bound_forms s.from m scope b) (bind_forms xs fs scope)) c)) (map_results (plain s) ty)) (sym left)
+      (subst (λ (fs : List Form). Has s.to (plain_scope s scope) (par_of p (only_name xs) (copy_variables s.naming xs h.0) (copy s.from s.naming m scope a) (only_name ys) (copy_variables s.naming ys fs) (copy s.from s.naming m scope b) (copy s.from s.naming m (bind_forms ys fs (bind_forms xs h.0 scope)) c)) (map_results (plain s) ty)) (sym right)
+      (par_has s.to (plain_scope s scope) p xs ys (copy_variables s.naming xs h.0) (copy_variables s.naming ys h.1) (copy s.from s.naming m scope a) (copy s.from s.naming m scope b) (copy s.from s.naming m (bind_forms ys h.1 (bind_forms xs h.0 scope)) c) (map_results (plain s) ty)
+      (variable_names s.naming xs h.0) (variable_names s.naming ys h.1) (
+        plain_scope s h.2,
+        plain_scope s h.3,
+        variables_known s copied xs h.0 scope h.2 h.4 h.8 lefts,
+        variables_known s copied ys h.1 h.2 h.3 h.5 h.9 rights,
+        has_parts s xs h.0 scope h.2 (plain_scope s scope) (copy s.from s.naming m scope a) h.8 (copy_has s copied vars m a (as_results h.0) scope here asked.0 h.6),
+        has_parts s ys h.1 h.2 h.3 (plain_scope s scope) (copy s.from s.naming m scope b) h.9 (copy_has s copied vars m b (as_results h.1) scope here asked.1 h.7),
+        binds_variables s xs h.0 scope h.2 h.8,
+        binds_variables s ys h.1 h.2 h.3 h.9,
+        subst (λ (u : FormScope). Has s.to (plain_scope s h.3) (copy s.from s.naming m (bind_forms ys h.1 u) c) (map_results (plain s) ty)) middle
+            (subst (λ (u : FormScope). Has s.to (plain_scope s h.3) (copy s.from s.naming m u c) (map_results (plain s) ty)) inner
+            (copy_has s copied vars m c ty h.3 (binds_here s ys h.1 h.2 h.3 h.9 (binds_here s xs h.0 scope h.2 h.8 here lefts) rights) asked.2 h.10)),
+      )))
   copy_has s copied vars m (GenericIf p a b c) ty scope here asked h =
       (copy_has s copied vars m a (One TruthForm) scope here asked.0 h.0, copy_has s copied vars m b ty scope here asked.1 h.1, copy_has s copied vars m c ty scope here asked.2 h.2)
   copy_has s copied vars m (GenericCase p x arms) ty scope here asked h =
@@ -141,38 +148,6 @@ mutual
         names_known s copied p h.0 (all_here s copied vars m xs h.0 scope here asked h.2),
         subst (HaveAll s.to (plain_scope s scope) (copy_all s.from s.naming m scope xs)) (sym named) (copies_have s copied vars m xs h.0 scope here asked h.2),
       )
-  copy_has s copied vars m (GenericLetSeveral p xs a b) ty scope here asked h =
-      let forms : bound_forms s.from m scope a ≡ h.0 = bound_is s.from vars m a h.0 scope h.3 in
-      let all = bound_all_here s h.0 (results_here s copied vars m a (as_results h.0) scope here asked.0 h.3) in
-      let inner = binds_inner xs h.0 scope h.1 h.4 in
-      subst (λ (fs : List Form). Has s.to (plain_scope s scope) (LetSeveral p (copy_variables s.naming xs fs) (copy s.from s.naming m scope a) (copy s.from s.naming m (bind_forms xs fs scope) b)) (map_results (plain s) ty)) (sym forms) (
-        plain_scope s h.1,
-        variables_known s copied xs h.0 scope h.1 h.2 h.4 all,
-        has_parts s xs h.0 scope h.1 (plain_scope s scope) (copy s.from s.naming m scope a) h.4 (copy_has s copied vars m a (as_results h.0) scope here asked.0 h.3),
-        binds_variables s xs h.0 scope h.1 h.4,
-        subst (λ (u : FormScope). Has s.to (plain_scope s h.1) (copy s.from s.naming m u b) (map_results (plain s) ty)) inner (copy_has s copied vars m b ty h.1 (binds_here s xs h.0 scope h.1 h.4 here all) asked.1 h.5),
-      )
-  copy_has s copied vars m (GenericParSeveral p xs a ys b c) ty scope here asked h =
-      let left : bound_forms s.from m scope a ≡ h.0 = bound_is s.from vars m a h.0 scope h.6 in
-      let right : bound_forms s.from m scope b ≡ h.1 = bound_is s.from vars m b h.1 scope h.7 in
-      let lefts = bound_all_here s h.0 (results_here s copied vars m a (as_results h.0) scope here asked.0 h.6) in
-      let rights = bound_all_here s h.1 (results_here s copied vars m b (as_results h.1) scope here asked.1 h.7) in
-      let middle = binds_inner xs h.0 scope h.2 h.8 in
-      let inner = binds_inner ys h.1 h.2 h.3 h.9 in
-      subst (λ (fs : List Form). Has s.to (plain_scope s scope) (ParSeveral p (copy_variables s.naming xs fs) (copy s.from s.naming m scope a) (copy_variables s.naming ys (bound_forms s.from m scope b)) (copy s.from s.naming m scope b) (copy s.from s.naming m (bind_forms ys (bound_forms s.from m scope b) (bind_forms xs fs scope)) c)) (map_results (plain s) ty)) (sym left)
-      (subst (λ (fs : List Form). Has s.to (plain_scope s scope) (ParSeveral p (copy_variables s.naming xs h.0) (copy s.from s.naming m scope a) (copy_variables s.naming ys fs) (copy s.from s.naming m scope b) (copy s.from s.naming m (bind_forms ys fs (bind_forms xs h.0 scope)) c)) (map_results (plain s) ty)) (sym right) (
-        plain_scope s h.2,
-        plain_scope s h.3,
-        variables_known s copied xs h.0 scope h.2 h.4 h.8 lefts,
-        variables_known s copied ys h.1 h.2 h.3 h.5 h.9 rights,
-        has_parts s xs h.0 scope h.2 (plain_scope s scope) (copy s.from s.naming m scope a) h.8 (copy_has s copied vars m a (as_results h.0) scope here asked.0 h.6),
-        has_parts s ys h.1 h.2 h.3 (plain_scope s scope) (copy s.from s.naming m scope b) h.9 (copy_has s copied vars m b (as_results h.1) scope here asked.1 h.7),
-        binds_variables s xs h.0 scope h.2 h.8,
-        binds_variables s ys h.1 h.2 h.3 h.9,
-        subst (λ (u : FormScope). Has s.to (plain_scope s h.3) (copy s.from s.naming m (bind_forms ys h.1 u) c) (map_results (plain s) ty)) middle
-            (subst (λ (u : FormScope). Has s.to (plain_scope s h.3) (copy s.from s.naming m u c) (map_results (plain s) ty)) inner
-            (copy_has s copied vars m c ty h.3 (binds_here s ys h.1 h.2 h.3 h.9 (binds_here s xs h.0 scope h.2 h.8 here lefts) rights) asked.2 h.10)),
-      ))
 
   pub copies_have : (s : Setting) (copied : IsCopied s) (vars : List ℕ) (m : Meant) (xs : GenericArguments) (fs : List Form) (scope : FormScope) →
       ScopeHere s scope → AreAsked s m xs → HaveForms s.from vars m scope xs fs → HaveAll s.to (plain_scope s scope) (copy_all s.from s.naming m scope xs) (map (plain s) fs)

@@ -7,6 +7,7 @@ use Rattle.gib_syntax.specs.declared.generic.GenericNode.{GenericNode}
 use Rattle.gib_syntax.specs.declared.generic.GenericNode.TheVariants as g
 use Rattle.gib_syntax.specs.declared.program.GenericData.{GenericData}
 use Rattle.gib_syntax.specs.declared.program.GenericFunction.{GenericFunction}
+use Rattle.gib_syntax.specs.declared.tree.Ident.{Ident}
 use Rattle.gib_syntax.specs.declared.tree.Parameter.{Parameter}
 use Rattle.gib_syntax.specs.declared.tree.TypeName.{TypeName}
 use Rattle.gib_syntax.specs.declared.tree.TypeName.TheVariants as ty
@@ -15,11 +16,12 @@ use Rattle.gib_syntax.specs.declared.written.ResultRuns.TheVariants as result
 use Rattle.gib_syntax.specs.Arena.{tree_of}
 use Rattle.gib_syntax.specs.Declarations.{number_of}
 use Rattle.gib_syntax.specs.GenericArena.{Arena, tree_of as generic_of}
-use Rattle.gib_syntax.specs.Tree.{Expression, Arguments, Arms, Var, Num, Bit, Paren, Op, Call, Make, Let, Par, If, Case, Tuple, LetSeveral, ParSeveral, NoArgument, Argument, LastArm, NextArm, ConstructorTree, DataTree, FunctionTree, MainTree, ProgramTree}
+use Rattle.gib_syntax.specs.Tree.{Expression, Arguments, Arms, Var, Num, Bit, Paren, Op, Call, Make, If, Case, Tuple, NoArgument, Argument, LastArm, NextArm, ConstructorTree, DataTree, FunctionTree, MainTree, ProgramTree}
 use Rattle.gib_syntax.specs.Results.{map_results}
-pub use Rattle.gib_syntax.specs.Single.{IsSingle, AreSingle, HasSingle, IsSingleFunction}
+pub use Rattle.gib_syntax.specs.Single.{IsOne, IsSingle, AreSingle, HasSingle, IsSingleFunction}
 use Rattle.gib_syntax.specs.Forms.{WrittenType, WholeAt, TruthAt, VariableAt, DataAt, NoForm}
-use Rattle.gib_syntax.specs.GenericTree.{GenericExpression, GenericArguments, GenericArms, GenericVar, GenericNum, GenericBit, GenericParen, GenericOp, GenericCall, GenericMake, GenericLet, GenericPar, GenericIf, GenericCase, GenericTuple, GenericLetSeveral, GenericParSeveral, GenericNoArgument, GenericArgument, GenericLastArm, GenericNextArm, GenericConstructorTree, GenericDataTree, GenericParameterTree, GenericFunctionTree, GenericMainTree, GenericProgramTree}
+use Rattle.gib_syntax.specs.GenericTree.{GenericExpression, GenericArguments, GenericArms, GenericVar, GenericNum, GenericBit, GenericParen, GenericOp, GenericCall, GenericMake, GenericLet, GenericPar, GenericIf, GenericCase, GenericTuple, GenericNoArgument, GenericArgument, GenericLastArm, GenericNextArm, GenericConstructorTree, GenericDataTree, GenericParameterTree, GenericFunctionTree, GenericMainTree, GenericProgramTree}
+use Rattle.gib_mono.specs.Bindings.{only_name, let_of, par_of}
 use Rattle.gib_mono.specs.Copied.{Item}
 use Rattle.gib_mono.specs.Declaring.{own_entry}
 use Rattle.gib_mono.specs.Naming.{entry}
@@ -56,13 +58,11 @@ abbrev mutual
   bare (GenericOp p f a b) = Op p f (bare a) (bare b)
   bare (GenericCall f ws xs) = Call f (all_bare xs)
   bare (GenericMake k ws xs) = Make k (all_bare xs)
-  bare (GenericLet p x a b) = Let p x (bare a) (bare b)
-  bare (GenericPar p x a y b c) = Par p x (bare a) y (bare b) (bare c)
+  bare (GenericLet p xs a b) = let_of p (only_name xs) [] (bare a) (bare b)
+  bare (GenericPar p xs a ys b c) = par_of p (only_name xs) [] (bare a) (only_name ys) [] (bare b) (bare c)
   bare (GenericIf p a b c) = If p (bare a) (bare b) (bare c)
   bare (GenericCase p x arms) = Case p x (arms_bare arms)
   bare (GenericTuple p xs) = Tuple p [] (all_bare xs)
-  bare (GenericLetSeveral p xs a b) = LetSeveral p [] (bare a) (bare b)
-  bare (GenericParSeveral p xs a ys b c) = ParSeveral p [] (bare a) [] (bare b) (bare c)
 
   -- So for arguments.
   pub all_bare : GenericArguments → Arguments
@@ -98,41 +98,7 @@ bare_main f = record { parameter = bare_parameter f.parameter; result = bare_wri
 abbrev pub bare_program : GenericProgramTree → ProgramTree
 bare_program p = record { datas = map bare_data p.datas; functions = map bare_function p.functions; main = bare_main p.main }
 
--- A node binds variables in front of what it is.
-abbrev pub IsLet : GenericNode → Type 0
-IsLet (g.Variable x) = ⊥
-IsLet (g.Whole p v) = ⊥
-IsLet (g.Truth p b) = ⊥
-IsLet (g.Paren p a) = ⊥
-IsLet (g.Operation p f a b) = ⊥
-IsLet (g.Call f ws xs) = ⊥
-IsLet (g.Make k ws xs) = ⊥
-IsLet (g.Let p x a b) = Unit {0}
-IsLet (g.LetPar p x a y b c) = Unit {0}
-IsLet (g.If p a b c) = ⊥
-IsLet (g.Case p x arms) = ⊥
-IsLet (g.Tuple p xs) = ⊥
-IsLet (g.LetSeveral p xs a b) = ⊥
-IsLet (g.ParSeveral p xs a ys b c) = ⊥
-
--- A node chooses among its parts.
-abbrev pub IsChoice : GenericNode → Type 0
-IsChoice (g.Variable x) = ⊥
-IsChoice (g.Whole p v) = ⊥
-IsChoice (g.Truth p b) = ⊥
-IsChoice (g.Paren p a) = ⊥
-IsChoice (g.Operation p f a b) = ⊥
-IsChoice (g.Call f ws xs) = ⊥
-IsChoice (g.Make k ws xs) = ⊥
-IsChoice (g.Let p x a b) = ⊥
-IsChoice (g.LetPar p x a y b c) = ⊥
-IsChoice (g.If p a b c) = Unit {0}
-IsChoice (g.Case p x arms) = Unit {0}
-IsChoice (g.Tuple p xs) = ⊥
-IsChoice (g.LetSeveral p xs a b) = ⊥
-IsChoice (g.ParSeveral p xs a ys b c) = ⊥
-
--- A node has no parts, and no variables for them.
+-- A node has no parts, and no names for them.
 abbrev pub IsSingleNode : GenericNode → Type 0
 IsSingleNode (g.Variable x) = Unit {0}
 IsSingleNode (g.Whole p v) = Unit {0}
@@ -141,13 +107,11 @@ IsSingleNode (g.Paren p a) = Unit {0}
 IsSingleNode (g.Operation p f a b) = Unit {0}
 IsSingleNode (g.Call f ws xs) = Unit {0}
 IsSingleNode (g.Make k ws xs) = Unit {0}
-IsSingleNode (g.Let p x a b) = Unit {0}
-IsSingleNode (g.LetPar p x a y b c) = Unit {0}
+IsSingleNode (g.Let p xs a b) = IsOne xs
+IsSingleNode (g.LetPar p xs a ys b c) = IsOne xs × IsOne ys
 IsSingleNode (g.If p a b c) = Unit {0}
 IsSingleNode (g.Case p x arms) = Unit {0}
 IsSingleNode (g.Tuple p xs) = ⊥
-IsSingleNode (g.LetSeveral p xs a b) = ⊥
-IsSingleNode (g.ParSeveral p xs a ys b c) = ⊥
 
 -- No expression has parts.
 abbrev pub AreSingleTrees : Arena → Type 0
@@ -158,6 +122,11 @@ abbrev pub GivesOne : ResultRuns → Type 0
 GivesOne (result.One run) = Unit {0}
 GivesOne (result.Several runs) = ⊥
 
+-- The name of a binding that has one; of a binding without a name it is not asked.
+abbrev pub one_name : List Ident → Ident
+one_name [] = record { name = record { 0 = 0 }; span = record { start = 0; end = 0 } }
+one_name (x ∷ xs) = x
+
 -- A node without its type arguments: its parts keep their numbers. Of a node with several parts it is not asked.
 abbrev pub bare_node : GenericNode → Node
 bare_node (g.Variable x) = n.Variable x
@@ -167,13 +136,11 @@ bare_node (g.Paren p a) = n.Paren p a
 bare_node (g.Operation p f a b) = n.Operation p f a b
 bare_node (g.Call f ws xs) = n.Call f xs
 bare_node (g.Make k ws xs) = n.Make k xs
-bare_node (g.Let p x a b) = n.Let p x a b
-bare_node (g.LetPar p x a y b c) = n.LetPar p x a y b c
+bare_node (g.Let p xs a b) = n.Let p (one_name xs) a b
+bare_node (g.LetPar p xs a ys b c) = n.LetPar p (one_name xs) a (one_name ys) b c
 bare_node (g.If p a b c) = n.If p a b c
 bare_node (g.Case p x arms) = n.Case p x arms
 bare_node (g.Tuple p xs) = n.Truth p false
-bare_node (g.LetSeveral p xs a b) = n.Truth p false
-bare_node (g.ParSeveral p xs a ys b c) = n.Truth p false
 
 -- The expression of a number without its type arguments.
 abbrev pub bare_tree : Arena → ℕ → Expression

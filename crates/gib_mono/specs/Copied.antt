@@ -9,7 +9,7 @@ use Rattle.gib_syntax.specs.Declarations.{number_of, constructor_named, function
 use Rattle.gib_syntax.specs.Typing.{Globals, Scope}
 use Rattle.gib_syntax.specs.Meaning.{Outcome, Gives, Stops, Environment}
 use Rattle.gib_syntax.specs.Forms.{Form, Forms, WholeForm, TruthForm, VariableForm, DataForm, NoForm, MoreForms, Meant, formed_all, assign}
-use Rattle.gib_syntax.specs.GenericTree.{GenericExpression, GenericArguments, GenericArms, GenericVar, GenericNum, GenericBit, GenericParen, GenericOp, GenericCall, GenericMake, GenericLet, GenericPar, GenericIf, GenericCase, GenericTuple, GenericLetSeveral, GenericParSeveral, GenericNoArgument, GenericArgument, GenericLastArm, GenericNextArm, GenericFunctionTree, GenericRow, GenericGlobals, place_named, generic_named}
+use Rattle.gib_syntax.specs.GenericTree.{GenericExpression, GenericArguments, GenericArms, GenericVar, GenericNum, GenericBit, GenericParen, GenericOp, GenericCall, GenericMake, GenericLet, GenericPar, GenericIf, GenericCase, GenericTuple, GenericNoArgument, GenericArgument, GenericLastArm, GenericNextArm, GenericFunctionTree, GenericRow, GenericGlobals, place_named, generic_named}
 use Rattle.gib_syntax.specs.Results.{Results, One, Several, list_results}
 use Rattle.gib_syntax.specs.GenericTyping.{FormScope, form_in, field_forms, parameter_forms, result_forms}
 use Rattle.gib_mono.specs.Copying.{Naming, plain_type, owner_named, copy_function}
@@ -67,13 +67,11 @@ abbrev mutual
   IsAsked s m (GenericOp p f a b) = IsAsked s m a × IsAsked s m b
   IsAsked s m (GenericCall f ws xs) = IsItem s.functions (number_of f) (formed_all m ws) × AreHere s.types (formed_all m ws) × AreAsked s m xs
   IsAsked s m (GenericMake k ws xs) = IsItem s.types (owner_named s.from.rows (place_named s.from.rows (number_of k))) (formed_all m ws) × AreHere s.types (formed_all m ws) × AreAsked s m xs
-  IsAsked s m (GenericLet p x a b) = IsAsked s m a × IsAsked s m b
-  IsAsked s m (GenericPar p x a y b c) = IsAsked s m a × IsAsked s m b × IsAsked s m c
+  IsAsked s m (GenericLet p xs a b) = IsAsked s m a × IsAsked s m b
+  IsAsked s m (GenericPar p xs a ys b c) = IsAsked s m a × IsAsked s m b × IsAsked s m c
   IsAsked s m (GenericIf p a b c) = IsAsked s m a × IsAsked s m b × IsAsked s m c
   IsAsked s m (GenericCase p x arms) = ArmsAsked s m arms
   IsAsked s m (GenericTuple p xs) = AreAsked s m xs
-  IsAsked s m (GenericLetSeveral p xs a b) = IsAsked s m a × IsAsked s m b
-  IsAsked s m (GenericParSeveral p xs a ys b c) = IsAsked s m a × IsAsked s m b × IsAsked s m c
 
   -- So it is in all arguments.
   pub AreAsked : Setting → Meant → GenericArguments → Type 0

@@ -8,14 +8,15 @@ use Rattle.gib_syntax.specs.declared.tree.Ident.{Ident}
 use Rattle.gib_syntax.specs.declared.tree.TypeName.{TypeName}
 use Rattle.gib_syntax.specs.declared.tree.TypeName.TheVariants as ty
 use Rattle.gib_syntax.specs.declared.tree.Parameter.{Parameter}
-use Rattle.gib_syntax.specs.Tree.{Expression, Arguments, Arms, Var, Num, Bit, Paren, Op, Call, Make, Let, Par, If, Case, Tuple, LetSeveral, ParSeveral, NoArgument, Argument, LastArm, NextArm, ConstructorTree, DataTree, FunctionTree, MainTree}
+use Rattle.gib_syntax.specs.Tree.{Expression, Arguments, Arms, Var, Num, Bit, Paren, Op, Call, Make, If, Case, Tuple, NoArgument, Argument, LastArm, NextArm, ConstructorTree, DataTree, FunctionTree, MainTree}
 use Rattle.gib_syntax.specs.Declarations.{number_of, place_of, tree_type, type_or}
 use Rattle.gib_syntax.specs.Forms.{WrittenType, written_place, Form, Forms, WholeForm, TruthForm, VariableForm, DataForm, NoForm, Meant, formed, formed_all, assign}
-use Rattle.gib_syntax.specs.GenericTree.{GenericExpression, GenericArguments, GenericArms, GenericVar, GenericNum, GenericBit, GenericParen, GenericOp, GenericCall, GenericMake, GenericLet, GenericPar, GenericIf, GenericCase, GenericTuple, GenericLetSeveral, GenericParSeveral, GenericNoArgument, GenericArgument, GenericLastArm, GenericNextArm, GenericConstructorTree, GenericDataTree, GenericParameterTree, GenericFunctionTree, GenericMainTree, GenericGlobals, place_named}
+use Rattle.gib_syntax.specs.GenericTree.{GenericExpression, GenericArguments, GenericArms, GenericVar, GenericNum, GenericBit, GenericParen, GenericOp, GenericCall, GenericMake, GenericLet, GenericPar, GenericIf, GenericCase, GenericTuple, GenericNoArgument, GenericArgument, GenericLastArm, GenericNextArm, GenericConstructorTree, GenericDataTree, GenericParameterTree, GenericFunctionTree, GenericMainTree, GenericGlobals, place_named}
 use Rattle.gib_syntax.specs.Results.{map_results}
-use Rattle.gib_syntax.specs.GenericTyping.{FormScope, form_in, form_bound}
+use Rattle.gib_syntax.specs.GenericTyping.{FormScope, form_in}
 pub use Rattle.gib_syntax.specs.Inferred.{arguments_of, forms_at, forms_named, owner_at_row, owner_named, bind_forms, results_at, one_form, results_of, forms_of_all, results_of_arms, form_of, bound_forms}
 pub use Rattle.gib_syntax.specs.GenericMeaning.{parameter_scope}
+use Rattle.gib_mono.specs.Bindings.{only_name, let_of, par_of}
 
 -- The numbers of the names of copies: of a type, a constructor, a function, each with a list of types. With no types it is the
 -- name's own number.
@@ -60,8 +61,8 @@ copy_variables nm (x ∷ xs) (t ∷ ts) = record { name = x; ty = name_of_form n
 
 abbrev mutual
   -- The copy of an expression, where type variables stand for these types and variables have these types. An arm's constructor
-  -- is the copy at the arguments of the type of the case's variable. The parts of a tuple and the variables for parts have types
-  -- in the copy.
+  -- is the copy at the arguments of the type of the case's variable. The parts of a tuple have types in the copy, and so do the
+  -- variables of a binding of several names.
   pub copy : GenericGlobals → Naming → Meant → FormScope → GenericExpression → Expression
   copy g nm m scope (GenericVar x) = Var x
   copy g nm m scope (GenericNum p n) = Num p n
@@ -70,17 +71,14 @@ abbrev mutual
   copy g nm m scope (GenericOp p f a b) = Op p f (copy g nm m scope a) (copy g nm m scope b)
   copy g nm m scope (GenericCall f ws xs) = Call (renamed f (nm.functions (number_of f) (formed_all m ws))) (copy_all g nm m scope xs)
   copy g nm m scope (GenericMake k ws xs) = Make (renamed k (nm.constructors (number_of k) (formed_all m ws))) (copy_all g nm m scope xs)
-  copy g nm m scope (GenericLet p x a b) = Let p x (copy g nm m scope a) (copy g nm m (form_bound x (form_of g m scope a) scope) b)
-  copy g nm m scope (GenericPar p x a y b c) =
-      Par p x (copy g nm m scope a) y (copy g nm m scope b) (copy g nm m (form_bound y (form_of g m scope b) (form_bound x (form_of g m scope a) scope)) c)
+  copy g nm m scope (GenericLet p xs a b) =
+      let_of p (only_name xs) (copy_variables nm xs (bound_forms g m scope a)) (copy g nm m scope a) (copy g nm m (bind_forms xs (bound_forms g m scope a) scope) b)
+  copy g nm m scope (GenericPar p xs a ys b c) =
+      par_of p (only_name xs) (copy_variables nm xs (bound_forms g m scope a)) (copy g nm m scope a) (only_name ys) (copy_variables nm ys (bound_forms g m scope b))
+      (copy g nm m scope b) (copy g nm m (bind_forms ys (bound_forms g m scope b) (bind_forms xs (bound_forms g m scope a) scope)) c)
   copy g nm m scope (GenericIf p a b c) = If p (copy g nm m scope a) (copy g nm m scope b) (copy g nm m scope c)
   copy g nm m scope (GenericCase p x arms) = Case p x (copy_arms g nm m scope (arguments_of (form_or (form_in scope (number_of x)))) arms)
   copy g nm m scope (GenericTuple p xs) = Tuple p (map (name_of_form nm p) (forms_of_all g m scope xs)) (copy_all g nm m scope xs)
-  copy g nm m scope (GenericLetSeveral p xs a b) =
-      LetSeveral p (copy_variables nm xs (bound_forms g m scope a)) (copy g nm m scope a) (copy g nm m (bind_forms xs (bound_forms g m scope a) scope) b)
-  copy g nm m scope (GenericParSeveral p xs a ys b c) =
-      ParSeveral p (copy_variables nm xs (bound_forms g m scope a)) (copy g nm m scope a) (copy_variables nm ys (bound_forms g m scope b)) (copy g nm m scope b)
-      (copy g nm m (bind_forms ys (bound_forms g m scope b) (bind_forms xs (bound_forms g m scope a) scope)) c)
 
   -- The copies of arguments.
   pub copy_all : GenericGlobals → Naming → Meant → FormScope → GenericArguments → Arguments

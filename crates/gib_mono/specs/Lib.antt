@@ -1,6 +1,7 @@
 -- A table of contents: each group says what it is for; a file's first line says what it is.
 
 -- The copy: which copies a program needs, what they are, how they are named and shown.
+pub mod Bindings
 pub mod Copying
 pub mod Copied
 pub mod Walk

@@ -11,7 +11,9 @@ use Rattle.gib_syntax.specs.declared.program.GenericConstructor.{GenericConstruc
 use Rattle.gib_syntax.specs.declared.program.GenericData.{GenericData}
 use Rattle.gib_syntax.specs.Arena.{tree_of, Grows, Makes, arguments_from}
 use Rattle.gib_syntax.specs.Declarations.{number_of}
-use Rattle.gib_syntax.specs.Results.{Results, One, Several}
+use Rattle.gib_syntax.specs.Results.{Results, One, Several, list_results}
+use Rattle.gib_syntax.specs.declared.tree.Ident.{Ident}
+use Rattle.gib_syntax.specs.declared.tree.Parameter.{Parameter}
 use Rattle.gib_check.specs.declared.rules.ResultIds.{ResultIds}
 use Rattle.gib_check.specs.declared.rules.ResultIds.TheVariants as ids
 use Rattle.gib_syntax.specs.Forms.{formed, assign}
@@ -22,7 +24,7 @@ use Rattle.gib_syntax.specs.GenericTyping.{FormScope}
 use Rattle.gib_mono.specs.declared.copier.Copier.{Copier}
 use Rattle.gib_mono.specs.declared.copier.Copied.{Copied}
 use Rattle.gib_mono.specs.declared.source.RowPlace.{RowPlace}
-use Rattle.gib_mono.specs.Copying.{Naming, renamed, copy, copy_all, results_of, forms_of_all, forms_named, bind_forms}
+use Rattle.gib_mono.specs.Copying.{Naming, renamed, copy, copy_all, copy_variables, results_of, forms_of_all, forms_named, bind_forms}
 use Rattle.gib_mono.specs.Naming.{naming_of}
 use Rattle.gib_mono.specs.Reading.{listed}
 use Rattle.gib_mono.specs.Scenes.{forms, meaning, scope_in, names_in, Keeps}
@@ -46,6 +48,10 @@ forms_given s (ids.Several start count) = Several (listed (forms s.scene) (run_o
 abbrev pub AreMet : Copier → ResultIds → Type 0
 AreMet s (ids.One id) = id.0 < length s.scene.types
 AreMet s (ids.Several start count) = (start + count ≤ length s.parts.items) × AreBelow (length s.scene.types) (run_of s start count)
+
+-- The variables of names that are bound to what is given, with its types.
+abbrev pub variables_given : Copier → List Ident → ResultIds → List Parameter
+variables_given s xs given = copy_variables (naming s) xs (list_results (forms_given s given))
 
 -- More parts were met.
 pub record MoreParts (old new : Copier) : Type 0 where

@@ -1,10 +1,12 @@
 -- A program whose parts have their types where they stand: a tuple's types at the tuple, a variable's type at the variable.
-use Rattle.std.specs.Prelude.{List, map}
+use Rattle.std.specs.Prelude.{map}
 use Rattle.gib_base.specs.declared.Span.{Span}
 use Rattle.gib_syntax.specs.declared.tree.TypeName.{TypeName}
 use Rattle.gib_syntax.specs.declared.tree.TypeName.TheVariants as ty
 use Rattle.gib_syntax.specs.declared.tree.Parameter.{Parameter}
 use Rattle.gib_syntax.specs.Tree.{Expression, Arguments, Arms, Var, Num, Bit, Paren, Op, Call, Make, Let, Par, If, Case, Tuple, LetSeveral, ParSeveral, NoArgument, Argument, LastArm, NextArm, FunctionTree, ProgramTree}
+use Rattle.gib_syntax.specs.Typing.{names_of}
+use Rattle.gib_mono.specs.Bindings.{only_name, let_of, par_of}
 
 -- A type's name at a place.
 abbrev pub written_at : Span → TypeName → TypeName
@@ -17,7 +19,7 @@ abbrev pub placed_variable : Parameter → Parameter
 placed_variable q = record { name = q.name; ty = written_at q.name.span q.ty }
 
 abbrev mutual
-  -- An expression with the types of parts where these stand.
+  -- An expression with the types of parts where these stand; a binding of one name has none.
   pub placed : Expression → Expression
   placed (Var x) = Var x
   placed (Num p n) = Num p n
@@ -31,8 +33,9 @@ abbrev mutual
   placed (If p a b c) = If p (placed a) (placed b) (placed c)
   placed (Case p x arms) = Case p x (arms_placed arms)
   placed (Tuple p as' xs) = Tuple p (map (written_at p) as') (all_placed xs)
-  placed (LetSeveral p qs a b) = LetSeveral p (map placed_variable qs) (placed a) (placed b)
-  placed (ParSeveral p qs a rs b c) = ParSeveral p (map placed_variable qs) (placed a) (map placed_variable rs) (placed b) (placed c)
+  placed (LetSeveral p qs a b) = let_of p (only_name (names_of qs)) (map placed_variable qs) (placed a) (placed b)
+  placed (ParSeveral p qs a rs b c) =
+      par_of p (only_name (names_of qs)) (map placed_variable qs) (placed a) (only_name (names_of rs)) (map placed_variable rs) (placed b) (placed c)
 
   -- So for arguments.
   pub all_placed : Arguments → Arguments

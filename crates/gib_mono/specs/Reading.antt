@@ -1,11 +1,10 @@
 -- Runs of words read as types and uses, from the last word to the first.
-use Rattle.std.specs.Prelude.{◌≡◌, ℕ, zero, suc, ◌<◌, ◌≤◌, false, List, [], ◌∷◌, length, map, drop}
+use Rattle.std.specs.Prelude.{◌≡◌, ℕ, ◌≤◌, false, List, [], ◌∷◌, length, map, drop}
 use Rattle.std.specs.List.{AllByRecursion}
 use Rattle.gib_base.specs.declared.Span.{Span}
-use Rattle.gib_types.specs.declared.types.TypeId.{TypeId}
 use Rattle.gib_types.specs.declared.types.TypeNode.{TypeNode}
-use Rattle.gib_types.specs.Form.{Form, Forms, WholeForm, TruthForm, DataForm, NoForm, MoreForms, Meant}
-use Rattle.gib_types.specs.Types.{form_at, forms_at, forms_of, AreBelow, GrowsTo}
+use Rattle.gib_types.specs.Form.{Form, WholeForm, TruthForm, DataForm, Meant}
+use Rattle.gib_types.specs.Types.{forms_at, forms_of, AreBelow, GrowsTo}
 use Rattle.gib_syntax.specs.declared.tree.Ident.{Ident}
 use Rattle.gib_syntax.specs.declared.written.Word.{Word}
 use Rattle.gib_syntax.specs.declared.written.Word.TheVariants as w
@@ -15,6 +14,8 @@ use Rattle.gib_syntax.specs.Words.{stack_of}
 use Rattle.gib_mono.specs.declared.reading.Use.{Use}
 use Rattle.gib_mono.specs.declared.reading.Reading.{Reading}
 use Rattle.gib_mono.specs.Walk.{Ask, types_asks}
+pub use Rattle.gib_check.specs.Judging.{listed}
+pub use Rattle.gib_check.specs.ReadingSteps.{taken_forms}
 
 -- What was read: the types that are no arguments yet, where they are written, and the uses.
 pub record Read : Type 0 where
@@ -25,12 +26,6 @@ pub record Read : Type 0 where
 -- Nothing was read.
 abbrev pub nothing_read : Read
 nothing_read = record { types = []; places = []; asks = [] }
-
--- So many types from the top.
-abbrev pub taken_forms : ℕ → List Form → Forms
-taken_forms zero fs = NoForm
-taken_forms (suc n) [] = NoForm
-taken_forms (suc n) (f ∷ fs) = MoreForms f (taken_forms n fs)
 
 -- A type is read that has no arguments.
 abbrev pub put_form : Form → Span → Read → Read
@@ -60,10 +55,6 @@ read_words m (x ∷ xs) r = read_one m x (read_words m xs r)
 abbrev pub use_ask : List Form → Use → Ask
 use_ask fs u = record { function = false; name = u.name.0; types = forms_at fs u.types.items; span = u.span }
 
--- The types of these numbers.
-abbrev pub listed : List Form → List TypeId → List Form
-listed fs is = map (λ (i : TypeId). form_at fs i.0) is
-
 -- What numbers stand for.
 abbrev pub read_of : List Form → Reading → Read
 read_of fs r = record { types = listed fs r.types; places = r.places; asks = map (use_ask fs) r.uses }
@@ -75,13 +66,6 @@ AreUsesBelow n us = AllByRecursion (λ (u : Use). AreBelow n u.types.items) us
 -- All numbers that were read are below a number.
 abbrev pub IsReadBelow : ℕ → Reading → Type 0
 IsReadBelow n r = AreBelow n r.types × AreUsesBelow n r.uses
-
--- The number stands for the type, and those that stood for one still do.
-pub record MakesType (old new : List TypeNode) (id : TypeId) (f : Form) : Type 0 where
-  pub grows : GrowsTo (forms_of old) (forms_of new)
-  pub longer : length old ≤ length new
-  pub below : id.0 < length new
-  pub form : form_at (forms_of new) id.0 ≡ f
 
 -- A step of reading was made.
 pub record ReadsOn (old new : List TypeNode) (before after : Reading) (step : Read → Read) : Type 0 where

@@ -1,7 +1,7 @@
 -- What asking leaves.
-use Rattle.std.specs.Prelude.{◌≡◌, ℕ, ◌+◌, List, [], ◌∷◌, map, Option, Some, None, Result, Ok, Err}
+use Rattle.std.specs.Prelude.{◌≡◌, ℕ, ◌+◌, false, List, [], ◌∷◌, map, Option, Some, None, Result, Ok, Err}
 use Rattle.gib_base.specs.declared.Span.{Span}
-use Rattle.gib_types.specs.Form.{Form, Meant}
+use Rattle.gib_types.specs.Form.{Form, Forms, Meant, has_long}
 use Rattle.gib_types.specs.Types.{AreOnce}
 use Rattle.gib_syntax.specs.GenericTree.{GenericGlobals, GenericProgramTree, globals_of_generic}
 use Rattle.gib_mono.specs.declared.found.CopyKey.{CopyKey}
@@ -31,6 +31,13 @@ pub record AddsKey (old new : Search) (key : CopyKey) (constructors : ℕ) (span
 pub record AsksOne (g : GenericGlobals) (old new : Search) (a : Ask) : Type 0 where
   pub context : new.context ≡ old.context
   pub at : (r : Result (List Copy) Span) → IsAt g old r → IsAt g new (with_found r (λ found. add_ask g found a))
+
+-- No use over a limit was met so far, these types are short, and nothing has changed.
+pub record GoesOn (old new : Search) (types : Forms) : Type 0 where
+  pub same : new ≡ old
+  pub on : new.limit ≡ None
+  pub short : has_long types ≡ false
+  pub once : AreOnce (forms old.context)
 
 -- Uses were.
 pub record AsksUses (g : GenericGlobals) (old new : Search) (uses : List Use) : Type 0 where

@@ -3,10 +3,11 @@ use Rattle.std.specs.Prelude.{◌≡◌, ℕ, ◌+◌, List, [], ◌∷◌, ◌+
 use Rattle.gib_syntax.specs.declared.program.GenericConstructor.{GenericConstructor}
 use Rattle.gib_syntax.specs.declared.program.GenericData.{GenericData}
 use Rattle.gib_syntax.specs.Declarations.{number_of}
-use Rattle.gib_syntax.specs.GenericTree.{GenericConstructorTree, GenericDataTree, GenericFunctionTree, GenericRow, GenericGlobals, globals_of_generic, row_of}
+use Rattle.gib_syntax.specs.GenericTree.{GenericConstructorTree, GenericDataTree, GenericRow, GenericGlobals, globals_of_generic, row_of}
 use Rattle.gib_syntax.specs.GenericTyping.{IsTypedGeneric}
 use Rattle.gib_syntax.specs.GenericArena.{tree_of}
 use Rattle.gib_types.specs.Form.{Meant}
+pub use Rattle.gib_check.specs.NameViews.{data_number, function_number}
 use Rattle.gib_mono.specs.Walk.{Ask, asks}
 use Rattle.gib_syntax.specs.GenericParts.{GenericParts, generic_program_of}
 use Rattle.gib_mono.specs.declared.source.RowPlace.{RowPlace}
@@ -14,14 +15,6 @@ use Rattle.gib_mono.specs.declared.source.RowPlace.{RowPlace}
 -- What the bodies of a program may name.
 abbrev pub globals_in : GenericParts → GenericGlobals
 globals_in parts = globals_of_generic (generic_program_of parts)
-
--- The numbers of names.
-abbrev pub data_number : GenericDataTree → ℕ
-data_number d = number_of d.name
-
--- The number of the name of a function.
-abbrev pub function_number : GenericFunctionTree → ℕ
-function_number f = number_of f.name
 
 -- The number of the name of a constructor with its type.
 abbrev pub row_name : GenericRow → ℕ

@@ -7,8 +7,8 @@ use Rattle.gib_syntax.specs.declared.tree.Ident.{Ident}
 use Rattle.gib_syntax.specs.Tree.{ProgramTree}
 use Rattle.gib_syntax.specs.Declarations.{number_of}
 use Rattle.gib_syntax.specs.Results.{Results, One, Several}
-use Rattle.gib_syntax.specs.Forms.{WrittenType, WrittenTypes, WholeAt, TruthAt, VariableAt, DataAt, NoType, MoreTypes, Form, Forms, WholeForm, TruthForm, VariableForm, DataForm, NoForm, MoreForms, Meant, formed_all, assign}
-use Rattle.gib_syntax.specs.GenericTree.{GenericExpression, GenericArguments, GenericArms, GenericVar, GenericNum, GenericBit, GenericParen, GenericOp, GenericCall, GenericMake, GenericLet, GenericPar, GenericIf, GenericCase, GenericTuple, GenericLetSeveral, GenericParSeveral, GenericNoArgument, GenericArgument, GenericLastArm, GenericNextArm, GenericConstructorTree, GenericDataTree, GenericParameterTree, GenericFunctionTree, GenericProgramTree, GenericRow, GenericGlobals, globals_of_generic, place_named, generic_named, data_named}
+use Rattle.gib_syntax.specs.Forms.{WrittenType, WrittenTypes, WholeAt, TruthAt, VariableAt, DataAt, NoType, MoreTypes, Forms, NoForm, Meant, formed_all, assign}
+use Rattle.gib_syntax.specs.GenericTree.{GenericExpression, GenericArguments, GenericArms, GenericVar, GenericNum, GenericBit, GenericParen, GenericOp, GenericCall, GenericMake, GenericLet, GenericPar, GenericIf, GenericCase, GenericTuple, GenericNoArgument, GenericArgument, GenericLastArm, GenericNextArm, GenericConstructorTree, GenericDataTree, GenericParameterTree, GenericFunctionTree, GenericProgramTree, GenericRow, GenericGlobals, globals_of_generic, place_named, generic_named, data_named}
 use Rattle.gib_mono.specs.Copying.{Naming, owner_named, copy_data, copy_function, copy_main}
 use Rattle.gib_mono.specs.Copied.{Item}
 
@@ -54,13 +54,11 @@ abbrev mutual
       record { function = true; name = number_of f; types = formed_all m ws; span = f.span } ∷ (writtens_asks m ws ++ all_asks rows m xs)
   asks rows m (GenericMake k ws xs) =
       record { function = false; name = owner_named rows (place_named rows (number_of k)); types = formed_all m ws; span = k.span } ∷ (writtens_asks m ws ++ all_asks rows m xs)
-  asks rows m (GenericLet p x a b) = asks rows m a ++ asks rows m b
-  asks rows m (GenericPar p x a y b c) = asks rows m a ++ (asks rows m b ++ asks rows m c)
+  asks rows m (GenericLet p xs a b) = asks rows m a ++ asks rows m b
+  asks rows m (GenericPar p xs a ys b c) = asks rows m a ++ (asks rows m b ++ asks rows m c)
   asks rows m (GenericIf p a b c) = asks rows m a ++ (asks rows m b ++ asks rows m c)
   asks rows m (GenericCase p x arms) = arm_asks rows m arms
   asks rows m (GenericTuple p xs) = all_asks rows m xs
-  asks rows m (GenericLetSeveral p xs a b) = asks rows m a ++ asks rows m b
-  asks rows m (GenericParSeveral p xs a ys b c) = asks rows m a ++ (asks rows m b ++ asks rows m c)
 
   -- The uses in arguments.
   pub all_asks : List GenericRow → Meant → GenericArguments → List Ask

@@ -1,10 +1,9 @@
 //! The walk over expressions: what they use is asked for, in the order of the text.
 
-ghost use Rattle.std.specs.Prelude.{◌≡◌, ◌<◌, ◌++◌, length, IfOk};
+ghost use Rattle.std.specs.Prelude.{◌<◌, ◌++◌, length, IfOk};
 ghost use Rattle.std.specs.List.{AllByRecursion};
 ghost use Rattle.gib_syntax.specs.GenericArena.{ArmsBelow, arguments_from, case_from, tree_of};
-ghost use Rattle.gib_syntax.specs.GenericTree.{GenericCall, GenericMake, GenericCase};
-ghost use Rattle.gib_syntax.specs.Words.{types_in};
+ghost use Rattle.gib_syntax.specs.GenericTree.{GenericCase};
 ghost use Rattle.gib_mono.specs.Walk.{asks, all_asks};
 ghost use Rattle.gib_mono.specs.Sources.{globals_in, asks_in};
 ghost use Rattle.gib_mono.specs.Searching.{Asks};
@@ -12,9 +11,9 @@ ghost use Rattle.gib_mono.specs.Searching.{Asks};
 use crate::search::{Search, ask_call, ask_make};
 use crate::source::Source;
 use gib_base::{Memory, Span};
-use gib_syntax::{Arm, ExprId, GenericNode, Ident, Run};
+use gib_syntax::{Arm, ExprId, GenericNode, Ident};
 
-/// What an expression uses is asked for.
+/// What an expression uses is asked for: a function or a constructor before its type arguments, and these before its arguments.
 #[cycle(ask)]
 pub fn ask_expression(search: &mut Search, source: &Source, id: ExprId) -> Result<(), Memory>
     requires { id.0 < length source.now.exprs.nodes }
@@ -26,8 +25,14 @@ pub fn ask_expression(search: &mut Search, source: &Source, id: ExprId) -> Resul
         GenericNode::Truth(_, _) => Ok(()),
         GenericNode::Paren(_, inner) => ask_expression(search, source, *inner),
         GenericNode::Operation { left, right, .. } => ask_two(search, source, *left, *right),
-        GenericNode::Call(f, run, ids) => ask_called(search, source, id, *f, *run, ids),
-        GenericNode::Make(k, run, ids) => ask_made(search, source, id, *k, *run, ids),
+        GenericNode::Call(f, run, ids) => {
+            ask_call(search, source, *f, source.words(*run))?;
+            ask_arguments(search, source, id, ids)
+        }
+        GenericNode::Make(k, run, ids) => {
+            ask_make(search, source, *k, source.words(*run))?;
+            ask_arguments(search, source, id, ids)
+        }
         GenericNode::Let { bound, body, .. } => ask_two(search, source, *bound, *body),
         GenericNode::LetPar {
             left,
@@ -47,13 +52,6 @@ pub fn ask_expression(search: &mut Search, source: &Source, id: ExprId) -> Resul
             arms,
         } => ask_case(search, source, id, *span, *variable, arms),
         GenericNode::Tuple(_, ids) => ask_arguments(search, source, id, ids),
-        GenericNode::LetSeveral { bound, body, .. } => ask_two(search, source, *bound, *body),
-        GenericNode::ParSeveral {
-            left,
-            right,
-            body,
-            ..
-        } => ask_three(search, source, *left, *right, *body),
     }
 }
 
@@ -105,46 +103,6 @@ fn ask_arguments(
         ask_expression(search, source, *argument)?;
         rest = after;
     }
-    Ok(())
-}
-
-/// What a call uses is asked for: the function before its type arguments, and these before its arguments.
-#[cycle(ask)]
-fn ask_called(
-    search: &mut Search,
-    source: &Source,
-    id: ExprId,
-    f: Ident,
-    run: Run,
-    ids: &[ExprId],
-) -> Result<(), Memory>
-    requires inside { id.0 < length source.now.exprs.nodes }
-    requires below { AllByRecursion (λ a. a.0 < id.0) ids.now }
-    ensures { IfOk result (λ _. Asks (globals_in source.now) search.old search.new (λ m. asks (globals_in source.now).rows m (GenericCall f (types_in source.now.exprs.words run) (arguments_from (tree_of source.now.exprs) ids.now)))) }
-{
-    let words = source.words(run);
-    ask_call(search, source, f, words)?;
-    ask_arguments(search, source, id, ids)?;
-    Ok(())
-}
-
-/// What a constructor uses is asked for, as for a call.
-#[cycle(ask)]
-fn ask_made(
-    search: &mut Search,
-    source: &Source,
-    id: ExprId,
-    k: Ident,
-    run: Run,
-    ids: &[ExprId],
-) -> Result<(), Memory>
-    requires inside { id.0 < length source.now.exprs.nodes }
-    requires below { AllByRecursion (λ a. a.0 < id.0) ids.now }
-    ensures { IfOk result (λ _. Asks (globals_in source.now) search.old search.new (λ m. asks (globals_in source.now).rows m (GenericMake k (types_in source.now.exprs.words run) (arguments_from (tree_of source.now.exprs) ids.now)))) }
-{
-    let words = source.words(run);
-    ask_make(search, source, k, words)?;
-    ask_arguments(search, source, id, ids)?;
     Ok(())
 }
 

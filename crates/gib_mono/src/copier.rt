@@ -444,6 +444,24 @@ impl Copier {
         Ok(())
     }
 
+    /// The names of a binding come into scope, with the types of what is bound to them.
+    ///
+    /// # Errors
+    ///
+    /// Want of memory.
+    pub fn bind_given(&mut self, names: &[Ident], given: ResultIds) -> Result<(), Memory>
+        requires { AreMet self.old given }
+        ensures { OnOk result (Binds self.old self.new (bind_forms names.now (list_results (forms_given self.old given)) (scope_in self.old.scene))) }
+    {
+        match given {
+            ResultIds::One(ty) => self.bind_all(names, &[ty]),
+            ResultIds::Several { .. } => {
+                let types = self.types_given(given)?;
+                self.bind_all(names, &types)
+            }
+        }
+    }
+
     /// The variables of an arm come into scope, each with the type of its field.
     ///
     /// # Errors

@@ -5,18 +5,19 @@ ghost use Rattle.std.specs.List.{AllByRecursion};
 ghost use Rattle.gib_types.specs.Form.{Form};
 ghost use Rattle.gib_types.specs.Types.{AreBelow, ArgumentsBelow, form_from, forms_at};
 ghost use Rattle.gib_syntax.specs.GenericArena.{ArmsBelow, IsArmBelow, arguments_from, case_from, tree_of};
-ghost use Rattle.gib_syntax.specs.GenericTree.{GenericGlobals, GenericVar, GenericNum, GenericBit, GenericParen, GenericOp, GenericCall, GenericMake, GenericLet, GenericPar, GenericIf, GenericCase, GenericTuple, GenericLetSeveral, GenericParSeveral};
+ghost use Rattle.gib_syntax.specs.GenericTree.{GenericGlobals, GenericVar, GenericNum, GenericBit, GenericParen, GenericOp, GenericCall, GenericMake, GenericLet, GenericPar, GenericIf, GenericCase, GenericTuple};
 ghost use Rattle.gib_syntax.specs.GenericTyping.{operator_form};
 ghost use Rattle.gib_syntax.specs.Words.{types_in};
 ghost use Rattle.gib_mono.specs.Scenes.{forms};
 ghost use Rattle.gib_mono.specs.Sources.{globals_in};
 ghost use Rattle.gib_mono.specs.Made.{Copies, CopiesAll, CopiesTuple, CopiesArm, CopiesArms, Meets};
 
+use crate::binding::{CopiedSide, let_node, par_node};
 use crate::copier::{Copied, Copier};
 use crate::source::Source;
 use gib_base::{Memory, Span};
 use gib_check::ResultIds;
-use gib_syntax::{Arm, Bound, ExprId, GenericNode, Ident, Node, Run};
+use gib_syntax::{Arm, ExprId, GenericNode, Ident, Node, Run};
 use gib_types::types::{TypeId, TypeNode};
 use gib_types::{Operator, Ty};
 
@@ -34,7 +35,7 @@ pub struct CopiedTuple {
     pub types: Vec<TypeId>,
 }
 
-/// The variables of a side of a `let par`, and its expression.
+/// The names of a side of a `let par`, and its expression.
 #[derive(Drop)]
 struct Side<'a> {
     names: &'a [Ident],
@@ -66,21 +67,27 @@ pub fn copy_expression(copier: &mut Copier, source: &Source, id: ExprId) -> Resu
         GenericNode::Make(k, run, ids) => copy_make(copier, source, id, *k, *run, ids),
         GenericNode::Let {
             span,
-            name,
+            names,
             bound,
             body,
-        } => copy_let(copier, source, *span, Bound::new(*name, *bound), *body),
+        } => copy_let(copier, source, *span, names.as_slice(), *bound, *body),
         GenericNode::LetPar {
             span,
-            left_name,
+            left_names,
             left,
-            right_name,
+            right_names,
             right,
             body,
         } => {
-            let left = Bound::new(*left_name, *left);
-            let right = Bound::new(*right_name, *right);
-            copy_let_par(copier, source, *span, left, right, *body)
+            let left = Side {
+                names: left_names.as_slice(),
+                value: *left,
+            };
+            let right = Side {
+                names: right_names.as_slice(),
+                value: *right,
+            };
+            copy_let_par(copier, source, *span, &left, &right, *body)
         }
         GenericNode::If {
             span,
@@ -94,30 +101,6 @@ pub fn copy_expression(copier: &mut Copier, source: &Source, id: ExprId) -> Resu
             arms,
         } => copy_case(copier, source, id, *span, *variable, arms),
         GenericNode::Tuple(span, ids) => copy_tuple(copier, source, id, *span, ids),
-        GenericNode::LetSeveral {
-            span,
-            names,
-            bound,
-            body,
-        } => copy_let_several(copier, source, *span, names, *bound, *body),
-        GenericNode::ParSeveral {
-            span,
-            left_names,
-            left,
-            right_names,
-            right,
-            body,
-        } => {
-            let left = Side {
-                names: left_names,
-                value: *left,
-            };
-            let right = Side {
-                names: right_names,
-                value: *right,
-            };
-            copy_par_several(copier, source, *span, &left, &right, *body)
-        }
     }
 }
 
@@ -254,69 +237,66 @@ fn copy_if(
     })
 }
 
-/// A `let`.
+/// A `let`, whose names have the types of what is bound to them.
 #[cycle(copy)]
 fn copy_let(
     copier: &mut Copier,
     source: &Source,
     span: Span,
-    bound: Bound,
+    names: &[Ident],
+    bound: ExprId,
     body: ExprId,
 ) -> Result<Copied, Memory>
-    requires bound { bound.value.0 < length source.now.exprs.nodes }
+    requires bound { bound.0 < length source.now.exprs.nodes }
     requires body { body.0 < length source.now.exprs.nodes }
-    ensures { IfOk result (λ c. Copies (globals_in source.now) copier.old copier.new c (GenericLet span bound.name (tree_of source.now.exprs bound.value.0) (tree_of source.now.exprs body.0))) }
+    ensures { IfOk result (λ c. Copies (globals_in source.now) copier.old copier.new c (GenericLet span names.now (tree_of source.now.exprs bound.0) (tree_of source.now.exprs body.0))) }
 {
-    let value = copy_expression(copier, source, bound.value)?;
-    let ty = copier.one(value.given)?;
+    let copied = copy_expression(copier, source, bound)?;
     let outer = copier.scene.scope_len();
-    copier.bind(bound.name, ty)?;
+    copier.bind_given(names, copied.given)?;
     let inner = copy_expression(copier, source, body)?;
     copier.leave(outer);
-    let expr = copier.put(Node::Let {
-        span,
-        name: bound.name,
-        bound: value.expr,
-        body: inner.expr,
-    })?;
+    let side = CopiedSide { names, copied };
+    let node = let_node(copier, span, &side, inner.expr)?;
+    let expr = copier.put(node)?;
     Ok(Copied {
         expr,
         given: inner.given,
     })
 }
 
-/// A `let par`.
+/// A `let par`, whose names have the types of what is bound to them.
 #[cycle(copy)]
 fn copy_let_par(
     copier: &mut Copier,
     source: &Source,
     span: Span,
-    left: Bound,
-    right: Bound,
+    left: &Side,
+    right: &Side,
     body: ExprId,
 ) -> Result<Copied, Memory>
-    requires left { left.value.0 < length source.now.exprs.nodes }
-    requires right { right.value.0 < length source.now.exprs.nodes }
+    requires left { left.now.value.0 < length source.now.exprs.nodes }
+    requires right { right.now.value.0 < length source.now.exprs.nodes }
     requires body { body.0 < length source.now.exprs.nodes }
-    ensures { IfOk result (λ c. Copies (globals_in source.now) copier.old copier.new c (GenericPar span left.name (tree_of source.now.exprs left.value.0) right.name (tree_of source.now.exprs right.value.0) (tree_of source.now.exprs body.0))) }
+    ensures { IfOk result (λ c. Copies (globals_in source.now) copier.old copier.new c (GenericPar span left.now.names.now (tree_of source.now.exprs left.now.value.0) right.now.names.now (tree_of source.now.exprs right.now.value.0) (tree_of source.now.exprs body.0))) }
 {
     let first = copy_expression(copier, source, left.value)?;
     let second = copy_expression(copier, source, right.value)?;
-    let left_ty = copier.one(first.given)?;
-    let right_ty = copier.one(second.given)?;
     let outer = copier.scene.scope_len();
-    copier.bind(left.name, left_ty)?;
-    copier.bind(right.name, right_ty)?;
+    copier.bind_given(left.names, first.given)?;
+    copier.bind_given(right.names, second.given)?;
     let inner = copy_expression(copier, source, body)?;
     copier.leave(outer);
-    let expr = copier.put(Node::LetPar {
-        span,
-        left_name: left.name,
-        left: first.expr,
-        right_name: right.name,
-        right: second.expr,
-        body: inner.expr,
-    })?;
+    let left = CopiedSide {
+        names: left.names,
+        copied: first,
+    };
+    let right = CopiedSide {
+        names: right.names,
+        copied: second,
+    };
+    let node = par_node(copier, span, &left, &right, inner.expr)?;
+    let expr = copier.put(node)?;
     Ok(Copied {
         expr,
         given: inner.given,
@@ -392,79 +372,6 @@ fn copy_tuple(
         parts: copied.exprs,
     })?;
     Ok(Copied { expr, given })
-}
-
-/// A `let` of several variables, which carry their types.
-#[cycle(copy)]
-fn copy_let_several(
-    copier: &mut Copier,
-    source: &Source,
-    span: Span,
-    names: &[Ident],
-    bound: ExprId,
-    body: ExprId,
-) -> Result<Copied, Memory>
-    requires bound { bound.0 < length source.now.exprs.nodes }
-    requires body { body.0 < length source.now.exprs.nodes }
-    ensures { IfOk result (λ c. Copies (globals_in source.now) copier.old copier.new c (GenericLetSeveral span names.now (tree_of source.now.exprs bound.0) (tree_of source.now.exprs body.0))) }
-{
-    let value = copy_expression(copier, source, bound)?;
-    let types = copier.types_given(value.given)?;
-    let variables = copier.variables(names, &types)?;
-    let outer = copier.scene.scope_len();
-    copier.bind_all(names, &types)?;
-    let inner = copy_expression(copier, source, body)?;
-    copier.leave(outer);
-    let expr = copier.put(Node::LetSeveral {
-        span,
-        names: variables,
-        bound: value.expr,
-        body: inner.expr,
-    })?;
-    Ok(Copied {
-        expr,
-        given: inner.given,
-    })
-}
-
-/// A `let par` of several variables, which carry their types.
-#[cycle(copy)]
-fn copy_par_several(
-    copier: &mut Copier,
-    source: &Source,
-    span: Span,
-    left: &Side,
-    right: &Side,
-    body: ExprId,
-) -> Result<Copied, Memory>
-    requires left { left.now.value.0 < length source.now.exprs.nodes }
-    requires right { right.now.value.0 < length source.now.exprs.nodes }
-    requires body { body.0 < length source.now.exprs.nodes }
-    ensures { IfOk result (λ c. Copies (globals_in source.now) copier.old copier.new c (GenericParSeveral span left.now.names.now (tree_of source.now.exprs left.now.value.0) right.now.names.now (tree_of source.now.exprs right.now.value.0) (tree_of source.now.exprs body.0))) }
-{
-    let first = copy_expression(copier, source, left.value)?;
-    let second = copy_expression(copier, source, right.value)?;
-    let left_types = copier.types_given(first.given)?;
-    let right_types = copier.types_given(second.given)?;
-    let left_names = copier.variables(left.names, &left_types)?;
-    let right_names = copier.variables(right.names, &right_types)?;
-    let outer = copier.scene.scope_len();
-    copier.bind_all(left.names, &left_types)?;
-    copier.bind_all(right.names, &right_types)?;
-    let inner = copy_expression(copier, source, body)?;
-    copier.leave(outer);
-    let expr = copier.put(Node::ParSeveral {
-        span,
-        left_names,
-        left: first.expr,
-        right_names,
-        right: second.expr,
-        body: inner.expr,
-    })?;
-    Ok(Copied {
-        expr,
-        given: inner.given,
-    })
 }
 
 /// A call, of the function's copy at the types that the call says.

@@ -2,6 +2,7 @@
 #![tactic(auto)]
 
 mod asks;
+mod binding;
 mod context;
 mod copier;
 mod copy_names;

@@ -7,16 +7,17 @@ ghost use Rattle.gib_syntax.specs.Arena.{Makes, PartsBelow};
 ghost use Rattle.gib_syntax.specs.Forms.{WrittenType};
 ghost use Rattle.gib_syntax.specs.GenericParts.{IsFunctionInside, constructor_in, data_in, function_in, generic_program_of, main_in, parameter_in, results_in};
 ghost use Rattle.gib_syntax.specs.Parts.{constructor_tree, data_tree, results_tree, function_tree, main_tree, program_of, IsFunctionInside as IsInside};
+ghost use Rattle.gib_syntax.specs.Printing.{Binds, Chooses};
 ghost use Rattle.gib_syntax.specs.Results.{map_results};
 ghost use Rattle.gib_syntax.specs.Words.{first_type, read_word, stack_of};
-ghost use Rattle.gib_mono.specs.Bare.{AreBare, AreSingleTrees, GivesOne, IsChoice, IsLet, IsSingleNode, IsPlainHere, IsPlainKept, IsPlainProgram, bare_constructor, bare_data, bare_function, bare_main, bare_node, bare_parameter, bare_program, bare_tree, bare_written};
+ghost use Rattle.gib_mono.specs.Bare.{AreBare, AreSingleTrees, GivesOne, IsOne, IsSingleNode, IsPlainHere, IsPlainKept, IsPlainProgram, bare_constructor, bare_data, bare_function, bare_main, bare_node, bare_parameter, bare_program, bare_tree, bare_written, one_name};
 
 use gib_base::{Memory, Span};
 use gib_check::Stack;
 use gib_syntax::{
     ConstructorDecl, DataDecl, ExprId, Exprs, FunctionDecl, GenericConstructor, GenericData,
     GenericExprs, GenericFunction, GenericMain, GenericNode, GenericParameter, GenericProgram,
-    Ident, MainDecl, Node, Parameter, Program, ResultRuns, ResultTypes, TypeName, Word,
+    Ident, MainDecl, Names, Node, Parameter, Program, ResultRuns, ResultTypes, TypeName, Word,
 };
 use std::alloc::{AllocError, Global};
 
@@ -58,13 +59,25 @@ fn gives_one(gives: &ResultRuns) -> bool
     }
 }
 
-/// Whether a node has no parts, and no variables for them.
+/// Whether there is one name.
+fn is_one(names: &Names) -> bool
+    ensures { result ≡ true → IsOne names.now }
+{
+    matches!(names.as_slice(), [_])
+}
+
+/// Whether a node has no parts, and no names for them.
 fn is_single(node: &GenericNode) -> bool
     ensures { result ≡ true → IsSingleNode node.now }
 {
     match node {
-        GenericNode::Tuple(..) | GenericNode::LetSeveral { .. } | GenericNode::ParSeveral { .. } =>
-            false,
+        GenericNode::Tuple(..) => false,
+        GenericNode::Let { names, .. } => is_one(names),
+        GenericNode::LetPar {
+            left_names,
+            right_names,
+            ..
+        } => is_one(left_names) && is_one(right_names),
         GenericNode::Variable(_)
         | GenericNode::Whole(..)
         | GenericNode::Truth(..)
@@ -72,8 +85,6 @@ fn is_single(node: &GenericNode) -> bool
         | GenericNode::Operation { .. }
         | GenericNode::Call(..)
         | GenericNode::Make(..)
-        | GenericNode::Let { .. }
-        | GenericNode::LetPar { .. }
         | GenericNode::If { .. }
         | GenericNode::Case { .. } => true,
     }
@@ -110,35 +121,47 @@ pub fn is_plain(program: &GenericProgram) -> bool
     are_single(program.exprs())
 }
 
-/// The plain node of one that binds variables of its own in front of what it is.
+/// The one name of a binding.
+fn one_name(names: &Names) -> Ident
+    requires { IsOne names.now }
+    ensures { result ≡ one_name names.now }
+{
+    let [name] = names.as_slice() else {
+        unreachable!()
+    };
+    *name
+}
+
+/// The plain node of one that binds variables in front of what it is, each by itself.
 fn bare_let(node: GenericNode) -> Node
-    requires { IsLet node }
+    requires binds { Binds node }
+    requires single { IsSingleNode node }
     ensures { result ≡ bare_node node }
 {
     match node {
         GenericNode::Let {
             span,
-            name,
+            names,
             bound,
             body,
         } => Node::Let {
             span,
-            name,
+            name: one_name(&names),
             bound,
             body,
         },
         GenericNode::LetPar {
             span,
-            left_name,
+            left_names,
             left,
-            right_name,
+            right_names,
             right,
             body,
         } => Node::LetPar {
             span,
-            left_name,
+            left_name: one_name(&left_names),
             left,
-            right_name,
+            right_name: one_name(&right_names),
             right,
             body,
         },
@@ -148,7 +171,7 @@ fn bare_let(node: GenericNode) -> Node
 
 /// The plain node of one that chooses among its parts.
 fn bare_choice(node: GenericNode) -> Node
-    requires { IsChoice node }
+    requires { Chooses node }
     ensures { result ≡ bare_node node }
 {
     match node {
@@ -201,8 +224,7 @@ fn bare_node(node: GenericNode) -> Node
         GenericNode::Make(k, _, ids) => Node::Make(k, ids),
         GenericNode::Let { .. } | GenericNode::LetPar { .. } => bare_let(node),
         GenericNode::If { .. } | GenericNode::Case { .. } => bare_choice(node),
-        GenericNode::Tuple(..) | GenericNode::LetSeveral { .. } | GenericNode::ParSeveral { .. } =>
-            { unreachable!() }
+        GenericNode::Tuple(..) => unreachable!(),
     }
 }
 

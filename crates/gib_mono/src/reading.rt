@@ -1,14 +1,13 @@
 //! The types that runs of words spell, by their numbers, and the uses of declared types in them.
 
-ghost use Rattle.std.specs.Prelude.{◌≡◌, ◌<◌, ◌≤◌, List, [], length, IfOk};
-ghost use Rattle.gib_types.specs.Form.{WholeForm, DataForm};
+ghost use Rattle.std.specs.Prelude.{◌<◌, ◌≤◌, length, IfOk};
 ghost use Rattle.gib_types.specs.Types.{forms_of, form_from, forms_at, AreBelow, ArgumentsBelow};
 ghost use Rattle.gib_syntax.specs.Declarations.{number_of};
 ghost use Rattle.gib_syntax.specs.Forms.{assign};
-ghost use Rattle.gib_mono.specs.Reading.{MakesType, IsReadBelow, ReadsOn, read_one, put_form, read_data, HasRead};
+ghost use Rattle.gib_mono.specs.Reading.{IsReadBelow, ReadsOn, read_one, put_form, read_data, HasRead};
 
 use gib_base::{Memory, Name, Span};
-use gib_check::Stack;
+use gib_check::{Stack, given_type, put_type};
 use gib_syntax::{Ident, Word};
 use gib_types::types::{TypeId, TypeNode, Types};
 use std::alloc::Global;
@@ -28,41 +27,6 @@ pub struct Reading {
     pub types: Stack<TypeId>,
     pub places: Stack<Span>,
     pub uses: Stack<Use>,
-}
-
-/// The number of a type.
-fn put_type(types: &mut Types, node: TypeNode) -> Result<TypeId, Memory>
-    requires { ArgumentsBelow (length types.old) node }
-    ensures made { IfOk result (λ id. MakesType types.old types.new id (form_from (forms_of types.old) node)) }
-    ensures longer { length types.old ≤ length types.new }
-{
-    types.put(node)
-}
-
-/// The type that a type variable stands for; `Int` for any other name.
-fn variable_type(
-    types: &mut Types,
-    variables: &[Ident],
-    meant: &[TypeId],
-    x: Ident,
-) -> Result<TypeId, Memory>
-    requires { AreBelow (length types.old) meant.now }
-    ensures made { IfOk result (λ id. MakesType types.old types.new id (assign variables.now (forms_at (forms_of types.old) meant.now) (number_of x))) }
-    ensures longer { length types.old ≤ length types.new }
-{
-    let mut names = variables;
-    let mut ids = meant;
-    'names: while let [name, further_names @ ..] = names {
-        let [id, further_ids @ ..] = ids else {
-            return put_type(types, TypeNode::Whole);
-        };
-        if name.name.0 == x.name.0 {
-            return Ok(*id);
-        }
-        names = further_names;
-        ids = further_ids;
-    }
-    put_type(types, TypeNode::Whole)
 }
 
 /// A type is read that has no arguments.
@@ -96,7 +60,7 @@ fn read_variable(
     ensures read { IfOk result (λ _. ReadsOn types.old types.new reading.old reading.new (put_form (assign variables.now (forms_at (forms_of types.old) meant.now) (number_of x)) x.span)) }
     ensures longer { length types.old ≤ length types.new }
 {
-    let id = variable_type(types, variables, meant, x)?;
+    let id = given_type(types, variables, meant, x)?;
     reading.types.put(id)?;
     reading.places.put(x.span)?;
     Ok(())

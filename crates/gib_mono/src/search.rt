@@ -1,28 +1,25 @@
 //! The search for copies: uses are asked for, one after another.
 
-ghost use Rattle.std.specs.Prelude.{◌≡◌, ◌≤◌, List, Result, Some, None, length, slice_get, true, false, ◌∷◌, ◌++◌, [], IfOk};
-ghost use Rattle.gib_base.specs.declared.Span.{Span as Place};
+ghost use Rattle.std.specs.Prelude.{◌≡◌, ◌≤◌, Bool, Result, Some, None, length, true, false, ◌∷◌, IfOk};
 ghost use Rattle.gib_types.specs.Types.{forms_at, AreBelow};
 ghost use Rattle.gib_syntax.specs.Declarations.{number_of};
 ghost use Rattle.gib_syntax.specs.Forms.{formed_all};
-ghost use Rattle.gib_syntax.specs.GenericTree.{place_named};
+ghost use Rattle.gib_syntax.specs.GenericTree.{GenericGlobals, place_named};
 ghost use Rattle.gib_syntax.specs.Words.{all_types, stack_of};
 ghost use Rattle.gib_mono.specs.Copying.{owner_named};
-ghost use Rattle.gib_mono.specs.Found.{KeyBelow, copy_from};
-ghost use Rattle.gib_mono.specs.Walk.{Ask, Copy, add_ask, add_asks, add_new, is_found, constructors_in, with_found, types_asks, writtens_asks};
+ghost use Rattle.gib_mono.specs.Walk.{types_asks, writtens_asks};
 ghost use Rattle.gib_mono.specs.Contexts.{forms};
 ghost use Rattle.gib_mono.specs.Reading.{use_ask, AreUsesBelow};
 ghost use Rattle.gib_mono.specs.Sources.{globals_in};
-ghost use Rattle.gib_mono.specs.Searching.{Reached, AddsKey, AsksOne, AsksUses, Asks};
+ghost use Rattle.gib_mono.specs.Searching.{AddsKey, AsksOne, AsksUses, Asks, GoesOn};
 
 use crate::context::Context;
 use crate::found::{CopyKey, Found, MonoFault};
 use crate::reading::Use;
 use crate::source::Source;
-use gib_base::{Memory, Name, Span};
+use gib_base::{Memory, Span};
 use gib_check::Stack;
 use gib_syntax::{Ident, Word};
-use gib_types::types::TypeId;
 use std::alloc::{AllocError, Global};
 
 /// The copies that were asked for, with the types that were met, and the first use that is over a limit: what comes
@@ -51,57 +48,52 @@ pub fn add(search: &mut Search, key: CopyKey, constructors: u32, span: Span) -> 
     }
 }
 
-/// A declared type is used.
-fn ask_type(
-    search: &mut Search,
-    source: &Source,
-    name: Name,
-    types: Vec<TypeId>,
-    span: Span,
-) -> Result<(), Memory>
-    requires { AreBelow (length search.old.context.types) types.items }
-    ensures { IfOk result (λ _. AsksOne (globals_in source.now) search.old search.new (record { function = false; name = name.0; types = forms_at (forms search.old.context) types.items; span = span })) }
+/// Whether a use is over a limit: one before it was, or its types are long.
+fn is_over(search: &mut Search, used: &Use) -> bool
+    requires { AreBelow (length search.old.context.types) used.now.types.items }
+    ensures over { result ≡ true → (g : GenericGlobals) (function : Bool) → AsksOne g search.old search.new (record { function = function; name = used.now.name.0; types = forms_at (forms search.old.context) used.now.types.items; span = used.now.span }) }
+    ensures short { result ≡ false → GoesOn search.old search.new (forms_at (forms search.old.context) used.now.types.items) }
 {
     if search.limit.is_some() {
-        return Ok(());
+        return true;
     }
     let met = search.context.types();
     let _count = met.len();
-    if met.has_long(&types) {
-        search.limit = Some(span);
+    if met.has_long(&used.types) {
+        search.limit = Some(used.span);
+        return true;
+    }
+    false
+}
+
+/// A declared type is used.
+fn ask_type(search: &mut Search, source: &Source, used: Use) -> Result<(), Memory>
+    requires { AreBelow (length search.old.context.types) used.types.items }
+    ensures { IfOk result (λ _. AsksOne (globals_in source.now) search.old search.new (use_ask (forms search.old.context) used)) }
+{
+    if is_over(search, &used) {
         return Ok(());
     }
-    let Some(place) = source.type_place(name) else {
+    let Some(place) = source.type_place(used.name) else {
         return Ok(());
     };
     let constructors = source.constructors_of(place);
-    add(search, CopyKey::Data(place, types), constructors, span)
+    let key = CopyKey::Data(place, used.types);
+    add(search, key, constructors, used.span)
 }
 
 /// A function is used.
-fn ask_function(
-    search: &mut Search,
-    source: &Source,
-    name: Name,
-    types: Vec<TypeId>,
-    span: Span,
-) -> Result<(), Memory>
-    requires { AreBelow (length search.old.context.types) types.items }
-    ensures { IfOk result (λ _. AsksOne (globals_in source.now) search.old search.new (record { function = true; name = name.0; types = forms_at (forms search.old.context) types.items; span = span })) }
+fn ask_function(search: &mut Search, source: &Source, used: Use) -> Result<(), Memory>
+    requires { AreBelow (length search.old.context.types) used.types.items }
+    ensures { IfOk result (λ _. AsksOne (globals_in source.now) search.old search.new (record { function = true; name = used.name.0; types = forms_at (forms search.old.context) used.types.items; span = used.span })) }
 {
-    if search.limit.is_some() {
+    if is_over(search, &used) {
         return Ok(());
     }
-    let met = search.context.types();
-    let _count = met.len();
-    if met.has_long(&types) {
-        search.limit = Some(span);
-        return Ok(());
-    }
-    let Some(place) = source.function_place(name) else {
+    let Some(place) = source.function_place(used.name) else {
         return Ok(());
     };
-    add(search, CopyKey::Function(place, types), 0, span)
+    add(search, CopyKey::Function(place, used.types), 0, used.span)
 }
 
 /// Declared types are used, the first one on top.
@@ -110,7 +102,7 @@ fn ask_uses(search: &mut Search, source: &Source, mut uses: Stack<Use>) -> Resul
     ensures { IfOk result (λ _. AsksUses (globals_in source.now) search.old search.new uses) }
 {
     'uses: while let Some(used) = uses.pop() {
-        ask_type(search, source, used.name, used.types, used.span)?;
+        ask_type(search, source, used)?;
     }
     Ok(())
 }
@@ -133,8 +125,12 @@ pub fn ask_call(
     ensures { IfOk result (λ _. Asks (globals_in source.now) search.old search.new (λ m. record { function = true; name = number_of f; types = formed_all m (all_types (stack_of words.now)); span = f.span } ∷ writtens_asks m (all_types (stack_of words.now)))) }
 {
     let reading = search.context.read(search.alloc, words)?;
-    let types = reading.types.into_vec();
-    ask_function(search, source, f.name, types, f.span)?;
+    let used = Use {
+        name: f.name,
+        types: reading.types.into_vec(),
+        span: f.span,
+    };
+    ask_function(search, source, used)?;
     ask_uses(search, source, reading.uses)
 }
 
@@ -155,7 +151,11 @@ pub fn ask_make(
     } ∷ writtens_asks m (all_types (stack_of words.now)))) }
 {
     let reading = search.context.read(search.alloc, words)?;
-    let types = reading.types.into_vec();
-    ask_type(search, source, source.owner(k.name), types, k.span)?;
+    let used = Use {
+        name: source.owner(k.name),
+        types: reading.types.into_vec(),
+        span: k.span,
+    };
+    ask_type(search, source, used)?;
     ask_uses(search, source, reading.uses)
 }

@@ -1,12 +1,12 @@
 //! A program with type parameters, and where its names are declared.
 
-ghost use Rattle.std.specs.Prelude.{◌≡◌, ℕ, ◌+◌, ◌++◌, map, IfOk};
+ghost use Rattle.std.specs.Prelude.{◌≡◌, ◌+◌, ◌++◌, map, IfOk};
 ghost use Rattle.gib_syntax.specs.GenericTyping.{IsTypedGeneric};
-ghost use Rattle.gib_syntax.specs.GenericParts.{generic_program_of, data_in};
-ghost use Rattle.gib_mono.specs.Sources.{data_number, function_number, row_name, rows_in, numbered, all_places, globals_in};
+ghost use Rattle.gib_syntax.specs.GenericParts.{generic_program_of};
+ghost use Rattle.gib_mono.specs.Sources.{row_name, rows_in, numbered, all_places, globals_in};
 
 use gib_base::{Memory, Name};
-use gib_check::NameList;
+use gib_check::{NameList, function_names, type_names};
 use gib_syntax::{
     ExprId, GenericConstructor, GenericData, GenericFunction, GenericNode, GenericProgram, Run,
     Word,
@@ -40,32 +40,6 @@ impl Model for Source {
     ghost view = { λ s. s.program };
 
     ghost invariant = { λ s. IsSource s.program s.types s.constructors s.functions s.rows.items };
-}
-
-/// The names of the declared types.
-fn list_types(alloc: Global, program: &GenericProgram) -> Result<NameList, Memory>
-    ensures { IfOk result (λ names. names ≡ map data_number (generic_program_of program.now).datas) }
-{
-    let mut names = NameList::new(alloc);
-    let mut rest = program.datas();
-    'datas: while let [data, after @ ..] = rest {
-        names.push(data.name.name)?;
-        rest = after;
-    }
-    Ok(names)
-}
-
-/// The names of the functions.
-fn list_functions(alloc: Global, program: &GenericProgram) -> Result<NameList, Memory>
-    ensures { IfOk result (λ names. names ≡ map function_number (generic_program_of program.now).functions) }
-{
-    let mut names = NameList::new(alloc);
-    let mut rest = program.functions();
-    'functions: while let [function, after @ ..] = rest {
-        names.push(function.name.name)?;
-        rest = after;
-    }
-    Ok(names)
 }
 
 /// Puts the places of a type's constructors behind others.
@@ -133,7 +107,7 @@ fn list_constructors(alloc: Global, program: &GenericProgram) -> Result<NameList
 }
 
 impl Source {
-    ghost use Rattle.std.specs.Prelude.{◌≤◌, ◌<◌, ℕ, length, slice_get, Some, None, MatchOption};
+    ghost use Rattle.std.specs.Prelude.{◌≤◌, ◌<◌, length, slice_get, Some, None, MatchOption};
     ghost use Rattle.gib_syntax.specs.GenericTree.{GenericDataTree, GenericFunctionTree, data_named, generic_named, place_named};
     ghost use Rattle.gib_syntax.specs.GenericArena.{Opens};
     ghost use Rattle.gib_syntax.specs.GenericParts.{AreInside, IsFunctionInside};
@@ -151,9 +125,9 @@ impl Source {
         requires { IsTypedGeneric (generic_program_of program) }
         ensures { IfOk result (λ source. source ≡ program) }
     {
-        let types = list_types(alloc, &program)?;
+        let types = type_names(alloc, &program)?;
         let constructors = list_constructors(alloc, &program)?;
-        let functions = list_functions(alloc, &program)?;
+        let functions = function_names(alloc, &program)?;
         let rows = list_places(alloc, &program)?;
         Ok(Source {
             program,

@@ -23,12 +23,6 @@ ask_arguments-arguments-preserved t c =
 pub ask_arguments-returns : goal.ask_arguments-returns
 ask_arguments-returns t c = arguments_end c.args.source.now c.args.id.0 c.args.search.now c.arguments.search c.args.ids.now c.arguments.rest.now (empty_is c.arguments.rest.now c.in_default.len_below) c.arguments.invariant
 
-pub ask_called-returns : goal.ask_called-returns
-ask_called-returns t c = called_asked c.args.source.now c.args.search.now c.ask_call.new.search c.ask_arguments.new.search c.args.f c.args.run c.words-words.result.now c.args.ids.now c.words-words.ensures c.in_ok-ask_call.ensures c.in_ok-ask_arguments.ensures
-
-pub ask_made-returns : goal.ask_made-returns
-ask_made-returns t c = made_asked c.args.source.now c.args.search.now c.ask_make.new.search c.ask_arguments.new.search c.args.k c.args.run c.words-words.result.now c.args.ids.now c.words-words.ensures c.in_ok-ask_make.ensures c.in_ok-ask_arguments.ensures
-
 pub ask_case-arms-preserved : goal.ask_case-arms-preserved
 ask_case-arms-preserved t c =
     arms_next c.args.source.now c.args.id.0 c.args.search.now c.arms.search c.ask_expression.new.search c.args.arms.now c.arms.rest.now _ c.arm-item.result
@@ -56,23 +50,25 @@ ask_expression-returns-in-Operation t c =
 
 pub ask_expression-returns-in-Call : goal.ask_expression-returns-in-Call
 ask_expression-returns-in-Call t c =
-    if_ok _ _ c.ask_called.result (λ u a. opened_asks c.args.source.now c.args.search.now c.ask_called.new.search c.args.id.0 _
-    (opened_node c.args.source.now c.args.id.0 c.node.result.now (n.Call c.in-Call.f c.in-Call.run' c.in-Call.ids) c.node.ensures c.in-Call.is ∙ ap (λ is. GenericCall c.in-Call.f (types_in c.args.source.now.exprs.words c.in-Call.run') (arguments_from (tree_of c.args.source.now.exprs) is)) (sym c.deref.ensures.value)) a) c.ask_called.ensures
+    if_ok _ _ c.ask_arguments.result (λ u a. opened_asks c.args.source.now c.args.search.now c.ask_arguments.new.search c.args.id.0 _
+    (opened_node c.args.source.now c.args.id.0 c.node.result.now (n.Call c.in-Call.f c.in-Call.run' c.in-Call.ids) c.node.ensures c.in-Call.is ∙ ap (λ is. GenericCall c.in-Call.f (types_in c.args.source.now.exprs.words c.in-Call.run') (arguments_from (tree_of c.args.source.now.exprs) is)) (sym c.deref.ensures.value))
+    (called_asked c.args.source.now c.args.search.now c.ask_call.new.search c.ask_arguments.new.search c.in-Call.f c.in-Call.run' c.words.result.now c.deref.result.now c.words.ensures c.in_ok-ask_call.ensures a)) c.ask_arguments.ensures
 
 pub ask_expression-returns-in-Make : goal.ask_expression-returns-in-Make
 ask_expression-returns-in-Make t c =
-    if_ok _ _ c.ask_made.result (λ u a. opened_asks c.args.source.now c.args.search.now c.ask_made.new.search c.args.id.0 _
-    (opened_node c.args.source.now c.args.id.0 c.node.result.now (n.Make c.in-Make.k c.in-Make.run' c.in-Make.ids) c.node.ensures c.in-Make.is ∙ ap (λ is. GenericMake c.in-Make.k (types_in c.args.source.now.exprs.words c.in-Make.run') (arguments_from (tree_of c.args.source.now.exprs) is)) (sym c.deref-in-Make.ensures.value)) a) c.ask_made.ensures
+    if_ok _ _ c.ask_arguments-in-Make.result (λ u a. opened_asks c.args.source.now c.args.search.now c.ask_arguments-in-Make.new.search c.args.id.0 _
+    (opened_node c.args.source.now c.args.id.0 c.node.result.now (n.Make c.in-Make.k c.in-Make.run' c.in-Make.ids) c.node.ensures c.in-Make.is ∙ ap (λ is. GenericMake c.in-Make.k (types_in c.args.source.now.exprs.words c.in-Make.run') (arguments_from (tree_of c.args.source.now.exprs) is)) (sym c.deref-in-Make.ensures.value))
+    (made_asked c.args.source.now c.args.search.now c.ask_make.new.search c.ask_arguments-in-Make.new.search c.in-Make.k c.in-Make.run' c.words-in-Make.result.now c.deref-in-Make.result.now c.words-in-Make.ensures c.in_ok-ask_make.ensures a)) c.ask_arguments-in-Make.ensures
 
 pub ask_expression-returns-in-Let : goal.ask_expression-returns-in-Let
 ask_expression-returns-in-Let t c =
     if_ok _ _ c.ask_two-in-Let.result (λ u a. opened_asks c.args.source.now c.args.search.now c.ask_two-in-Let.new.search c.args.id.0 _
-    (opened_node c.args.source.now c.args.id.0 c.node.result.now (n.Let c.in-Let.span c.in-Let.name c.in-Let.bound c.in-Let.body) c.node.ensures c.in-Let.is) a) c.ask_two-in-Let.ensures
+    (opened_node c.args.source.now c.args.id.0 c.node.result.now (n.Let c.in-Let.span c.in-Let.names c.in-Let.bound c.in-Let.body) c.node.ensures c.in-Let.is) a) c.ask_two-in-Let.ensures
 
 pub ask_expression-returns-in-LetPar : goal.ask_expression-returns-in-LetPar
 ask_expression-returns-in-LetPar t c =
     if_ok _ _ c.ask_three.result (λ u a. opened_asks c.args.source.now c.args.search.now c.ask_three.new.search c.args.id.0 _
-    (opened_node c.args.source.now c.args.id.0 c.node.result.now (n.LetPar c.in-LetPar.span c.in-LetPar.left_name c.in-LetPar.left c.in-LetPar.right_name c.in-LetPar.right c.in-LetPar.body) c.node.ensures c.in-LetPar.is) a) c.ask_three.ensures
+    (opened_node c.args.source.now c.args.id.0 c.node.result.now (n.LetPar c.in-LetPar.span c.in-LetPar.left_names c.in-LetPar.left c.in-LetPar.right_names c.in-LetPar.right c.in-LetPar.body) c.node.ensures c.in-LetPar.is) a) c.ask_three.ensures
 
 pub ask_expression-returns-in-If : goal.ask_expression-returns-in-If
 ask_expression-returns-in-If t c =
@@ -86,15 +82,5 @@ ask_expression-returns-in-Case t c =
 
 pub ask_expression-returns-in-Tuple : goal.ask_expression-returns-in-Tuple
 ask_expression-returns-in-Tuple t c =
-    if_ok _ _ c.ask_arguments.result (λ u a. opened_asks c.args.source.now c.args.search.now c.ask_arguments.new.search c.args.id.0 _
-    (opened_node c.args.source.now c.args.id.0 c.node.result.now (n.Tuple c.in-Tuple.field-0 c.in-Tuple.ids) c.node.ensures c.in-Tuple.is ∙ ap (λ is. GenericTuple c.in-Tuple.field-0 (arguments_from (tree_of c.args.source.now.exprs) is)) (sym c.deref-in-Tuple.ensures.value)) a) c.ask_arguments.ensures
-
-pub ask_expression-returns-in-LetSeveral : goal.ask_expression-returns-in-LetSeveral
-ask_expression-returns-in-LetSeveral t c =
-    if_ok _ _ c.ask_two-in-LetSeveral.result (λ u a. opened_asks c.args.source.now c.args.search.now c.ask_two-in-LetSeveral.new.search c.args.id.0 _
-    (opened_node c.args.source.now c.args.id.0 c.node.result.now (n.LetSeveral c.in-LetSeveral.span c.in-LetSeveral.names c.in-LetSeveral.bound c.in-LetSeveral.body) c.node.ensures c.in-LetSeveral.is) a) c.ask_two-in-LetSeveral.ensures
-
-pub ask_expression-returns-in-ParSeveral : goal.ask_expression-returns-in-ParSeveral
-ask_expression-returns-in-ParSeveral t c =
-    if_ok _ _ c.ask_three-in-ParSeveral.result (λ u a. opened_asks c.args.source.now c.args.search.now c.ask_three-in-ParSeveral.new.search c.args.id.0 _
-    (opened_node c.args.source.now c.args.id.0 c.node.result.now (n.ParSeveral c.in-ParSeveral.span c.in-ParSeveral.left_names c.in-ParSeveral.left c.in-ParSeveral.right_names c.in-ParSeveral.right c.in-ParSeveral.body) c.node.ensures c.in-ParSeveral.is) a) c.ask_three-in-ParSeveral.ensures
+    if_ok _ _ c.ask_arguments-in-Tuple.result (λ u a. opened_asks c.args.source.now c.args.search.now c.ask_arguments-in-Tuple.new.search c.args.id.0 _
+    (opened_node c.args.source.now c.args.id.0 c.node.result.now (n.Tuple c.in-Tuple.field-0 c.in-Tuple.ids) c.node.ensures c.in-Tuple.is ∙ ap (λ is. GenericTuple c.in-Tuple.field-0 (arguments_from (tree_of c.args.source.now.exprs) is)) (sym c.deref-in-Tuple.ensures.value)) a) c.ask_arguments-in-Tuple.ensures

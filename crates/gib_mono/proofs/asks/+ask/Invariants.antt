@@ -8,12 +8,6 @@ decreases-ask_arguments l = 4 * l.id.0
 abbrev pub decreases-ask_case : goal.decreases-ask_case
 decreases-ask_case l = 4 * l.id.0
 
-abbrev pub decreases-ask_called : goal.decreases-ask_called
-decreases-ask_called l = 4 * l.id.0 + 1
-
-abbrev pub decreases-ask_made : goal.decreases-ask_made
-decreases-ask_made l = 4 * l.id.0 + 1
-
 abbrev pub decreases-ask_expression : goal.decreases-ask_expression
 decreases-ask_expression l = 4 * l.id.0 + 2
 

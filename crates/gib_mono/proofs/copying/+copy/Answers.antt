@@ -2,14 +2,12 @@ use Rattle.std.proofs.Common.{rules, ◌-◌, [], ◌++◌, ◌∷◌, length, t
 use Rattle.gib_types.specs.Types.{forms_at}
 use Rattle.gib_syntax.specs.declared.generic.GenericNode.TheVariants as n
 use Rattle.gib_syntax.specs.GenericArena.{arguments_from, tree_of}
-use Rattle.gib_mono.specs.Copying.{copy_variables, bind_forms}
-use Rattle.gib_mono.specs.Made.{naming, Binds, Copies}
-use Rattle.gib_mono.specs.Reading.{listed}
-use Rattle.gib_mono.specs.Scenes.{forms, scope_in}
+use Rattle.gib_mono.specs.Made.{Copies}
+use Rattle.gib_mono.specs.Scenes.{forms}
 use Rattle.gib_mono.specs.Sources.{globals_in}
 use Rattle.gib_mono.proofs.Seeking.{if_ok}
 use Rattle.gib_mono.proofs.Walking.{split_is, opened_node}
-use Rattle.gib_mono.proofs.Making.{arguments_go, arm_made, arms_go, bound_both, call_made, make_made, case_arms, case_below, case_made, case_type, CaseArms, further_below, types_below, if_made, let_made, let_par_made, let_several_made, met_stays, par_several_made, tuple_begin, tuple_go, tuple_made, operation_made}
+use Rattle.gib_mono.proofs.Making.{arguments_go, arm_made, arms_go, body_below, bound_there, call_made, make_made, case_arms, case_below, case_made, case_type, CaseArms, further_below, types_below, if_made, let_made, met_stays, par_made, right_met, sides_there, tuple_begin, tuple_go, tuple_made, operation_made}
 use Rattle.gib_mono.proofs.copying.+copy.Goals as goal
 
 pub copy_arguments-arguments-preserved : goal.copy_arguments-arguments-preserved
@@ -51,26 +49,47 @@ copy_if-returns t c =
     if_made (globals_in c.args.source.now) c.args.copier.now c.copy_expression.new.copier c.copy_expression-2.new.copier c.copy_expression-3.new.copier c.put.new.self c.in_ok-expr.expr c.in_ok-first.first c.in_ok-second.second c.in_ok-third.third c.args.span
     (tree_of c.args.source.now.exprs c.args.condition.0) (tree_of c.args.source.now.exprs c.args.then_part.0) (tree_of c.args.source.now.exprs c.args.else_part.0) c.in_ok-first.ensures c.in_ok-second.ensures c.in_ok-third.ensures c.in_ok-expr.ensures
 
+pub copy_let-let_node-requires : goal.copy_let-let_node-requires
+copy_let-let_node-requires t c =
+    (bound_there (globals_in c.args.source.now) c.args.copier.now c.copy_expression.new.copier c.bind_given.new.self c.copy_expression-2.new.copier c.leave.new.self c.scope_len-outer.result _ c.in_ok-copied.copied (tree_of c.args.source.now.exprs c.args.bound.0)
+    c.in_ok-copied.ensures c.scope_len-outer.ensures.known c.scope_len-outer.ensures.len c.in_ok-bind_given.ensures c.in_ok-inner.ensures.stays c.leave.ensures).met
+
+pub copy_let-put-requires : goal.copy_let-put-requires
+copy_let-put-requires t c =
+    c.in_ok-node.ensures.below (length c.leave.new.self.exprs)
+    (bound_there (globals_in c.args.source.now) c.args.copier.now c.copy_expression.new.copier c.bind_given.new.self c.copy_expression-2.new.copier c.leave.new.self c.scope_len-outer.result _ c.in_ok-copied.copied (tree_of c.args.source.now.exprs c.args.bound.0)
+    c.in_ok-copied.ensures c.scope_len-outer.ensures.known c.scope_len-outer.ensures.len c.in_ok-bind_given.ensures c.in_ok-inner.ensures.stays c.leave.ensures).inside
+    (body_below (globals_in c.args.source.now) c.bind_given.new.self c.copy_expression-2.new.copier c.leave.new.self c.scope_len-outer.result c.in_ok-inner.inner (tree_of c.args.source.now.exprs c.args.body.0) c.in_ok-inner.ensures c.leave.ensures)
+
 pub copy_let-returns : goal.copy_let-returns
 copy_let-returns t c =
-    let_made (globals_in c.args.source.now) c.args.copier.now c.copy_expression.new.copier c.one.new.self c.bind.new.self c.copy_expression-2.new.copier c.leave.new.self c.put.new.self c.scope_len-outer.result c.in_ok-expr.expr c.in_ok-value.value c.in_ok-inner.inner c.in_ok-ty.ty c.args.span c.args.bound.name
-    (tree_of c.args.source.now.exprs c.args.bound.value.0) (tree_of c.args.source.now.exprs c.args.body.0) c.in_ok-value.ensures c.in_ok-ty.ensures c.scope_len-outer.ensures.known c.scope_len-outer.ensures.len c.in_ok-bind.ensures.scope c.in_ok-inner.ensures c.leave.ensures c.in_ok-expr.ensures
+    let_made (globals_in c.args.source.now) c.args.copier.now c.copy_expression.new.copier c.bind_given.new.self c.copy_expression-2.new.copier c.leave.new.self c.put.new.self c.scope_len-outer.result c.in_ok-expr.expr c.in_ok-copied.copied c.in_ok-inner.inner c.in_ok-node.node c.args.span c.args.names.now
+    (tree_of c.args.source.now.exprs c.args.bound.0) (tree_of c.args.source.now.exprs c.args.body.0) c.in_ok-copied.ensures c.scope_len-outer.ensures.known c.scope_len-outer.ensures.len c.in_ok-bind_given.ensures c.in_ok-inner.ensures c.leave.ensures c.in_ok-node.ensures.tree c.in_ok-expr.ensures
+
+pub copy_let_par-bind_given-requires : goal.copy_let_par-bind_given-requires
+copy_let_par-bind_given-requires t c = met_stays c.copy_expression.new.copier c.copy_expression-2.new.copier c.in_ok-first.first.given c.in_ok-second.ensures.stays c.in_ok-first.ensures.met
+
+pub copy_let_par-bind_given-requires-2 : goal.copy_let_par-bind_given-requires-2
+copy_let_par-bind_given-requires-2 t c = right_met (globals_in c.args.source.now) c.copy_expression.new.copier c.copy_expression-2.new.copier c.bind_given.new.self _ c.in_ok-second.second (tree_of c.args.source.now.exprs c.args.right.now.value.0) c.in_ok-second.ensures c.in_ok-bind_given.ensures
+
+pub copy_let_par-par_node-requires : goal.copy_let_par-par_node-requires
+copy_let_par-par_node-requires t c =
+    let all = sides_there (globals_in c.args.source.now) c.args.copier.now c.copy_expression.new.copier c.copy_expression-2.new.copier c.bind_given.new.self c.bind_given-2.new.self c.copy_expression-3.new.copier c.leave.new.self c.scope_len-outer.result _ _ c.in_ok-first.first c.in_ok-second.second
+    (tree_of c.args.source.now.exprs c.args.left.now.value.0) (tree_of c.args.source.now.exprs c.args.right.now.value.0) c.in_ok-first.ensures c.in_ok-second.ensures c.scope_len-outer.ensures.known c.scope_len-outer.ensures.len c.in_ok-bind_given.ensures c.in_ok-bind_given-2.ensures c.in_ok-inner.ensures.stays c.leave.ensures in
+    record { left = all.left.met; right = all.right.met }
+
+pub copy_let_par-put-requires : goal.copy_let_par-put-requires
+copy_let_par-put-requires t c =
+    let all = sides_there (globals_in c.args.source.now) c.args.copier.now c.copy_expression.new.copier c.copy_expression-2.new.copier c.bind_given.new.self c.bind_given-2.new.self c.copy_expression-3.new.copier c.leave.new.self c.scope_len-outer.result _ _ c.in_ok-first.first c.in_ok-second.second
+    (tree_of c.args.source.now.exprs c.args.left.now.value.0) (tree_of c.args.source.now.exprs c.args.right.now.value.0) c.in_ok-first.ensures c.in_ok-second.ensures c.scope_len-outer.ensures.known c.scope_len-outer.ensures.len c.in_ok-bind_given.ensures c.in_ok-bind_given-2.ensures c.in_ok-inner.ensures.stays c.leave.ensures in
+    c.in_ok-node.ensures.below (length c.leave.new.self.exprs) all.left.inside all.right.inside
+    (body_below (globals_in c.args.source.now) c.bind_given-2.new.self c.copy_expression-3.new.copier c.leave.new.self c.scope_len-outer.result c.in_ok-inner.inner (tree_of c.args.source.now.exprs c.args.body.0) c.in_ok-inner.ensures c.leave.ensures)
 
 pub copy_let_par-returns : goal.copy_let_par-returns
 copy_let_par-returns t c =
-    let_par_made (globals_in c.args.source.now) c.args.copier.now c.copy_expression.new.copier c.copy_expression-2.new.copier c.one.new.self c.one-2.new.self c.bind-2.new.self c.copy_expression-3.new.copier c.leave.new.self c.put.new.self c.scope_len-outer.result c.in_ok-expr.expr c.in_ok-first.first c.in_ok-second.second
-    c.in_ok-inner.inner c.in_ok-left_ty.left_ty c.in_ok-right_ty.right_ty c.args.span c.args.left.name c.args.right.name (tree_of c.args.source.now.exprs c.args.left.value.0) (tree_of c.args.source.now.exprs c.args.right.value.0) (tree_of c.args.source.now.exprs c.args.body.0) c.in_ok-first.ensures
-    c.in_ok-second.ensures c.in_ok-left_ty.ensures c.in_ok-right_ty.ensures c.scope_len-outer.ensures.known c.scope_len-outer.ensures.len
-    (bound_both c.one-2.new.self c.bind.new.self c.bind-2.new.self c.args.left.name c.args.right.name c.in_ok-left_ty.left_ty c.in_ok-right_ty.right_ty c.in_ok-bind.ensures.scope c.in_ok-bind.ensures.types c.in_ok-bind-2.ensures.scope) c.in_ok-inner.ensures c.leave.ensures c.in_ok-expr.ensures
-
-pub copy_let_par-one-requires : goal.copy_let_par-one-requires
-copy_let_par-one-requires t c = met_stays c.copy_expression.new.copier c.copy_expression-2.new.copier c.in_ok-first.first.given c.in_ok-second.ensures.stays c.in_ok-first.ensures.met
-
-pub copy_let_par-one-requires-2 : goal.copy_let_par-one-requires-2
-copy_let_par-one-requires-2 t c = met_stays c.copy_expression-2.new.copier c.one.new.self c.in_ok-second.second.given c.in_ok-left_ty.ensures.stays c.in_ok-second.ensures.met
-
-pub copy_par_several-types_given-requires : goal.copy_par_several-types_given-requires
-copy_par_several-types_given-requires t c = met_stays c.copy_expression.new.copier c.copy_expression-2.new.copier c.in_ok-first.first.given c.in_ok-second.ensures.stays c.in_ok-first.ensures.met
+    par_made (globals_in c.args.source.now) c.args.copier.now c.copy_expression.new.copier c.copy_expression-2.new.copier c.bind_given.new.self c.bind_given-2.new.self c.copy_expression-3.new.copier c.leave.new.self c.put.new.self c.scope_len-outer.result c.in_ok-expr.expr c.in_ok-first.first c.in_ok-second.second
+    c.in_ok-inner.inner c.in_ok-node.node c.args.span c.args.left.now.names.now c.args.right.now.names.now (tree_of c.args.source.now.exprs c.args.left.now.value.0) (tree_of c.args.source.now.exprs c.args.right.now.value.0) (tree_of c.args.source.now.exprs c.args.body.0)
+    c.in_ok-first.ensures c.in_ok-second.ensures c.scope_len-outer.ensures.known c.scope_len-outer.ensures.len c.in_ok-bind_given.ensures c.in_ok-bind_given-2.ensures c.in_ok-inner.ensures c.leave.ensures c.in_ok-node.ensures.tree c.in_ok-expr.ensures
 
 pub copy_tuple_parts-parts-init : goal.copy_tuple_parts-parts-init
 copy_tuple_parts-parts-init t c =
@@ -85,29 +104,6 @@ pub copy_tuple-returns : goal.copy_tuple-returns
 copy_tuple-returns t c =
     tuple_made (globals_in c.args.source.now) c.args.copier.now c.copy_tuple_parts.new.copier c.put_parts.new.self c.put.new.self c.in_ok-expr.expr c.in_ok-given.given c.in_ok-copied.copied.exprs c.in_ok-copied.copied.types.items c.deref.result.now c.deref-2.result.now c.in_ok-types.types c.args.span
     (arguments_from (tree_of c.args.source.now.exprs) c.args.ids.now) c.in_ok-copied.ensures c.deref.ensures.value c.in_ok-types.ensures c.deref-2.ensures.value c.in_ok-given.ensures c.in_ok-expr.ensures
-
-pub copy_let_several-returns : goal.copy_let_several-returns
-copy_let_several-returns t c =
-    let at = c.copy_expression.new.copier in
-    let_several_made (globals_in c.args.source.now) c.args.copier.now at c.bind_all.new.self c.copy_expression-2.new.copier c.leave.new.self c.put.new.self c.scope_len-outer.result c.in_ok-expr.expr c.in_ok-value.value c.in_ok-inner.inner c.in_ok-types.types.items c.in_ok-variables.variables c.args.span c.args.names.now
-    (tree_of c.args.source.now.exprs c.args.bound.0) (tree_of c.args.source.now.exprs c.args.body.0) c.in_ok-value.ensures c.in_ok-types.ensures.forms
-    (c.in_ok-variables.ensures ∙ ap (λ l. copy_variables (naming at) c.args.names.now (listed (forms at.scene) l)) c.deref.ensures.value) c.scope_len-outer.ensures.known c.scope_len-outer.ensures.len
-    (subst (λ l. Binds at c.bind_all.new.self (bind_forms c.args.names.now (listed (forms at.scene) l) (scope_in at.scene))) c.deref-2.ensures.value c.in_ok-bind_all.ensures) c.in_ok-inner.ensures c.leave.ensures c.in_ok-expr.ensures
-
-pub copy_par_several-returns : goal.copy_par_several-returns
-copy_par_several-returns t c =
-    let at = c.copy_expression-2.new.copier in
-    let xs = c.args.left.now.names.now in
-    let ys = c.args.right.now.names.now in
-    par_several_made (globals_in c.args.source.now) c.args.copier.now c.copy_expression.new.copier at c.bind_all.new.self c.bind_all-2.new.self c.copy_expression-3.new.copier c.leave.new.self c.put.new.self c.scope_len-outer.result c.in_ok-expr.expr c.in_ok-first.first c.in_ok-second.second c.in_ok-inner.inner
-    c.in_ok-left_types.left_types.items c.in_ok-right_types.right_types.items c.in_ok-left_names.left_names c.in_ok-right_names.right_names c.args.span xs ys (tree_of c.args.source.now.exprs c.args.left.now.value.0) (tree_of c.args.source.now.exprs c.args.right.now.value.0) (tree_of c.args.source.now.exprs c.args.body.0)
-    c.in_ok-first.ensures c.in_ok-second.ensures c.in_ok-left_types.ensures.forms c.in_ok-right_types.ensures.forms
-    (c.in_ok-left_names.ensures ∙ ap (λ l. copy_variables (naming at) xs (listed (forms at.scene) l)) c.deref.ensures.value)
-    (c.in_ok-right_names.ensures ∙ ap (λ l. copy_variables (naming at) ys (listed (forms at.scene) l)) c.deref-2.ensures.value)
-    c.in_ok-right_types.ensures.below c.scope_len-outer.ensures.known c.scope_len-outer.ensures.len
-    (subst (λ l. Binds at c.bind_all.new.self (bind_forms xs (listed (forms at.scene) l) (scope_in at.scene))) c.deref-3.ensures.value c.in_ok-bind_all.ensures)
-    (subst (λ l. Binds c.bind_all.new.self c.bind_all-2.new.self (bind_forms ys (listed (forms c.bind_all.new.self.scene) l) (scope_in c.bind_all.new.self.scene))) c.deref-4.ensures.value c.in_ok-bind_all-2.ensures)
-    c.in_ok-inner.ensures c.leave.ensures c.in_ok-expr.ensures
 
 pub copy_expression-returns-in-Variable : goal.copy_expression-returns-in-Variable
 copy_expression-returns-in-Variable t c =

@@ -24,12 +24,6 @@ decreases-copy_tuple_parts l = 4 * l.id.0
 abbrev pub decreases-copy_tuple : goal.decreases-copy_tuple
 decreases-copy_tuple l = 4 * l.id.0 + 1
 
-abbrev pub decreases-copy_let_several : goal.decreases-copy_let_several
-decreases-copy_let_several l = 4 * max l.bound.0 l.body.0 + 4
-
-abbrev pub decreases-copy_par_several : goal.decreases-copy_par_several
-decreases-copy_par_several l = 4 * max (max l.left.now.value.0 l.right.now.value.0) l.body.0 + 4
-
 abbrev pub invariant-copy_tuple_parts-parts : goal.invariant-copy_tuple_parts-parts
 invariant-copy_tuple_parts-parts l = TupleCopied (globals_in l.source) (tree_of l.source.exprs) l.fn.id.0 l.fn.copier l.copier l.ids l.rest l.exprs.items l.types.items
 
@@ -52,10 +46,10 @@ abbrev pub decreases-copy_operation : goal.decreases-copy_operation
 decreases-copy_operation l = 4 * max l.left.0 l.right.0 + 4
 
 abbrev pub decreases-copy_let : goal.decreases-copy_let
-decreases-copy_let l = 4 * max l.bound.value.0 l.body.0 + 4
+decreases-copy_let l = 4 * max l.bound.0 l.body.0 + 4
 
 abbrev pub decreases-copy_let_par : goal.decreases-copy_let_par
-decreases-copy_let_par l = 4 * max (max l.left.value.0 l.right.value.0) l.body.0 + 4
+decreases-copy_let_par l = 4 * max (max l.left.now.value.0 l.right.now.value.0) l.body.0 + 4
 
 abbrev pub decreases-copy_if : goal.decreases-copy_if
 decreases-copy_if l = 4 * max (max l.condition.0 l.then_part.0) l.else_part.0 + 4

@@ -7,7 +7,7 @@ use Rattle.gib_mono.proofs.Seeking.{if_ok, named_asked}
 use Rattle.gib_mono.proofs.search.ask_call.Goals as goal
 
 pub ask_function-requires : goal.ask_function-requires
-ask_function-requires c = subst (AreBelow (length c.read.new.self.types)) (sym c.into_vec-types.ensures) c.in_ok-reading.ensures.below.0
+ask_function-requires c = subst (AreBelow (length c.read.new.self.types)) (sym c.into_vec.ensures) c.in_ok-reading.ensures.below.0
 
 pub ask_uses-requires : goal.ask_uses-requires
 ask_uses-requires c = subst (λ k. AreUsesBelow (length k.types) c.in_ok-reading.reading.uses) (sym c.in_ok-ask_function.ensures.context) c.in_ok-reading.ensures.below.1
@@ -15,4 +15,4 @@ ask_uses-requires c = subst (λ k. AreUsesBelow (length k.types) c.in_ok-reading
 pub returns : goal.returns
 returns c =
     if_ok _ _ c.ask_uses.result (λ u h. named_asked (globals_in c.args.source.now) c.args.search.now (record { alloc = c.args.search.now.alloc; context = c.read.new.self; found = c.args.search.now.found; limit = c.args.search.now.limit }) c.ask_function.new.search c.ask_uses.new.search
-    c.args.words.now c.in_ok-reading.reading true (number_of c.args.f) c.args.f.span c.into_vec-types.result.items c.in_ok-reading.ensures refl refl c.into_vec-types.ensures c.in_ok-ask_function.ensures h) c.ask_uses.ensures
+    c.args.words.now c.in_ok-reading.reading true (number_of c.args.f) c.args.f.span c.into_vec.result.items c.in_ok-reading.ensures refl refl c.into_vec.ensures c.in_ok-ask_function.ensures h) c.ask_uses.ensures

@@ -1,11 +1,11 @@
-use Rattle.std.proofs.Common.{refl, sym, ap, ap₂, ◌∙◌, subst}
-use Rattle.gib_types.specs.Form.{has_long}
-use Rattle.gib_types.specs.Types.{forms_of, forms_at, AreBelow, AreOnce}
+use Rattle.std.proofs.Common.{refl, sym, ap, ◌∙◌, subst}
+use Rattle.gib_types.specs.Types.{forms_at, AreBelow}
 use Rattle.gib_mono.specs.declared.found.CopyKey.TheVariants as k
 use Rattle.gib_mono.specs.Contexts.{forms}
+use Rattle.gib_mono.specs.Searching.{AddsKey}
 use Rattle.gib_mono.specs.Sources.{globals_in}
 use Rattle.gib_mono.specs.Walk.{FunctionOf, function_asked}
-use Rattle.gib_mono.proofs.Seeking.{none_is, if_ok, key_asked}
+use Rattle.gib_mono.proofs.Seeking.{if_ok, key_asked}
 use Rattle.gib_mono.proofs.search.ask_function.Goals as goal
 use Rattle.gib_check.proofs.Growing.{many}
 
@@ -13,10 +13,10 @@ pub returns : goal.returns
 returns c =
     let g = globals_in c.args.source.now in
     let fs = forms c.args.search.now.context in
+    let ids = c.args.used.types in
     let t = c.in-Some.ensures.place in
-    if_ok _ _ c.add.result (λ u adds. key_asked g c.args.search.now c.add.new.search (k.Function c.in-Some.place c.args.types) 0 c.args.span _ (FunctionOf t.0 (forms_at fs c.args.types.items)) c.function_place.ensures.declared
-    (subst (λ ns. AreOnce (forms_of ns)) c.types-met.ensures c.len-count.ensures.once) (subst (λ n. AreBelow n c.args.types.items) (sym (many c.args.search.now.context.types)) c.requires)
-    (ap (λ o. function_asked o (forms_at fs c.args.types.items)) t.1) (ap (λ o. function_asked o (forms_at fs c.args.types.items)) t.2)
-    refl
-    (ap₂ (λ ns is. has_long (forms_at (forms_of ns) is)) (sym c.types-met.ensures) (sym c.deref.ensures.value) ∙ sym c.has_long.ensures ∙ c.if-has_long.false) refl
-    (none_is c.args.search.now.limit (sym c.is_some.ensures ∙ c.if-is_some.false)) adds) c.add.ensures
+    let goes = c.is_over.ensures.short c.if-is_over.false in
+    if_ok _ _ c.add.result (λ u adds. key_asked g c.args.search.now c.add.new.search (k.Function c.in-Some.place ids) 0 c.args.used.span _ (FunctionOf t.0 (forms_at fs ids.items)) c.function_place.ensures.declared
+    goes.once (subst (λ n. AreBelow n ids.items) (sym (many c.args.search.now.context.types)) c.requires)
+    (ap (λ o. function_asked o (forms_at fs ids.items)) t.1) (ap (λ o. function_asked o (forms_at fs ids.items)) t.2) refl goes.short refl (ap (λ s. s.limit) (sym goes.same) ∙ goes.on)
+    (subst (λ s. AddsKey s c.add.new.search (k.Function c.in-Some.place ids) 0 c.args.used.span) goes.same adds)) c.add.ensures

@@ -10,7 +10,7 @@ use Rattle.gib_mono.proofs.Seeking.{if_ok, named_asked}
 use Rattle.gib_mono.proofs.search.ask_make.Goals as goal
 
 pub ask_type-requires : goal.ask_type-requires
-ask_type-requires c = subst (AreBelow (length c.read.new.self.types)) (sym c.into_vec-types.ensures) c.in_ok-reading.ensures.below.0
+ask_type-requires c = subst (AreBelow (length c.read.new.self.types)) (sym c.into_vec.ensures) c.in_ok-reading.ensures.below.0
 
 pub ask_uses-requires : goal.ask_uses-requires
 ask_uses-requires c = subst (λ k. AreUsesBelow (length k.types) c.in_ok-reading.reading.uses) (sym c.in_ok-ask_type.ensures.context) c.in_ok-reading.ensures.below.1
@@ -20,4 +20,4 @@ returns c =
     if_ok _ _ c.ask_uses.result (λ u h.
     subst (λ z. Asks (globals_in c.args.source.now) c.args.search.now c.ask_uses.new.search (λ m. record { function = false; name = z; types = formed_all m (all_types (stack_of c.args.words.now)); span = c.args.k.span } ∷ writtens_asks m (all_types (stack_of c.args.words.now)))) c.owner.ensures
     (named_asked (globals_in c.args.source.now) c.args.search.now (record { alloc = c.args.search.now.alloc; context = c.read.new.self; found = c.args.search.now.found; limit = c.args.search.now.limit }) c.ask_type.new.search c.ask_uses.new.search
-    c.args.words.now c.in_ok-reading.reading false c.owner.result.0 c.args.k.span c.into_vec-types.result.items c.in_ok-reading.ensures refl refl c.into_vec-types.ensures c.in_ok-ask_type.ensures h)) c.ask_uses.ensures
+    c.args.words.now c.in_ok-reading.reading false c.owner.result.0 c.args.k.span c.into_vec.result.items c.in_ok-reading.ensures refl refl c.into_vec.ensures c.in_ok-ask_type.ensures h)) c.ask_uses.ensures
