@@ -20,10 +20,11 @@ pub mod Whole
 pub mod Printed
 -- The functions: loops as far as they have come, open types, calls, bodies.
 pub mod PartsSoFar
+pub mod Repeating
 pub mod Opening
 pub mod Calls
 pub mod Bodies
 pub mod Levels
 pub mod ExpressionLoops
-pub mod DeclarationLoops
+pub mod DeclarationsStay
 pub mod Answered

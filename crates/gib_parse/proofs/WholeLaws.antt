@@ -9,6 +9,7 @@ use Rattle.gib_syntax.specs.GenericTree.{GenericDataTree, GenericProgramTree}
 use Rattle.gib_syntax.specs.GenericFine.{HasGenericConstructor, IsGenericFineProgram}
 use Rattle.gib_syntax.specs.Spelling.{Places, IsPlacedProgram, Derives, spell_program, levels_program}
 use Rattle.gib_parse.specs.Reading.{Fault, At, Nested, left_of, Mode, Any, Reader, Parts, many, is_sign, type_at, next_name_at, next_part_at, next_arm_at, next_type_at, alternative_at, data_at, parameter_at, function_at, next_is, type_parameters_at, parse, whole_in}
+use Rattle.gib_parse.specs.Parsing.{Takes}
 use Rattle.gib_parse.specs.Blaming.{Begun}
 use Rattle.gib_reads.proofs.Tools.{done, failed, Holds}
 use Rattle.gib_reads.proofs.Many.{Shrinks}
@@ -65,6 +66,26 @@ module _ (at : Places) where
 
   pub parameter_shrinks : Shrinks (parameter_at at)
   parameter_shrinks ts = shrinks (parameter_reads {w = level (alone at) 0} [] ts).told
+
+-- ---- each takes tokens
+
+takes_of : {A : Type 0} {p : Reader A} → Shrinks p → Takes p
+takes_of sh ts rest a e = (sh ts).by a rest e
+
+pub alternatives_take : (at : Places) → Takes (alternative_at at)
+alternatives_take at = takes_of (alternative_shrinks at)
+
+pub datas_take : (at : Places) → Takes (data_at at)
+datas_take at = takes_of (data_shrinks at)
+
+pub parameters_take : (at : Places) → Takes (parameter_at at)
+parameters_take at = takes_of (parameter_shrinks at)
+
+pub next_types_take : (at : Places) → Takes (next_type_at at)
+next_types_take at = takes_of (next_types_shrink at)
+
+pub functions_take : (at : Places) → Takes (function_at at (parse at 200 Any))
+functions_take at = takes_of (function_shrinks at 200)
 
 -- ---- the whole
 

@@ -28,7 +28,7 @@ pub use Rattle.gib_reads.specs.Answers.{Fails, Gives, with_front}
 use Rattle.gib_parse.specs.declared.expressions.Bound.{Bound}
 use Rattle.gib_parse.specs.declared.expressions.Kind.{Kind}
 use Rattle.gib_parse.specs.declared.expressions.Kind.TheVariants as kind
-use Rattle.gib_parse.specs.Reading.{Read, next_is, starts_atom, Opened, inside, type_at, Mode, Any, App, Atom, ArmTree, BoundTree}
+use Rattle.gib_parse.specs.Reading.{Read, Reader, next_is, starts_atom, Opened, inside, type_at, Mode, Any, App, Atom, ArmTree, BoundTree}
 
 -- Which expressions may stand at a place.
 abbrev pub mode_of : Kind → Mode
@@ -55,6 +55,14 @@ pub record Stands {B : Type 0} (Inside : Arena → B → Type 0) (old new : Aren
 pub record AllStand {B : Type 0} (Inside : Arena → B → Type 0) (old new : Arena) (bs : List B) : Type 0 where
   pub grows : Grows old new
   pub inside : AllByRecursion (Inside new) bs
+
+-- Reading one takes tokens.
+abbrev pub Takes : {A : Type 0} → Reader A → Type 0
+Takes {A = A} p = (ts rest : List Token) (a : A) → p ts ≡ Ok (a, rest) → length rest < length ts
+
+-- What stands in an arena does so as it grows, as the same tree.
+abbrev pub Stays : {A B : Type 0} → (Arena → B → Type 0) → (Arena → B → A) → Type 0
+Stays {B = B} Inside make = (old new : Arena) (b : B) → Grows old new → Inside old b → Inside new b × (make new b ≡ make old b)
 
 -- A number is one of the arena's expressions.
 abbrev pub IsExpressionIn : Arena → ExprId → Type 0

@@ -8,12 +8,13 @@ ghost use Rattle.gib_parse.specs.Reading.{Any, Fault, At, Nested, many, is_sign,
 ghost use Rattle.gib_parse.specs.Parsing.{Fails, Gives, Reads, Stands, AllStand, IsConstructorIn, IsDataIn, IsParameterIn, IsMainIn};
 
 use crate::expressions::{Kind, expression};
+use crate::repeated::{Repeated, all, and_more};
 use crate::types::{one_type, results, types};
 use gib_base::Span;
 use gib_base::limits::LEVELS;
 use gib_base::token::{Sign, Token};
 use gib_reads::Stop;
-use gib_reads::phrases::{begins, constructor, further_variables, variable, variables, want};
+use gib_reads::phrases::{constructor, further_variables, variable, variables, want};
 use gib_syntax::{
     ExprId, GenericConstructor, GenericData, GenericExprs, GenericFunction, GenericMain,
     GenericParameter, GenericProgram, Ident,
@@ -36,22 +37,47 @@ fn alternative<'a>(
     Ok((GenericConstructor { name, fields }, tokens))
 }
 
-/// A bar, and a constructor behind it.
-#[tactic(auto, unfolding(crate::specs::Reading::alternative_at))]
-fn next_alternative<'a>(
-    alloc: Global,
-    spans: &[Span],
-    exprs: &mut GenericExprs,
-    tokens: &'a [Token],
-) -> Result<(GenericConstructor, &'a [Token]), Stop>
-    ensures kept { IfOk result (λ x. Stands IsConstructorIn exprs.old exprs.new x.0) }
-    ensures read { Gives (λ x. (constructor_in exprs.new.words x.0, x.1.now)) result (alternative_at (places_of spans.now) tokens.now) }
-{
-    let tokens = want(Sign::Bar, tokens)?;
-    alternative(alloc, spans, exprs, tokens)
+impl Repeated for GenericConstructor {
+    ghost use Rattle.gib_base.specs.declared.token.Sign.TheVariants as s;
+    ghost use Rattle.gib_syntax.specs.GenericTree.{GenericConstructorTree};
+    ghost use Rattle.gib_syntax.specs.GenericParts.{constructor_in};
+    ghost use Rattle.gib_parse.specs.Reading.{alternative_at};
+    ghost use Rattle.gib_parse.specs.Parsing.{IsConstructorIn};
+
+    ghost Tree = { GenericConstructorTree };
+
+    ghost mark = { s.Bar };
+
+    ghost reader = { alternative_at };
+
+    ghost tree = { λ a c. constructor_in a.words c };
+
+    ghost inside = { IsConstructorIn };
+
+    /// A bar.
+    fn sign() -> Sign {
+        Sign::Bar
+    }
+
+    /// A bar, and a constructor behind it.
+    #[tactic(auto, unfolding(crate::specs::Reading::alternative_at))]
+    fn read<'a>(
+        alloc: Global,
+        spans: &[Span],
+        exprs: &mut GenericExprs,
+        tokens: &'a [Token],
+    ) -> Result<(GenericConstructor, &'a [Token]), Stop> {
+        let tokens = want(Sign::Bar, tokens)?;
+        alternative(alloc, spans, exprs, tokens)
+    }
+
+    /// What its reader and the arena promise.
+    #[tactic(auto, using(crate::proofs::WholeLaws::alternatives_take, crate::proofs::DeclarationsStay::constructor_stays))]
+    fn laws() {}
 }
 
 /// Constructors, with a bar between two.
+#[tactic(auto, unfolding(crate::specs::Reading::constructors_at))]
 fn constructors<'a>(
     alloc: Global,
     spans: &[Span],
@@ -61,84 +87,106 @@ fn constructors<'a>(
     ensures kept { IfOk result (λ x. AllStand IsConstructorIn exprs.old exprs.new x.0.items) }
     ensures read { Gives (λ x. (map (constructor_in exprs.new.words) x.0.items, x.1.now)) result (constructors_at (places_of spans.now) tokens.now) }
 {
-    let mut found = Vec::new(alloc);
-    let (first, mut rest) = alternative(alloc, spans, exprs, tokens)?;
-    found.push(first)?;
-    'constructors: while begins(Sign::Bar, rest) {
-        let (next, after) = next_alternative(alloc, spans, exprs, rest)?;
-        found.push(next)?;
-        rest = after;
+    let (first, rest) = alternative(alloc, spans, exprs, tokens)?;
+    and_more(alloc, spans, exprs, first, rest)
+}
+
+impl Repeated for GenericData {
+    ghost use Rattle.gib_base.specs.declared.token.Sign.TheVariants as s;
+    ghost use Rattle.gib_syntax.specs.GenericTree.{GenericDataTree};
+    ghost use Rattle.gib_syntax.specs.GenericParts.{data_in};
+    ghost use Rattle.gib_parse.specs.Reading.{data_at};
+    ghost use Rattle.gib_parse.specs.Parsing.{IsDataIn};
+
+    ghost Tree = { GenericDataTree };
+
+    ghost mark = { s.Data };
+
+    ghost reader = { data_at };
+
+    ghost tree = { λ a d. data_in a.words d };
+
+    ghost inside = { IsDataIn };
+
+    /// The word before a declaration.
+    fn sign() -> Sign {
+        Sign::Data
     }
-    Ok((found, rest))
-}
 
-/// A data declaration.
-#[tactic(auto, unfolding(crate::specs::Reading::data_at))]
-fn data_declaration<'a>(
-    alloc: Global,
-    spans: &[Span],
-    exprs: &mut GenericExprs,
-    tokens: &'a [Token],
-) -> Result<(GenericData, &'a [Token]), Stop>
-    ensures kept { IfOk result (λ x. Stands IsDataIn exprs.old exprs.new x.0) }
-    ensures read { Gives (λ x. (data_in exprs.new.words x.0, x.1.now)) result (data_at (places_of spans.now) tokens.now) }
-{
-    let tokens = want(Sign::Data, tokens)?;
-    let (name, tokens) = constructor(spans, tokens)?;
-    let (variables, tokens) = variables(alloc, spans, tokens)?;
-    let tokens = want(Sign::Equals, tokens)?;
-    let (constructors, tokens) = constructors(alloc, spans, exprs, tokens)?;
-    let tokens = want(Sign::Semicolon, tokens)?;
-    Ok((
-        GenericData {
-            name,
-            variables,
-            constructors,
-        },
-        tokens,
-    ))
-}
-
-/// Data declarations, as many as there are.
-fn data_declarations<'a>(
-    alloc: Global,
-    spans: &[Span],
-    exprs: &mut GenericExprs,
-    tokens: &'a [Token],
-) -> Result<(Vec<GenericData>, &'a [Token]), Stop>
-    ensures kept { IfOk result (λ x. AllStand IsDataIn exprs.old exprs.new x.0.items) }
-    ensures read { Gives (λ x. (map (data_in exprs.new.words) x.0.items, x.1.now)) result (many (is_sign Sign.Data) (data_at (places_of spans.now)) tokens.now) }
-{
-    let mut found = Vec::new(alloc);
-    let mut rest = tokens;
-    'declarations: while begins(Sign::Data, rest) {
-        let (next, after) = data_declaration(alloc, spans, exprs, rest)?;
-        found.push(next)?;
-        rest = after;
+    /// A data declaration.
+    #[tactic(auto, unfolding(crate::specs::Reading::data_at))]
+    fn read<'a>(
+        alloc: Global,
+        spans: &[Span],
+        exprs: &mut GenericExprs,
+        tokens: &'a [Token],
+    ) -> Result<(GenericData, &'a [Token]), Stop> {
+        let tokens = want(Sign::Data, tokens)?;
+        let (name, tokens) = constructor(spans, tokens)?;
+        let (variables, tokens) = variables(alloc, spans, tokens)?;
+        let tokens = want(Sign::Equals, tokens)?;
+        let (constructors, tokens) = constructors(alloc, spans, exprs, tokens)?;
+        let tokens = want(Sign::Semicolon, tokens)?;
+        Ok((
+            GenericData {
+                name,
+                variables,
+                constructors,
+            },
+            tokens,
+        ))
     }
-    Ok((found, rest))
+
+    /// What its reader and the arena promise.
+    #[tactic(auto, using(crate::proofs::WholeLaws::datas_take))]
+    fn laws() {}
 }
 
-/// A parameter in its parentheses.
-#[tactic(auto, unfolding(crate::specs::Reading::parameter_at))]
-fn parameter<'a>(
-    alloc: Global,
-    spans: &[Span],
-    exprs: &mut GenericExprs,
-    tokens: &'a [Token],
-) -> Result<(GenericParameter, &'a [Token]), Stop>
-    ensures kept { IfOk result (λ x. Stands IsParameterIn exprs.old exprs.new x.0) }
-    ensures read { Gives (λ x. (parameter_in exprs.new.words x.0, x.1.now)) result (parameter_at (places_of spans.now) tokens.now) }
-{
-    let tokens = want(Sign::Open, tokens)?;
-    let (name, tokens) = variable(spans, tokens)?;
-    let tokens = want(Sign::Colon, tokens)?;
-    let (ty, tokens) = one_type(alloc, spans, exprs, tokens)?;
-    let tokens = want(Sign::Close, tokens)?;
-    Ok((GenericParameter { name, ty }, tokens))
+impl Repeated for GenericParameter {
+    ghost use Rattle.gib_base.specs.declared.token.Sign.TheVariants as s;
+    ghost use Rattle.gib_syntax.specs.GenericTree.{GenericParameterTree};
+    ghost use Rattle.gib_syntax.specs.GenericParts.{parameter_in};
+    ghost use Rattle.gib_parse.specs.Reading.{parameter_at};
+    ghost use Rattle.gib_parse.specs.Parsing.{IsParameterIn};
+
+    ghost Tree = { GenericParameterTree };
+
+    ghost mark = { s.Open };
+
+    ghost reader = { parameter_at };
+
+    ghost tree = { λ a q. parameter_in a.words q };
+
+    ghost inside = { IsParameterIn };
+
+    /// A parenthesis.
+    fn sign() -> Sign {
+        Sign::Open
+    }
+
+    /// A parameter in its parentheses.
+    #[tactic(auto, unfolding(crate::specs::Reading::parameter_at))]
+    fn read<'a>(
+        alloc: Global,
+        spans: &[Span],
+        exprs: &mut GenericExprs,
+        tokens: &'a [Token],
+    ) -> Result<(GenericParameter, &'a [Token]), Stop> {
+        let tokens = want(Sign::Open, tokens)?;
+        let (name, tokens) = variable(spans, tokens)?;
+        let tokens = want(Sign::Colon, tokens)?;
+        let (ty, tokens) = one_type(alloc, spans, exprs, tokens)?;
+        let tokens = want(Sign::Close, tokens)?;
+        Ok((GenericParameter { name, ty }, tokens))
+    }
+
+    /// What its reader and the arena promise.
+    #[tactic(auto, using(crate::proofs::WholeLaws::parameters_take, crate::proofs::DeclarationsStay::parameter_stays))]
+    fn laws() {}
 }
 
 /// Parameters, one at least.
+#[tactic(auto, unfolding(crate::specs::Reading::parameters_at))]
 fn parameters<'a>(
     alloc: Global,
     spans: &[Span],
@@ -148,15 +196,8 @@ fn parameters<'a>(
     ensures kept { IfOk result (λ x. AllStand IsParameterIn exprs.old exprs.new x.0.items) }
     ensures read { Gives (λ x. (map (parameter_in exprs.new.words) x.0.items, x.1.now)) result (parameters_at (places_of spans.now) tokens.now) }
 {
-    let mut found = Vec::new(alloc);
-    let (first, mut rest) = parameter(alloc, spans, exprs, tokens)?;
-    found.push(first)?;
-    'parameters: while begins(Sign::Open, rest) {
-        let (next, after) = parameter(alloc, spans, exprs, rest)?;
-        found.push(next)?;
-        rest = after;
-    }
-    Ok((found, rest))
+    let (first, rest) = GenericParameter::read(alloc, spans, exprs, tokens)?;
+    and_more(alloc, spans, exprs, first, rest)
 }
 
 /// From the equals sign before a body to the semicolon behind it.
@@ -210,54 +251,57 @@ fn type_parameters<'a>(
     }
 }
 
-/// A function.
-#[tactic(auto, unfolding(crate::specs::Reading::function_at))]
-fn function<'a>(
-    alloc: Global,
-    spans: &[Span],
-    exprs: &mut GenericExprs,
-    tokens: &'a [Token],
-) -> Result<(GenericFunction, &'a [Token]), Stop>
-    ensures kept { IfOk result (λ x. Stands IsFunctionInside exprs.old exprs.new x.0) }
-    ensures read { Gives (λ x. (function_in exprs.new x.0, x.1.now)) result (function_at (places_of spans.now) (parse (places_of spans.now) LEVELS Any) tokens.now) }
-{
-    let tokens = want(Sign::Fun, tokens)?;
-    let (name, tokens) = variable(spans, tokens)?;
-    let (variables, tokens) = type_parameters(alloc, spans, tokens)?;
-    let (parameters, tokens) = parameters(alloc, spans, exprs, tokens)?;
-    let tokens = want(Sign::Colon, tokens)?;
-    let (result, tokens) = results(alloc, spans, exprs, tokens)?;
-    let (body, tokens) = body(alloc, spans, exprs, tokens)?;
-    Ok((
-        GenericFunction {
-            name,
-            variables,
-            parameters,
-            result,
-            body,
-        },
-        tokens,
-    ))
-}
+impl Repeated for GenericFunction {
+    ghost use Rattle.gib_base.specs.declared.token.Sign.TheVariants as s;
+    ghost use Rattle.gib_syntax.specs.GenericTree.{GenericFunctionTree};
+    ghost use Rattle.gib_syntax.specs.GenericParts.{IsFunctionInside, function_in};
+    ghost use Rattle.gib_parse.specs.Reading.{Any, function_at, parse};
 
-/// Functions, as many as there are.
-fn functions<'a>(
-    alloc: Global,
-    spans: &[Span],
-    exprs: &mut GenericExprs,
-    tokens: &'a [Token],
-) -> Result<(Vec<GenericFunction>, &'a [Token]), Stop>
-    ensures kept { IfOk result (λ x. AllStand IsFunctionInside exprs.old exprs.new x.0.items) }
-    ensures read { Gives (λ x. (map (function_in exprs.new) x.0.items, x.1.now)) result (many (is_sign Sign.Fun) (function_at (places_of spans.now) (parse (places_of spans.now) LEVELS Any)) tokens.now) }
-{
-    let mut found = Vec::new(alloc);
-    let mut rest = tokens;
-    'functions: while begins(Sign::Fun, rest) {
-        let (next, after) = function(alloc, spans, exprs, rest)?;
-        found.push(next)?;
-        rest = after;
+    ghost Tree = { GenericFunctionTree };
+
+    ghost mark = { s.Fun };
+
+    ghost reader = { λ at. function_at at (parse at 200 Any) };
+
+    ghost tree = { function_in };
+
+    ghost inside = { IsFunctionInside };
+
+    /// The word before a function.
+    fn sign() -> Sign {
+        Sign::Fun
     }
-    Ok((found, rest))
+
+    /// A function.
+    #[tactic(auto, unfolding(crate::specs::Reading::function_at))]
+    fn read<'a>(
+        alloc: Global,
+        spans: &[Span],
+        exprs: &mut GenericExprs,
+        tokens: &'a [Token],
+    ) -> Result<(GenericFunction, &'a [Token]), Stop> {
+        let tokens = want(Sign::Fun, tokens)?;
+        let (name, tokens) = variable(spans, tokens)?;
+        let (variables, tokens) = type_parameters(alloc, spans, tokens)?;
+        let (parameters, tokens) = parameters(alloc, spans, exprs, tokens)?;
+        let tokens = want(Sign::Colon, tokens)?;
+        let (result, tokens) = results(alloc, spans, exprs, tokens)?;
+        let (body, tokens) = body(alloc, spans, exprs, tokens)?;
+        Ok((
+            GenericFunction {
+                name,
+                variables,
+                parameters,
+                result,
+                body,
+            },
+            tokens,
+        ))
+    }
+
+    /// What its reader and the arena promise.
+    #[tactic(auto, using(crate::proofs::WholeLaws::functions_take))]
+    fn laws() {}
 }
 
 /// The declaration of main.
@@ -272,7 +316,7 @@ fn main_declaration<'a>(
     ensures read { Gives (λ x. (main_in exprs.new x.0, x.1.now)) result (main_at (places_of spans.now) (parse (places_of spans.now) LEVELS Any) tokens.now) }
 {
     let tokens = want(Sign::Main, tokens)?;
-    let (parameter, tokens) = parameter(alloc, spans, exprs, tokens)?;
+    let (parameter, tokens) = GenericParameter::read(alloc, spans, exprs, tokens)?;
     let tokens = want(Sign::Colon, tokens)?;
     let (result, tokens) = one_type(alloc, spans, exprs, tokens)?;
     let (body, tokens) = body(alloc, spans, exprs, tokens)?;
@@ -296,8 +340,8 @@ fn program<'a>(
     ensures { Gives (λ x. (generic_program_of x.0, x.1.now)) result (program_at (places_of spans.now) (parse (places_of spans.now) LEVELS Any) tokens.now) }
 {
     let mut exprs = GenericExprs::new(alloc);
-    let (datas, tokens) = data_declarations(alloc, spans, &mut exprs, tokens)?;
-    let (functions, tokens) = functions(alloc, spans, &mut exprs, tokens)?;
+    let (datas, tokens) = all(alloc, spans, &mut exprs, tokens)?;
+    let (functions, tokens) = all(alloc, spans, &mut exprs, tokens)?;
     let (main, tokens) = main_declaration(alloc, spans, &mut exprs, tokens)?;
     Ok((GenericProgram::new(exprs, datas, functions, main), tokens))
 }

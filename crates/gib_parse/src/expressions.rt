@@ -13,9 +13,10 @@ ghost use Rattle.gib_parse.specs.Reading.{Any, Atom, next_is, is_sign, many, sta
 ghost use Rattle.gib_parse.specs.Parsing.{Fails, Gives, mode_of, Reads, AllStand, IsExpressionIn, ReadsArms, expression_tree, bound_tree, arm_tree, arms_tree, call_tree, may_call};
 
 use crate::phrases::names_bound;
+use crate::repeated::two_and;
 use crate::types::type_arguments;
+use gib_base::Span;
 use gib_base::token::{Sign, Token, is_literal};
-use gib_base::{Memory, Name, Span};
 use gib_reads::Stop;
 use gib_reads::phrases::{
     begins, constructor, named, operator_of, span_at, variable, variables, want,
@@ -703,25 +704,9 @@ fn tuple<'a>(
     let (second, tokens) = next_part(alloc, spans, exprs, level, tokens)?;
     let (further, tokens) = further_parts(alloc, spans, exprs, level, tokens)?;
     let tokens = want(Sign::Close, tokens)?;
-    let parts = all_parts(alloc, first.id, second, &further)?;
+    let parts = two_and(alloc, first.id, second, &further)?;
     let id = exprs.put(GenericNode::Tuple(first.span, parts))?;
     Ok((id, tokens))
-}
-
-/// Two parts and further ones.
-fn all_parts(
-    alloc: Global,
-    first: ExprId,
-    second: ExprId,
-    further: &[ExprId],
-) -> Result<Vec<ExprId>, Memory>
-    ensures { IfOk result (λ parts. parts.items ≡ first ∷ second ∷ further.now) }
-{
-    let mut parts = Vec::new(alloc);
-    parts.push(first)?;
-    parts.push(second)?;
-    parts.extend_from_slice(further)?;
-    Ok(parts)
 }
 
 /// An expression in parentheses as far as it is read: where it begins, its first part, and the operator of the

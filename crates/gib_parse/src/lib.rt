@@ -6,6 +6,7 @@ mod expressions;
 pub mod law;
 mod parsing;
 mod phrases;
+mod repeated;
 mod types;
 
 pub use gib_reads::fault::{self, ParseFault};

@@ -1,7 +1,6 @@
 //! Types: words, read from left to right with a stack of what stands open, since types nest without a bound.
 
 ghost use Rattle.std.specs.Prelude.{◌≡◌, ◌<◌, [], ◌∷◌, map, length, IfOk, IfErr};
-ghost use Rattle.gib_base.specs.declared.token.Sign.TheVariants as s;
 ghost use Rattle.gib_syntax.specs.Forms.{DataAt, NoType};
 ghost use Rattle.gib_syntax.specs.GenericParts.{results_in};
 ghost use Rattle.gib_syntax.specs.Spelling.{places_of};
@@ -10,10 +9,11 @@ ghost use Rattle.gib_parse.specs.Reading.{Fault, At, then_at, inside, type_at, b
 ghost use Rattle.gib_parse.specs.OpenTypes.{counted};
 ghost use Rattle.gib_parse.specs.Parsing.{Fails, Gives, Follows, FailsHere, ReadsWords, ReadsAllWords, Stands, AllStand, IsTypeIn, AreTypesIn, AreResultsIn};
 
+use crate::repeated::{Repeated, all, two_and};
 use gib_base::token::{Sign, Token};
 use gib_base::{Memory, Span};
 use gib_reads::Stop;
-use gib_reads::phrases::{begins, named, span_at, want};
+use gib_reads::phrases::{named, span_at, want};
 use gib_syntax::{GenericExprs, Ident, ResultRuns, Run, Word};
 use std::alloc::Global;
 use std::marker::Model;
@@ -182,10 +182,10 @@ impl TypeReader {
     ghost use Rattle.std.specs.Prelude.{◌≡◌, [], ◌∷◌, ◌++◌, false, List, length, IfOk, IfErr};
     ghost use Rattle.gib_base.specs.declared.token.Token.{Token as Piece};
     ghost use Rattle.gib_syntax.specs.Forms.{WrittenType};
-    ghost use Rattle.gib_syntax.specs.Spelling.{Places};
+    ghost use Rattle.gib_syntax.specs.Spelling.{Places, places_of};
     ghost use Rattle.gib_syntax.specs.declared.written.Word.{Word as TheWord};
     ghost use Rattle.gib_parse.specs.Reading.{Read};
-    ghost use Rattle.gib_parse.specs.Parsing.{Fails, Follows};
+    ghost use Rattle.gib_parse.specs.Parsing.{Fails, Follows, ReadsWords};
     ghost use Rattle.gib_parse.specs.OpenTypes.{TypeState, open_type, counted, InType, AfterToken};
 
     /// A declared type begins.
@@ -272,6 +272,22 @@ impl TypeReader {
         }
     }
 
+    /// All is taken up to the closing parenthesis of the outermost type.
+    fn read_on<'a>(&mut self, spans: &[Span], tokens: &'a [Token]) -> Result<&'a [Token], Stop>
+        ensures goes { (all : Read WrittenType) (base : List TheWord) → InType (places_of spans.now) all base self.old tokens.now
+            → IfOk result (λ rest. ReadsWords all base self.new.words rest.now) }
+        ensures fails { (all : Read WrittenType) (base : List TheWord) → InType (places_of spans.now) all base self.old tokens.now → IfErr result (λ e. Fails e all) }
+    {
+        let mut rest = tokens;
+        let mut closed = false;
+        'tokens: while !closed {
+            let (next, after) = next_in_type(spans, rest)?;
+            closed = self.take(next, rest.len())?;
+            rest = after;
+        }
+        Ok(rest)
+    }
+
     /// The words.
     fn into_words(self) -> Vec<Word>
         ensures { result.items ≡ self.words }
@@ -293,13 +309,7 @@ fn parenthesized<'a>(
     ensures fails { IfErr result (λ e. Fails e (inside (places_of spans.now) span name [] [] tokens.now)) }
 {
     let mut reader = TypeReader::new(alloc, words, span, name)?;
-    let mut rest = tokens;
-    let mut closed = false;
-    'tokens: while !closed {
-        let (next, after) = next_in_type(spans, rest)?;
-        closed = reader.take(next, rest.len())?;
-        rest = after;
-    }
+    let rest = reader.read_on(spans, tokens)?;
     Ok((reader.into_words(), rest))
 }
 
@@ -387,39 +397,43 @@ pub(crate) fn types<'a>(
     Ok((run, rest))
 }
 
-/// A comma, and a type behind it.
-#[tactic(auto, unfolding(crate::specs::Reading::next_type_at))]
-fn next_type<'a>(
-    alloc: Global,
-    spans: &[Span],
-    exprs: &mut GenericExprs,
-    tokens: &'a [Token],
-) -> Result<(Run, &'a [Token]), Stop>
-    ensures kept { IfOk result (λ x. Stands IsTypeIn exprs.old exprs.new x.0) }
-    ensures read { Gives (λ x. (type_in exprs.new.words x.0, x.1.now)) result (next_type_at (places_of spans.now) tokens.now) }
-{
-    let tokens = want(Sign::Comma, tokens)?;
-    one_type(alloc, spans, exprs, tokens)
-}
+impl Repeated for Run {
+    ghost use Rattle.gib_base.specs.declared.token.Sign.TheVariants as s;
+    ghost use Rattle.gib_syntax.specs.Forms.{WrittenType};
+    ghost use Rattle.gib_syntax.specs.Words.{type_in};
+    ghost use Rattle.gib_parse.specs.Reading.{next_type_at};
+    ghost use Rattle.gib_parse.specs.Parsing.{IsTypeIn};
 
-/// Types behind a comma each, as many as there are.
-fn next_types<'a>(
-    alloc: Global,
-    spans: &[Span],
-    exprs: &mut GenericExprs,
-    tokens: &'a [Token],
-) -> Result<(Vec<Run>, &'a [Token]), Stop>
-    ensures kept { IfOk result (λ x. AllStand IsTypeIn exprs.old exprs.new x.0.items) }
-    ensures read { Gives (λ x. (map (type_in exprs.new.words) x.0.items, x.1.now)) result (many (is_sign s.Comma) (next_type_at (places_of spans.now)) tokens.now) }
-{
-    let mut found = Vec::new(alloc);
-    let mut rest = tokens;
-    'types: while begins(Sign::Comma, rest) {
-        let (ty, after) = next_type(alloc, spans, exprs, rest)?;
-        found.push(ty)?;
-        rest = after;
+    ghost Tree = { WrittenType };
+
+    ghost mark = { s.Comma };
+
+    ghost reader = { next_type_at };
+
+    ghost tree = { λ a run. type_in a.words run };
+
+    ghost inside = { IsTypeIn };
+
+    /// A comma.
+    fn sign() -> Sign {
+        Sign::Comma
     }
-    Ok((found, rest))
+
+    /// A comma, and a type behind it.
+    #[tactic(auto, unfolding(crate::specs::Reading::next_type_at))]
+    fn read<'a>(
+        alloc: Global,
+        spans: &[Span],
+        exprs: &mut GenericExprs,
+        tokens: &'a [Token],
+    ) -> Result<(Run, &'a [Token]), Stop> {
+        let tokens = want(Sign::Comma, tokens)?;
+        one_type(alloc, spans, exprs, tokens)
+    }
+
+    /// What its reader and the arena promise.
+    #[tactic(auto, using(crate::proofs::WholeLaws::next_types_take, crate::proofs::DeclarationsStay::type_stays))]
+    fn laws() {}
 }
 
 /// Behind an opening parenthesis and the first type of a result of several parts: the further ones, and the end.
@@ -435,22 +449,11 @@ fn part_types<'a>(
     ensures kept { IfOk result (λ x. Stands AreResultsIn exprs.old exprs.new x.0) }
     ensures read { Gives (λ x. (results_in exprs.new.words x.0, x.1.now)) result (further_types_at (places_of spans.now) (type_in exprs.old.words first) tokens.now) }
 {
-    let (second, tokens) = next_type(alloc, spans, exprs, tokens)?;
-    let (further, tokens) = next_types(alloc, spans, exprs, tokens)?;
+    let (second, tokens) = Run::read(alloc, spans, exprs, tokens)?;
+    let (further, tokens) = all(alloc, spans, exprs, tokens)?;
     let tokens = want(Sign::Close, tokens)?;
-    let types = all_types(alloc, first, second, &further)?;
+    let types = two_and(alloc, first, second, &further)?;
     Ok((ResultRuns::Several(types), tokens))
-}
-
-/// Two types and further ones.
-fn all_types(alloc: Global, first: Run, second: Run, further: &[Run]) -> Result<Vec<Run>, Memory>
-    ensures { IfOk result (λ types. types.items ≡ first ∷ second ∷ further.now) }
-{
-    let mut types = Vec::new(alloc);
-    types.push(first)?;
-    types.push(second)?;
-    types.extend_from_slice(further)?;
-    Ok(types)
 }
 
 /// One type, as what a function gives.

@@ -6,14 +6,14 @@ use Rattle.gib_syntax.specs.GenericParts.{data_in, function_in, main_in}
 use Rattle.gib_syntax.specs.Spelling.{places_of}
 use Rattle.gib_reads.proofs.Tools.{done}
 use Rattle.gib_parse.proofs.PartsSoFar.{grows_more}
-use Rattle.gib_parse.proofs.DeclarationLoops.{datas_stay, datas_stay_inside, functions_stay, functions_stay_inside, program_done}
+use Rattle.gib_parse.proofs.DeclarationsStay.{datas_stay, datas_stay_inside, functions_stay, functions_stay_inside, program_done}
 use Rattle.gib_parse.proofs.WholeLaws.{read_constructors}
 use Rattle.gib_parse.proofs.declarations.program.Goals as goal
 
 pub new-requires : goal.new-requires
 new-requires c =
-    let first = c.data_declarations.new.exprs in
-    let mid = c.functions.new.exprs in
+    let first = c.all.new.exprs in
+    let mid = c.all-2.new.exprs in
     let last = c.main_declaration.new.exprs in
     let datas = c.in_ok-datas.datas.items in
     let kept = c.in_ok-datas.ensures.kept in
@@ -33,8 +33,8 @@ new-requires c =
 
 pub returns : goal.returns
 returns c =
-    let first = c.data_declarations.new.exprs in
-    let mid = c.functions.new.exprs in
+    let first = c.all.new.exprs in
+    let mid = c.all-2.new.exprs in
     let last = c.main_declaration.new.exprs in
     let datas = c.in_ok-datas.datas.items in
     let functions = c.in_ok-functions.functions.items in
