@@ -78,6 +78,9 @@ impl Run {
         ensures put { streamed (M.view mem.new) self.new.stream ≡ carried (M.view mem.old) payload.now self.old }
         ensures may { MayWait (M.view mem.new).cells self.new.stream }
     {
+        if self.from == self.to {
+            return;
+        }
         self.stream.put_bytes(mem, &payload[self.from..self.to]);
         self.from = self.to;
     }
