@@ -93,7 +93,7 @@ three = omega arith
 pub fine : (at : Places) (k : ℕ) → k < 2 ^ 63 → IsGenericFineProgram (generic_of (program at k))
 fine at k h = record {
   datas = ((λ e. absurd cc), tt);
-  functions = (((λ e. absurd cc), ((((tt, three, refl, refl), h, refl, refl), refl, tt), ((tt, refl, tt), (tt, refl, tt), (tt, refl, (tt, refl, tt)))), tt), tt);
+  functions = (((λ e. absurd cc), ((((tt, three, refl, refl), h, refl, refl), refl, tt), ((λ e. absurd cc), (λ e. absurd cc), (tt, refl, tt), (tt, refl, tt), (tt, refl, (tt, refl, tt)))), tt), tt);
   main = (tt, refl, tt);
 }
 

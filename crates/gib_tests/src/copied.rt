@@ -2,7 +2,7 @@
 
 use crate::programs::compile;
 use gib_base::{Name, Texts};
-use gib_syntax::{ConstructorDecl, DataDecl, FunctionDecl, Program, ResultTypes, TypeName};
+use gib_syntax::tree::{ConstructorDecl, DataDecl, FunctionDecl, Program, ResultTypes, TypeName};
 use std::alloc::{AllocError, Global};
 use std::test::Fail;
 
