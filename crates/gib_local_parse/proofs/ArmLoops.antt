@@ -1,5 +1,5 @@
 -- Arms, as far as they were read.
-use Rattle.std.proofs.Common.{◌≡◌, ℕ, ◌<◌, ◌≤◌, Bool, true, false, List, [], ◌∷◌, ◌++◌, map, length, Ok, Err, Result, IfOk, refl, sym, ap, ◌∙◌, subst, arith, length-append}
+use Rattle.std.proofs.Common.{◌≡◌, ℕ, ◌<◌, ◌≤◌, Bool, true, false, List, [], ◌∷◌, ◌++◌, map, length, Ok, Err, refl, sym, ap, ◌∙◌, subst, arith, length-append}
 use Rattle.std.specs.List.{AllByRecursion}
 use Rattle.gib_base.specs.declared.token.Sign.TheVariants as s
 use Rattle.gib_base.specs.declared.token.Token.{Token}
@@ -13,11 +13,10 @@ use Rattle.gib_reads.proofs.PartsSoFar.{PartsSoFar, parts_more, seen}
 use Rattle.gib_reads.proofs.SoFar.{one_and_more, first_one, first_fails, all_read, one_fails, shorter}
 use Rattle.gib_local_parse.specs.declared.lines.LineArm.{LineArm}
 use Rattle.gib_local_parse.specs.declared.lines.LineNode.{LineNode}
-use Rattle.gib_local_parse.specs.declared.lines.LineId.{LineId}
 use Rattle.gib_local_parse.specs.Tree.{Line, Arms, LastArm, NextArm}
 use Rattle.gib_local_parse.specs.Grammar.{ArmText, arms_of, arm_at, next_arm_at, arms_at, parse}
 use Rattle.gib_local_parse.specs.LineArena.{ArmsBelow, Grows, arms_from, case_from, nothing, tree_of}
-use Rattle.gib_local_parse.specs.ReadingTerms.{Reads, ReadsArms, arm_text, arms_text}
+use Rattle.gib_local_parse.specs.ReadingTerms.{ReadsArms, arm_text, arms_text}
 use Rattle.gib_local_parse.proofs.WholeLaws.{next_shrinks}
 
 pub grows_none : (a : List LineNode) → Grows a a
@@ -28,11 +27,6 @@ grows_more a b c p q = record {
   longer = (let l = p.longer in let m = q.longer in omega arith);
   same = λ id lt. (let l = p.longer in q.same id (omega arith)) ∙ p.same id lt;
 }
-
--- A term that was read stands, seen from an arena before.
-pub reads_after : {X : Type 0} (a b c : List LineNode) (r : Result (LineId × X) Stop) → Grows a b → IfOk r (λ x. Reads b c x.0.0) → IfOk r (λ x. Reads a c x.0.0)
-reads_after a b c (Ok x) g h = record { grows = grows_more a b c g h.grows; inside = h.inside }
-reads_after a b c (Err e) g h = tt
 
 -- ---- arms
 

@@ -1,9 +1,10 @@
 -- Calls, cases and lines as they are read.
-use Rattle.std.proofs.Common.{◌≡◌, ℕ, zero, suc, ◌-◌, ◌<◌, ◌≤◌, List, [], ◌∷◌, ◌++◌, length, Option, Ok, Err, refl, sym, ap, ◌∙◌, subst, arith}
+use Rattle.std.proofs.Common.{◌≡◌, ℕ, zero, suc, ◌-◌, ◌<◌, ◌≤◌, List, [], ◌∷◌, ◌++◌, length, Option, Result, Ok, Err, IfOk, refl, sym, ap, ◌∙◌, subst, arith}
 use Rattle.gib_base.specs.declared.Span.{Span}
 use Rattle.gib_base.specs.declared.token.Sign.TheVariants as s
 use Rattle.gib_base.specs.declared.token.Token.{Token}
 use Rattle.gib_syntax.specs.declared.tree.Ident.{Ident}
+use Rattle.gib_syntax.specs.declared.tree.TypeName.{TypeName}
 use Rattle.gib_syntax.specs.Spelling.{Places}
 use Rattle.gib_reads.specs.declared.stop.Stop.{Stop}
 use Rattle.gib_reads.specs.declared.stop.Stop.TheVariants as stop
@@ -14,8 +15,9 @@ use Rattle.gib_local_parse.specs.declared.lines.BindingNode.{BindingNode}
 use Rattle.gib_local_parse.specs.declared.lines.BindingNode.TheVariants as b
 use Rattle.gib_local_parse.specs.declared.lines.LineNode.{LineNode}
 use Rattle.gib_local_parse.specs.Tree.{Mark, Operand, Line, In, Called, Cased, Arms, Binding, LetIn, ParIn, Be}
-use Rattle.gib_local_parse.specs.Grammar.{operand_at, operands_at, option_at, arms_at, call_at, case_at, in_at, line_at, starts_term, no_level, parse}
+use Rattle.gib_local_parse.specs.Grammar.{type_at, let_from, one_at, operand_at, operands_at, option_at, arms_at, call_at, case_at, in_at, line_at, starts_term, no_level, parse}
 use Rattle.gib_local_parse.specs.LineArena.{BindingBelow, Grows, binding_from, tree_of}
+use Rattle.gib_local_parse.specs.ReadingTerms.{ReadsBinding}
 
 -- ---- calls
 
@@ -72,6 +74,16 @@ binding_stays old new (b.Let side) g h = (λ k. LetIn (Be side.name side.ty side
 binding_stays old new (b.Par l m r) g h = (λ k. ParIn (Be l.name l.ty l.mark (g.same l.line.0 h.0 k)) m (Be r.name r.ty r.mark (g.same r.line.0 h.1 k)))
 binding_stays old new (b.Operation x w y f z) g h = refl
 binding_stays old new (b.Reach y way) g h = refl
+
+-- A binding without terms of its own stands, whatever the arena.
+pub plain_stands : {X : Type 0} (old : List LineNode) (r : Result (BindingNode × X) Stop) → Grows old old → ((n : ℕ) → IfOk r (λ x. BindingBelow x.0 n)) → IfOk r (λ x. ReadsBinding old old x.0)
+plain_stands old (Ok x) g h = record { grows = g; inside = h (length old) }
+plain_stands old (Err e) g h = tt
+
+-- Behind `let` and a variable with its type.
+pub one_is : (at : Places) (sub : Reader Line) (t0 t1 t2 t3 : List Token) (x : Ident) (w : TypeName) → var_at at t0 ≡ done x t1 → want s.Colon t1 ≡ done (tt {0}) t2 → type_at at t2 ≡ done w t3
+    → one_at at sub t0 ≡ let_from at sub x w t3
+one_is at sub t0 t1 t2 t3 x w e1 e2 e3 = rw (e1, e2, e3) refl
 
 -- A binding's line.
 pub line_done : (sub : Reader Line) (p : Span) (d : Binding) (u : Line) (t0 t1 t2 : List Token) → want s.In t0 ≡ done (tt {0}) t1 → sub t1 ≡ done u t2 → in_at sub p (done d t0) ≡ done (In p d u) t2

@@ -11,8 +11,8 @@ use Rattle.gib_base.specs.declared.token.Token.{Token}
 use Rattle.gib_base.specs.declared.token.Token.TheVariants as t
 use Rattle.gib_reads.specs.Readers.{number_of}
 use Rattle.gib_reads.proofs.Signs.{operator_back}
-use Rattle.gib_local_parse.specs.Grammar.{sign, lower, operand_word, operator_word, type_word, spell_mark, spell_option, spell_operands, spell_names, spell_location, spell_way, spell_between, spell_line, spell_bound, spell_arms}
-use Rattle.gib_local_parse.specs.Stepping.{One, TypeS, OperandS, OperatorS, OperandsS, NamesS, OptionS, LocationS, WayS, BetweenS, LetS, LetRestS, LetEqualsS, MoreArmsS, TermS, Stack, number, is_operand, a_name, a_con, bound_symbols, advance, or_skip, Goes, Stands, Fails, goes_on, run, HasOperands, ArmsHave, when}
+use Rattle.gib_local_parse.specs.Grammar.{starts_operand, sign, lower, operand_word, operator_word, type_word, spell_mark, spell_option, spell_operands, spell_names, spell_location, spell_way, spell_between, spell_line, spell_bound, spell_arms}
+use Rattle.gib_local_parse.specs.Stepping.{One, TypeS, OperandS, OperatorS, OperandsS, NamesS, OptionS, LocationS, WayS, BetweenS, LetS, LetRestS, LetEqualsS, MoreArmsS, TermS, Stack, number, a_name, a_con, bound_symbols, advance, or_skip, Goes, Stands, Fails, goes_on, run, HasOperands, ArmsHave, when}
 
 -- ---- a refused word is refused whatever follows
 
@@ -48,7 +48,7 @@ fails_whatever (v ∷ vs) more w k e = fails_by vs more w (advance k v) (fails_w
 
 -- A word that is no operand and no `@`.
 pub record Stops (w : Token) : Type 0 where
-  pub operand : is_operand w ≡ false
+  pub operand : starts_operand w ≡ false
   pub mark : (number_of s.At == number w) ≡ false
 
 operand_goes : (x : Operand) (ws : List Token) (k : Stack) → run (operand_word x ∷ ws) (OperandS ∷ k) ≡ run ws k
@@ -64,7 +64,7 @@ operands_go (Number p n ∷ xs) rest k = operands_go xs rest k
 operands_go (Bit p true ∷ xs) rest k = operands_go xs rest k
 operands_go (Bit p false ∷ xs) rest k = operands_go xs rest k
 
-operands_end : (w : Token) (ws : List Token) (k : Stack) → is_operand w ≡ false → run (w ∷ ws) (OperandsS ∷ k) ≡ run (w ∷ ws) k
+operands_end : (w : Token) (ws : List Token) (k : Stack) → starts_operand w ≡ false → run (w ∷ ws) (OperandsS ∷ k) ≡ run (w ∷ ws) k
 operands_end w ws k e = ap (λ b. goes_on (run ws) (suc (length ws)) (or_skip b (OperandsS ∷ k) (advance k w))) e
 
 option_goes : (m : Option Mark) (w : Token) (ws : List Token) (k : Stack) → (number_of s.At == number w) ≡ false → run (spell_option m (w ∷ ws)) (OptionS ∷ k) ≡ run (w ∷ ws) k
@@ -116,7 +116,7 @@ term_first (Chosen p y u v) rest k = refl
 abbrev TermGoes : Line → Type 0
 TermGoes u = (w : Token) (ws : List Token) (k : Stack) → Stops w → HasOperands u → run (spell_line u (w ∷ ws)) (TermS ∷ k) ≡ run (w ∷ ws) k
 
-stop : (a : Token) → is_operand a ≡ false → (number_of s.At == number a) ≡ false → Stops a
+stop : (a : Token) → starts_operand a ≡ false → (number_of s.At == number a) ≡ false → Stops a
 stop a e f = record { operand = e; mark = f }
 
 bound_goes : (x : Ident) (a : TypeName) (m : Option Mark) (u : Line) (w : Token) (ws : List Token) (k : Stack) → TermGoes u → Stops w → HasOperands u → run (spell_bound (Be x a m u) (w ∷ ws)) (bound_symbols k) ≡ run (w ∷ ws) k

@@ -276,6 +276,14 @@ new_place_at at ws = then_at (var_at at ws) (λ l ws. then_at (want s.Equals ws)
 abbrev pub reach_at : Places → Reader Binding
 reach_at at ws = then_at (var_at at ws) (λ y ws. then_at (want s.By ws) (λ _ ws. then_at (way_at at ws) (λ q ws. Ok (ReachIn y q, ws))))
 
+-- A binding by its first word.
+abbrev pub binding_at : Places → Reader Line → Reader Binding
+binding_at at sub (t.Sign s.LetRegion ∷ ws) = region_at at ws
+binding_at at sub (t.Sign s.LetLocation ∷ ws) = new_place_at at ws
+binding_at at sub (t.Sign s.Reach ∷ ws) = reach_at at ws
+binding_at at sub (t.Sign s.Let ∷ ws) = let_at at sub ws
+binding_at at sub ws = Err (At (length ws))
+
 -- Behind `give`, whose span this is.
 abbrev pub give_at : Places → Span → Reader Line
 give_at at p ws = then_at (operand_at at ws) (λ x left. Ok (Given p x, left))

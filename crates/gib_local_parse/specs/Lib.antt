@@ -12,5 +12,6 @@ pub mod Stepping
 pub mod LineArena
 pub mod LineLaws
 pub mod TextParts
+pub mod Sources
 pub mod ReadingTerms
 pub mod ReadingBodies

@@ -1,10 +1,11 @@
 -- What the readers of terms put.
 use Rattle.std.specs.Prelude.{ℕ, ◌<◌, List, [], ◌∷◌, length}
 use Rattle.gib_local_parse.specs.declared.lines.LineArm.{LineArm}
+use Rattle.gib_local_parse.specs.declared.lines.BindingNode.{BindingNode}
 use Rattle.gib_local_parse.specs.declared.lines.LineNode.{LineNode}
 use Rattle.gib_local_parse.specs.Tree.{Line, Arms, LastArm}
 use Rattle.gib_local_parse.specs.Grammar.{ArmText}
-use Rattle.gib_local_parse.specs.LineArena.{ArmsBelow, Grows, arms_from, nothing}
+use Rattle.gib_local_parse.specs.LineArena.{ArmsBelow, BindingBelow, Grows, arms_from, nothing}
 
 -- A term was read: it stands here, and those that were there stay.
 pub record Reads (old new : List LineNode) (id : ℕ) : Type 0 where
@@ -15,6 +16,11 @@ pub record Reads (old new : List LineNode) (id : ℕ) : Type 0 where
 pub record ReadsArms (old new : List LineNode) (arms : List LineArm) : Type 0 where
   pub grows : Grows old new
   pub inside : ArmsBelow arms (length new)
+
+-- The same for the terms of a binding.
+pub record ReadsBinding (old new : List LineNode) (binding : BindingNode) : Type 0 where
+  pub grows : Grows old new
+  pub inside : BindingBelow binding (length new)
 
 -- An arm as a tree.
 abbrev pub arm_text : (ℕ → Line) → LineArm → ArmText

@@ -6,6 +6,8 @@ use Rattle.gib_base.specs.declared.token.Sign.TheVariants as s
 use Rattle.gib_base.specs.declared.token.Token.TheVariants as t
 use Rattle.gib_reads.specs.Readers.{number_of, operator_of}
 use Rattle.gib_local_parse.specs.Tree.{Line, In, Given, Pointed, Called, Made, Cased, Chosen, Binding, NewRegion, NewPlace, LetIn, ParIn, PrimIn, ReachIn, Bound, Be, Arms, LastArm, NextArm}
+use Rattle.gib_local_parse.specs.Grammar.{starts_operand}
+use Rattle.gib_local_parse.specs.Texts.{starts_type}
 use Rattle.gib_base.specs.declared.token.Token.{Token}
 
 -- Words by numbers: 60 is a name that begins with a lower-case letter, 61 one with an upper-case letter, 62 a number.
@@ -22,10 +24,6 @@ a_name = t.Variable (record { 0 = 0 })
 -- One that begins with an upper-case letter.
 abbrev pub a_con : Token
 a_con = t.Constructor (record { 0 = 0 })
-
--- A number.
-abbrev pub a_number : Token
-a_number = t.Number 0
 
 -- What may follow: one word like this one; one of several kinds; or parts of the grammar.
 pub data Symbol : Type 0 where
@@ -48,21 +46,6 @@ pub data Symbol : Type 0 where
 -- What is still to come, the next first.
 abbrev pub Stack : Type 0
 Stack = List Symbol
-
--- A token that is a type.
-abbrev pub is_type : Token → Bool
-is_type (t.Sign s.Int) = true
-is_type (t.Sign s.Bool) = true
-is_type (t.Constructor c) = true
-is_type n = false
-
--- A token that is an operand.
-abbrev pub is_operand : Token → Bool
-is_operand (t.Sign s.True) = true
-is_operand (t.Sign s.False) = true
-is_operand (t.Variable x) = true
-is_operand (t.Number m) = true
-is_operand n = false
 
 -- A token that is an operator.
 abbrev pub is_operator : Token → Bool
@@ -132,10 +115,10 @@ or_skip false k skip = skip
 abbrev pub advance : Stack → Token → Option Stack
 advance [] n = None
 advance (One m ∷ k) n = when (number m == number n) k
-advance (TypeS ∷ k) n = when (is_type n) k
-advance (OperandS ∷ k) n = when (is_operand n) k
+advance (TypeS ∷ k) n = when (starts_type n) k
+advance (OperandS ∷ k) n = when (starts_operand n) k
 advance (OperatorS ∷ k) n = when (is_operator n) k
-advance (OperandsS ∷ k) n = or_skip (is_operand n) (OperandsS ∷ k) (advance k n)
+advance (OperandsS ∷ k) n = or_skip (starts_operand n) (OperandsS ∷ k) (advance k n)
 advance (NamesS ∷ k) n = or_skip (60 == number n) (NamesS ∷ k) (advance k n)
 advance (OptionS ∷ k) n = or_skip (number_of s.At == number n) (One a_name ∷ k) (advance k n)
 advance (LocationS ∷ k) n = begin_location n k
@@ -161,24 +144,6 @@ goes_on more left (Some k) = more k
 abbrev pub run : List Token → Stack → Goes
 run [] k = Stands k
 run (w ∷ ws) k = goes_on (run ws) (suc (length ws)) (advance k w)
-
--- The shortest words of a symbol, a term is `give 0`.
-abbrev pub shortest : Symbol → List Token
-shortest (One n) = n ∷ []
-shortest TypeS = (t.Sign s.Int) ∷ []
-shortest OperandS = a_number ∷ []
-shortest OperatorS = (t.Sign s.Plus) ∷ []
-shortest OperandsS = []
-shortest NamesS = []
-shortest OptionS = []
-shortest LocationS = (t.Sign s.Start) ∷ a_name ∷ []
-shortest WayS = (t.Sign s.Offset) ∷ []
-shortest BetweenS = []
-shortest LetS = a_name ∷ (t.Sign s.Colon) ∷ (t.Sign s.Int) ∷ (t.Sign s.Equals) ∷ (t.Sign s.Give) ∷ a_number ∷ []
-shortest LetRestS = (t.Sign s.Equals) ∷ (t.Sign s.Give) ∷ a_number ∷ []
-shortest LetEqualsS = (t.Sign s.Give) ∷ a_number ∷ []
-shortest MoreArmsS = []
-shortest TermS = (t.Sign s.Give) ∷ a_number ∷ []
 
 -- A call has one operand at least.
 abbrev mutual

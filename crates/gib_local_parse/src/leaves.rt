@@ -1,21 +1,25 @@
 //! Terms that have no terms in them, and where no term is.
 
-ghost use Rattle.std.specs.Prelude.{◌≡◌, IfOk};
-ghost use Rattle.gib_syntax.specs.Spelling.{places_of};
-ghost use Rattle.gib_reads.specs.Readers.{next_is};
+ghost use Rattle.std.specs.Prelude.{◌≡◌, ℕ, length, Some, IfOk, MatchOption};
+ghost use Rattle.gib_syntax.specs.Spelling.{Places, places_of};
+ghost use Rattle.gib_syntax.specs.declared.tree.Ident.{Ident as Identifier};
+ghost use Rattle.gib_syntax.specs.declared.tree.TypeName.{TypeName as NamedType};
+ghost use Rattle.gib_reads.specs.Readers.{Read as Reading, Reader, next_is};
 ghost use Rattle.gib_reads.specs.Answers.{Fails, Gives};
-ghost use Rattle.gib_local_parse.specs.Grammar.{starts_term, no_level, give_at, point_at, call_at, make_at};
-ghost use Rattle.gib_local_parse.specs.LineArena.{tree_of};
+ghost use Rattle.gib_local_parse.specs.Grammar.{starts_term, no_level, give_at, point_at, let_from, side_in_at, prim_at, call_at, make_at};
+ghost use Rattle.gib_local_parse.specs.LineArena.{BindingBelow, PartsBelow, binding_from, layer, tree_of};
+ghost use Rattle.gib_local_parse.specs.Sources.{places_in};
 ghost use Rattle.gib_local_parse.specs.ReadingTerms.{Reads};
+ghost use Rattle.gib_local_parse.specs.Tree.{Line};
 
-use crate::lines::{LineId, LineNode, Lines};
-use crate::phrases::{further_operands, mark, operand, operands, optional_mark};
+use crate::lines::{BindingNode, LineId, LineNode, Lines};
+use crate::phrases::{further_operands, mark, operand, operands, operator, optional_mark};
+use crate::source::{Read, Source};
 use gib_base::Span;
 use gib_base::token::{Sign, Token};
-use gib_reads::phrases::variable;
+use gib_reads::phrases::{variable, want};
 use gib_reads::stop::Stop;
-use gib_syntax::Ident;
-use std::alloc::Global;
+use gib_syntax::{Ident, TypeName};
 
 /// Whether a term begins here.
 fn begins_term(tokens: &[Token]) -> bool
@@ -50,70 +54,97 @@ pub fn too_deep(tokens: &[Token]) -> Stop
     }
 }
 
-/// Behind `give`.
-pub fn give<'a>(
-    spans: &[Span],
-    lines: &mut Lines,
-    span: Span,
-    tokens: &'a [Token],
-) -> Result<(LineId, &'a [Token]), Stop>
+/// Puts a node that was read.
+pub fn put<'a>(lines: &mut Lines, found: Read<'a, LineNode>) -> Read<'a, LineId>
+    requires { IfOk found (λ x. PartsBelow x.0 (length lines.old)) }
     ensures kept { IfOk result (λ x. Reads lines.old lines.new x.0.0) }
-    ensures read { Gives (λ x. (tree_of lines.new x.0.0, x.1.now)) result (give_at (places_of spans.now) span tokens.now) }
+    ensures read { (r : Reading Line) → Gives (λ x. (layer (tree_of lines.old) (Some x.0), x.1.now)) found.entry r → Gives (λ x. (tree_of lines.new x.0.0, x.1.now)) result r }
+{
+    let (node, tokens) = found?;
+    let id = lines.put(node)?;
+    Ok((id, tokens))
+}
+
+/// Behind `give`.
+pub fn give<'a>(spans: &[Span], span: Span, tokens: &'a [Token]) -> Read<'a, LineNode>
+    ensures below { (n : ℕ) → IfOk result (λ x. PartsBelow x.0 n) }
+    ensures read { (f : ℕ → Line) → Gives (λ x. (layer f (Some x.0), x.1.now)) result (give_at (places_of spans.now) span tokens.now) }
 {
     let (value, tokens) = operand(spans, tokens)?;
-    let id = lines.put(LineNode::Give(span, value))?;
-    Ok((id, tokens))
+    Ok((LineNode::Give(span, value), tokens))
 }
 
 /// Behind `point`.
-pub fn point<'a>(
-    spans: &[Span],
-    lines: &mut Lines,
-    span: Span,
-    tokens: &'a [Token],
-) -> Result<(LineId, &'a [Token]), Stop>
-    ensures kept { IfOk result (λ x. Reads lines.old lines.new x.0.0) }
-    ensures read { Gives (λ x. (tree_of lines.new x.0.0, x.1.now)) result (point_at (places_of spans.now) span tokens.now) }
+pub fn point<'a>(spans: &[Span], span: Span, tokens: &'a [Token]) -> Read<'a, LineNode>
+    ensures below { (n : ℕ) → IfOk result (λ x. PartsBelow x.0 n) }
+    ensures read { (f : ℕ → Line) → Gives (λ x. (layer f (Some x.0), x.1.now)) result (point_at (places_of spans.now) span tokens.now) }
 {
     let (name, tokens) = variable(spans, tokens)?;
     let (place, tokens) = mark(spans, tokens)?;
-    let id = lines.put(LineNode::Point(span, name, place))?;
-    Ok((id, tokens))
+    Ok((LineNode::Point(span, name, place), tokens))
+}
+
+/// A variable with its type, as far as a binding was read.
+#[derive(Clone, Copy)]
+pub struct Typed {
+    pub name: Ident,
+    pub ty: TypeName,
+}
+
+/// What stands behind an equals sign and an opening parenthesis, where these come next.
+pub fn behind_open(tokens: &[Token]) -> Option<&[Token]>
+    ensures { (at : Places) (sub : Reader Line) (x : Identifier) (w : NamedType) → MatchOption result (let_from at sub x w tokens.now ≡ side_in_at at sub x w tokens.now) (λ rest. let_from at sub x w tokens.now ≡ prim_at at x w rest.now) }
+{
+    match tokens {
+        [Token::Sign(first), Token::Sign(second), rest @ ..] => match first {
+            Sign::Equals => match second {
+                Sign::Open => Some(rest),
+                _ => None,
+            },
+            _ => None,
+        },
+        _ => None,
+    }
+}
+
+/// Behind the opening parenthesis of an operation.
+pub fn operation<'a>(spans: &[Span], typed: Typed, tokens: &'a [Token]) -> Read<'a, BindingNode>
+    ensures below { (n : ℕ) → IfOk result (λ x. BindingBelow x.0 n) }
+    ensures read { (f : ℕ → Line) → Gives (λ x. (binding_from f x.0, x.1.now)) result (prim_at (places_of spans.now) typed.name typed.ty tokens.now) }
+{
+    let (left, tokens) = operand(spans, tokens)?;
+    let (operator, tokens) = operator(tokens)?;
+    let (right, tokens) = operand(spans, tokens)?;
+    let tokens = want(Sign::Close, tokens)?;
+    let binding = BindingNode::Operation {
+        name: typed.name,
+        ty: typed.ty,
+        left,
+        operator,
+        right,
+    };
+    Ok((binding, tokens))
 }
 
 /// A function's name, and behind it arguments, one at least, and a place.
-pub fn call<'a>(
-    alloc: Global,
-    spans: &[Span],
-    lines: &mut Lines,
-    function: Ident,
-    tokens: &'a [Token],
-) -> Result<(LineId, &'a [Token]), Stop>
-    ensures kept { IfOk result (λ x. Reads lines.old lines.new x.0.0) }
-    ensures read { Gives (λ x. (tree_of lines.new x.0.0, x.1.now)) result (call_at (places_of spans.now) function tokens.now) }
+pub fn call<'a>(source: &Source, function: Ident, tokens: &'a [Token]) -> Read<'a, LineNode>
+    ensures below { (n : ℕ) → IfOk result (λ x. PartsBelow x.0 n) }
+    ensures read { (f : ℕ → Line) → Gives (λ x. (layer f (Some x.0), x.1.now)) result (call_at (places_in source.now) function tokens.now) }
 {
-    let mut arguments = Vec::new(alloc);
-    let (first, tokens) = operand(spans, tokens)?;
+    let mut arguments = Vec::new(source.alloc);
+    let (first, tokens) = operand(source.spans, tokens)?;
     arguments.push(first)?;
-    let (arguments, tokens) = further_operands(spans, arguments, tokens)?;
-    let (place, tokens) = optional_mark(spans, tokens)?;
-    let id = lines.put(LineNode::Call(function, arguments, place))?;
-    Ok((id, tokens))
+    let (arguments, tokens) = further_operands(source.spans, arguments, tokens)?;
+    let (place, tokens) = optional_mark(source.spans, tokens)?;
+    Ok((LineNode::Call(function, arguments, place), tokens))
 }
 
 /// A constructor's name, and behind it a place and arguments.
-pub fn make<'a>(
-    alloc: Global,
-    spans: &[Span],
-    lines: &mut Lines,
-    head: Ident,
-    tokens: &'a [Token],
-) -> Result<(LineId, &'a [Token]), Stop>
-    ensures kept { IfOk result (λ x. Reads lines.old lines.new x.0.0) }
-    ensures read { Gives (λ x. (tree_of lines.new x.0.0, x.1.now)) result (make_at (places_of spans.now) head tokens.now) }
+pub fn make<'a>(source: &Source, head: Ident, tokens: &'a [Token]) -> Read<'a, LineNode>
+    ensures below { (n : ℕ) → IfOk result (λ x. PartsBelow x.0 n) }
+    ensures read { (f : ℕ → Line) → Gives (λ x. (layer f (Some x.0), x.1.now)) result (make_at (places_in source.now) head tokens.now) }
 {
-    let (place, tokens) = mark(spans, tokens)?;
-    let (arguments, tokens) = operands(alloc, spans, tokens)?;
-    let id = lines.put(LineNode::Make(head, place, arguments))?;
-    Ok((id, tokens))
+    let (place, tokens) = mark(source.spans, tokens)?;
+    let (arguments, tokens) = operands(source, tokens)?;
+    Ok((LineNode::Make(head, place, arguments), tokens))
 }

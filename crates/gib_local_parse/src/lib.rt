@@ -7,6 +7,7 @@ mod leaves;
 mod lines;
 mod parsing;
 mod phrases;
+mod source;
 mod terms;
 mod text;
 mod tree;

@@ -4,8 +4,10 @@ ghost use Rattle.std.specs.Prelude.{◌≡◌, ◌^◌, suc, nat_lt, length};
 ghost use Rattle.gib_syntax.specs.Spelling.{places_of};
 ghost use Rattle.gib_reads.specs.Readers.{Fault, At, Nested, next_is, then_at};
 ghost use Rattle.gib_reads.specs.Answers.{Fails, Gives, with_front};
+ghost use Rattle.gib_local_parse.specs.Sources.{places_in};
 ghost use Rattle.gib_local_parse.specs.Grammar.{head_at, place_between_at, operator_found, type_at, operand_at, literal_at, starts_operand, operands_at, mark_from, mark_at, option_at, location_at, way_at, operator_at, between_at};
 
+use crate::source::{Read, Source};
 use crate::tree::{Location, Mark, Operand, Way};
 use gib_base::Span;
 use gib_base::token::{Sign, Token, is_literal};
@@ -13,10 +15,9 @@ use gib_reads::phrases::{constructor, named, operator_of, span_at, variable, wan
 use gib_reads::stop::Stop;
 use gib_syntax::{Ident, TypeName};
 use gib_types::Operator;
-use std::alloc::Global;
 
 /// A type; of a declared one the name.
-pub fn type_name<'a>(spans: &[Span], tokens: &'a [Token]) -> Result<(TypeName, &'a [Token]), Stop>
+pub fn type_name<'a>(spans: &[Span], tokens: &'a [Token]) -> Read<'a, TypeName>
     ensures { Gives (λ x. (x.0, x.1.now)) result (type_at (places_of spans.now) tokens.now) }
 {
     match tokens {
@@ -34,12 +35,7 @@ pub fn type_name<'a>(spans: &[Span], tokens: &'a [Token]) -> Result<(TypeName, &
 }
 
 /// A number as an operand.
-fn number<'a>(
-    span: Span,
-    value: u64,
-    tokens: &'a [Token],
-    left: usize,
-) -> Result<(Operand, &'a [Token]), Stop>
+fn number<'a>(span: Span, value: u64, tokens: &'a [Token], left: usize) -> Read<'a, Operand>
     requires { left ≡ suc (length tokens.now) }
     ensures { Gives (λ x. (x.0, x.1.now)) result (literal_at (nat_lt value (2 ^ 63)) span value tokens.now) }
 {
@@ -51,7 +47,7 @@ fn number<'a>(
 }
 
 /// A variable or a literal.
-pub fn operand<'a>(spans: &[Span], tokens: &'a [Token]) -> Result<(Operand, &'a [Token]), Stop>
+pub fn operand<'a>(spans: &[Span], tokens: &'a [Token]) -> Read<'a, Operand>
     ensures { Gives (λ x. (x.0, x.1.now)) result (operand_at (places_of spans.now) tokens.now) }
 {
     let span = span_at(spans, tokens.len());
@@ -86,7 +82,7 @@ pub fn further_operands<'a>(
     spans: &[Span],
     first: Vec<Operand>,
     tokens: &'a [Token],
-) -> Result<(Vec<Operand>, &'a [Token]), Stop>
+) -> Read<'a, Vec<Operand>>
     ensures { Gives (λ x. (x.0.items, x.1.now)) result (with_front first.items (operands_at (places_of spans.now) tokens.now)) }
 {
     let mut found = first;
@@ -100,22 +96,14 @@ pub fn further_operands<'a>(
 }
 
 /// Operands, as many as there are.
-pub fn operands<'a>(
-    alloc: Global,
-    spans: &[Span],
-    tokens: &'a [Token],
-) -> Result<(Vec<Operand>, &'a [Token]), Stop>
-    ensures { Gives (λ x. (x.0.items, x.1.now)) result (operands_at (places_of spans.now) tokens.now) }
+pub fn operands<'a>(source: &Source, tokens: &'a [Token]) -> Read<'a, Vec<Operand>>
+    ensures { Gives (λ x. (x.0.items, x.1.now)) result (operands_at (places_in source.now) tokens.now) }
 {
-    further_operands(spans, Vec::new(alloc), tokens)
+    further_operands(source.spans, Vec::new(source.alloc), tokens)
 }
 
 /// The name behind an `@`.
-fn mark_behind<'a>(
-    spans: &[Span],
-    sign: Span,
-    tokens: &'a [Token],
-) -> Result<(Mark, &'a [Token]), Stop>
+fn mark_behind<'a>(spans: &[Span], sign: Span, tokens: &'a [Token]) -> Read<'a, Mark>
     ensures { Gives (λ x. (x.0, x.1.now)) result (mark_from (places_of spans.now) sign tokens.now) }
 {
     let (name, tokens) = variable(spans, tokens)?;
@@ -123,7 +111,7 @@ fn mark_behind<'a>(
 }
 
 /// An `@` with its name.
-pub fn mark<'a>(spans: &[Span], tokens: &'a [Token]) -> Result<(Mark, &'a [Token]), Stop>
+pub fn mark<'a>(spans: &[Span], tokens: &'a [Token]) -> Read<'a, Mark>
     ensures { Gives (λ x. (x.0, x.1.now)) result (mark_at (places_of spans.now) tokens.now) }
 {
     match tokens {
@@ -136,10 +124,7 @@ pub fn mark<'a>(spans: &[Span], tokens: &'a [Token]) -> Result<(Mark, &'a [Token
 }
 
 /// An `@` with its name, where one comes next.
-pub fn optional_mark<'a>(
-    spans: &[Span],
-    tokens: &'a [Token],
-) -> Result<(Option<Mark>, &'a [Token]), Stop>
+pub fn optional_mark<'a>(spans: &[Span], tokens: &'a [Token]) -> Read<'a, Option<Mark>>
     ensures { Gives (λ x. (x.0, x.1.now)) result (option_at (places_of spans.now) tokens.now) }
 {
     match tokens {
@@ -155,7 +140,7 @@ pub fn optional_mark<'a>(
 }
 
 /// The place behind a constructor's head.
-fn behind_head<'a>(spans: &[Span], tokens: &'a [Token]) -> Result<(Location, &'a [Token]), Stop>
+fn behind_head<'a>(spans: &[Span], tokens: &'a [Token]) -> Read<'a, Location>
     ensures { Gives (λ x. (x.0, x.1.now)) result (head_at (places_of spans.now) tokens.now) }
 {
     let (place, tokens) = variable(spans, tokens)?;
@@ -165,7 +150,7 @@ fn behind_head<'a>(spans: &[Span], tokens: &'a [Token]) -> Result<(Location, &'a
 }
 
 /// A location.
-pub fn location<'a>(spans: &[Span], tokens: &'a [Token]) -> Result<(Location, &'a [Token]), Stop>
+pub fn location<'a>(spans: &[Span], tokens: &'a [Token]) -> Read<'a, Location>
     ensures { Gives (λ x. (x.0, x.1.now)) result (location_at (places_of spans.now) tokens.now) }
 {
     match tokens {
@@ -185,7 +170,7 @@ pub fn location<'a>(spans: &[Span], tokens: &'a [Token]) -> Result<(Location, &'
 }
 
 /// How a field is reached.
-pub fn way<'a>(spans: &[Span], tokens: &'a [Token]) -> Result<(Way, &'a [Token]), Stop>
+pub fn way<'a>(spans: &[Span], tokens: &'a [Token]) -> Read<'a, Way>
     ensures { Gives (λ x. (x.0, x.1.now)) result (way_at (places_of spans.now) tokens.now) }
 {
     match tokens {
@@ -206,7 +191,7 @@ pub fn way<'a>(spans: &[Span], tokens: &'a [Token]) -> Result<(Way, &'a [Token])
 }
 
 /// An operator.
-pub fn operator<'a>(tokens: &'a [Token]) -> Result<(Operator, &'a [Token]), Stop>
+pub fn operator<'a>(tokens: &'a [Token]) -> Read<'a, Operator>
     ensures { Gives (λ x. (x.0, x.1.now)) result (operator_at tokens.now) }
 {
     match tokens {
@@ -219,10 +204,7 @@ pub fn operator<'a>(tokens: &'a [Token]) -> Result<(Operator, &'a [Token]), Stop
 }
 
 /// Behind `letloc` between two sides.
-fn place_between<'a>(
-    spans: &[Span],
-    tokens: &'a [Token],
-) -> Result<((Ident, Ident), &'a [Token]), Stop>
+fn place_between<'a>(spans: &[Span], tokens: &'a [Token]) -> Read<'a, (Ident, Ident)>
     ensures { Gives (λ x. (x.0, x.1.now)) result (place_between_at (places_of spans.now) tokens.now) }
 {
     let (place, tokens) = variable(spans, tokens)?;
@@ -234,10 +216,7 @@ fn place_between<'a>(
 }
 
 /// A place's name between two sides, where one comes next.
-pub fn between<'a>(
-    spans: &[Span],
-    tokens: &'a [Token],
-) -> Result<(Option<(Ident, Ident)>, &'a [Token]), Stop>
+pub fn between<'a>(spans: &[Span], tokens: &'a [Token]) -> Read<'a, Option<(Ident, Ident)>>
     ensures { Gives (λ x. (x.0, x.1.now)) result (between_at (places_of spans.now) tokens.now) }
 {
     match tokens {

@@ -1,5 +1,5 @@
 use Rattle.std.proofs.Common.{List, ap, ◌∙◌, subst}
-use Rattle.gib_syntax.specs.Spelling.{places_of}
+use Rattle.gib_local_parse.specs.Sources.{places_in}
 use Rattle.gib_reads.specs.Readers.{Read, many}
 use Rattle.gib_reads.specs.Answers.{Gives, with_front}
 use Rattle.gib_reads.proofs.SoFar.{front_none}
@@ -10,5 +10,5 @@ use Rattle.gib_local_parse.proofs.phrases.operands.Goals as goal
 pub returns : goal.returns
 returns c =
     let P : Read (List Operand) → Type 0 = λ r. Gives (λ x. (x.0.items, x.1.now)) c.further_operands.result r in
-    let read = many starts_operand (operand_at (places_of c.args.spans.now)) c.args.tokens.now in
+    let read = many starts_operand (operand_at (places_in c.args.source.now)) c.args.tokens.now in
     subst P (ap (λ (l : List Operand). with_front l read) c.new.ensures.items ∙ front_none read) c.further_operands.ensures

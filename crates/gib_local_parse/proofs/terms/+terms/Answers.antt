@@ -1,39 +1,41 @@
-use Rattle.std.proofs.Common.{rules, ◌≡◌, refl, sym, ap, ◌∙◌, length}
+use Rattle.std.proofs.Common.{rules, ◌≡◌, refl, sym, ap, ◌∙◌, subst, length}
 use Rattle.std.proofs.lemmas.Result.{err_from_is_err_and}
-use Rattle.gib_syntax.specs.Spelling.{places_of}
+use Rattle.gib_local_parse.specs.Sources.{places_at}
+use Rattle.gib_reads.specs.Readers.{Read, then_at}
+use Rattle.gib_reads.specs.Answers.{Gives}
 use Rattle.gib_reads.proofs.Tools.{done}
 use Rattle.gib_local_parse.specs.Tree.{Line, In, Cased, Binding}
 use Rattle.gib_local_parse.specs.LineArena.{binding_from, tree_of}
 use Rattle.gib_local_parse.specs.ReadingTerms.{arm_text, arms_text}
-use Rattle.gib_local_parse.specs.Grammar.{parse}
-use Rattle.gib_local_parse.proofs.ArmLoops.{grows_more, reads_after, arms_more, arms_done, first_arm_fails, arms_fail, arms_shorter, case_is}
-use Rattle.gib_local_parse.proofs.Calls.{case_done, line_done, binding_below, binding_stays}
+use Rattle.gib_local_parse.specs.Grammar.{case_at, in_at, parse}
+use Rattle.gib_local_parse.proofs.ArmLoops.{grows_none, grows_more, arms_more, arms_done, first_arm_fails, arms_fail, arms_shorter, case_is}
+use Rattle.gib_local_parse.proofs.Calls.{case_done, line_done, one_is, plain_stands, binding_below, binding_stays}
 use Rattle.gib_local_parse.proofs.terms.+terms.Goals as goal
 
 pub arms-returns-in_err-first-clause-read : goal.arms-returns-in_err-first-clause-read
 arms-returns-in_err-first-clause-read t c =
     let p = err_from_is_err_and c.from_residual.result c.from_residual.ensures.1 in
     rw (p.1, p.2)
-    (first_arm_fails (places_of c.args.spans.now) c.args.level c.args.tokens.now c.in_err-first.field-0.0 c.in_err-first.ensures.read)
+    (first_arm_fails (places_at c.args.depth.now) c.args.depth.now.level c.args.tokens.now c.in_err-first.field-0.0 c.in_err-first.ensures.read)
 
 pub arms-returns-in_err-next-clause-read : goal.arms-returns-in_err-next-clause-read
 arms-returns-in_err-next-clause-read t c =
     let p = err_from_is_err_and c.from_residual-in_err-next.result c.from_residual-in_err-next.ensures.1 in
     rw (p.1, p.2)
-    (arms_fail c.args.lines.now c.arms.lines (places_of c.args.spans.now) c.args.level c.args.tokens.now c.arms.rest.now c.arms.arms.items c.in_err-next.field-0.0 c.arms.invariant (sym c.begins.ensures ∙ c.arms-test.true) c.in_err-next.ensures.read)
+    (arms_fail c.args.lines.now c.arms.lines (places_at c.args.depth.now) c.args.depth.now.level c.args.tokens.now c.arms.rest.now c.arms.arms.items c.in_err-next.field-0.0 c.arms.invariant (sym c.begins.ensures ∙ c.arms-test.true) c.in_err-next.ensures.read)
 
 pub arms-arms-smaller : goal.arms-arms-smaller
 arms-arms-smaller t c =
-    arms_shorter (places_of c.args.spans.now) c.args.level c.arms.rest.now c.in_ok-next.after.now (arm_text (tree_of c.next_arm.new.lines) c.in_ok-next.next) c.in_ok-next.ensures.read
+    arms_shorter (places_at c.args.depth.now) c.args.depth.now.level c.arms.rest.now c.in_ok-next.after.now (arm_text (tree_of c.next_arm.new.lines) c.in_ok-next.next) c.in_ok-next.ensures.read
 
 pub arms-arms-preserved : goal.arms-arms-preserved
 arms-arms-preserved t c =
     rw c.in_ok-push-2.ensures.items
-    (arms_more c.args.lines.now c.arms.lines c.next_arm.new.lines (places_of c.args.spans.now) c.args.level c.args.tokens.now c.arms.rest.now c.in_ok-next.after.now c.arms.arms.items c.in_ok-next.next c.arms.invariant (sym c.begins.ensures ∙ c.arms-test.true) c.in_ok-next.ensures.kept.grows c.in_ok-next.ensures.kept.inside c.in_ok-next.ensures.read)
+    (arms_more c.args.lines.now c.arms.lines c.next_arm.new.lines (places_at c.args.depth.now) c.args.depth.now.level c.args.tokens.now c.arms.rest.now c.in_ok-next.after.now c.arms.arms.items c.in_ok-next.next c.arms.invariant (sym c.begins.ensures ∙ c.arms-test.true) c.in_ok-next.ensures.kept.grows c.in_ok-next.ensures.kept.inside c.in_ok-next.ensures.read)
 
 pub arms-returns-clause-read : goal.arms-returns-clause-read
 arms-returns-clause-read t c =
-    arms_done c.args.lines.now c.arms.lines (places_of c.args.spans.now) c.args.level c.args.tokens.now c.arms.rest.now c.arms.arms.items c.arms.invariant (sym c.begins.ensures ∙ c.arms-test.false)
+    arms_done c.args.lines.now c.arms.lines (places_at c.args.depth.now) c.args.depth.now.level c.args.tokens.now c.arms.rest.now c.arms.arms.items c.arms.invariant (sym c.begins.ensures ∙ c.arms-test.false)
 
 pub case_of-returns-clause-kept : goal.case_of-returns-clause-kept
 case_of-returns-clause-kept t c =
@@ -46,40 +48,69 @@ if_then-returns-clause-kept t c =
     let first = grows_more c.args.lines.now c.term.new.lines c.term-2.new.lines c.in_ok-then_part.ensures.kept.grows c.in_ok-else_part.ensures.kept.grows in
     record { grows = grows_more c.args.lines.now c.term-2.new.lines c.put.new.self first made.grows; inside = made.inside }
 
-pub rest_of_line-returns-clause-kept : goal.rest_of_line-returns-clause-kept
-rest_of_line-returns-clause-kept t c =
+pub line-returns-clause-kept : goal.line-returns-clause-kept
+line-returns-clause-kept t c =
     let made = c.in_ok-id.ensures.made in
-    record { grows = grows_more c.args.lines.now c.term.new.lines c.put.new.self c.in_ok-rest.ensures.kept.grows made.grows; inside = made.inside }
+    let both = grows_more c.args.lines.now c.binding.new.lines c.term.new.lines c.in_ok-binding.ensures.kept.grows c.in_ok-rest.ensures.kept.grows in
+    record { grows = grows_more c.args.lines.now c.term.new.lines c.put.new.self both made.grows; inside = made.inside }
 
 pub case_of-returns-clause-read : goal.case_of-returns-clause-read
 case_of-returns-clause-read t c =
-    let at = places_of c.args.spans.now in
+    let at = places_at c.args.depth.now in
+    let sub = parse at c.args.depth.now.level in
+    let span = at (length c.args.tokens.now) in
     let mid = c.arms.new.lines in
     let arms = c.in_ok-arms.arms.items in
     let x = c.in_ok-variable.variable in
-    case_done at (parse at c.args.level) c.args.span c.args.tokens.now c.in_ok-variable.tokens.now c.in_ok-tokens.tokens.now c.in_ok-tokens-2.tokens.now c.in_ok-arms.tokens.now c.in_ok-tokens-3.tokens.now x (arms_text (tree_of mid) arms)
-    c.in_ok-variable.ensures c.in_ok-tokens.ensures c.in_ok-tokens-2.ensures c.in_ok-arms.ensures.read c.in_ok-tokens-3.ensures
-    ∙ ap (λ (u : Line). done u c.in_ok-tokens-3.tokens.now) (sym (c.in_ok-id.ensures.made.tree ∙ case_is (tree_of mid) arms (length mid) (Cased c.args.span x) c.in_ok-arms.ensures.kept.inside))
+    ap (λ (z : Read (Unit {0})). then_at z (λ _ rest. case_at at sub span rest)) c.in_ok-tokens.ensures
+    ∙ case_done at sub span c.in_ok-tokens.tokens.now c.in_ok-variable.tokens.now c.in_ok-tokens-2.tokens.now c.in_ok-tokens-3.tokens.now c.in_ok-arms.tokens.now c.in_ok-tokens-4.tokens.now x (arms_text (tree_of mid) arms)
+    c.in_ok-variable.ensures c.in_ok-tokens-2.ensures c.in_ok-tokens-3.ensures c.in_ok-arms.ensures.read c.in_ok-tokens-4.ensures
+    ∙ ap (λ (u : Line). done u c.in_ok-tokens-4.tokens.now) (sym (c.in_ok-id.ensures.made.tree ∙ case_is (tree_of mid) arms (length mid) (Cased c.span_at-span.result x) c.in_ok-arms.ensures.kept.inside ∙ (λ i. Cased (c.span_at-span.ensures i) x (arms_text (tree_of mid) arms))))
 
-pub rest_of_line-put-requires : goal.rest_of_line-put-requires
-rest_of_line-put-requires t c =
+pub line-put-requires : goal.line-put-requires
+line-put-requires t c =
     let rest = c.in_ok-rest.ensures.kept in
-    (binding_below c.args.binding (length c.args.lines.now) (length c.term.new.lines) rest.grows.longer c.requires, rest.inside)
+    (binding_below c.in_ok-binding.binding (length c.binding.new.lines) (length c.term.new.lines) rest.grows.longer c.in_ok-binding.ensures.kept.inside, rest.inside)
 
-pub rest_of_line-returns-clause-read : goal.rest_of_line-returns-clause-read
-rest_of_line-returns-clause-read t c =
-    let old = c.args.lines.now in
+pub line-returns-clause-read : goal.line-returns-clause-read
+line-returns-clause-read t c =
+    let at = places_at c.args.depth.now in
+    let old = c.binding.new.lines in
     let mid = c.term.new.lines in
     let kept = c.in_ok-rest.ensures.kept in
+    let span = at (length c.args.tokens.now) in
     let u = tree_of mid c.in_ok-rest.rest.0 in
-    let b = binding_from (tree_of old) c.args.binding in
-    line_done (parse (places_of c.args.spans.now) c.args.level) c.args.span b u c.args.tokens.now c.in_ok-tokens.tokens.now c.in_ok-rest.tokens.now c.in_ok-tokens.ensures c.in_ok-rest.ensures.read
-    ∙ ap (λ (u : Line). done u c.in_ok-rest.tokens.now) (sym (c.in_ok-id.ensures.made.tree ∙ ap (λ (d : Binding). In c.args.span d u) (binding_stays old mid c.args.binding kept.grows c.requires)))
+    let b = binding_from (tree_of old) c.in_ok-binding.binding in
+    ap (in_at (parse at c.args.depth.now.level) span) c.in_ok-binding.ensures.read
+    ∙ line_done (parse at c.args.depth.now.level) span b u c.in_ok-binding.tokens.now c.in_ok-tokens.tokens.now c.in_ok-rest.tokens.now c.in_ok-tokens.ensures c.in_ok-rest.ensures.read
+    ∙ ap (λ (u : Line). done u c.in_ok-rest.tokens.now) (sym (c.in_ok-id.ensures.made.tree ∙ (λ i. In (c.span_at-span.ensures i) (binding_stays old mid c.in_ok-binding.binding kept.grows c.in_ok-binding.ensures.kept.inside i) u)))
 
-pub let_side-returns-clause-kept : goal.let_side-returns-clause-kept
-let_side-returns-clause-kept t c = reads_after c.args.lines.now c.side_rest.new.lines c.rest_of_line.new.lines c.rest_of_line.result c.in_ok-side.ensures.kept.grows c.rest_of_line.ensures.kept
+pub let_one-returns-in-Some-clause-kept : goal.let_one-returns-in-Some-clause-kept
+let_one-returns-in-Some-clause-kept t c = plain_stands c.args.lines.now c.operation.result (grows_none c.args.lines.now) c.operation.ensures.below
 
-pub let_par-returns-clause-kept : goal.let_par-returns-clause-kept
-let_par-returns-clause-kept t c =
-    let both = grows_more c.args.lines.now c.side.new.lines c.side-2.new.lines c.in_ok-left.ensures.kept.grows c.in_ok-right.ensures.kept.grows in
-    reads_after c.args.lines.now c.side-2.new.lines c.rest_of_line.new.lines c.rest_of_line.result both c.rest_of_line.ensures.kept
+pub let_one-returns-in-Some-clause-read : goal.let_one-returns-in-Some-clause-read
+let_one-returns-in-Some-clause-read t c =
+    let at = places_at c.args.depth.now in
+    let sub = parse at c.args.depth.now.level in
+    let x = c.in_ok-name.name in
+    let w = c.in_ok-ty.ty in
+    let read = one_is at sub c.args.tokens.now c.in_ok-name.tokens.now c.in_ok-tokens.tokens.now c.in_ok-ty.tokens.now x w c.in_ok-name.ensures c.in_ok-tokens.ensures c.in_ok-ty.ensures ∙ c.in-Some.ensures at sub x w in
+    subst (λ (r : Read Binding). Gives (λ x. (binding_from (tree_of c.args.lines.now) x.0, x.1.now)) c.operation.result r) (sym read) (c.operation.ensures.read (tree_of c.args.lines.now))
+
+pub step-put-requires : goal.step-put-requires
+step-put-requires t c = c.call.ensures.below (length c.args.lines.now)
+
+pub step-put-requires-in-Constructor : goal.step-put-requires-in-Constructor
+step-put-requires-in-Constructor t c = c.make.ensures.below (length c.args.lines.now)
+
+pub step-returns-in-Variable-clause-read : goal.step-returns-in-Variable-clause-read
+step-returns-in-Variable-clause-read t c = let h = c.put.ensures.read _ (c.call.ensures.read (tree_of c.args.lines.now)) in search rules
+
+pub step-returns-in-Constructor-clause-read : goal.step-returns-in-Constructor-clause-read
+step-returns-in-Constructor-clause-read t c = let h = c.put-in-Constructor.ensures.read _ (c.make.ensures.read (tree_of c.args.lines.now)) in search rules
+
+pub step-returns-in-Give-clause-read : goal.step-returns-in-Give-clause-read
+step-returns-in-Give-clause-read t c = let h = c.put-in-Give.ensures.read _ (c.give.ensures.read (tree_of c.args.lines.now)) in search rules
+
+pub step-returns-in-Point-clause-read : goal.step-returns-in-Point-clause-read
+step-returns-in-Point-clause-read t c = let h = c.put-in-Point.ensures.read _ (c.point.ensures.read (tree_of c.args.lines.now)) in search rules
