@@ -30,10 +30,10 @@ use crate::put_binding::{
     Operation, put_between, put_no_branch, put_no_text, put_operation, put_reach, put_room,
 };
 use crate::put_declarations::{put_datas, put_offsets, put_parameter, put_parameters};
-use crate::spelled::Spelled;
+use crate::spelled::{Spelled, put_sign, put_variable};
 use crate::target::{Printed, Target, are_fields, before_each, side_target};
 use gib_base::token::{Sign, Token};
-use gib_base::{Memory, Texts};
+use gib_base::{Memory, Reversed, Texts};
 use gib_core::{
     Atom, Binding, BoundSide, BoundTerm, Branch, Core, CoreFunction, CoreMain, CoreResult, Node,
     TermId, Variable,
@@ -104,12 +104,12 @@ fn put_end(from: &Printed, target: &Target, id: TermId, out: &mut Spelled) -> Re
         }
         Node::Give(atom) => put_give(*atom, out),
         Node::Case { subject, branches } => {
-            out.put_sign(Sign::CloseBrace)?;
+            put_sign(Sign::CloseBrace, out)?;
             put_branches(from, target, id, branches, out)?;
-            out.put_sign(Sign::OpenBrace)?;
-            out.put_sign(Sign::Of)?;
+            put_sign(Sign::OpenBrace, out)?;
+            put_sign(Sign::Of, out)?;
             put_name(*subject, out)?;
-            out.put_sign(Sign::Case)
+            put_sign(Sign::Case, out)
         }
         Node::If {
             condition,
@@ -117,11 +117,11 @@ fn put_end(from: &Printed, target: &Target, id: TermId, out: &mut Spelled) -> Re
             else_part,
         } => {
             put_term(from, target, *else_part, out)?;
-            out.put_sign(Sign::Else)?;
+            put_sign(Sign::Else, out)?;
             put_term(from, target, *then_part, out)?;
-            out.put_sign(Sign::Then)?;
+            put_sign(Sign::Then, out)?;
             put_operand(*condition, out)?;
-            out.put_sign(Sign::If)
+            put_sign(Sign::If, out)
         }
         Node::Tuple { .. } => {
             put_mark(target.at, out)?;
@@ -186,9 +186,9 @@ fn put_one(
     ensures { OnOk result (out.new ≡ put_before given (destination_of before.now) side.kind side.variable.0 (put_in (LetIn (side_text given from.now.types.now (side_from (term_of from.now.terms.now) (side_of.One side)) (side_number (destination_of before.now) side.kind side.variable.0))) out.old)) }
 {
     let number = side_number(before, side.kind, side.variable);
-    out.put_sign(Sign::In)?;
+    put_sign(Sign::In, out)?;
     put_side(from, side, number, out)?;
-    out.put_sign(Sign::Let)?;
+    put_sign(Sign::Let, out)?;
     put_before(before, side.kind, side.variable, out)
 }
 
@@ -232,18 +232,18 @@ fn put_fields(
         (side_text given from.now.types.now (side_from (term_of from.now.terms.now) (side_of.One left))) (side_text given from.now.types.now
         (side_from (term_of from.now.terms.now) (side_of.One right))) out.old) }
 {
-    out.put_sign(Sign::In)?;
+    put_sign(Sign::In, out)?;
     put_side(from, right, right.variable.0, out)?;
     put_between(right.variable, left.variable, out)?;
-    out.put_sign(Sign::And)?;
+    put_sign(Sign::And, out)?;
     put_side(
         from,
         left,
         side_number(before, left.kind, left.variable),
         out,
     )?;
-    out.put_sign(Sign::Par)?;
-    out.put_sign(Sign::Let)?;
+    put_sign(Sign::Par, out)?;
+    put_sign(Sign::Let, out)?;
     put_before(before, left.kind, left.variable, out)
 }
 
@@ -263,22 +263,22 @@ fn put_sides(
         (side_text given from.now.types.now (side_from (term_of from.now.terms.now) (side_of.One left))) (side_text given from.now.types.now
         (side_from (term_of from.now.terms.now) (side_of.One right))) out.old) }
 {
-    out.put_sign(Sign::In)?;
+    put_sign(Sign::In, out)?;
     put_side(
         from,
         right,
         side_number(before, right.kind, right.variable),
         out,
     )?;
-    out.put_sign(Sign::And)?;
+    put_sign(Sign::And, out)?;
     put_side(
         from,
         left,
         side_number(before, left.kind, left.variable),
         out,
     )?;
-    out.put_sign(Sign::Par)?;
-    out.put_sign(Sign::Let)?;
+    put_sign(Sign::Par, out)?;
+    put_sign(Sign::Let, out)?;
     put_before(before, right.kind, right.variable, out)?;
     put_before(before, left.kind, left.variable, out)
 }
@@ -290,11 +290,11 @@ fn put_side(from: &Printed, side: BoundTerm, at: u32, out: &mut Spelled) -> Resu
     ensures { OnOk result (out.new ≡ spell_bound (side_text given from.now.types.now (side_from (term_of from.now.terms.now) (side_of.One side)) at) out.old) }
 {
     put_term(from, &side_target(side.kind, at), side.term, out)?;
-    out.put_sign(Sign::Equals)?;
+    put_sign(Sign::Equals, out)?;
     put_side_mark(side.kind, at, out)?;
     put_type(from.types, side.ty, out)?;
-    out.put_sign(Sign::Colon)?;
-    out.put_variable(side.variable)
+    put_sign(Sign::Colon, out)?;
+    put_variable(side.variable, out)
 }
 
 /// A branch.
@@ -309,7 +309,7 @@ fn put_branch(
     ensures { OnOk result (out.new ≡ put_branch given from.now.types.now (term_of from.now.terms.now) branch.now (destination_of target.now.destination) target.now.at out.old) }
 {
     put_term(from, target, branch.term, out)?;
-    out.put_sign(Sign::Arrow)?;
+    put_sign(Sign::Arrow, out)?;
     put_variables(&branch.variables, out)?;
     put_constructor(from.types, branch.constructor, out)
 }
@@ -334,7 +334,7 @@ fn put_branches(
     'branches: while i > 1 {
         i -= 1;
         put_branch(from, target, &branches[i], out)?;
-        out.put_sign(Sign::Semicolon)?;
+        put_sign(Sign::Semicolon, out)?;
     }
     put_branch(from, target, &branches[0], out)
 }
@@ -353,12 +353,12 @@ fn put_body(
         destination: Destination::of_result(gives),
         at: 0,
     };
-    out.put_sign(Sign::Semicolon)?;
+    put_sign(Sign::Semicolon, out)?;
     put_term(from, &target, body, out)?;
-    out.put_sign(Sign::Equals)?;
+    put_sign(Sign::Equals, out)?;
     put_results_mark(gives, out)?;
     put_result(from.types, gives, out)?;
-    out.put_sign(Sign::Colon)
+    put_sign(Sign::Colon, out)
 }
 
 fn put_function(from: &Printed, function: &CoreFunction, out: &mut Spelled) -> Result<(), Memory>
@@ -368,7 +368,7 @@ fn put_function(from: &Printed, function: &CoreFunction, out: &mut Spelled) -> R
     put_body(from, function.result, function.body, out)?;
     put_parameters(from.types, &function.parameters, out)?;
     out.put(Token::Variable(function.name))?;
-    out.put_sign(Sign::Fun)
+    put_sign(Sign::Fun, out)
 }
 
 fn put_functions(
@@ -393,7 +393,7 @@ fn put_main(from: &Printed, main: CoreMain, out: &mut Spelled) -> Result<(), Mem
 {
     put_body(from, CoreResult::One(main.result), main.body, out)?;
     put_parameter(from.types, Variable(0), main.parameter, out)?;
-    out.put_sign(Sign::Main)
+    put_sign(Sign::Main, out)
 }
 
 /// The tokens of a core's text.
@@ -405,12 +405,12 @@ fn tokens_of(alloc: Global, core: &Core) -> Result<Vec<Token>, Memory>
         types: core.types(),
         terms: core.terms(),
     };
-    let mut out = Spelled::new(alloc);
+    let mut out = Reversed::new(alloc);
     put_main(&from, core.main(), &mut out)?;
     put_functions(&from, core.functions(), &mut out)?;
     put_offsets(core.types(), core.offsets(), &mut out)?;
     put_datas(core.types(), &mut out)?;
-    Ok(out.into_tokens())
+    Ok(out.into_vec())
 }
 
 /// The LoCal text of a core, with the names of its program.

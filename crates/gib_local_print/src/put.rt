@@ -13,7 +13,7 @@ ghost use Rattle.gib_local.specs.Builds.{destination_of};
 ghost use Rattle.gib_local_print.specs.LocatedText.{given};
 ghost use Rattle.gib_local_print.specs.LineTokens.{put_in, put_before, put_field};
 
-use crate::spelled::{FIRST_GIVEN, Spelled};
+use crate::spelled::{FIRST_GIVEN, Spelled, put_location, put_region, put_sign, put_variable};
 use gib_base::token::{Sign, Token};
 use gib_base::{Memory, Name};
 use gib_core::{Access, Atom, CoreResult, Kind, Variable};
@@ -26,8 +26,8 @@ use std::alloc::Global;
 pub(crate) fn put_mark(number: u32, out: &mut Spelled) -> Result<(), Memory>
     ensures { OnOk result (out.new ≡ spell_mark (mark given number) out.old) }
 {
-    out.put_location(number)?;
-    out.put_sign(Sign::At)
+    put_location(number, out)?;
+    put_sign(Sign::At, out)
 }
 
 /// The number of a literal; of one that is no literal of a source, 0.
@@ -41,9 +41,9 @@ fn put_bit(value: bool, out: &mut Spelled) -> Result<(), Memory>
     ensures { OnOk result (out.new ≡ operand_word (operand given (Atom.Truth value)) ∷ out.old) }
 {
     if value {
-        out.put_sign(Sign::True)
+        put_sign(Sign::True, out)
     } else {
-        out.put_sign(Sign::False)
+        put_sign(Sign::False, out)
     }
 }
 
@@ -52,7 +52,7 @@ pub(crate) fn put_operand(atom: Atom, out: &mut Spelled) -> Result<(), Memory>
     ensures { OnOk result (out.new ≡ operand_word (operand given atom) ∷ out.old) }
 {
     match atom {
-        Atom::Variable(variable) => out.put_variable(variable),
+        Atom::Variable(variable) => put_variable(variable, out),
         Atom::Whole(value) => out.put(Token::Number(literal(value))),
         Atom::Truth(value) => put_bit(value, out),
     }
@@ -63,7 +63,7 @@ pub(crate) fn put_give(atom: Atom, out: &mut Spelled) -> Result<(), Memory>
     ensures { OnOk result (out.new ≡ Token.Sign Sign.Give ∷ operand_word (operand given atom) ∷ out.old) }
 {
     put_operand(atom, out)?;
-    out.put_sign(Sign::Give)
+    put_sign(Sign::Give, out)
 }
 
 /// Variables and literals.
@@ -84,7 +84,7 @@ pub(crate) fn put_point(atom: Atom, at: u32, out: &mut Spelled) -> Result<(), Me
 {
     put_mark(at, out)?;
     put_name(atom, out)?;
-    out.put_sign(Sign::Point)
+    put_sign(Sign::Point, out)
 }
 
 /// The variable that an atom is; of a literal, which no packed value is, the first name.
@@ -92,7 +92,7 @@ pub(crate) fn put_name(atom: Atom, out: &mut Spelled) -> Result<(), Memory>
     ensures { OnOk result (out.new ≡ lower (atom_name given atom) ∷ out.old) }
 {
     match atom {
-        Atom::Variable(variable) => out.put_variable(variable),
+        Atom::Variable(variable) => put_variable(variable, out),
         Atom::Whole(_) => out.put(Token::Variable(Name(0))),
         Atom::Truth(_) => out.put(Token::Variable(Name(0))),
     }
@@ -104,7 +104,7 @@ pub(crate) fn put_variables(variables: &[Variable], out: &mut Spelled) -> Result
     let mut i = variables.len();
     'variables: while i > 0 {
         i -= 1;
-        out.put_variable(variables[i])?;
+        put_variable(variables[i], out)?;
     }
     Ok(())
 }
@@ -124,8 +124,8 @@ pub(crate) fn put_type(types: &TypeTable, ty: Ty, out: &mut Spelled) -> Result<(
     ensures { OnOk result (out.new ≡ type_word (type_text types.now ty) ∷ out.old) }
 {
     match ty {
-        Ty::Whole => out.put_sign(Sign::Int),
-        Ty::Truth => out.put_sign(Sign::Bool),
+        Ty::Whole => put_sign(Sign::Int, out),
+        Ty::Truth => put_sign(Sign::Bool, out),
         Ty::Tree(id) => out.put(Token::Constructor(type_name(types, id))),
     }
 }
@@ -164,7 +164,7 @@ pub(crate) fn put_constructor(
 pub(crate) fn put_operator(operator: Operator, out: &mut Spelled) -> Result<(), Memory>
     ensures { OnOk result (out.new ≡ operator_word operator ∷ out.old) }
 {
-    out.put_sign(sign_of(operator))
+    put_sign(sign_of(operator), out)
 }
 
 /// How a field is reached.
@@ -172,14 +172,14 @@ pub(crate) fn put_way(access: Access, out: &mut Spelled) -> Result<(), Memory>
     ensures { OnOk result (out.new ≡ spell_way (way given access) out.old) }
 {
     match access {
-        Access::Offset => out.put_sign(Sign::Offset),
+        Access::Offset => put_sign(Sign::Offset, out),
         Access::Skip(field) => {
-            out.put_variable(field)?;
-            out.put_sign(Sign::Skip)
+            put_variable(field, out)?;
+            put_sign(Sign::Skip, out)
         }
         Access::End(field) => {
-            out.put_variable(field)?;
-            out.put_sign(Sign::End)
+            put_variable(field, out)?;
+            put_sign(Sign::End, out)
         }
     }
 }
@@ -287,12 +287,12 @@ fn last_of(first: Variable, more: &[Variable]) -> Variable
 fn put_after(number: u32, last: Variable, out: &mut Spelled) -> Result<(), Memory>
     ensures { OnOk result (out.new ≡ put_in (NewPlace (ident (given.location number)) (After (named given last))) out.old) }
 {
-    out.put_sign(Sign::In)?;
-    out.put_variable(last)?;
-    out.put_sign(Sign::After)?;
-    out.put_sign(Sign::Equals)?;
-    out.put_location(number)?;
-    out.put_sign(Sign::LetLocation)
+    put_sign(Sign::In, out)?;
+    put_variable(last, out)?;
+    put_sign(Sign::After, out)?;
+    put_sign(Sign::Equals, out)?;
+    put_location(number, out)?;
+    put_sign(Sign::LetLocation, out)
 }
 
 /// The name of the location of a field that is not the first.
@@ -314,15 +314,15 @@ fn put_field(destination: &Destination, x: Variable, out: &mut Spelled) -> Resul
 fn put_new_region(number: u32, out: &mut Spelled) -> Result<(), Memory>
     ensures { OnOk result (out.new ≡ put_before given Nowhere Kind.Region number out.old) }
 {
-    out.put_sign(Sign::In)?;
-    out.put_region(number)?;
-    out.put_sign(Sign::Start)?;
-    out.put_sign(Sign::Equals)?;
-    out.put_location(number)?;
-    out.put_sign(Sign::LetLocation)?;
-    out.put_sign(Sign::In)?;
-    out.put_region(number)?;
-    out.put_sign(Sign::LetRegion)
+    put_sign(Sign::In, out)?;
+    put_region(number, out)?;
+    put_sign(Sign::Start, out)?;
+    put_sign(Sign::Equals, out)?;
+    put_location(number, out)?;
+    put_sign(Sign::LetLocation, out)?;
+    put_sign(Sign::In, out)?;
+    put_region(number, out)?;
+    put_sign(Sign::LetRegion, out)
 }
 
 /// What stands before a variable's binding.

@@ -10,7 +10,7 @@ ghost use Rattle.gib_local_print.specs.LineTokens.{put_in, put_room, put_no_text
 ghost use Rattle.gib_local_print.specs.LocatedText.{given};
 
 use crate::put::{put_constructor, put_no_name, put_operand, put_operator, put_type, put_way};
-use crate::spelled::Spelled;
+use crate::spelled::{Spelled, put_location, put_sign, put_variable};
 use gib_base::token::{Sign, Token};
 use gib_base::{Memory, Name};
 use gib_core::{Access, Atom, Variable};
@@ -21,9 +21,9 @@ use gib_types::{ConId, Operator, TypeTable};
 pub fn put_no_branch(out: &mut Spelled) -> Result<(), Memory>
     ensures { OnOk result (out.new ≡ spell_arms (arms_or None) out.old) }
 {
-    out.put_sign(Sign::False)?;
-    out.put_sign(Sign::Give)?;
-    out.put_sign(Sign::Arrow)?;
+    put_sign(Sign::False, out)?;
+    put_sign(Sign::Give, out)?;
+    put_sign(Sign::Arrow, out)?;
     out.put(Token::Constructor(Name(0)))
 }
 
@@ -40,26 +40,26 @@ pub fn put_room(
     if is_flat(types, constructor) {
         return Ok(());
     }
-    out.put_sign(Sign::In)?;
+    put_sign(Sign::In, out)?;
     put_constructor(types, constructor, out)?;
-    out.put_sign(Sign::Plus)?;
-    out.put_location(at)?;
-    out.put_sign(Sign::Equals)?;
-    out.put_location(head.0)?;
-    out.put_sign(Sign::LetLocation)
+    put_sign(Sign::Plus, out)?;
+    put_location(at, out)?;
+    put_sign(Sign::Equals, out)?;
+    put_location(head.0, out)?;
+    put_sign(Sign::LetLocation, out)
 }
 
 /// In place of several variables, before the rest of their line.
 pub fn put_no_text(at: u32, out: &mut Spelled) -> Result<(), Memory>
     ensures { OnOk result (out.new ≡ put_no_text given at out.old) }
 {
-    out.put_sign(Sign::In)?;
+    put_sign(Sign::In, out)?;
     put_no_name(out)?;
-    out.put_sign(Sign::Plus)?;
-    out.put_location(at)?;
-    out.put_sign(Sign::Equals)?;
-    out.put_location(0)?;
-    out.put_sign(Sign::LetLocation)
+    put_sign(Sign::Plus, out)?;
+    put_location(at, out)?;
+    put_sign(Sign::Equals, out)?;
+    put_location(0, out)?;
+    put_sign(Sign::LetLocation, out)
 }
 
 /// An operation.
@@ -79,38 +79,38 @@ pub fn put_operation(
 ) -> Result<(), Memory>
     ensures { OnOk result (out.new ≡ put_in (PrimIn (named given operation.variable) (type_text types.now (operator_type operation.operator)) (operand given operation.left) operation.operator (operand given operation.right)) out.old) }
 {
-    out.put_sign(Sign::In)?;
-    out.put_sign(Sign::Close)?;
+    put_sign(Sign::In, out)?;
+    put_sign(Sign::Close, out)?;
     put_operand(operation.right, out)?;
     put_operator(operation.operator, out)?;
     put_operand(operation.left, out)?;
-    out.put_sign(Sign::Open)?;
-    out.put_sign(Sign::Equals)?;
+    put_sign(Sign::Open, out)?;
+    put_sign(Sign::Equals, out)?;
     put_type(types, operation.operator.result(), out)?;
-    out.put_sign(Sign::Colon)?;
-    out.put_variable(operation.variable)?;
-    out.put_sign(Sign::Let)
+    put_sign(Sign::Colon, out)?;
+    put_variable(operation.variable, out)?;
+    put_sign(Sign::Let, out)
 }
 
 /// How a field is reached, before the rest of its line.
 pub fn put_reach(field: Variable, access: Access, out: &mut Spelled) -> Result<(), Memory>
     ensures { OnOk result (out.new ≡ put_in (ReachIn (named given field) (way given access)) out.old) }
 {
-    out.put_sign(Sign::In)?;
+    put_sign(Sign::In, out)?;
     put_way(access, out)?;
-    out.put_sign(Sign::By)?;
-    out.put_variable(field)?;
-    out.put_sign(Sign::Reach)
+    put_sign(Sign::By, out)?;
+    put_variable(field, out)?;
+    put_sign(Sign::Reach, out)
 }
 
 /// Between two sides: the location of the right one's variable is behind the left one's.
 pub fn put_between(right: Variable, left: Variable, out: &mut Spelled) -> Result<(), Memory>
     ensures { OnOk result (out.new ≡ spell_between (Some (ident (given.location right.0), ident (given.variable left.0))) out.old) }
 {
-    out.put_sign(Sign::In)?;
-    out.put_variable(left)?;
-    out.put_sign(Sign::After)?;
-    out.put_sign(Sign::Equals)?;
-    out.put_location(right.0)?;
-    out.put_sign(Sign::LetLocation)
+    put_sign(Sign::In, out)?;
+    put_variable(left, out)?;
+    put_sign(Sign::After, out)?;
+    put_sign(Sign::Equals, out)?;
+    put_location(right.0, out)?;
+    put_sign(Sign::LetLocation, out)
 }

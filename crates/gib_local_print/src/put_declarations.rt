@@ -7,7 +7,7 @@ ghost use Rattle.gib_local_parse.specs.Texts.{spell_list, spell_type, spell_con,
 ghost use Rattle.gib_local_print.specs.LocatedText.{given, constructor_of, data_of, datas_of};
 
 use crate::put::{put_constructor, put_type};
-use crate::spelled::Spelled;
+use crate::spelled::{Spelled, put_sign, put_variable};
 use gib_base::Memory;
 use gib_base::token::{Sign, Token};
 use gib_core::Variable;
@@ -48,7 +48,7 @@ fn put_alternatives(
     'alternatives: while left > 0 {
         left -= 1;
         put_declared(types, first + left, out)?;
-        out.put_sign(Sign::Bar)?;
+        put_sign(Sign::Bar, out)?;
     }
     Ok(())
 }
@@ -71,11 +71,11 @@ fn put_data(types: &TypeTable, ty: TyId, out: &mut Spelled) -> Result<(), Memory
     ensures { OnOk result (out.new ≡ spell_data (data_of types.now ty.0) out.old) }
 {
     let (first, count) = types.constructors_of(ty);
-    out.put_sign(Sign::Semicolon)?;
+    put_sign(Sign::Semicolon, out)?;
     put_all(types, first, count, out)?;
-    out.put_sign(Sign::Equals)?;
+    put_sign(Sign::Equals, out)?;
     out.put(Token::Constructor(types.type_name(ty)))?;
-    out.put_sign(Sign::Data)
+    put_sign(Sign::Data, out)
 }
 
 /// The declarations of all types.
@@ -113,10 +113,10 @@ pub(crate) fn put_offsets(
     match offsets {
         [] => Ok(()),
         [first, more @ ..] => {
-            out.put_sign(Sign::Semicolon)?;
+            put_sign(Sign::Semicolon, out)?;
             put_constructors(types, more, out)?;
             put_constructor(types, *first, out)?;
-            out.put_sign(Sign::Offsets)
+            put_sign(Sign::Offsets, out)
         }
     }
 }
@@ -130,11 +130,11 @@ pub(crate) fn put_parameter(
 ) -> Result<(), Memory>
     ensures { OnOk result (out.new ≡ spell_parameter (record { name = named given variable; ty = type_text types.now ty }) out.old) }
 {
-    out.put_sign(Sign::Close)?;
+    put_sign(Sign::Close, out)?;
     put_type(types, ty, out)?;
-    out.put_sign(Sign::Colon)?;
-    out.put_variable(variable)?;
-    out.put_sign(Sign::Open)
+    put_sign(Sign::Colon, out)?;
+    put_variable(variable, out)?;
+    put_sign(Sign::Open, out)
 }
 
 /// The parameters of a function.
