@@ -55,16 +55,16 @@ use Rattle.gib_weave.proofs.Cells.{fresh_absent}
 
 -- A task as it is made.
 pub record IsMade (j : ActiveTask) (m : State) (ts : List ℕ) (p : Pass) : Type 0 where
-  pub machine : j.machine ≡ m
-  pub tails : j.tails ≡ ts
+  pub machine : j.workspace.value.machine ≡ m
+  pub tails : j.workspace.value.tails ≡ ts
   pub pass : j.pass ≡ p
-  pub frames : j.frames.items ≡ []
+  pub frames : j.workspace.value.frames.items ≡ []
 
 pub active_owes : (l : LoweredParts) (d : Debt) (j : ActiveTask) (m : State) (ts : List ℕ) (p : Pass) → IsMade j m ts p → Works l d (cells p) (drawn_by p) (with_tails m ts) [] → OwesStill l d j
 active_owes l d j m ts p is w =
-    let state : with_tails j.machine j.tails ≡ with_tails m ts = ap (λ (s : State). with_tails s j.tails) is.machine ∙ ap (with_tails m) is.tails in
-    subst (λ (x : Pass). Works l d (cells x) (drawn_by x) (with_tails j.machine j.tails) (lent_of j.frames.items)) (sym is.pass)
-    (subst (λ (xs : List (Option Frame)). Works l d (cells p) (drawn_by p) (with_tails j.machine j.tails) (lent_of xs)) (sym is.frames)
+    let state : with_tails j.workspace.value.machine j.workspace.value.tails ≡ with_tails m ts = ap (λ (s : State). with_tails s j.workspace.value.tails) is.machine ∙ ap (with_tails m) is.tails in
+    subst (λ (x : Pass). Works l d (cells x) (drawn_by x) (with_tails j.workspace.value.machine j.workspace.value.tails) (lent_of j.workspace.value.frames.items)) (sym is.pass)
+    (subst (λ (xs : List (Option Frame)). Works l d (cells p) (drawn_by p) (with_tails j.workspace.value.machine j.workspace.value.tails) (lent_of xs)) (sym is.frames)
     (subst (λ (s : State). Works l d (cells p) (drawn_by p) s []) (sym state) w))
 
 -- A side that is begun owes what it owed when it was split.
@@ -94,15 +94,15 @@ side_ends due l j (ending.Answer a) p is owes s = ((λ d safe. subst (λ (x : Lo
 side_ends due l j ending.Full p is owes s = (s.0, λ d safe. s.1 d (owes d safe))
 side_ends due l j ending.NotRun p is owes s = absurd s
 
-pub made_holds : (a : Arena) (l : LoweredParts) (j : ActiveTask) (m : State) (ts : List ℕ) (p : Pass) → IsMade j m ts p → IsOf a p → (view p).branch.out ≡ [] → m.width ≡ widest l.code.functions → m.pars ≡ [] → m.level ≤ vec_capacity j.frames → Holds a l j
+pub made_holds : (a : Arena) (l : LoweredParts) (j : ActiveTask) (m : State) (ts : List ℕ) (p : Pass) → IsMade j m ts p → IsOf a p → (view p).branch.out ≡ [] → m.width ≡ widest l.code.functions → m.pars ≡ [] → m.level ≤ vec_capacity j.workspace.value.frames → Holds a l j
 made_holds a l j m ts p is of none made pars few = record {
   own = subst (IsOf a) (sym is.pass) of;
-  lends = subst (λ (x : Pass). Lends x (lent_of j.frames.items)) (sym is.pass) (subst (λ (xs : List (Option Frame)). Lends p (lent_of xs)) (sym is.frames) record { splits = tt; out = none });
+  lends = subst (λ (x : Pass). Lends x (lent_of j.workspace.value.frames.items)) (sym is.pass) (subst (λ (xs : List (Option Frame)). Lends p (lent_of xs)) (sym is.frames) record { splits = tt; out = none });
   made = ap (λ (s : State). s.width) is.machine ∙ made;
-  within = starts_within (vec_capacity j.frames) (with_tails j.machine j.tails) (ap (λ (s : State). s.pars) is.machine ∙ pars) (let e : j.machine.level ≡ m.level = ap (λ (s : State). s.level) is.machine in omega (arith, e, few));
+  within = starts_within (vec_capacity j.workspace.value.frames) (with_tails j.workspace.value.machine j.workspace.value.tails) (ap (λ (s : State). s.pars) is.machine ∙ pars) (let e : j.workspace.value.machine.level ≡ m.level = ap (λ (s : State). s.level) is.machine in omega (arith, e, few));
 }
 
-pub made_here : (j : ActiveTask) (mine : List Due) → j.frames.items ≡ [] → j.here ≡ 0 → IsHere j mine
+pub made_here : (j : ActiveTask) (mine : List Due) → j.workspace.value.frames.items ≡ [] → j.here ≡ 0 → IsHere j mine
 made_here j mine e z = subst (λ (xs : List (Option Frame)). AreHere (lent_of xs) j.here mine) (sym e) (subst (λ n. AreHere [] n mine) (sym z) tt)
 
 -- What the root owes.

@@ -1,5 +1,5 @@
 -- A worker goes on from a join whose right side's frame was settled.
-use Rattle.std.proofs.Common.{◌≡◌, List, ◌∷◌, subst, ◌∙◌}
+use Rattle.std.proofs.Common.{◌≡◌, List, ◌∷◌, sym, subst, ◌∙◌}
 use Rattle.std.specs.Prelude.{Option, Some}
 use Rattle.std.specs.Vec.{vec_capacity}
 use Rattle.gib_core.specs.LoweredParts.{LoweredParts}
@@ -26,12 +26,13 @@ pub record Settled (a : Arena) (old new : ActiveTask) (due : Due) (mine more : L
   pub back : IsBack due (view old.pass) (view new.pass) mine more old.here new.here r
 
 module _ (a : Arena) (l : LoweredParts) (old new : ActiveTask) (due : Due) (mine more : List Due) (r : Back) where
-  pub holds_then : Settled a old new due mine more r → Holds a l old → new.machine.width ≡ old.machine.width → IsWithin (vec_capacity new.frames) (active_state new) → Holds a l new
+  pub holds_then : Settled a old new due mine more r → Holds a l old → new.workspace.value.machine.width ≡ old.workspace.value.machine.width → IsWithin (vec_capacity new.workspace.value.frames) (active_state new) → Holds a l new
   holds_then s h w k = record { own = s.own; lends = s.lends (active_lent new) (subst (Lends old.pass) s.newest h.lends); made = w ∙ h.made; within = k }
 
   pub here_then : Settled a old new due mine more r → IsHere old mine → IsHere new more
   here_then s h = here_after due (active_lent new) (view old.pass) (view new.pass) old.here new.here mine more r s.back (subst (λ (es : List (Option Due)). AreHere es old.here mine) s.newest h)
 
-  pub goes_on : Settled a old new due mine more r → Holds a l old → IsHere old mine → new.machine.width ≡ old.machine.width → IsWithin (vec_capacity new.frames) (active_state new) → ((d : Debt) → StandsAt l d old AtJoin → OwesStill l d new)
-      → IsOn a l (λ (d : Debt). StandsAt l d old AtJoin) old more new
-  goes_on s h i w k owes = record { holds = holds_then s h w k; owes = owes; here = here_then s i; same = s.same }
+  pub goes_on : (was : ActiveTask) → old ≡ was → Settled a old new due mine more r → Holds a l was → IsHere was mine → new.workspace.value.machine.width ≡ old.workspace.value.machine.width
+      → IsWithin (vec_capacity new.workspace.value.frames) (active_state new) → ((d : Debt) → StandsAt l d old AtJoin → OwesStill l d new) → IsOn a l (λ (d : Debt). StandsAt l d was AtJoin) was more new
+  goes_on was is s h i w k owes = subst (λ (x : ActiveTask). IsOn a l (λ (d : Debt). StandsAt l d x AtJoin) x more new) is
+      record { holds = holds_then s (subst (Holds a l) (sym is) h) w k; owes = owes; here = here_then s (subst (λ (x : ActiveTask). IsHere x mine) (sym is) i); same = s.same }

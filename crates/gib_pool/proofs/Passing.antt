@@ -26,7 +26,6 @@ use Rattle.gib_frame.specs.declared.due.Ending.TheVariants as ending
 use Rattle.gib_frame.specs.declared.ends.Frame.{Frame}
 use Rattle.gib_frame.specs.Answers.{IsPaid, drawn_by}
 use Rattle.gib_pool.specs.declared.active.ActiveTask.{ActiveTask}
-use Rattle.gib_pool.specs.declared.workspace.Workspace.{Workspace}
 use Rattle.gib_pool.specs.Turn.{Wider}
 use Rattle.gib_pool.specs.Lent.{AreSplits, Lends}
 use Rattle.gib_pool.specs.Frames.{before, lent_of, due_maybe, AreHere}
@@ -114,7 +113,7 @@ pub ended_with : (l : LoweredParts) (d : Debt) (j : ActiveTask) (a : Answer) →
 ended_with l d j a s e = (subst (λ (x : Answer). IsAnswer l.code.laid (cells j.pass) d.ty d.owed x) (ended_one (next l.code (active_state j)) s.1 a s.2 e) s.3, s.4)
 
 -- A task that stood again behind this goes on, or ends, from where it stood first.
-pub goes_for : (a : Arena) (l : LoweredParts) (Has Had : Debt → Type 0) (j k : ActiveTask) (mine : List Due) (r : Result ActiveTask (Ending × Pass × Workspace)) → IsSamePass j.pass k.pass → ((d : Debt) → Had d → Has d) → Goes a l Has k mine r → Goes a l Had j mine r
+pub goes_for : {Kept : Type 0} (a : Arena) (l : LoweredParts) (Has Had : Debt → Type 0) (j k : ActiveTask) (mine : List Due) (r : Result ActiveTask (Ending × Pass × Kept)) → IsSamePass j.pass k.pass → ((d : Debt) → Had d → Has d) → Goes a l Has k mine r → Goes a l Had j mine r
 goes_for a l Has Had j k mine (Ok n) same f g = record { holds = g.holds; owes = λ d h. g.owes d (f d h); here = g.here; same = same_on j.pass k.pass n.pass same g.same }
 goes_for a l Has Had j k mine (Err r) same f g = record { back = back_on a j.pass k.pass r.1 same g.back; settles = settles_for l Has Had r.0 r.1 f g.settles }
 

@@ -18,7 +18,6 @@ use Rattle.gib_frame.specs.declared.due.Ending.{Ending}
 use Rattle.gib_frame.specs.declared.due.Ending.TheVariants as ending
 use Rattle.gib_frame.specs.Answers.{IsPaid, drawn_by}
 use Rattle.gib_pool.specs.declared.active.ActiveTask.{ActiveTask}
-use Rattle.gib_pool.specs.declared.workspace.Workspace.{Workspace}
 use Rattle.gib_pool.specs.Turn.{Pays, Works}
 use Rattle.gib_pool.specs.Going.{Comes}
 use Rattle.gib_pool.specs.Lent.{Lends}
@@ -26,11 +25,11 @@ use Rattle.gib_pool.specs.Frames.{lent_of, AreHere}
 
 -- The state of its machine, with the tails of its task.
 abbrev pub active_state : ActiveTask → State
-active_state j = with_tails j.machine j.tails
+active_state j = with_tails j.workspace.value.machine j.workspace.value.tails
 
 -- What its frames were made for, the newest first.
 abbrev pub active_lent : ActiveTask → List (Option Due)
-active_lent j = lent_of j.frames.items
+active_lent j = lent_of j.workspace.value.frames.items
 
 -- Its pass as a memory.
 abbrev pub active_memory : ActiveTask → Memory
@@ -49,8 +48,8 @@ StandsAt l d j turn = Comes l d (active_lent j) (active_memory j) (active_state 
 pub record Holds (a : Arena) (l : LoweredParts) (j : ActiveTask) : Type 0 where
   pub own : IsOf a j.pass
   pub lends : Lends j.pass (active_lent j)
-  pub made : j.machine.width ≡ widest l.code.functions
-  pub within : IsWithin (vec_capacity j.frames) (active_state j)
+  pub made : j.workspace.value.machine.width ≡ widest l.code.functions
+  pub within : IsWithin (vec_capacity j.workspace.value.frames) (active_state j)
 
 -- So many of its newest forks may still be among those of its worker.
 abbrev pub IsHere : ActiveTask → List Due → Type 0
@@ -92,6 +91,6 @@ pub record IsOver (a : Arena) (l : LoweredParts) (Has : Debt → Type 0) (old : 
   pub settles : Settles l Has e p
 
 -- A task that stood goes on, or has come to its end.
-abbrev pub Goes : Arena → LoweredParts → (Debt → Type 0) → ActiveTask → List Due → Result ActiveTask (Ending × Pass × Workspace) → Type 0
+abbrev pub Goes : {Kept : Type 0} → Arena → LoweredParts → (Debt → Type 0) → ActiveTask → List Due → Result ActiveTask (Ending × Pass × Kept) → Type 0
 Goes a l Has old mine (Ok j) = IsOn a l Has old mine j
 Goes a l Has old mine (Err r) = IsOver a l Has old r.0 r.1

@@ -23,7 +23,7 @@ ghost use Rattle.gib_pool.specs.Mine.{IsMine};
 ghost use Rattle.gib_pool.specs.Turn.{IsFor};
 
 use crate::active::ActiveTask;
-use crate::forks::Forks;
+use crate::forks::{Forks, are_enough};
 use crate::offer::offer_side;
 use gib_arena::{Arena, Pass};
 use gib_frame::Frame;
@@ -31,7 +31,8 @@ use gib_machine::Machine;
 use gib_weave::Runnable;
 use std::alloc::Global;
 
-/// Offers the right side of the fork at which the machine stands; none where memory refuses the side or its frame.
+/// Offers the right side of the fork at which the machine stands; none where enough sides wait to be stolen, or memory refuses this one or its
+/// frame.
 fn offer_here<'a>(
     alloc: Global,
     arena: &'a Arena,
@@ -58,6 +59,9 @@ fn offer_here<'a>(
     ensures here { (lent : List (Option Due)) → AreHere lent here.old (worker_view forks.old).mine → AreHere (due_maybe result ∷ lent) here.new (worker_view forks.new).mine }
     ensures mine { IsMine forks.new × (worker_deque forks.new ≡ worker_deque forks.old) }
 {
+    if are_enough(forks) {
+        return None;
+    }
     let Ok(side) = machine.side(alloc, lowered.code()) else {
         return None;
     };
@@ -66,8 +70,8 @@ fn offer_here<'a>(
     Some(frame)
 }
 
-/// Offers the right side of the fork to whoever steals it, and begins the left side. Where memory refuses the side or its frame, the
-/// right side is left to be taken in place. The room for the frame was taken with the task.
+/// Offers the right side of the fork to whoever steals it, and begins the left side. Where it is not offered, the right side is left to be
+/// taken in place. The room for the frame was taken with the task.
 pub(crate) fn fork_here<'a>(
     alloc: Global,
     arena: &'a Arena,
@@ -82,16 +86,17 @@ pub(crate) fn fork_here<'a>(
     ensures mine { IsMine forks.new × (worker_deque forks.new ≡ worker_deque forks.old) }
     ensures on { IsOn arena.entry.now lowered.entry.now (λ (d : Debt). StandsAt lowered.entry.now d active AtFork) active (worker_view forks.new).mine result }
 {
+    let at = &mut *active.workspace;
     let frame = offer_here(
         alloc,
         arena,
         lowered,
-        &active.machine,
+        &at.machine,
         &mut active.pass,
         forks,
         &mut active.here,
     );
-    active.machine.left(lowered.code());
-    active.frames.push_reserved(frame);
+    at.machine.left(lowered.code());
+    at.frames.push_reserved(frame);
     active
 }

@@ -5,7 +5,7 @@ ghost use Rattle.crossbeam_deque.specs.Handles.{IsPassOf, stealer_deque, worker_
 ghost use Rattle.gib_pool.specs.Mine.{IsMine};
 ghost use Rattle.gib_pool.specs.Stacks.{own, guest, due_of};
 
-use crossbeam_deque::protocol::{Outcome, Protocol};
+use crossbeam_deque::protocol::{Lesson, Outcome, Protocol};
 use crossbeam_deque::{Pass, Steal, Stealer, Worker};
 use gib_frame::{Due, Task};
 use std::alloc::{AllocError, Global};
@@ -58,6 +58,15 @@ impl<'a> Outcome<Task<'a>, Stack> for StealOldest {
     ghost then = { Stole };
 }
 
+/// What the owner is told where it looks how many there are: no more than that.
+pub(crate) struct Look;
+
+impl<'a> Lesson<Task<'a>, Stack> for Look {
+    ghost use Rattle.std.specs.Prelude.{⊤};
+
+    ghost fact = { λ _ _. ⊤ };
+}
+
 /// The forks of a worker, in its own hands.
 pub(crate) type Forks<'a> = Worker<Task<'a>, Global, Stack, Stacking>;
 
@@ -67,8 +76,12 @@ pub(crate) type ForkStealer<'a> = Stealer<Task<'a>, Global, Stack, Stacking>;
 /// What a worker that steals knows of a deque.
 pub(crate) type StealPass<'a> = Pass<Task<'a>, Stack>;
 
-/// The slots for forks that are taken at first: as many as may nest in a run of the command line, so that no push grows them.
-const SLOTS: usize = 64;
+/// So many forks that wait to be stolen are enough: who has them runs the right sides of further ones itself, which costs far less. It is as
+/// many as a run of the command line nests where it is not told otherwise. One that is stolen makes room for the next.
+const ENOUGH: usize = 4;
+
+/// The slots for forks that are taken at first, so that no push grows them.
+const SLOTS: usize = 2 * ENOUGH;
 
 /// No forks, in the hands of their worker.
 ///
@@ -93,6 +106,15 @@ pub(crate) fn push_fork<'a>(forks: &mut Forks<'a>, task: Task<'a>) -> Result<(),
     ensures err { IfErr result (λ t. (t ≡ task.entry) × (worker_view forks.new ≡ worker_view forks.old)) }
 {
     forks.push_as::<Push>(task)
+}
+
+/// Whether enough forks wait to be stolen, so that there is no need to offer one more. One load tells it.
+pub(crate) fn are_enough<'a>(forks: &mut Forks<'a>) -> bool
+    requires { IsMine forks.old }
+    ensures same { IsMine forks.new × (worker_deque forks.new ≡ worker_deque forks.old) }
+    ensures view { worker_view forks.new ≡ worker_view forks.old }
+{
+    forks.len_as::<Look>() >= ENOUGH
 }
 
 /// The task that was pushed last and not popped, where none was stolen since.

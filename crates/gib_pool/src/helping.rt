@@ -23,11 +23,11 @@ use std::sync::Wait;
 pub(crate) fn run_task<'a, R: Wait, G: Gate>(
     rt: &R,
     task: Task<'a>,
-    mut workspace: Workspace,
+    mut workspace: Box<Workspace>,
     forks: &mut Forks<'a>,
     hooks: &Hooks<'_, G>,
     permit: &mut Permit<'_>,
-) -> Workspace
+) -> Box<Workspace>
     requires { IsMine forks.old }
     ensures { IsMine forks.new × (worker_deque forks.new ≡ worker_deque forks.old) }
 {

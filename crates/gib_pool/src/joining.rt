@@ -33,21 +33,22 @@ pub(crate) fn join_here<'a, R: Wait>(
     mut active: ActiveTask,
     forks: &mut Forks<'a>,
     permit: &mut Permit<'_>,
-) -> Result<ActiveTask, (Ending, Pass, Workspace)>
+) -> Result<ActiveTask, (Ending, Pass, Box<Workspace>)>
     requires holds { Holds arena.now lowered.now active }
     requires stands { (d : Debt) × StandsAt lowered.now d active AtJoin }
     requires mine { IsMine forks.old }
     requires here { IsHere active (worker_view forks.old).mine }
     ensures mine { IsMine forks.new × (worker_deque forks.new ≡ worker_deque forks.old) }
     ensures goes { Goes arena.entry.now lowered.entry.now (λ (d : Debt). StandsAt lowered.entry.now d active AtJoin) active (worker_view forks.new).mine result }
-    ensures unwinds { (why : Reason) → unwinding active.machine.doing ≡ Some why → IsOk result }
+    ensures unwinds { (why : Reason) → unwinding active.workspace.value.machine.doing ≡ Some why → IsOk result }
 {
     let code = lowered.code();
-    let Some(newest) = active.frames.pop() else {
+    let at = &mut *active.workspace;
+    let Some(newest) = at.frames.pop() else {
         unreachable!()
     };
     let Some(frame) = newest else {
-        active.machine.take(code);
+        at.machine.take(code);
         return Ok(active);
     };
     match settle(
@@ -60,17 +61,17 @@ pub(crate) fn join_here<'a, R: Wait>(
         permit,
     ) {
         Back::Take => {
-            active.machine.take(code);
+            at.machine.take(code);
             Ok(active)
         }
         Back::Answer(answer) => {
-            active.machine.join(answer);
+            at.machine.join(answer);
             Ok(active)
         }
-        Back::Full => match active.machine.unwinding() {
+        Back::Full => match at.machine.unwinding() {
             None => Err(leave(rt, arena, active, forks, permit)),
             Some(_) => {
-                active.machine.take(code);
+                at.machine.take(code);
                 Ok(active)
             }
         },

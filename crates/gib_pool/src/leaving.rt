@@ -24,7 +24,7 @@ pub(crate) fn leave<'a, R: Wait>(
     active: ActiveTask,
     forks: &mut Forks<'a>,
     permit: &mut Permit<'_>,
-) -> (Ending, Pass, Workspace)
+) -> (Ending, Pass, Box<Workspace>)
     requires holds { (l : LoweredParts) × Holds arena.now l active }
     requires mine { IsMine forks.old }
     requires here { IsHere active (worker_view forks.old).mine }
@@ -33,12 +33,19 @@ pub(crate) fn leave<'a, R: Wait>(
     ensures settles { (l : LoweredParts) → (view active.pass).holding.seen ≡ (view active.pass).branch.limit → Settles l (λ (d : Debt). PaysStill l d active) result.0 result.1 }
 {
     let ActiveTask {
-        machine,
-        tails: _,
+        mut workspace,
         mut pass,
-        mut frames,
         mut here,
     } = active;
-    drain_frames(rt, arena, &mut pass, &mut frames, forks, &mut here, permit);
-    (Ending::Full, pass, Workspace { machine, frames })
+    let at = &mut *workspace;
+    drain_frames(
+        rt,
+        arena,
+        &mut pass,
+        &mut at.frames,
+        forks,
+        &mut here,
+        permit,
+    );
+    (Ending::Full, pass, workspace)
 }

@@ -65,13 +65,12 @@ fn root_workspace(
     lowered: &Runnable<'_>,
     root: Root,
     config: Config,
-) -> Result<Workspace, AllocError>
-    ensures machine { IfOk result (λ w. (tails : List ℕ) → with_tails w.machine tails ≡ root_start (core_of lowered.now.core) lowered.now.code (word_of root) config.depth config.forks tails) }
-    ensures room { IfOk result (λ w. config.forks ≤ vec_capacity w.frames) }
+) -> Result<Box<Workspace>, AllocError>
+    ensures machine { IfOk result (λ w. (tails : List ℕ) → with_tails w.value.machine tails ≡ root_start (core_of lowered.now.core) lowered.now.code (word_of root) config.depth config.forks tails) }
+    ensures room { IfOk result (λ w. config.forks ≤ vec_capacity w.value.frames) }
 {
     let machine = root_machine(alloc, lowered.lowered(), root, config.depth, config.forks)?;
-    let frames = Vec::with_capacity(alloc, config.forks as usize)?;
-    Ok(Workspace { machine, frames })
+    Workspace::of(alloc, machine, config.forks)
 }
 
 /// Counts the chunks by the first pass, where no other one is out: it drew all that are drawn. The pass is as it was.

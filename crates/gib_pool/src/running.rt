@@ -27,21 +27,18 @@ pub(crate) fn run_on<R: Wait>(
     ensures same { IsSamePass active.pass result.0.pass }
 {
     let ActiveTask {
-        mut machine,
-        mut tails,
+        mut workspace,
         pass,
-        frames,
         here,
     } = active;
     let mut mem = ArenaMem::make(arena, pass);
-    let turn = go_on(rt, lowered, &mut machine, &mut mem, &mut tails);
+    let at = &mut *workspace;
+    let turn = go_on(rt, lowered, &mut at.machine, &mut mem, &mut at.tails);
     let (_arena, pass) = mem.into_pass();
     names_tell();
     let active = ActiveTask {
-        machine,
-        tails,
+        workspace,
         pass,
-        frames,
         here,
     };
     (active, turn)

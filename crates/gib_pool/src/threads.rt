@@ -87,7 +87,7 @@ fn workspace_of(
     code: &Code,
     config: Config,
     number: u32,
-) -> Result<Option<Workspace>, AllocError> {
+) -> Result<Option<Box<Workspace>>, AllocError> {
     if number == 0 {
         return Ok(None);
     }
@@ -175,7 +175,7 @@ pub(crate) fn work_together<'a, R: Threads + Wait + Sync, G: Gate + Sync>(
 ) -> (Ending, Pass)
     requires holds { Holds shared.now.arena.now shared.now.lowered.now active }
     requires owes { (d : Debt) × OwesStill shared.now.lowered.now d active }
-    requires begins { (active.frames.items ≡ []) × (active.here ≡ 0) }
+    requires begins { (active.workspace.value.frames.items ≡ []) × (active.here ≡ 0) }
     ensures over { IsOver shared.entry.now.arena.now shared.entry.now.lowered.now (λ (d : Debt). OwesStill shared.entry.now.lowered.now d active) active result.0 result.1 }
 {
     let Some(worker) = workers.pop() else {
@@ -194,7 +194,7 @@ pub(crate) fn work_together<'a, R: Threads + Wait + Sync, G: Gate + Sync>(
         move || -> (Ending, Pass)
             requires holds { Holds shared.now.arena.now shared.now.lowered.now active }
             requires owes { (d : Debt) × OwesStill shared.now.lowered.now d active }
-            requires begins { (active.frames.items ≡ []) × (active.here ≡ 0) }
+            requires begins { (active.workspace.value.frames.items ≡ []) × (active.here ≡ 0) }
             ensures over { IsOver shared.entry.now.arena.now shared.entry.now.lowered.now (λ (d : Debt). OwesStill shared.entry.now.lowered.now d active) active result.0 result.1 }
         { work_together(rt, alloc, shared, active, first, workers) },
     );
@@ -211,7 +211,7 @@ fn work_first<'a, R: Wait, G: Gate>(
 ) -> (Ending, Pass)
     requires holds { Holds shared.now.arena.now shared.now.lowered.now active }
     requires owes { (d : Debt) × OwesStill shared.now.lowered.now d active }
-    requires begins { (active.frames.items ≡ []) × (active.here ≡ 0) }
+    requires begins { (active.workspace.value.frames.items ≡ []) × (active.here ≡ 0) }
     ensures over { IsOver shared.entry.now.arena.now shared.entry.now.lowered.now (λ (d : Debt). OwesStill shared.entry.now.lowered.now d active) active result.0 result.1 }
 {
     let Worker {

@@ -13,6 +13,6 @@ pub(crate) struct Worker<'a> {
     pub(crate) number: u32,
     pub(crate) forks: Forks<'a>,
     pub(crate) stealers: Vec<Stealer<'a>>,
-    pub(crate) workspace: Option<Workspace>,
+    pub(crate) workspace: Option<Box<Workspace>>,
     ghost mine: { IsMine forks },
 }

@@ -31,7 +31,7 @@ fn stand_once<'a, R: Wait, G: Gate>(
     forks: &mut Forks<'a>,
     hooks: &Hooks<'_, G>,
     permit: &mut Permit<'_>,
-) -> Result<ActiveTask, (Ending, Pass, Workspace)>
+) -> Result<ActiveTask, (Ending, Pass, Box<Workspace>)>
     requires holds { Holds arena.now lowered.now active }
     requires owes { (d : Debt) × OwesStill lowered.now d active }
     requires mine { IsMine forks.old }
@@ -43,15 +43,13 @@ fn stand_once<'a, R: Wait, G: Gate>(
     match turn {
         Turn::Went => unreachable!(),
         Turn::Ended => {
-            let answer = active.machine.ended_with(lowered.code());
+            let answer = active.workspace.machine.ended_with(lowered.code());
             let ActiveTask {
-                machine,
-                tails: _,
+                workspace,
                 pass,
-                frames,
                 here: _,
             } = active;
-            Err((Ending::Answer(answer), pass, Workspace { machine, frames }))
+            Err((Ending::Answer(answer), pass, workspace))
         }
         Turn::Full => Err(leave(rt, arena, active, forks, permit)),
         Turn::AtFork => {
@@ -75,7 +73,7 @@ pub(crate) fn work<'a, R: Wait, G: Gate>(
     forks: &mut Forks<'a>,
     hooks: &Hooks<'_, G>,
     permit: &mut Permit<'_>,
-) -> (Ending, Pass, Workspace)
+) -> (Ending, Pass, Box<Workspace>)
     requires holds { Holds arena.now lowered.now active }
     requires owes { (d : Debt) × OwesStill lowered.now d active }
     requires mine { IsMine forks.old }

@@ -28,10 +28,10 @@ work_together-ending-requires-clause-holds g c κs within =
     let level = c.args.config.forks in
     let counted = c.count_all.ensures in
     let active = c.make-active.ensures in
-    let made : IsMade c.make-active.result c.in-Ok.workspace.machine tails pass = record { machine = active.machine.0; tails = active.machine.1; pass = active.pass; frames = active.frames.0 } in
+    let made : IsMade c.make-active.result c.in-Ok.workspace.value.machine tails pass = record { machine = active.machine.0; tails = active.machine.1; pass = active.pass; frames = active.frames.0 } in
     let start = c.in-Ok.ensures.machine tails in
-    made_holds a l c.make-active.result c.in-Ok.workspace.machine tails pass made counted.own (ap (λ (v : View). v.branch.out) counted.same ∙ c.requires.alone.2) (ap (λ (s : State). s.width) start) (ap (λ (s : State). s.pars) start)
-    (let few = c.in-Ok.ensures.room in let at : c.in-Ok.workspace.machine.level ≡ level = ap (λ (s : State). s.level) start in let room = active.room in omega (arith, few, at, room))
+    made_holds a l c.make-active.result c.in-Ok.workspace.value.machine tails pass made counted.own (ap (λ (v : View). v.branch.out) counted.same ∙ c.requires.alone.2) (ap (λ (s : State). s.width) start) (ap (λ (s : State). s.pars) start)
+    (let few = c.in-Ok.ensures.room in let at : c.in-Ok.workspace.value.machine.level ≡ level = ap (λ (s : State). s.level) start in let room = active.room in omega (arith, few, at, room))
 
 pub work_together-ending-requires-clause-owes : goal.work_together-ending-requires-clause-owes
 work_together-ending-requires-clause-owes g c κs within =
@@ -43,11 +43,11 @@ work_together-ending-requires-clause-owes g c κs within =
     let level = c.args.config.forks in
     let counted = c.count_all.ensures in
     let active = c.make-active.ensures in
-    let made : IsMade c.make-active.result c.in-Ok.workspace.machine tails pass = record { machine = active.machine.0; tails = active.machine.1; pass = active.pass; frames = active.frames.0 } in
+    let made : IsMade c.make-active.result c.in-Ok.workspace.value.machine tails pass = record { machine = active.machine.0; tails = active.machine.1; pass = active.pass; frames = active.frames.0 } in
     let start = c.in-Ok.ensures.machine tails in
     let ok = whole l c.code-code.ensures.lowered c.core.ensures.fits c.code-code.ensures.runs in
     let owes : (d : Datum) → IsStart l c.args.root tails (pass_memory c.args.first) d → OwesStill l (root_debt l depth level d) c.make-active.result = λ d st.
-    active_owes l (root_debt l depth level d) c.make-active.result c.in-Ok.workspace.machine tails pass made
+    active_owes l (root_debt l depth level d) c.make-active.result c.in-Ok.workspace.value.machine tails pass made
     (subst (λ (s : State). Works l (root_debt l depth level d) (cells pass) (drawn_by pass) s []) (sym start)
     (subst (λ (n : ℕ). Works l (root_debt l depth level d) (cells pass) n (root_start (core_of l.core) l.code (word_of c.args.root) depth level tails) []) (sym counted.all)
     (root_owes l (pass_memory pass) c.args.root tails depth level d ok (root_bounded a pass counted.own)
@@ -66,11 +66,11 @@ returns-clause-ends g c = λ d st.
     let level = c.args.config.forks in
     let counted = c.count_all.ensures in
     let active = c.make-active.ensures in
-    let made : IsMade c.make-active.result c.in-Ok.workspace.machine tails pass = record { machine = active.machine.0; tails = active.machine.1; pass = active.pass; frames = active.frames.0 } in
+    let made : IsMade c.make-active.result c.in-Ok.workspace.value.machine tails pass = record { machine = active.machine.0; tails = active.machine.1; pass = active.pass; frames = active.frames.0 } in
     let start = c.in-Ok.ensures.machine tails in
     let ok = whole l c.code-code.ensures.lowered c.core.ensures.fits c.code-code.ensures.runs in
     let owes : (d : Datum) → IsStart l c.args.root tails (pass_memory c.args.first) d → OwesStill l (root_debt l depth level d) c.make-active.result = λ d st.
-    active_owes l (root_debt l depth level d) c.make-active.result c.in-Ok.workspace.machine tails pass made
+    active_owes l (root_debt l depth level d) c.make-active.result c.in-Ok.workspace.value.machine tails pass made
     (subst (λ (s : State). Works l (root_debt l depth level d) (cells pass) (drawn_by pass) s []) (sym start)
     (subst (λ (n : ℕ). Works l (root_debt l depth level d) (cells pass) n (root_start (core_of l.core) l.code (word_of c.args.root) depth level tails) []) (sym counted.all)
     (root_owes l (pass_memory pass) c.args.root tails depth level d ok (root_bounded a pass counted.own)

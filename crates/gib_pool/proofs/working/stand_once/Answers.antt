@@ -3,9 +3,11 @@ use Rattle.std.specs.Prelude.{Ok}
 use Rattle.crossbeam_deque.specs.Handles.{worker_view}
 use Rattle.gib_code.specs.Program.{CodeTree}
 use Rattle.gib_machine.specs.State.{Ended}
+use Rattle.gib_machine.specs.Stepping.{with_tails}
 use Rattle.gib_machine.specs.Machine.{next}
 use Rattle.gib_machine.specs.declared.turn.Turn.TheVariants.{AtFork, AtJoin}
 use Rattle.gib_weave.specs.Owing.{Debt}
+use Rattle.gib_pool.specs.declared.workspace.Workspace.{Workspace}
 use Rattle.gib_pool.specs.Active.{OwesStill, PaysStill, StandsAt, active_state}
 use Rattle.gib_pool.specs.Lent.{lent_paths}
 use Rattle.gib_pool.proofs.Passing.{back_on, ended_with, goes_for, settles_for}
@@ -24,7 +26,12 @@ pub ended_with-answer-requires : goal.ended_with-answer-requires
 ended_with-answer-requires g c =
     let w = c.requires.owes in
     let e = subst (StandsAt c.args.lowered.now w.0 c.run_on-active.result.0) c.in-Ended.is (c.run_on-active.ensures.stands w.0 w.1) in
-    (c.run_on-active.result.0.tails, e.1, subst (λ (x : CodeTree). next x (active_state c.run_on-active.result.0) ≡ Ended e.1) (sym c.code.ensures.value) e.2)
+    (
+      c.run_on-active.result.0.workspace.value.tails,
+      e.1,
+      subst (λ (w : Workspace). next c.code.result.now (with_tails w.machine c.run_on-active.result.0.workspace.value.tails) ≡ Ended e.1) (sym c.deref.ensures)
+          (subst (λ (x : CodeTree). next x (active_state c.run_on-active.result.0) ≡ Ended e.1) (sym c.code.ensures.value) e.2),
+    )
 
 pub returns-in-Ended-clause-goes : goal.returns-in-Ended-clause-goes
 returns-in-Ended-clause-goes g c =
@@ -33,7 +40,8 @@ returns-in-Ended-clause-goes g c =
     let h = c.run_on-active.ensures.holds in
     record {
       back = record { own = h.own; same = c.run_on-active.ensures.same; none_out = h.lends.out ∙ ap lent_paths (at w.0 w.1).0 };
-      settles = λ d h. ended_with c.args.lowered.now d c.run_on-active.result.0 c.ended_with-answer.result (at d h) (subst (λ (x : CodeTree). next x (active_state c.run_on-active.result.0) ≡ Ended c.ended_with-answer.result) c.code.ensures.value (c.ended_with-answer.ensures c.run_on-active.result.0.tails));
+      settles = λ d h. ended_with c.args.lowered.now d c.run_on-active.result.0 c.ended_with-answer.result (at d h) (subst (λ (x : CodeTree). next x (active_state c.run_on-active.result.0) ≡ Ended c.ended_with-answer.result) c.code.ensures.value
+          (subst (λ (w : Workspace). next c.code.result.now (with_tails w.machine c.run_on-active.result.0.workspace.value.tails) ≡ Ended c.ended_with-answer.result) c.deref.ensures (c.ended_with-answer.ensures c.run_on-active.result.0.workspace.value.tails)));
     }
 
 pub returns-in-Full-clause-goes : goal.returns-in-Full-clause-goes
@@ -49,7 +57,7 @@ returns-in-Full-clause-goes g c =
 pub returns-after-is_offered-clause-goes : goal.returns-after-is_offered-clause-goes
 returns-after-is_offered-clause-goes g c =
     let l = c.args.lowered.now in
-    goes_for c.args.arena.now l (λ (d : Debt). StandsAt l d c.run_on-active.result.0 AtFork) (λ (d : Debt). OwesStill l d c.args.active) c.args.active c.run_on-active.result.0 (worker_view c.fork_here-active.new.forks).mine (Ok c.fork_here-active.result) c.run_on-active.ensures.same
+    goes_for {Kept = Workspace} c.args.arena.now l (λ (d : Debt). StandsAt l d c.run_on-active.result.0 AtFork) (λ (d : Debt). OwesStill l d c.args.active) c.args.active c.run_on-active.result.0 (worker_view c.fork_here-active.new.forks).mine (Ok c.fork_here-active.result) c.run_on-active.ensures.same
     (λ d w. subst (StandsAt l d c.run_on-active.result.0) c.in-AtFork.is (c.run_on-active.ensures.stands d w)) c.fork_here-active.ensures.on
 
 pub returns-in-AtJoin-clause-goes : goal.returns-in-AtJoin-clause-goes
