@@ -10,6 +10,7 @@ ghost use Rattle.gib_core.specs.Tight.{Tight};
 ghost use Rattle.gib_weave.specs.Running.{IsStart, word_of};
 ghost use Rattle.gib_weave.specs.Sound.{IsAnswer};
 ghost use Rattle.gib_weave.specs.Weave.{weave_start};
+ghost use Rattle.gib_weave.specs.Woven.{IsSoundOn, weave_of};
 ghost use Rattle.gib_locked.specs.Replays.{IsAnswered, IsNoEnd};
 
 use crate::journal::Journal;
@@ -17,6 +18,7 @@ use crate::replay_fault::ReplayFault;
 use crate::replaying::replay;
 use crate::runner::{Locked, run_locked};
 use crate::settings::Settings;
+use gib_base::Memory;
 use gib_code::Answer;
 use gib_core::Lowered;
 use gib_edge::outside::Gate;
@@ -51,6 +53,35 @@ pub struct Traced {
     pub journal: Journal,
 }
 
+/// The weave at its start, which runs code on a value that was loaded, with the settings' nesting.
+///
+/// # Errors
+///
+/// Want of memory.
+fn start_loaded<'a>(
+    alloc: Global,
+    lowered: &'a Lowered,
+    loaded: Loaded,
+    settings: Settings,
+) -> Result<Weave<'a>, Memory>
+    requires { (d : Datum) × IsStart lowered.now loaded.root loaded.tails (⟦<PlainMem as Mem>⟧.view loaded.memory) d }
+    ensures lowered { IfOk result (λ weave. weave.lowered ≡ lowered.now) }
+    ensures starts { IfOk result (λ weave. weave_of weave ≡ weave_start (core_of lowered.now.core) lowered.now.code (⟦<PlainMem as Mem>⟧.view loaded.memory) (word_of loaded.root) settings.depth settings.fork loaded.tails) }
+    ensures sound { IfOk result (λ weave. (d : Datum) → IsStart lowered.now loaded.root loaded.tails (⟦<PlainMem as Mem>⟧.view loaded.memory) d
+        → IsSoundOn lowered.now settings.depth settings.fork d (weave_of weave)) }
+{
+    let Loaded {
+        memory,
+        tails,
+        root,
+    } = loaded;
+    let nesting = Nesting {
+        calls: settings.depth,
+        forks: settings.fork,
+    };
+    Weave::start(alloc, lowered, memory, tails, root, nesting)
+}
+
 /// The events of a journal happen to the weave of the root alone, which runs code on a value that was loaded, with the journal's settings
 /// of nesting. The answer is what the core means.
 ///
@@ -72,16 +103,7 @@ pub fn replay_loaded(
         → IsAnswer lowered.now.code.laid (⟦<PlainMem as Mem>⟧.view made.memory).cells (results.One (core_of lowered.now.core).main.result) (core_run (core_of lowered.now.core) journal.now.settings.depth d) made.answer) }
     ensures no_end { IfErr result (IsNoEnd lowered.now.code (weave_start (core_of lowered.now.core) lowered.now.code (⟦<PlainMem as Mem>⟧.view loaded.memory) (word_of loaded.root) journal.now.settings.depth journal.now.settings.fork loaded.tails) journal.now.lines.all.items) }
 {
-    let nesting = Nesting {
-        calls: journal.settings.depth,
-        forks: journal.settings.fork,
-    };
-    let Loaded {
-        memory,
-        tails,
-        root,
-    } = loaded;
-    let Ok(start) = Weave::start(alloc, lowered, memory, tails, root, nesting) else {
+    let Ok(start) = start_loaded(alloc, lowered, loaded, journal.settings) else {
         return Err(ReplayFault::Memory);
     };
     let weave = match replay(alloc, start, journal) {
@@ -123,16 +145,7 @@ pub fn run_loaded<R: Threads + Wait + Sync, G: Gate + Sync>(
     ensures full { IsErrOf result RunFault.Full → (d : Datum) → IsStart lowered.now loaded.root loaded.tails (⟦<PlainMem as Mem>⟧.view loaded.memory) d
         → Tight (⟦<PlainMem as Mem>⟧.view loaded.memory).limit (run_cost (core_of lowered.now.core) settings.depth settings.fork d) }
 {
-    let nesting = Nesting {
-        calls: settings.depth,
-        forks: settings.fork,
-    };
-    let Loaded {
-        memory,
-        tails,
-        root,
-    } = loaded;
-    let Ok(start) = Weave::start(alloc, lowered, memory, tails, root, nesting) else {
+    let Ok(start) = start_loaded(alloc, lowered, loaded, settings) else {
         return Err(RunFault::Memory);
     };
     let (weave, journal) = match run_locked(rt, alloc, start, settings, workers, gate) {
