@@ -1,13 +1,13 @@
 //! Terms that have no terms in them, and where no term is.
 
-ghost use Rattle.std.specs.Prelude.{◌≡◌, ℕ, length, Some, IfOk, MatchOption};
+ghost use Rattle.std.specs.Prelude.{◌≡◌, ℕ, IfOk, MatchOption};
 ghost use Rattle.gib_syntax.specs.Spelling.{Places, places_of};
 ghost use Rattle.gib_syntax.specs.declared.tree.Ident.{Ident as Identifier};
 ghost use Rattle.gib_syntax.specs.declared.tree.TypeName.{TypeName as NamedType};
-ghost use Rattle.gib_reads.specs.Readers.{Read as Reading, Reader, next_is};
+ghost use Rattle.gib_reads.specs.Readers.{Reader, next_is};
 ghost use Rattle.gib_reads.specs.Answers.{Fails, Gives};
 ghost use Rattle.gib_local_parse.specs.Grammar.{starts_term, no_level, give_at, point_at, let_from, side_in_at, prim_at, call_at, make_at};
-ghost use Rattle.gib_local_parse.specs.LineArena.{BindingBelow, PartsBelow, binding_from, layer, tree_of};
+ghost use Rattle.gib_local_parse.specs.LineArena.{BindingBelow, binding_from, tree_of};
 ghost use Rattle.gib_local_parse.specs.Sources.{places_in};
 ghost use Rattle.gib_local_parse.specs.ReadingTerms.{Reads};
 ghost use Rattle.gib_local_parse.specs.Tree.{Line};
@@ -54,34 +54,35 @@ pub fn too_deep(tokens: &[Token]) -> Stop
     }
 }
 
-/// Puts a node that was read.
-pub fn put<'a>(lines: &mut Lines, found: Read<'a, LineNode>) -> Read<'a, LineId>
-    requires { IfOk found (λ x. PartsBelow x.0 (length lines.old)) }
+/// Behind `give`.
+pub fn give<'a>(
+    spans: &[Span],
+    lines: &mut Lines,
+    span: Span,
+    tokens: &'a [Token],
+) -> Read<'a, LineId>
     ensures kept { IfOk result (λ x. Reads lines.old lines.new x.0.0) }
-    ensures read { (r : Reading Line) → Gives (λ x. (layer (tree_of lines.old) (Some x.0), x.1.now)) found.entry r → Gives (λ x. (tree_of lines.new x.0.0, x.1.now)) result r }
+    ensures read { Gives (λ x. (tree_of lines.new x.0.0, x.1.now)) result (give_at (places_of spans.now) span tokens.now) }
 {
-    let (node, tokens) = found?;
-    let id = lines.put(node)?;
+    let (value, tokens) = operand(spans, tokens)?;
+    let id = lines.put(LineNode::Give(span, value))?;
     Ok((id, tokens))
 }
 
-/// Behind `give`.
-pub fn give<'a>(spans: &[Span], span: Span, tokens: &'a [Token]) -> Read<'a, LineNode>
-    ensures below { (n : ℕ) → IfOk result (λ x. PartsBelow x.0 n) }
-    ensures read { (f : ℕ → Line) → Gives (λ x. (layer f (Some x.0), x.1.now)) result (give_at (places_of spans.now) span tokens.now) }
-{
-    let (value, tokens) = operand(spans, tokens)?;
-    Ok((LineNode::Give(span, value), tokens))
-}
-
 /// Behind `point`.
-pub fn point<'a>(spans: &[Span], span: Span, tokens: &'a [Token]) -> Read<'a, LineNode>
-    ensures below { (n : ℕ) → IfOk result (λ x. PartsBelow x.0 n) }
-    ensures read { (f : ℕ → Line) → Gives (λ x. (layer f (Some x.0), x.1.now)) result (point_at (places_of spans.now) span tokens.now) }
+pub fn point<'a>(
+    spans: &[Span],
+    lines: &mut Lines,
+    span: Span,
+    tokens: &'a [Token],
+) -> Read<'a, LineId>
+    ensures kept { IfOk result (λ x. Reads lines.old lines.new x.0.0) }
+    ensures read { Gives (λ x. (tree_of lines.new x.0.0, x.1.now)) result (point_at (places_of spans.now) span tokens.now) }
 {
     let (name, tokens) = variable(spans, tokens)?;
     let (place, tokens) = mark(spans, tokens)?;
-    Ok((LineNode::Point(span, name, place), tokens))
+    let id = lines.put(LineNode::Point(span, name, place))?;
+    Ok((id, tokens))
 }
 
 /// A variable with its type, as far as a binding was read.
@@ -127,24 +128,36 @@ pub fn operation<'a>(spans: &[Span], typed: Typed, tokens: &'a [Token]) -> Read<
 }
 
 /// A function's name, and behind it arguments, one at least, and a place.
-pub fn call<'a>(source: &Source, function: Ident, tokens: &'a [Token]) -> Read<'a, LineNode>
-    ensures below { (n : ℕ) → IfOk result (λ x. PartsBelow x.0 n) }
-    ensures read { (f : ℕ → Line) → Gives (λ x. (layer f (Some x.0), x.1.now)) result (call_at (places_in source.now) function tokens.now) }
+pub fn call<'a>(
+    source: &Source,
+    lines: &mut Lines,
+    function: Ident,
+    tokens: &'a [Token],
+) -> Read<'a, LineId>
+    ensures kept { IfOk result (λ x. Reads lines.old lines.new x.0.0) }
+    ensures read { Gives (λ x. (tree_of lines.new x.0.0, x.1.now)) result (call_at (places_in source.now) function tokens.now) }
 {
     let mut arguments = Vec::new(source.alloc);
     let (first, tokens) = operand(source.spans, tokens)?;
     arguments.push(first)?;
     let (arguments, tokens) = further_operands(source.spans, arguments, tokens)?;
     let (place, tokens) = optional_mark(source.spans, tokens)?;
-    Ok((LineNode::Call(function, arguments, place), tokens))
+    let id = lines.put(LineNode::Call(function, arguments, place))?;
+    Ok((id, tokens))
 }
 
 /// A constructor's name, and behind it a place and arguments.
-pub fn make<'a>(source: &Source, head: Ident, tokens: &'a [Token]) -> Read<'a, LineNode>
-    ensures below { (n : ℕ) → IfOk result (λ x. PartsBelow x.0 n) }
-    ensures read { (f : ℕ → Line) → Gives (λ x. (layer f (Some x.0), x.1.now)) result (make_at (places_in source.now) head tokens.now) }
+pub fn make<'a>(
+    source: &Source,
+    lines: &mut Lines,
+    head: Ident,
+    tokens: &'a [Token],
+) -> Read<'a, LineId>
+    ensures kept { IfOk result (λ x. Reads lines.old lines.new x.0.0) }
+    ensures read { Gives (λ x. (tree_of lines.new x.0.0, x.1.now)) result (make_at (places_in source.now) head tokens.now) }
 {
     let (place, tokens) = mark(source.spans, tokens)?;
     let (arguments, tokens) = operands(source, tokens)?;
-    Ok((LineNode::Make(head, place, arguments), tokens))
+    let id = lines.put(LineNode::Make(head, place, arguments))?;
+    Ok((id, tokens))
 }

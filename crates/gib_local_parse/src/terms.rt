@@ -7,7 +7,7 @@ ghost use Rattle.gib_local_parse.specs.LineArena.{binding_from, side_from, tree_
 ghost use Rattle.gib_local_parse.specs.Sources.{case_from, if_from, places_at, terms_at};
 ghost use Rattle.gib_local_parse.specs.ReadingTerms.{Reads, ReadsArms, ReadsBinding, arm_text, arms_text};
 
-use crate::leaves::{Typed, behind_open, call, give, make, operation, point, put, too_deep};
+use crate::leaves::{Typed, behind_open, call, give, make, operation, point, too_deep};
 use crate::lines::{BindingNode, LineArm, LineId, LineNode, Lines, Side};
 use crate::phrases::{between, location, operand, optional_mark, type_name, way};
 use crate::source::{Depth, Read};
@@ -43,18 +43,18 @@ fn step<'a>(depth: &Depth, lines: &mut Lines, tokens: &'a [Token]) -> Read<'a, L
     match tokens {
         [Token::Variable(name), rest @ ..] => {
             let function = named(depth.source.spans, *name, tokens.len());
-            put(lines, call(&depth.source, function, rest))
+            call(&depth.source, lines, function, rest)
         }
         [Token::Constructor(name), rest @ ..] => {
             let head = named(depth.source.spans, *name, tokens.len());
-            put(lines, make(&depth.source, head, rest))
+            make(&depth.source, lines, head, rest)
         }
         [Token::Sign(sign), rest @ ..] => match sign {
             Sign::LetRegion | Sign::LetLocation | Sign::Reach | Sign::Let => {
                 line(depth, lines, tokens)
             }
-            Sign::Give => put(lines, give(depth.source.spans, span, rest)),
-            Sign::Point => put(lines, point(depth.source.spans, span, rest)),
+            Sign::Give => give(depth.source.spans, lines, span, rest),
+            Sign::Point => point(depth.source.spans, lines, span, rest),
             Sign::Case => case_of(depth, lines, tokens),
             Sign::If => if_then(depth, lines, tokens),
             _ => Err(Stop::At(tokens.len())),

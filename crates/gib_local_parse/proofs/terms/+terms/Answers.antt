@@ -96,21 +96,3 @@ let_one-returns-in-Some-clause-read t c =
     let w = c.in_ok-ty.ty in
     let read = one_is at sub c.args.tokens.now c.in_ok-name.tokens.now c.in_ok-tokens.tokens.now c.in_ok-ty.tokens.now x w c.in_ok-name.ensures c.in_ok-tokens.ensures c.in_ok-ty.ensures ∙ c.in-Some.ensures at sub x w in
     subst (λ (r : Read Binding). Gives (λ x. (binding_from (tree_of c.args.lines.now) x.0, x.1.now)) c.operation.result r) (sym read) (c.operation.ensures.read (tree_of c.args.lines.now))
-
-pub step-put-requires : goal.step-put-requires
-step-put-requires t c = c.call.ensures.below (length c.args.lines.now)
-
-pub step-put-requires-in-Constructor : goal.step-put-requires-in-Constructor
-step-put-requires-in-Constructor t c = c.make.ensures.below (length c.args.lines.now)
-
-pub step-returns-in-Variable-clause-read : goal.step-returns-in-Variable-clause-read
-step-returns-in-Variable-clause-read t c = let h = c.put.ensures.read _ (c.call.ensures.read (tree_of c.args.lines.now)) in search rules
-
-pub step-returns-in-Constructor-clause-read : goal.step-returns-in-Constructor-clause-read
-step-returns-in-Constructor-clause-read t c = let h = c.put-in-Constructor.ensures.read _ (c.make.ensures.read (tree_of c.args.lines.now)) in search rules
-
-pub step-returns-in-Give-clause-read : goal.step-returns-in-Give-clause-read
-step-returns-in-Give-clause-read t c = let h = c.put-in-Give.ensures.read _ (c.give.ensures.read (tree_of c.args.lines.now)) in search rules
-
-pub step-returns-in-Point-clause-read : goal.step-returns-in-Point-clause-read
-step-returns-in-Point-clause-read t c = let h = c.put-in-Point.ensures.read _ (c.point.ensures.read (tree_of c.args.lines.now)) in search rules
