@@ -8,6 +8,7 @@ use Rattle.gib_app.specs.declared.made.End.{End as KeptEnd}
 use Rattle.gib_app.specs.declared.made.End.TheVariants as ends
 use Rattle.gib_app.specs.declared.jobs.Given.{Given}
 use Rattle.gib_app.specs.declared.request.Request.{Request}
+use Rattle.gib_app.specs.declared.stop.Stop.{Stop}
 use Rattle.gib_app.specs.declared.made.Made.{Made}
 use Rattle.gib_app.specs.declared.made.Valued.{Valued}
 use Rattle.gib_app.specs.declared.inputs.Input.{Input as KeptInput}
@@ -17,7 +18,9 @@ use Rattle.gib_app.specs.Jobs.{End, Prints, NoValue}
 use Rattle.gib_mem.specs.Memory.{Grows}
 use Rattle.gib_arena.specs.Sole.{sole_memory}
 use Rattle.gib_app.specs.MachineRun.{IsMeantBy, cells_of}
-use Rattle.gib_app.specs.Running.{text_line}
+use Rattle.gib_app.specs.Cores.{layouts_asked}
+use Rattle.gib_app.specs.Running.{IsShown, text_line}
+use Rattle.gib_app.specs.Stops.{IsPackStop, IsShowStop}
 use Rattle.gib_words.specs.Kept.{document_of}
 
 -- The input.
@@ -39,6 +42,18 @@ names_in request = request.compiled.now.names
 -- The bytes of its inputs.
 abbrev pub inputs_in : Request → Contents
 inputs_in request = record { second = request.input.now; further = option_to_list (option_map (λ bytes. bytes.now) request.journal) }
+
+-- The text of the value of its file, with a line feed.
+abbrev pub IsShownFor : Request → List ℕ → Type 0
+IsShownFor request = IsShown (tree_in request) (names_in request) (layouts_asked request.options (tree_in request)) request.input.now
+
+-- Why its file is not shown.
+abbrev pub StopsShow : Request → Stop → Type 0
+StopsShow request = IsShowStop (tree_in request) (names_in request) (layouts_asked request.options (tree_in request)) request.input.now
+
+-- Why no packed file is made.
+abbrev pub StopsPack : Request → Stop → Type 0
+StopsPack request = IsPackStop request.options.repacks request.options.first_version (tree_in request) (names_in request) request.input.now
 
 -- The file that a job made.
 abbrev pub file_of : Made → Option (List ℕ)

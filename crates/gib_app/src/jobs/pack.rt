@@ -6,9 +6,9 @@ ghost use Rattle.gib_value.specs.Reading.{IsTextOf};
 ghost use Rattle.gib_syntax.specs.Parts.{program_of};
 ghost use Rattle.gib_syntax.specs.Declarations.{table_of_program, input_type};
 ghost use Rattle.gib_app.specs.Jobs.{Packs};
-ghost use Rattle.gib_app.specs.Kept.{EndsBy, file_of, names_in, tree_in};
+ghost use Rattle.gib_app.specs.Kept.{EndsBy, StopsPack, file_of, names_in, tree_in};
 ghost use Rattle.gib_app.specs.Packing.{IsFileOf, IsPackable, IsPackedBy, without_feed as feed_cut};
-ghost use Rattle.gib_app.specs.Stops.{IsReady, IsPackStop};
+ghost use Rattle.gib_app.specs.Stops.{IsReady};
 
 use crate::compile::Compiled;
 use crate::input_fault::InputFault;
@@ -44,8 +44,7 @@ fn value_of(alloc: Global, request: Request<'_>) -> Result<Value, Stop<'static>>
     requires ready { IsReady (tree_in request) (names_in request) }
     requires short { length request.input.now ≤ FILE_BYTES }
     ensures packable { IfOk result (λ v. IsPackable request.entry.options.repacks (tree_in request.entry) (names_in request.entry) v request.entry.input.now) }
-    ensures stop { IfErr result (IsPackStop request.entry.options.repacks request.entry.options.first_version
-        (tree_in request.entry) (names_in request.entry) request.entry.input.now) }
+    ensures stop { IfErr result (StopsPack request.entry) }
 {
     let compiled = request.compiled;
     if request.options.repacks {
@@ -127,8 +126,7 @@ fn file_found(alloc: Global, request: Request<'_>) -> Result<Vec<u8>, Stop<'stat
     ensures file { IfOk result (λ file. (v : Datum) × IsPackable request.entry.options.repacks
         (tree_in request.entry) (names_in request.entry) v request.entry.input.now
         × IsFileOf request.entry.options.first_version (tree_in request.entry) (names_in request.entry) v file.items) }
-    ensures stop { IfErr result (IsPackStop request.entry.options.repacks request.entry.options.first_version
-        (tree_in request.entry) (names_in request.entry) request.entry.input.now) }
+    ensures stop { IfErr result (StopsPack request.entry) }
 {
     let compiled = request.compiled;
     let options = request.options;
@@ -161,8 +159,7 @@ fn file_made(alloc: Global, request: Request<'_>) -> Result<Vec<u8>, Stop<'stati
     requires short { length request.input.now ≤ FILE_BYTES }
     ensures file { IfOk result (λ file. IsPackedBy request.entry.options.repacks request.entry.options.first_version
         (tree_in request.entry) (names_in request.entry) request.entry.input.now file.items) }
-    ensures stop { IfErr result (IsPackStop request.entry.options.repacks request.entry.options.first_version
-        (tree_in request.entry) (names_in request.entry) request.entry.input.now) }
+    ensures stop { IfErr result (StopsPack request.entry) }
 {
     one_file();
     texts_differ(request.compiled.typed.types(), &request.compiled.names);
@@ -187,8 +184,7 @@ pub fn pack(alloc: Global, request: Request<'_>) -> Result<Made, Stop<'static>>
     requires short { length request.input.now ≤ FILE_BYTES }
     ensures made { IfOk result (λ made. EndsBy (file_of made) made.end (Packs
         (tree_in request.entry) (names_in request.entry) request.entry.options request.entry.input.now)) }
-    ensures stop { IfErr result (IsPackStop request.entry.options.repacks request.entry.options.first_version
-        (tree_in request.entry) (names_in request.entry) request.entry.input.now) }
+    ensures stop { IfErr result (StopsPack request.entry) }
     ensures alone { IfOk result (λ made. made.packed ≡ None) }
 {
     let file = match file_made(alloc, request) {

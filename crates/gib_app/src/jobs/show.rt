@@ -4,12 +4,11 @@ ghost use Rattle.std.specs.Prelude.{◌≡◌, ◌≤◌, length, IfOk, IfErr, N
 ghost use Rattle.gib_types.specs.Tree.{Datum};
 ghost use Rattle.gib_syntax.specs.Declarations.{table_of_program, input_type};
 ghost use Rattle.gib_syntax.specs.Parts.{program_of};
-ghost use Rattle.gib_app.specs.Cores.{layouts_asked};
 ghost use Rattle.gib_app.specs.InputFaults.{HasImageSign};
 ghost use Rattle.gib_app.specs.Jobs.{OnlyPrints};
-ghost use Rattle.gib_app.specs.Kept.{EndsBy, file_of, names_in, tree_in};
-ghost use Rattle.gib_app.specs.Running.{IsInput, IsShown, text_line};
-ghost use Rattle.gib_app.specs.Stops.{IsReady, IsPackedStop, IsShowStop};
+ghost use Rattle.gib_app.specs.Kept.{EndsBy, IsShownFor, StopsShow, file_of, names_in, tree_in};
+ghost use Rattle.gib_app.specs.Running.{IsInput, text_line};
+ghost use Rattle.gib_app.specs.Stops.{IsReady, IsPackedStop};
 
 use crate::compile::Compiled;
 use crate::image_file::{has_image_sign, read_image_of};
@@ -29,11 +28,8 @@ fn image_line(alloc: Global, request: Request<'_>) -> Result<Vec<u8>, Stop<'stat
     requires ready { IsReady (tree_in request) (names_in request) }
     requires sign { HasImageSign request.input.now }
     requires short { length request.input.now ≤ 268435480 }
-    ensures output { IfOk result (λ output.
-        IsShown (tree_in request.entry) (names_in request.entry) (layouts_asked request.entry.options (tree_in request.entry))
-        request.entry.input.now output.items) }
-    ensures stop { IfErr result
-        (IsShowStop (tree_in request.entry) (names_in request.entry) (layouts_asked request.entry.options (tree_in request.entry)) request.entry.input.now) }
+    ensures output { IfOk result (λ output. IsShownFor request.entry output.items) }
+    ensures stop { IfErr result (StopsShow request.entry) }
 {
     let compiled = request.compiled;
     let value = match read_image_of(alloc, &compiled.typed, request.options, request.input) {
@@ -75,11 +71,8 @@ fn packed_line(alloc: Global, compiled: &Compiled, file: &[u8]) -> Result<Vec<u8
 fn show_file(alloc: Global, request: Request<'_>) -> Result<Vec<u8>, Stop<'static>>
     requires ready { IsReady (tree_in request) (names_in request) }
     requires short { length request.input.now ≤ 268435480 }
-    ensures output { IfOk result (λ output.
-        IsShown (tree_in request.entry) (names_in request.entry) (layouts_asked request.entry.options (tree_in request.entry))
-        request.entry.input.now output.items) }
-    ensures stop { IfErr result
-        (IsShowStop (tree_in request.entry) (names_in request.entry) (layouts_asked request.entry.options (tree_in request.entry)) request.entry.input.now) }
+    ensures output { IfOk result (λ output. IsShownFor request.entry output.items) }
+    ensures stop { IfErr result (StopsShow request.entry) }
 {
     if has_image_sign(request.input) {
         return image_line(alloc, request);
@@ -107,10 +100,8 @@ pub fn show(alloc: Global, request: Request<'_>) -> Result<Made, Stop<'static>>
     requires ready { IsReady (tree_in request) (names_in request) }
     requires short { length request.input.now ≤ 268435480 }
     ensures made { IfOk result (λ made. EndsBy (file_of made) made.end
-        (OnlyPrints (IsShown (tree_in request.entry) (names_in request.entry) (layouts_asked request.entry.options
-        (tree_in request.entry)) request.entry.input.now))) }
-    ensures stop { IfErr result
-        (IsShowStop (tree_in request.entry) (names_in request.entry) (layouts_asked request.entry.options (tree_in request.entry)) request.entry.input.now) }
+        (OnlyPrints (IsShownFor request.entry))) }
+    ensures stop { IfErr result (StopsShow request.entry) }
     ensures alone { IfOk result (λ made. made.packed ≡ None) }
 {
     match show_file(alloc, request) {
