@@ -25,8 +25,7 @@ join_here-requires-clause-stands g c = let w = c.requires.owes in (w.0, subst (S
 pub ended_with-answer-requires : goal.ended_with-answer-requires
 ended_with-answer-requires g c =
     let w = c.requires.owes in
-    let e = subst (StandsAt c.args.lowered.now w.0 c.run_on-active.result.0) c.in-Ended.is (c.run_on-active.ensures.stands w.0 w.1) in
-    (
+    let e = subst (StandsAt c.args.lowered.now w.0 c.run_on-active.result.0) c.in-Ended.is (c.run_on-active.ensures.stands w.0 w.1) in (
       c.run_on-active.result.0.workspace.value.tails,
       e.1,
       subst (λ (w : Workspace). next c.code.result.now (with_tails w.machine c.run_on-active.result.0.workspace.value.tails) ≡ Ended e.1) (sym c.deref.ensures)
