@@ -1,4 +1,4 @@
-use Rattle.std.proofs.Common.{refl, sym, ap, ◌∙◌, subst}
+use Rattle.std.proofs.Common.{true, refl, sym, ap, ◌∙◌, subst}
 use Rattle.gib_types.specs.Types.{forms_at, AreBelow}
 use Rattle.gib_mono.specs.declared.found.CopyKey.TheVariants as k
 use Rattle.gib_mono.specs.Contexts.{forms}
@@ -8,6 +8,9 @@ use Rattle.gib_mono.specs.Walk.{FunctionOf, function_asked}
 use Rattle.gib_mono.proofs.Seeking.{if_ok, key_asked}
 use Rattle.gib_mono.proofs.search.ask_function.Goals as goal
 use Rattle.gib_check.proofs.Growing.{many}
+
+pub returns-then-is_over : goal.returns-then-is_over
+returns-then-is_over c = c.is_over.ensures.over c.if-is_over.true (globals_in c.args.source.now) true
 
 pub returns : goal.returns
 returns c =

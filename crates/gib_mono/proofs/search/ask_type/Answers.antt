@@ -1,4 +1,5 @@
-use Rattle.std.proofs.Common.{refl, sym, ap, ◌∙◌, subst, arith}
+use Rattle.std.proofs.Common.{false, refl, sym, ap, ◌∙◌, subst, arith}
+use Rattle.std.proofs.lemmas.Option.{slice_get_within}
 use Rattle.gib_types.specs.Types.{forms_at, AreBelow}
 use Rattle.gib_mono.specs.declared.found.CopyKey.TheVariants as k
 use Rattle.gib_mono.specs.Contexts.{forms}
@@ -8,6 +9,12 @@ use Rattle.gib_mono.specs.Walk.{DataOf, data_asked}
 use Rattle.gib_mono.proofs.Seeking.{if_ok, key_asked}
 use Rattle.gib_mono.proofs.search.ask_type.Goals as goal
 use Rattle.gib_check.proofs.Growing.{many}
+
+pub returns-then-is_over : goal.returns-then-is_over
+returns-then-is_over c = c.is_over.ensures.over c.if-is_over.true (globals_in c.args.source.now) false
+
+pub constructors_of-constructors-requires : goal.constructors_of-constructors-requires
+constructors_of-constructors-requires c = let t = c.in-Some.ensures.place in slice_get_within (globals_in c.args.source.now).datas c.in-Some.place t.0 t.1
 
 pub returns : goal.returns
 returns c =
