@@ -52,13 +52,13 @@ pub ask_expression-returns-in_ok-ask_call-in-Call : goal.ask_expression-returns-
 ask_expression-returns-in_ok-ask_call-in-Call t c =
     if_ok _ _ c.ask_arguments.result (λ u a. opened_asks c.args.source.now c.args.search.now c.ask_arguments.new.search c.args.id.0 _
     (opened_node c.args.source.now c.args.id.0 c.node.result.now (n.Call c.in-Call.f c.in-Call.run' c.in-Call.ids) c.node.ensures c.in-Call.is ∙ ap (λ is. GenericCall c.in-Call.f (types_in c.args.source.now.exprs.words c.in-Call.run') (arguments_from (tree_of c.args.source.now.exprs) is)) (sym c.deref.ensures.value))
-    (called_asked c.args.source.now c.args.search.now c.ask_call.new.search c.ask_arguments.new.search c.in-Call.f c.in-Call.run' c.words.result.now c.deref.result.now c.words.ensures c.in_ok-ask_call.ensures a)) c.ask_arguments.ensures
+    (called_asked c.args.source.now c.args.search.now c.ask_call.new.search c.ask_arguments.new.search c.in-Call.f c.in-Call.run' c.words.result.now c.deref.result.now c.words.ensures c.in_ok-ask_call-in-Call.ensures a)) c.ask_arguments.ensures
 
 pub ask_expression-returns-in_ok-ask_make-in-Make : goal.ask_expression-returns-in_ok-ask_make-in-Make
 ask_expression-returns-in_ok-ask_make-in-Make t c =
     if_ok _ _ c.ask_arguments-in-Make.result (λ u a. opened_asks c.args.source.now c.args.search.now c.ask_arguments-in-Make.new.search c.args.id.0 _
     (opened_node c.args.source.now c.args.id.0 c.node.result.now (n.Make c.in-Make.k c.in-Make.run' c.in-Make.ids) c.node.ensures c.in-Make.is ∙ ap (λ is. GenericMake c.in-Make.k (types_in c.args.source.now.exprs.words c.in-Make.run') (arguments_from (tree_of c.args.source.now.exprs) is)) (sym c.deref-in-Make.ensures.value))
-    (made_asked c.args.source.now c.args.search.now c.ask_make.new.search c.ask_arguments-in-Make.new.search c.in-Make.k c.in-Make.run' c.words-in-Make.result.now c.deref-in-Make.result.now c.words-in-Make.ensures c.in_ok-ask_make.ensures a)) c.ask_arguments-in-Make.ensures
+    (made_asked c.args.source.now c.args.search.now c.ask_make.new.search c.ask_arguments-in-Make.new.search c.in-Make.k c.in-Make.run' c.words-in-Make.result.now c.deref-in-Make.result.now c.words-in-Make.ensures c.in_ok-ask_make-in-Make.ensures a)) c.ask_arguments-in-Make.ensures
 
 pub ask_expression-returns-in-Let : goal.ask_expression-returns-in-Let
 ask_expression-returns-in-Let t c =
