@@ -8,7 +8,7 @@ use Rattle.gib_syntax.specs.declared.tree.Ident.{Ident}
 use Rattle.gib_types.specs.declared.operator.Operator.{Operator}
 use Rattle.gib_types.specs.declared.operator.Operator.TheVariants as o
 use Rattle.gib_syntax.specs.Forms.{WrittenType, WrittenTypes, WholeAt, TruthAt, VariableAt, DataAt, NoType, MoreTypes}
-use Rattle.gib_syntax.specs.GenericTree.{GenericExpression, GenericArguments, GenericArms, GenericVar, GenericNum, GenericBit, GenericParen, GenericOp, GenericCall, GenericMake, GenericLet, GenericPar, GenericIf, GenericCase, GenericTuple, GenericLetSeveral, GenericParSeveral, GenericNoArgument, GenericArgument, GenericLastArm, GenericNextArm, GenericConstructorTree, GenericDataTree, GenericParameterTree, GenericFunctionTree, GenericMainTree, GenericProgramTree}
+use Rattle.gib_syntax.specs.GenericTree.{GenericExpression, GenericArguments, GenericArms, GenericVar, GenericNum, GenericBit, GenericParen, GenericOp, GenericCall, GenericMake, GenericLet, GenericPar, GenericIf, GenericCase, GenericTuple, GenericNoArgument, GenericArgument, GenericLastArm, GenericNextArm, GenericConstructorTree, GenericDataTree, GenericParameterTree, GenericFunctionTree, GenericMainTree, GenericProgramTree}
 use Rattle.gib_syntax.specs.Results.{Results, One, Several}
 use Rattle.gib_syntax.specs.Spelling.{spell, spell_arguments, spell_arms, spell_bit, spell_operator, spell_variables, spell_names, spell_further_names, spell_parts, spell_further_parts, spell_type, spell_written, spell_types, spell_type_arguments, spell_type_parameters, spell_more, spell_constructors, spell_datas, spell_parameters, spell_further_types, spell_results, spell_body, spell_functions, spell_main, spell_program}
 
@@ -72,22 +72,19 @@ module _ (T : Token → Type 0) where
         (after b (t.Sign s.Close ∷ rest) (after_operator f (spell b (t.Sign s.Close ∷ rest)) (after a (spell_operator f (spell b (t.Sign s.Close ∷ rest))) h.1))).1
     after (GenericCall f ws xs) rest h = after_arguments xs rest (after_type_arguments ws (spell_arguments xs rest) h.1)
     after (GenericMake k ws xs) rest h = after_arguments xs rest (after_type_arguments ws (spell_arguments xs rest) h.1)
-    after (GenericLet p x a b) rest h = after b rest (after a (t.Sign s.In ∷ spell b rest) h.1.1.1).1
-    after (GenericPar p x a y b c) rest h =
-        after c rest (after b (t.Sign s.In ∷ spell c rest) (after a (t.Sign s.And ∷ t.Variable y.name ∷ t.Sign s.Equals ∷ spell b (t.Sign s.In ∷ spell c rest)) h.1.1.1.1).1.1.1).1
-    after (GenericIf p a b c) rest h =
-        after c rest (after b (t.Sign s.Else ∷ spell c rest) (after a (t.Sign s.Then ∷ spell b (t.Sign s.Else ∷ spell c rest)) h.1).1).1
-    after (GenericCase p x arms) rest h = (after_arms arms (t.Sign s.CloseBrace ∷ rest) h.1.1.1.1).1
-    after (GenericTuple p xs) rest h = (after_parts xs (t.Sign s.Close ∷ rest) h.1).1
-    after (GenericLetSeveral p xs a b) rest h =
+    after (GenericLet p xs a b) rest h =
         let bound = t.Sign s.In ∷ spell b rest in
         after b rest (after a bound (after_names xs (t.Sign s.Equals ∷ spell a bound) h.1).1).1
-    after (GenericParSeveral p xs a ys b c) rest h =
+    after (GenericPar p xs a ys b c) rest h =
         let bound = t.Sign s.In ∷ spell c rest in
         let right = t.Sign s.Equals ∷ spell b bound in
         let left = t.Sign s.And ∷ spell_names ys right in
         let second = after a left (after_names xs (t.Sign s.Equals ∷ spell a left) h.1.1).1 in
         after c rest (after b bound (after_names ys right second.1).1).1
+    after (GenericIf p a b c) rest h =
+        after c rest (after b (t.Sign s.Else ∷ spell c rest) (after a (t.Sign s.Then ∷ spell b (t.Sign s.Else ∷ spell c rest)) h.1).1).1
+    after (GenericCase p x arms) rest h = (after_arms arms (t.Sign s.CloseBrace ∷ rest) h.1.1.1.1).1
+    after (GenericTuple p xs) rest h = (after_parts xs (t.Sign s.Close ∷ rest) h.1).1
 
     after_parts : (xs : GenericArguments) (rest : List Token) → All (spell_parts xs rest) → All rest
     after_parts GenericNoArgument rest h = h
