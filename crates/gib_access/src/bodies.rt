@@ -2,10 +2,8 @@
 
 ghost use Rattle.std.specs.Prelude.{◌≡◌, ◌<◌, length, map, IfOk};
 ghost use Rattle.std.specs.List.{AllByRecursion};
-ghost use Rattle.gib_core.specs.Arena.{term_of};
-ghost use Rattle.gib_core.specs.Parts.{IsFunctionInside, function_term, main_term};
-ghost use Rattle.gib_access.specs.Sources.{way_of};
-ghost use Rattle.gib_access.specs.Bodies.{ReachesFunction, ReachesFunctions, ReachesMain};
+ghost use Rattle.gib_core.specs.{Arena.{term_of}, Parts.{IsFunctionInside, function_term, main_term}};
+ghost use Rattle.gib_access.specs.{Sources.{way_of}, Bodies.{ReachesFunction, ReachesFunctions, ReachesMain}};
 
 use crate::source::Source;
 use crate::walk::reach_term;

@@ -2,13 +2,10 @@
 
 ghost use Rattle.std.specs.Prelude.{◌≡◌, ◌<◌, ◌≤◌, ◌∷◌, ◌++◌, length, IfOk, OnOk};
 ghost use Rattle.std.specs.List.{list_any};
-ghost use Rattle.gib_core.specs.Arena.{Makes};
+ghost use Rattle.gib_core.specs.{Arena.{Makes}, Reaching.{packed_variables as packed_of}};
 ghost use Rattle.gib_core.specs.declared.node.Node.TheVariants as n;
 ghost use Rattle.gib_core.specs.declared.node.Binding.TheVariants as b;
-ghost use Rattle.gib_core.specs.Reaching.{packed_variables as packed_of};
-ghost use Rattle.gib_access.specs.Used.{since, before_at as at_before, skips_by, offsets_by_use, reaches_by, offset_by};
-ghost use Rattle.gib_access.specs.Planned.{ends_at};
-ghost use Rattle.gib_access.specs.Made.{Fronts};
+ghost use Rattle.gib_access.specs.{Used.{since, before_at as at_before, skips_by, offsets_by_use, reaches_by, offset_by}, Planned.{ends_at}, Made.{Fronts}};
 
 use crate::planning::Planned;
 use crate::stamps::is_used_since;

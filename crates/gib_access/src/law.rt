@@ -3,13 +3,8 @@
 ghost use Rattle.std.specs.Prelude.{◌≡◌, ℕ, List};
 ghost use Rattle.gib_types.specs.Tree.{Datum};
 ghost use Rattle.gib_syntax.specs.Tree.{DataTree};
-ghost use Rattle.gib_core.specs.Tree.{CoreTree};
-ghost use Rattle.gib_core.specs.Meaning.{core_calls, core_run};
-ghost use Rattle.gib_core.specs.declared.atom.AccessMode.{AccessMode as Mode};
-ghost use Rattle.gib_core.specs.Erasing.{erase_core};
-ghost use Rattle.gib_core.specs.Reaching.{reach_core};
-ghost use Rattle.gib_core.specs.Reachable.{AreReachable};
-ghost use Rattle.gib_core.specs.Numbering.{AreNumbered};
+ghost use Rattle.gib_core.specs.{Tree.{CoreTree}, Meaning.{core_calls, core_run}, declared.atom.AccessMode.{AccessMode as Mode}, Erasing.{erase_core}};
+ghost use Rattle.gib_core.specs.{Reaching.{reach_core}, Reachable.{AreReachable}, Numbering.{AreNumbered}};
 ghost use Rattle.gib_access.specs.Stored.{read_core};
 
 /// To reach the fields of arms keeps what is left of a core, and its own meaning.

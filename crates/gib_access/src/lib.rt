@@ -4,13 +4,8 @@
 ghost use Rattle.std.specs.Prelude.{◌≡◌, ℕ, List, IfOk};
 ghost use Rattle.gib_types.specs.Tree.{Datum};
 ghost use Rattle.gib_syntax.specs.Tree.{DataTree};
-ghost use Rattle.gib_core.specs.Parts.{core_of};
-ghost use Rattle.gib_core.specs.Meaning.{core_calls, core_run};
-ghost use Rattle.gib_core.specs.Erasing.{erase_core};
-ghost use Rattle.gib_core.specs.Reaching.{reach_core, tells_ends as tells};
-ghost use Rattle.gib_core.specs.Numbering.{AreNumbered};
-ghost use Rattle.gib_core.specs.Reachable.{AreReachable};
-ghost use Rattle.gib_core.specs.Rules.{AreBuilt};
+ghost use Rattle.gib_core.specs.{Parts.{core_of}, Meaning.{core_calls, core_run}, Erasing.{erase_core}, Reaching.{reach_core, tells_ends as tells}};
+ghost use Rattle.gib_core.specs.{Numbering.{AreNumbered}, Reachable.{AreReachable}, Rules.{AreBuilt}};
 ghost use Rattle.gib_access.specs.Bodies.{offsets_kept as kept};
 
 mod bodies;

@@ -2,8 +2,7 @@
 
 ghost use Rattle.std.specs.Prelude.{◌≡◌, ◌<◌, ◌≤◌, ◌∷◌, ◌++◌, [], take, length, map, List, IfOk, OnOk};
 ghost use Rattle.std.specs.List.{AllByRecursion};
-ghost use Rattle.gib_core.specs.declared.atom.Variable.{Variable as Field};
-ghost use Rattle.gib_core.specs.Tree.{prepend};
+ghost use Rattle.gib_core.specs.{declared.atom.Variable.{Variable as Field}, Tree.{prepend}};
 ghost use Rattle.gib_core.specs.Arena.{IsBindingBelow, IsBranchBelow, IsPartBelow, IsEnd, IsLine, term_in, term_of, side_from, bind_from, binds_from, parts_from, branches_from};
 ghost use Rattle.gib_core.specs.Reaching.{has_variable, uses as uses_in, bind_uses, side_uses, parts_use, branches_use};
 ghost use Rattle.gib_access.specs.Planned.{first_use as first_in, any_tells, planned_from, others_from, behind_first, IsPlan};

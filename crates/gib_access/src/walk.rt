@@ -6,10 +6,8 @@
 ghost use Rattle.std.specs.Prelude.{◌≡◌, ◌<◌, [], length, map, IfOk};
 ghost use Rattle.std.specs.List.{AllByRecursion};
 ghost use Rattle.gib_core.specs.Arena.{IsBindingBelow, IsBranchBelow, IsPartBelow, IsEnd, IsLine, term_in, term_of, side_from, bind_from, binds_from, branches_from, parts_from};
-ghost use Rattle.gib_core.specs.PartTypes.{types_in};
-ghost use Rattle.gib_core.specs.Tree.{CaseTerm, IfTerm, Tuple};
-ghost use Rattle.gib_access.specs.Planned.{ArePlanned, later_of};
-ghost use Rattle.gib_access.specs.Sources.{way_of};
+ghost use Rattle.gib_core.specs.{PartTypes.{types_in}, Tree.{CaseTerm, IfTerm, Tuple}};
+ghost use Rattle.gib_access.specs.{Planned.{ArePlanned, later_of}, Sources.{way_of}};
 ghost use Rattle.gib_access.specs.Made.{ReachesTerm, ReachesBinding, ReachesSide, ReachesParts, ReachesBranches, ReachesBranch};
 
 use crate::fields::{list_constructor, packed_variables, put_ends, put_reaches};

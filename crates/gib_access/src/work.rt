@@ -2,8 +2,7 @@
 
 ghost use Rattle.std.specs.Prelude.{◌≡◌, ◌<◌, [], length, IfOk};
 ghost use Rattle.std.specs.List.{AllByRecursion};
-ghost use Rattle.gib_core.specs.Tree.{Write, Point, CallTerm, Give};
-ghost use Rattle.gib_core.specs.Reaching.{uses};
+ghost use Rattle.gib_core.specs.{Tree.{Write, Point, CallTerm, Give}, Reaching.{uses}};
 ghost use Rattle.gib_access.specs.Made.{MakesTerm};
 
 use crate::stamps::{mark_atom, mark_atoms};

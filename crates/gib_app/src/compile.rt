@@ -2,19 +2,11 @@
 
 ghost use Rattle.std.specs.Prelude.{◌≡◌, List, Ok, Err, length, IfOk, IfErr, MatchResult};
 ghost use Rattle.std.specs.List.{AllByRecursion};
-ghost use Rattle.gib_base.specs.Lexed.{Lexed, IsLexed};
-ghost use Rattle.gib_base.specs.Texts.{TextsView};
-ghost use Rattle.gib_syntax.specs.Tree.{ProgramTree};
-ghost use Rattle.gib_syntax.specs.GenericTree.{GenericProgramTree};
-ghost use Rattle.gib_syntax.specs.Parts.{program_of};
-ghost use Rattle.gib_syntax.specs.GenericParts.{generic_program_of};
-ghost use Rattle.gib_syntax.specs.GenericFine.{HasGenericConstructor};
-ghost use Rattle.gib_syntax.specs.GenericTyping.{IsTypedGeneric};
-ghost use Rattle.gib_syntax.specs.Source.{Spells};
-ghost use Rattle.gib_mono.specs.Walk.{Copy, copies_of};
-ghost use Rattle.gib_mono.specs.Naming.{AreNamedBelow};
-ghost use Rattle.gib_app.specs.Running.{IsProgram, IsCopy};
-ghost use Rattle.gib_app.specs.Stops.{IsReady, IsCompileStop, IsCopyStop};
+ghost use Rattle.gib_base.specs.{Lexed.{Lexed, IsLexed}, Texts.{TextsView}};
+ghost use Rattle.gib_syntax.specs.{Tree.{ProgramTree}, GenericTree.{GenericProgramTree}, Parts.{program_of}, GenericParts.{generic_program_of}};
+ghost use Rattle.gib_syntax.specs.{GenericFine.{HasGenericConstructor}, GenericTyping.{IsTypedGeneric}, Source.{Spells}};
+ghost use Rattle.gib_mono.specs.{Walk.{Copy, copies_of}, Naming.{AreNamedBelow}};
+ghost use Rattle.gib_app.specs.{Running.{IsProgram, IsCopy}, Stops.{IsReady, IsCompileStop, IsCopyStop}};
 ghost use Rattle.gib_app.specs.PassFaults.{lex_stop, parse_stop, check_stop, copy_stop};
 
 use crate::source_fault::SourceFault;

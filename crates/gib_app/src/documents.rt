@@ -2,12 +2,8 @@
 
 ghost use Rattle.std.specs.Prelude.{◌≡◌, ◌<◌, ◌≤◌, ◌^◌, ℕ, List, length, IfOk, IfErr, MatchOption, OnOk, OnErr};
 ghost use Rattle.gib_edge.specs.Causes.{Appends, AppendsPart};
-ghost use Rattle.gib_app.specs.Calls.{read_calls};
-ghost use Rattle.gib_app.specs.Ending.{ReadsStay};
+ghost use Rattle.gib_app.specs.{Calls.{read_calls}, Ending.{ReadsStay}, Causes.{Holds, OnSource}, Stopping.{answer_for}, Stops.{IsReadStop}};
 ghost use Rattle.gib_words.specs.Kept.{document_of};
-ghost use Rattle.gib_app.specs.Causes.{Holds, OnSource};
-ghost use Rattle.gib_app.specs.Stopping.{answer_for};
-ghost use Rattle.gib_app.specs.Stops.{IsReadStop};
 
 use crate::stop::Stop;
 use gib_edge::outside::{Shelf, ShelfFault};

@@ -1,11 +1,8 @@
 //! Makes and writes the files that a plan writes before it reads.
 
 ghost use Rattle.std.specs.Prelude.{[], ◌∷◌, IfErr, OnOk};
-ghost use Rattle.gib_app.specs.Ending.{StaysAfter};
-ghost use Rattle.gib_app.specs.FirstWrites.{HasWritten, HasStuck};
-ghost use Rattle.gib_words.specs.Kept.{plan_of};
-ghost use Rattle.gib_app.specs.Stopping.{answer_for};
-ghost use Rattle.gib_words.specs.Words.{first_writes};
+ghost use Rattle.gib_app.specs.{Ending.{StaysAfter}, FirstWrites.{HasWritten, HasStuck}, Stopping.{answer_for}};
+ghost use Rattle.gib_words.specs.{Kept.{plan_of}, Words.{first_writes}};
 
 use crate::stop::Stop;
 use gib_edge::outside::{Shelf, ShelfFault};

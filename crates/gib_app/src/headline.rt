@@ -2,12 +2,9 @@
 
 ghost use Rattle.std.specs.Prelude.{◌≡◌, ◌⊎◌, ◌++◌, ℕ, List, Bool, Some};
 ghost use Rattle.gib_types.specs.declared.reason.Reason.{Reason as Why};
-ghost use Rattle.gib_edge.specs.Causes.{told};
-ghost use Rattle.gib_edge.specs.Views.{ShelfView, SinkView};
+ghost use Rattle.gib_edge.specs.{Causes.{told}, Views.{ShelfView, SinkView}};
 ghost use Rattle.gib_words.specs.declared.plan.Options.{Options as OptionValues};
-ghost use Rattle.gib_app.specs.declared.status.Status.{Status as Statuses};
-ghost use Rattle.gib_app.specs.Ending.{IsEnding};
-ghost use Rattle.gib_app.specs.Jobs.{run_forks};
+ghost use Rattle.gib_app.specs.{declared.status.Status.{Status as Statuses}, Ending.{IsEnding}, Jobs.{run_forks}};
 ghost use Rattle.gib_app.specs.Headline.{IsRun, IsPackingRun, Given, IsResult, IsResultImage, IsResultFile, HasLongFile, HasNoResult, IsTooBig, NoneFailed, NoWriteFailed};
 
 use crate::status::Status;

@@ -3,12 +3,8 @@
 ghost use Rattle.gib_base.specs.Texts.{TextsView};
 ghost use Rattle.std.specs.Prelude.{◌≡◌, ◌≤◌, ◌↔◌, IsTrue, length, IfOk, IfErr};
 ghost use Rattle.gib_print.specs.ImageReading.{IsRead};
-ghost use Rattle.gib_syntax.specs.Parts.{program_of};
-ghost use Rattle.gib_syntax.specs.Declarations.{output_type};
-ghost use Rattle.gib_app.specs.Cores.{layouts_asked};
-ghost use Rattle.gib_app.specs.InputFaults.{HasImageSign};
-ghost use Rattle.gib_app.specs.PassFaults.{image_stop};
-ghost use Rattle.gib_app.specs.Stops.{IsShowStop};
+ghost use Rattle.gib_syntax.specs.{Parts.{program_of}, Declarations.{output_type}};
+ghost use Rattle.gib_app.specs.{Cores.{layouts_asked}, InputFaults.{HasImageSign}, PassFaults.{image_stop}, Stops.{IsShowStop}};
 
 use crate::input_fault::{ImageFault, InputFault};
 use crate::lowering::lowered;

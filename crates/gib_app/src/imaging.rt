@@ -2,17 +2,12 @@
 
 ghost use Rattle.std.specs.Prelude.{◌≡◌, ◌<◌, ◌≤◌, ◌*◌, ℕ, List, None, true, option_map, IfOk};
 ghost use Rattle.gib_mem.specs.Memory.{IsThere};
-ghost use Rattle.gib_types.specs.declared.table.Ty.{Ty as Type_of};
-ghost use Rattle.gib_types.specs.Tree.{Datum};
+ghost use Rattle.gib_types.specs.{declared.table.Ty.{Ty as Type_of}, Tree.{Datum}};
 ghost use Rattle.gib_value.specs.Text.{AreHeld};
 ghost use Rattle.gib_packed.specs.Stands.{Stands};
 ghost use Rattle.gib_print.specs.Image.{IsImageOf, image_of as memory_image};
-ghost use Rattle.gib_syntax.specs.Declarations.{output_type};
-ghost use Rattle.gib_syntax.specs.Tree.{ProgramTree};
-ghost use Rattle.gib_app.specs.Imaging.{IsShownWith};
-ghost use Rattle.gib_app.specs.Kept.{file_of};
-ghost use Rattle.gib_app.specs.MachineRun.{StandsIn, SomeStandsIn, IsMeant, IsMeantBy};
-ghost use Rattle.gib_app.specs.Replaying.{IsImageFile};
+ghost use Rattle.gib_syntax.specs.{Declarations.{output_type}, Tree.{ProgramTree}};
+ghost use Rattle.gib_app.specs.{Imaging.{IsShownWith}, Kept.{file_of}, MachineRun.{StandsIn, SomeStandsIn, IsMeant, IsMeantBy}, Replaying.{IsImageFile}};
 ghost use Rattle.gib_app.specs.Running.{text_line};
 
 use crate::buffer::Buffer;

@@ -2,8 +2,7 @@
 
 ghost use Rattle.std.specs.Prelude.{◌≡◌, ◌<◌, ◌^◌, IfSome, option_map, option_to_list};
 ghost use Rattle.gib_words.specs.Kept.{plan_of};
-ghost use Rattle.gib_app.specs.Causes.{first_of, further_of};
-ghost use Rattle.gib_app.specs.Formats.{dialect_of as dialect_read, format_of as format_read, inputs_of, limit_of, most_of};
+ghost use Rattle.gib_app.specs.{Causes.{first_of, further_of}, Formats.{dialect_of as dialect_read, format_of as format_read, inputs_of, limit_of, most_of}};
 ghost use Rattle.gib_app.specs.Kept.{input_of};
 
 use gib_base::limits::FILE_BYTES;

@@ -2,14 +2,10 @@
 
 ghost use Rattle.std.specs.Prelude.{◌≡◌, ◌≤◌, false, length, None, Ok, Err, IfOk, IfErr, IfSome};
 ghost use Rattle.gib_syntax.specs.Parts.{program_of};
-ghost use Rattle.gib_app.specs.Formats.{most_of};
-ghost use Rattle.gib_app.specs.Jobs.{Does, DoesAll, Replays, packs_of};
-ghost use Rattle.gib_app.specs.Kept.{EndsBy, EndsByBoth, contents_of, file_of, inputs_in, names_in, packed_of, tree_in};
+ghost use Rattle.gib_app.specs.{Formats.{most_of}, Jobs.{Does, DoesAll, Replays, packs_of}};
+ghost use Rattle.gib_app.specs.{Kept.{EndsBy, EndsByBoth, contents_of, file_of, inputs_in, names_in, packed_of, tree_in}, Remains.{ComesOfRun, SumsMemory}};
+ghost use Rattle.gib_app.specs.{Rows.{row}, Running.{sourced}, Stops.{IsReady, IsReplayStop, FailsTo}};
 ghost use Rattle.gib_words.specs.Ranges.{AreInRange};
-ghost use Rattle.gib_app.specs.Remains.{ComesOfRun, SumsMemory};
-ghost use Rattle.gib_app.specs.Rows.{row};
-ghost use Rattle.gib_app.specs.Running.{sourced};
-ghost use Rattle.gib_app.specs.Stops.{IsReady, IsReplayStop, FailsTo};
 
 mod check;
 mod code_text;

@@ -1,20 +1,11 @@
 //! The laws of refusals, and of replays. Each function does nothing: its contract is the law.
 
-ghost use Rattle.gib_base.specs.Texts.{TextsView};
-ghost use Rattle.gib_base.specs.declared.token.Dialect.{Dialect};
+ghost use Rattle.gib_base.specs.{Texts.{TextsView}, declared.token.Dialect.{Dialect}};
 ghost use Rattle.std.specs.Prelude.{◌≡◌, ◌≤◌, ℕ, List, [], ◌∷◌, length, Option, None, Some};
 ghost use Rattle.gib_syntax.specs.Parts.{program_of};
-ghost use Rattle.gib_app.specs.declared.input_fault.InputFault.{InputFault};
-ghost use Rattle.gib_words.specs.declared.plan.Job.{Job};
-ghost use Rattle.gib_words.specs.declared.plan.Job.TheVariants.{Replay, Trace};
-ghost use Rattle.gib_words.specs.declared.plan.Options.{Options};
-ghost use Rattle.gib_app.specs.declared.source_fault.SourceFault.{SourceFault};
-ghost use Rattle.gib_app.specs.Formats.{Accepts, Refuses};
-ghost use Rattle.gib_app.specs.Jobs.{Does, End, without_image};
-ghost use Rattle.gib_words.specs.Plan.{Contents};
-ghost use Rattle.gib_app.specs.Running.{Program, IsNoProgramIn, sourced};
-ghost use Rattle.gib_app.specs.SourceFaults.{IsSourceFaultIn};
-ghost use Rattle.gib_app.specs.Stops.{IsReady};
+ghost use Rattle.gib_app.specs.{declared.input_fault.InputFault.{InputFault}, declared.source_fault.SourceFault.{SourceFault}, Formats.{Accepts, Refuses}};
+ghost use Rattle.gib_app.specs.{Jobs.{Does, End, without_image}, Running.{Program, IsNoProgramIn, sourced}, SourceFaults.{IsSourceFaultIn}, Stops.{IsReady}};
+ghost use Rattle.gib_words.specs.{declared.plan.Job.{Job}, declared.plan.Job.TheVariants.{Replay, Trace}, declared.plan.Options.{Options}, Plan.{Contents}};
 
 use crate::compile::Compiled;
 use gib_check::laws::faults_are_exact;

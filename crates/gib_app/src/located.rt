@@ -3,9 +3,7 @@
 ghost use Rattle.std.specs.Prelude.{◌≡◌, IfOk, IfErr};
 ghost use Rattle.gib_base.specs.Texts.{TextsView};
 ghost use Rattle.gib_core.specs.Parts.{core_of};
-ghost use Rattle.gib_app.specs.Located.{IsWritten, IsLocatedStop};
-ghost use Rattle.gib_app.specs.PassFaults.{local_stop};
-ghost use Rattle.gib_app.specs.Running.{Program, IsLocated};
+ghost use Rattle.gib_app.specs.{Located.{IsWritten, IsLocatedStop}, PassFaults.{local_stop}, Running.{Program, IsLocated}};
 
 use crate::source_fault::SourceFault;
 use crate::stop::Stop;

@@ -2,12 +2,8 @@
 
 ghost use Rattle.std.specs.Prelude.{◌≡◌, ℕ, IfOk};
 ghost use Rattle.gib_types.specs.Tree.{Datum};
-ghost use Rattle.gib_syntax.specs.Parts.{program_of};
-ghost use Rattle.gib_syntax.specs.Meaning.{run};
-ghost use Rattle.gib_core.specs.Meaning.{core_run};
-ghost use Rattle.gib_core.specs.Numbering.{AreNumbered};
-ghost use Rattle.gib_core.specs.Parts.{core_of};
-ghost use Rattle.gib_core.specs.Reachable.{AreReachable};
+ghost use Rattle.gib_syntax.specs.{Parts.{program_of}, Meaning.{run}};
+ghost use Rattle.gib_core.specs.{Meaning.{core_run}, Numbering.{AreNumbered}, Parts.{core_of}, Reachable.{AreReachable}};
 ghost use Rattle.gib_lower.specs.Lowering.{lower_program};
 ghost use Rattle.gib_app.specs.Cores.{core_after, layouts_of, placed_program};
 ghost use Rattle.gib_app.specs.Cores as spec;

@@ -1,23 +1,14 @@
 //! What a plan's job makes of its files.
 
 ghost use Rattle.std.specs.Prelude.{◌≡◌, ◌≤◌, [], length, Some, IfOk, IfErr, IfSome, OnOk, option_map, option_to_list};
-ghost use Rattle.gib_base.specs.declared.token.Dialect.TheVariants.{Source as Sources, Located as Locateds};
-ghost use Rattle.gib_base.specs.Texts.{TextsView};
+ghost use Rattle.gib_base.specs.{declared.token.Dialect.TheVariants.{Source as Sources, Located as Locateds}, Texts.{TextsView}};
 ghost use Rattle.gib_syntax.specs.Parts.{program_of};
-ghost use Rattle.gib_core.specs.Numbering.{AreNumbered};
-ghost use Rattle.gib_core.specs.Parts.{core_of};
-ghost use Rattle.gib_app.specs.Formats.{dialect_of, most_of, inputs_of};
-ghost use Rattle.gib_app.specs.Causes.{AreFurther, AreGiven, OnSource, first_of, further_of};
-ghost use Rattle.gib_app.specs.Calls.{read_calls, input_calls, reads_of};
-ghost use Rattle.gib_app.specs.Readings.{HasRead, HasStopped};
-ghost use Rattle.gib_words.specs.Kept.{document_of, plan_of};
-ghost use Rattle.gib_app.specs.Kept.{contents_of, file_of, packed_of};
-ghost use Rattle.gib_app.specs.FromSource.{StandsFor, IsTaken, IsTakingStop, IsFinished};
-ghost use Rattle.gib_app.specs.MachineRun.{RunsFor};
-ghost use Rattle.gib_app.specs.Running.{Program, sourced};
-ghost use Rattle.gib_app.specs.Stops.{IsReady, IsSourceStop, IsInputStop, IsFurtherStop, IsInputsStop, IsMakeStop};
-ghost use Rattle.gib_app.specs.Performing.{IsDone, IsOfRun};
-ghost use Rattle.gib_words.specs.Ranges.{AreInRange};
+ghost use Rattle.gib_core.specs.{Numbering.{AreNumbered}, Parts.{core_of}};
+ghost use Rattle.gib_app.specs.{Formats.{dialect_of, most_of, inputs_of}, Causes.{AreFurther, AreGiven, OnSource, first_of, further_of}};
+ghost use Rattle.gib_app.specs.{Calls.{read_calls, input_calls, reads_of}, Readings.{HasRead, HasStopped}, Kept.{contents_of, file_of, packed_of}};
+ghost use Rattle.gib_app.specs.{FromSource.{StandsFor, IsTaken, IsTakingStop, IsFinished}, MachineRun.{RunsFor}, Running.{Program, sourced}};
+ghost use Rattle.gib_app.specs.{Stops.{IsReady, IsSourceStop, IsInputStop, IsFurtherStop, IsInputsStop, IsMakeStop}, Performing.{IsDone, IsOfRun}};
+ghost use Rattle.gib_words.specs.{Kept.{document_of, plan_of}, Ranges.{AreInRange}};
 
 use crate::compile::{Compiled, compile};
 use crate::documents::read_document;

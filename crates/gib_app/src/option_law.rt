@@ -2,10 +2,7 @@
 
 ghost use Rattle.std.specs.Prelude.{◌≡◌, ℕ, List, Some, true};
 ghost use Rattle.gib_locked.specs.Limits.{are_settings};
-ghost use Rattle.gib_words.specs.declared.plan.Job.TheVariants.{Trace};
-ghost use Rattle.gib_words.specs.Plan.{Plan};
-ghost use Rattle.gib_words.specs.Ranges.{AreInRange};
-ghost use Rattle.gib_words.specs.Words.{asked};
+ghost use Rattle.gib_words.specs.{declared.plan.Job.TheVariants.{Trace}, Plan.{Plan}, Ranges.{AreInRange}, Words.{asked}};
 
 /// Words are refused where a number is past its range, and what stands for one that is left out is within it.
 pub fn options_are_in_range()

@@ -2,12 +2,9 @@
 
 ghost use Rattle.std.specs.Prelude.{◌≡◌, IfOk, IfErr};
 ghost use Rattle.gib_types.specs.Tree.{Datum};
-ghost use Rattle.gib_file.specs.Framed.{File};
-ghost use Rattle.gib_file.specs.Packed.{Packed};
-ghost use Rattle.gib_syntax.specs.Parts.{program_of};
-ghost use Rattle.gib_syntax.specs.Declarations.{table_of_program, input_type};
-ghost use Rattle.gib_app.specs.Stops.{IsPackedStop};
-ghost use Rattle.gib_app.specs.PassFaults.{packed_stop, payload_stop, schema_stop};
+ghost use Rattle.gib_file.specs.{Framed.{File}, Packed.{Packed}};
+ghost use Rattle.gib_syntax.specs.{Parts.{program_of}, Declarations.{table_of_program, input_type}};
+ghost use Rattle.gib_app.specs.{Stops.{IsPackedStop}, PassFaults.{packed_stop, payload_stop, schema_stop}};
 
 use crate::input_fault::{InputFault, PackedFault};
 use crate::stop::Stop;

@@ -1,14 +1,9 @@
 //! Does a plan, up to what is printed.
 
 ghost use Rattle.std.specs.Prelude.{◌≡◌, ◌⊎◌, ℕ, List, [], Some, option_map, IfOk, IfErr, OnOk};
-ghost use Rattle.gib_app.specs.Writes.{writes_of, job_writes};
-ghost use Rattle.gib_app.specs.FirstWrites.{HasWritten, HasStuck};
-ghost use Rattle.gib_app.specs.Ending.{StaysAfter};
-ghost use Rattle.gib_app.specs.Performing.{IsHalfway, IsPerformed, IsUnperformed};
-ghost use Rattle.gib_words.specs.Kept.{plan_of};
-ghost use Rattle.gib_app.specs.Kept.{file_of, packed_of};
-ghost use Rattle.gib_app.specs.Stopping.{answer_for};
-ghost use Rattle.gib_words.specs.Words.{asked};
+ghost use Rattle.gib_app.specs.{Writes.{writes_of, job_writes}, FirstWrites.{HasWritten, HasStuck}, Ending.{StaysAfter}};
+ghost use Rattle.gib_app.specs.{Performing.{IsHalfway, IsPerformed, IsUnperformed}, Kept.{file_of, packed_of}, Stopping.{answer_for}};
+ghost use Rattle.gib_words.specs.{Kept.{plan_of}, Words.{asked}};
 
 use crate::first::{write_first, write_named};
 use crate::made::{End, Made};

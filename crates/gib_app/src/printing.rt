@@ -2,14 +2,9 @@
 
 ghost use Rattle.std.specs.Prelude.{◌≡◌, ℕ, List, length, None, Some, IfOk, IfErr, OnOk, IsErrOf};
 ghost use Rattle.gib_types.specs.Tree.{IsTyped};
-ghost use Rattle.gib_syntax.specs.Parts.{program_of};
-ghost use Rattle.gib_syntax.specs.Declarations.{table_of_program};
-ghost use Rattle.gib_app.specs.Rows.{ok_line};
-ghost use Rattle.gib_app.specs.Kept.{IsTextOf};
+ghost use Rattle.gib_syntax.specs.{Parts.{program_of}, Declarations.{table_of_program}};
+ghost use Rattle.gib_app.specs.{Rows.{ok_line}, Kept.{IsTextOf}, Running.{text_line}, declared.made.Reason.{Reason as Reasons}, Stops.{IsReady, reason_of}};
 ghost use Rattle.gib_edge.specs.Causes.{Rose, Appends, AppendsPart, PutsPieces, PutsSomePieces};
-ghost use Rattle.gib_app.specs.Running.{text_line};
-ghost use Rattle.gib_app.specs.declared.made.Reason.{Reason as Reasons};
-ghost use Rattle.gib_app.specs.Stops.{IsReady, reason_of};
 
 use crate::compile::Compiled;
 use crate::machine_run::print_ran;

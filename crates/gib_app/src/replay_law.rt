@@ -3,9 +3,7 @@
 ghost use Rattle.std.specs.Prelude.{◌≡◌, ◌⊎◌, ℕ, List, Bool, Some};
 ghost use Rattle.gib_types.specs.declared.reason.Reason.{Reason as Why};
 ghost use Rattle.gib_edge.specs.Views.{ShelfView, SinkView};
-ghost use Rattle.gib_app.specs.declared.status.Status.{Status as Statuses};
-ghost use Rattle.gib_app.specs.Ending.{IsEnding};
-ghost use Rattle.gib_app.specs.Repeating.{IsRepeated, NoneFails, PutAlike};
+ghost use Rattle.gib_app.specs.{declared.status.Status.{Status as Statuses}, Ending.{IsEnding}, Repeating.{IsRepeated, NoneFails, PutAlike}};
 
 use crate::status::Status;
 use gib_file::one_file;

@@ -7,10 +7,7 @@ ghost use Rattle.gib_code.specs.Program.{CodeTree};
 ghost use Rattle.gib_core.specs.Parts.{core_of};
 ghost use Rattle.gib_syntax.specs.Parts.{program_of};
 ghost use Rattle.gib_weave.specs.Weave.{Weave};
-ghost use Rattle.gib_locked.specs.JournalText.{journal_text};
-ghost use Rattle.gib_locked.specs.Lines.{are_lines};
-ghost use Rattle.gib_locked.specs.Replays.{IsNoEnd};
-ghost use Rattle.gib_locked.specs.declared.journal.Line.{Line};
+ghost use Rattle.gib_locked.specs.{JournalText.{journal_text}, Lines.{are_lines}, Replays.{IsNoEnd}, declared.journal.Line.{Line}};
 ghost use Rattle.gib_app.specs.Workers.{IsEndBy, IsNoJournal, IsNotReplayed, IsReplayed, LeavesOpen, StopsTo, engine_of};
 
 use crate::input_fault::{InputFault, JournalFault};

@@ -3,21 +3,11 @@
 
 ghost use Rattle.std.specs.Prelude.{◌≡◌, ◌↔◌, ◌∷◌, [], ◌++◌, ℕ, List, length};
 ghost use Rattle.gib_base.specs.Texts.{TextsView};
-ghost use Rattle.gib_types.specs.declared.table.Ty.{Ty};
-ghost use Rattle.gib_types.specs.Table.{IsTyBelow};
-ghost use Rattle.gib_types.specs.Tree.{Datum, HasType};
-ghost use Rattle.gib_file.specs.Describing.{Describes};
-ghost use Rattle.gib_file.specs.Framed.{File2};
-ghost use Rattle.gib_file.specs.Named.{AreNamed};
-ghost use Rattle.gib_syntax.specs.Declarations.{table_of_program, input_type, output_type};
-ghost use Rattle.gib_syntax.specs.GenericTree.{rows_of};
-ghost use Rattle.gib_syntax.specs.Meaning.{Reason};
-ghost use Rattle.gib_syntax.specs.Tree.{ProgramTree};
-ghost use Rattle.gib_mono.specs.Copied.{shown};
-ghost use Rattle.gib_mono.specs.Walk.{base_of};
-ghost use Rattle.gib_app.specs.GenericText.{generic_text};
-ghost use Rattle.gib_app.specs.Headline.{IsResult, HasNoResult};
-ghost use Rattle.gib_app.specs.Running.{IsProgram, IsOutput, MeansNone, text_line};
+ghost use Rattle.gib_types.specs.{declared.table.Ty.{Ty}, Table.{IsTyBelow}, Tree.{Datum, HasType}};
+ghost use Rattle.gib_file.specs.{Describing.{Describes}, Framed.{File2}, Named.{AreNamed}};
+ghost use Rattle.gib_syntax.specs.{Declarations.{table_of_program, input_type, output_type}, GenericTree.{rows_of}, Meaning.{Reason}, Tree.{ProgramTree}};
+ghost use Rattle.gib_mono.specs.{Copied.{shown}, Walk.{base_of}};
+ghost use Rattle.gib_app.specs.{GenericText.{generic_text}, Headline.{IsResult, HasNoResult}, Running.{IsProgram, IsOutput, MeansNone, text_line}};
 
 /// What a job promises of the copy of a source (`IsProgram`) is so of the source as it is written: what `plain` and `trace` print is what
 /// `run` prints, and where they have no value it has none, for the same reason; the texts that `show`, `replay` and `pack` put or read are those

@@ -4,12 +4,8 @@ ghost use Rattle.std.specs.Prelude.{◌≡◌, ◌≤◌, ℕ, List, None, false
 ghost use Rattle.gib_value.specs.Text.{AreHeld};
 ghost use Rattle.gib_syntax.specs.Tree.{ProgramTree};
 ghost use Rattle.gib_words.specs.declared.plan.Options.{Options as OptionValues};
-ghost use Rattle.gib_app.specs.Cores.{layouts_asked};
-ghost use Rattle.gib_app.specs.Jobs.{Runs};
-ghost use Rattle.gib_app.specs.Kept.{EndsBy, StandsAgain, file_of};
-ghost use Rattle.gib_app.specs.MachineRun.{IsMeant, IsMeantBy};
-ghost use Rattle.gib_app.specs.Remains.{ComesOfMemory, IsLeft};
-ghost use Rattle.gib_app.specs.Running.{text_line};
+ghost use Rattle.gib_app.specs.{Cores.{layouts_asked}, Jobs.{Runs}, Kept.{EndsBy, StandsAgain, file_of}, MachineRun.{IsMeant, IsMeantBy}};
+ghost use Rattle.gib_app.specs.{Remains.{ComesOfMemory, IsLeft}, Running.{text_line}};
 
 use crate::machine_run::Ran;
 use crate::made::{End, Made, Valued};

@@ -3,14 +3,10 @@
 ghost use Rattle.std.specs.Prelude.{◌≤◌, ℕ, List, OnOk, IfErr};
 ghost use Rattle.gib_edge.specs.Causes.{AppendsPart};
 ghost use Rattle.gib_app.specs.Statuses;
-ghost use Rattle.gib_app.specs.declared.status.Status.{Status as Statuses};
-ghost use Rattle.gib_words.specs.Words.{bytes_of};
-ghost use Rattle.gib_app.specs.Calls.{calls_asked};
-ghost use Rattle.gib_app.specs.Lines.{IsPut};
+ghost use Rattle.gib_app.specs.{declared.status.Status.{Status as Statuses}, Calls.{calls_asked}, Lines.{IsPut}};
 ghost use Rattle.gib_app.specs.Headline.{IsRun, IsResult, IsTooDeep, TellsWhatIsMeant, IsOrScarce, NoneFailed};
-ghost use Rattle.gib_words.specs.declared.plan.Options.{Options as OptionValues};
-ghost use Rattle.gib_app.specs.Ending.{IsEnding, FilesStay, ReadsStay, WritesStay, OutStays, IsDue, IsDueOrScarce};
-ghost use Rattle.gib_app.specs.Performing.{IsAnswered, IsUnanswered};
+ghost use Rattle.gib_app.specs.{Ending.{IsEnding, FilesStay, ReadsStay, WritesStay, OutStays, IsDue, IsDueOrScarce}, Performing.{IsAnswered, IsUnanswered}};
+ghost use Rattle.gib_words.specs.{Words.{bytes_of}, declared.plan.Options.{Options as OptionValues}};
 
 use crate::answer::answer_to;
 use crate::lines::put_line;

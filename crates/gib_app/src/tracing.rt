@@ -3,16 +3,12 @@
 ghost use Rattle.std.specs.Prelude.{◌≡◌, ◌≤◌, length, false, IfOk, IfErr, MatchOption};
 ghost use Rattle.gib_types.specs.Tree.{Datum};
 ghost use Rattle.gib_file.specs.Packed.{Packed};
-ghost use Rattle.gib_core.specs.Cost.{run_cost};
-ghost use Rattle.gib_core.specs.Parts.{core_of};
-ghost use Rattle.gib_core.specs.Tight.{Tight};
+ghost use Rattle.gib_core.specs.{Cost.{run_cost}, Parts.{core_of}, Tight.{Tight}};
 ghost use Rattle.gib_locked.specs.Limits.{are_settings};
 ghost use Rattle.gib_lower.specs.Lowering.{lower_program};
 ghost use Rattle.gib_syntax.specs.Parts.{program_of};
-ghost use Rattle.gib_app.specs.Cores.{core_asked, layouts_asked};
+ghost use Rattle.gib_app.specs.{Cores.{core_asked, layouts_asked}, Replaying.{IsSetBy}, Workers.{IsEndBy, IsTraced, IsTraceStop, IsWorkersStop, engine_of}};
 ghost use Rattle.gib_words.specs.Ranges.{AreOfRun};
-ghost use Rattle.gib_app.specs.Replaying.{IsSetBy};
-ghost use Rattle.gib_app.specs.Workers.{IsEndBy, IsTraced, IsTraceStop, IsWorkersStop, engine_of};
 
 use crate::loading::load_input;
 use crate::lowering::lowered;

@@ -1,13 +1,8 @@
 //! What the rule says.
 ghost use Rattle.std.specs.Prelude.{◌≡◌, ℕ};
 ghost use Rattle.atomic_table.specs.Table.{State};
-ghost use Rattle.gib_arena.specs.declared.memory.Arena.{Arena};
-ghost use Rattle.gib_arena.specs.declared.memory.Pass.{Pass};
-ghost use Rattle.gib_arena.specs.declared.view.View.{View};
-ghost use Rattle.gib_arena.specs.Passes.{IsOf};
-ghost use Rattle.gib_arena.specs.Rule.{ArenaRule};
-ghost use Rattle.gib_arena.specs.Says.{Says};
-ghost use Rattle.gib_arena.specs.Shown.{name_of};
+ghost use Rattle.gib_arena.specs.{declared.memory.Arena.{Arena}, declared.memory.Pass.{Pass}, declared.view.View.{View}, Passes.{IsOf}, Rule.{ArenaRule}};
+ghost use Rattle.gib_arena.specs.{Says.{Says}, Shown.{name_of}};
 
 /// Wherever the rule holds, a known byte is the byte of its word, an address is fresh to one pass at most and then known to
 /// none, the shares add up to the counter, and live passes have paths of their own.

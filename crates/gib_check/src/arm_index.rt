@@ -1,9 +1,7 @@
 //! The places of the arms of a `case`, by their constructors.
 
 ghost use Rattle.std.specs.Prelude.{◌≡◌, ◌<◌, ◌==◌, ℕ, None, Some, map, IfOk, OnOk, if◌then◌else◌};
-ghost use Rattle.gib_check.specs.ArmPlaces.{place_named, place_in, arm_name};
-ghost use Rattle.gib_check.specs.Entries.{entry_at, first_of};
-ghost use Rattle.gib_check.specs.Views.{table_in};
+ghost use Rattle.gib_check.specs.{ArmPlaces.{place_named, place_in, arm_name}, Entries.{entry_at, first_of}, Views.{table_in}};
 
 use crate::declared::Declared;
 use gib_base::{ByNumber, Memory};

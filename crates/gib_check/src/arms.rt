@@ -2,12 +2,9 @@
 
 ghost use Rattle.std.specs.Prelude.{◌≡◌, map, is_some};
 ghost use Rattle.std.specs.List.{list_all};
-ghost use Rattle.gib_syntax.specs.Declarations.{place_of};
-ghost use Rattle.gib_syntax.specs.GenericParts.{GenericParts};
-ghost use Rattle.gib_check.specs.Answers.{Gives};
+ghost use Rattle.gib_syntax.specs.{Declarations.{place_of}, GenericParts.{GenericParts}};
+ghost use Rattle.gib_check.specs.{Answers.{Gives}, NameViews.{generic_globals, row_in}, Judging.{arm_head}};
 ghost use Rattle.gib_check.specs.Faults as rule;
-ghost use Rattle.gib_check.specs.NameViews.{generic_globals, row_in};
-ghost use Rattle.gib_check.specs.Judging.{arm_head};
 
 use crate::fault::{Kind, TypeFault};
 use crate::named::{Named, RowDecl};

@@ -2,9 +2,8 @@
 
 ghost use Rattle.std.specs.Prelude.{◌≡◌, ◌++◌, OnOk};
 ghost use Rattle.gib_syntax.specs.GenericTyping.{FormScope};
-ghost use Rattle.gib_check.specs.Answers.{Gives};
+ghost use Rattle.gib_check.specs.{Answers.{Gives}, Judging.{in_scope, AreMet, part_in}};
 ghost use Rattle.gib_check.specs.Faults as rule;
-ghost use Rattle.gib_check.specs.Judging.{in_scope, AreMet, part_in};
 
 use crate::fault::TypeFault;
 use crate::rules::{Part, can_bind};

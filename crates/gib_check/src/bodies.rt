@@ -3,10 +3,8 @@
 ghost use Rattle.std.specs.Prelude.{◌≡◌, ◌<◌, length, map, IfOk};
 ghost use Rattle.std.specs.List.{AllByRecursion};
 ghost use Rattle.gib_syntax.specs.GenericParts.{parameter_in, results_in, function_in, IsFunctionInside};
-ghost use Rattle.gib_check.specs.Answers.{Gives};
+ghost use Rattle.gib_check.specs.{Answers.{Gives}, Judging.{in_scope}, NameViews.{generic_globals, generic_tree}};
 ghost use Rattle.gib_check.specs.FirstFault as rule;
-ghost use Rattle.gib_check.specs.Judging.{in_scope};
-ghost use Rattle.gib_check.specs.NameViews.{generic_globals, generic_tree};
 
 use crate::fault::TypeFault;
 use crate::named::{Around, Named};

@@ -2,12 +2,10 @@
 
 ghost use Rattle.std.specs.Prelude.{[], map};
 ghost use Rattle.std.specs.List.{AllByRecursion};
-ghost use Rattle.gib_syntax.specs.GenericParts.{data_in, constructor_in, IsDataInside, IsConstructorInside};
-ghost use Rattle.gib_syntax.specs.GenericTyping.{variable_numbers};
+ghost use Rattle.gib_syntax.specs.{GenericParts.{data_in, constructor_in, IsDataInside, IsConstructorInside}, GenericTyping.{variable_numbers}};
 ghost use Rattle.gib_syntax.specs.Words.{stack_of};
-ghost use Rattle.gib_check.specs.Answers.{Gives};
+ghost use Rattle.gib_check.specs.{Answers.{Gives}, NameViews.{generic_globals}};
 ghost use Rattle.gib_check.specs.FirstFault as rule;
-ghost use Rattle.gib_check.specs.NameViews.{generic_globals};
 
 use crate::fault::{Kind, TypeFault};
 use crate::known::all_known;

@@ -1,11 +1,8 @@
 //! What a program declares, beside the program.
 
 ghost use Rattle.std.specs.Prelude.{◌≡◌, ◌<◌, length, slice_get, Some, None, IfOk, MatchOption};
-ghost use Rattle.gib_syntax.specs.Declarations.{type_written, type_of_name, constructor_named, function_named};
-ghost use Rattle.gib_check.specs.Functions.{IsNumberOf, IsHeadOf};
-ghost use Rattle.gib_syntax.specs.Tree.{FunctionTree};
-ghost use Rattle.gib_check.specs.Origins.{made_type, result_if, fields_named};
-ghost use Rattle.gib_check.specs.Views.{table_in, types_in, functions_in};
+ghost use Rattle.gib_syntax.specs.{Declarations.{type_written, type_of_name, constructor_named, function_named}, Tree.{FunctionTree}};
+ghost use Rattle.gib_check.specs.{Functions.{IsNumberOf, IsHeadOf}, Origins.{made_type, result_if, fields_named}, Views.{table_in, types_in, functions_in}};
 
 use crate::functions::{FunctionHead, FunctionId, list_functions, list_heads};
 use crate::names::NameList;
@@ -39,8 +36,7 @@ impl Model for Declared {
 }
 
 impl Declared {
-    ghost use Rattle.gib_syntax.specs.Arena.{Opens};
-    ghost use Rattle.gib_syntax.specs.Parts.{IsFunctionInside};
+    ghost use Rattle.gib_syntax.specs.{Arena.{Opens}, Parts.{IsFunctionInside}};
     ghost use Rattle.std.specs.List.{AllByRecursion};
     ghost use Rattle.gib_types.specs.Table.{IsTable};
 

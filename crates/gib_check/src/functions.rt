@@ -1,12 +1,8 @@
 //! Heads of functions, by their numbers.
 
 ghost use Rattle.std.specs.Prelude.{◌≡◌, map, IfOk};
-ghost use Rattle.gib_syntax.specs.Declarations.{type_of_name};
-ghost use Rattle.gib_syntax.specs.Parts.{results_tree};
-ghost use Rattle.gib_syntax.specs.Results.{map_results};
-ghost use Rattle.gib_syntax.specs.Typing.{one_type};
-ghost use Rattle.gib_check.specs.Functions.{parameter_type, head_of, head_in};
-ghost use Rattle.gib_check.specs.Views.{function_name};
+ghost use Rattle.gib_syntax.specs.{Declarations.{type_of_name}, Parts.{results_tree}, Results.{map_results}, Typing.{one_type}};
+ghost use Rattle.gib_check.specs.{Functions.{parameter_type, head_of, head_in}, Views.{function_name}};
 
 use crate::declared::type_of_name;
 use crate::names::NameList;

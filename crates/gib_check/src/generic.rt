@@ -12,9 +12,7 @@ pub struct Generic {
 }
 
 impl Model for Generic {
-    ghost use Rattle.gib_syntax.specs.GenericParts.{GenericParts};
-    ghost use Rattle.gib_syntax.specs.GenericParts.{generic_program_of};
-    ghost use Rattle.gib_syntax.specs.GenericTyping.{IsTypedGeneric};
+    ghost use Rattle.gib_syntax.specs.{GenericParts.{GenericParts}, GenericParts.{generic_program_of}, GenericTyping.{IsTypedGeneric}};
 
     ghost Value = { GenericParts };
 
@@ -24,8 +22,7 @@ impl Model for Generic {
 }
 
 impl Generic {
-    ghost use Rattle.gib_syntax.specs.GenericParts.{generic_program_of};
-    ghost use Rattle.gib_syntax.specs.GenericTyping.{IsTypedGeneric};
+    ghost use Rattle.gib_syntax.specs.{GenericParts.{generic_program_of}, GenericTyping.{IsTypedGeneric}};
 
     /// A program that is typed.
     pub(crate) fn new(program: GenericProgram) -> Generic

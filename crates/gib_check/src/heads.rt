@@ -3,11 +3,9 @@
 ghost use Rattle.std.specs.Prelude.{[], map};
 ghost use Rattle.std.specs.List.{AllByRecursion};
 ghost use Rattle.gib_syntax.specs.GenericParts.{parameter_in, results_in, function_in, IsParameterInside, AreResultsInside, IsFunctionInside};
-ghost use Rattle.gib_syntax.specs.GenericTyping.{variable_numbers};
-ghost use Rattle.gib_syntax.specs.Words.{IsTypeRun, type_in};
-ghost use Rattle.gib_check.specs.Answers.{Gives};
+ghost use Rattle.gib_syntax.specs.{GenericTyping.{variable_numbers}, Words.{IsTypeRun, type_in}};
+ghost use Rattle.gib_check.specs.{Answers.{Gives}, NameViews.{generic_globals}};
 ghost use Rattle.gib_check.specs.FirstFault as rule;
-ghost use Rattle.gib_check.specs.NameViews.{generic_globals};
 
 use crate::datas::{check_variables, fewer, new_name};
 use crate::fault::{Kind, TypeFault};

@@ -4,19 +4,15 @@
 ghost use Rattle.std.specs.Prelude.{◌≡◌, ◌≤◌, ℕ, List, ◌∷◌, None, Some, Ok, Err, length, slice_get};
 ghost use Rattle.gib_base.specs.declared.Span.{Span};
 ghost use Rattle.gib_types.specs.Form.{Form, Forms, DataForm};
-ghost use Rattle.gib_syntax.specs.declared.tree.Ident.{Ident};
-ghost use Rattle.gib_syntax.specs.Results.{Results, Several};
-ghost use Rattle.gib_syntax.specs.Declarations.{number_of, place_of};
+ghost use Rattle.gib_syntax.specs.{declared.tree.Ident.{Ident}, Results.{Results, Several}, Declarations.{number_of, place_of}};
 ghost use Rattle.gib_syntax.specs.Forms.{WrittenType, WrittenTypes, VariableAt, DataAt, written_place};
 ghost use Rattle.gib_syntax.specs.GenericTree.{GenericDataTree, GenericFunctionTree, GenericRow, data_named, generic_named};
 ghost use Rattle.gib_syntax.specs.GenericTyping.{FormScope, form_in, CoversType};
-ghost use Rattle.gib_check.specs.declared.counts.Counts.{Counts};
+ghost use Rattle.gib_check.specs.{declared.counts.Counts.{Counts}, declared.standing.Standing.{Standing}};
+ghost use Rattle.gib_check.specs.{declared.standing.Standing.TheVariants.{NoTuple, TupleOf}, Kinds.{fault, IsBrokenWhere}};
 ghost use Rattle.gib_check.specs.declared.fault.Kind.TheVariants as kind;
-ghost use Rattle.gib_check.specs.declared.standing.Standing.{Standing};
-ghost use Rattle.gib_check.specs.declared.standing.Standing.TheVariants.{NoTuple, TupleOf};
 ghost use Rattle.gib_check.specs.Faults as rule;
 ghost use Rattle.gib_check.specs.FirstFault as first;
-ghost use Rattle.gib_check.specs.Kinds.{fault, IsBrokenWhere};
 
 /// `Unknown`: a variable that is not in scope, a function, a constructor or a type that is not declared, a type variable
 /// that the declaration has not; at the name.

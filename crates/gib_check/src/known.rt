@@ -1,14 +1,11 @@
 //! The names of written types.
 
 ghost use Rattle.std.specs.Prelude.{◌≡◌, is_some};
-ghost use Rattle.gib_syntax.specs.Declarations.{place_of};
-ghost use Rattle.gib_syntax.specs.GenericTyping.{variable_numbers};
+ghost use Rattle.gib_syntax.specs.{Declarations.{place_of}, GenericTyping.{variable_numbers}};
 ghost use Rattle.gib_syntax.specs.Words.{IsTypeRun, IsTypesRun, type_in, types_in, run_words, stack_of};
-ghost use Rattle.gib_check.specs.Answers.{Gives};
+ghost use Rattle.gib_check.specs.{Answers.{Gives}, Knowing.{known_word, known_words}, NameViews.{generic_globals}};
 ghost use Rattle.gib_check.specs.Faults as rule;
 ghost use Rattle.gib_check.specs.FirstFault as first;
-ghost use Rattle.gib_check.specs.Knowing.{known_word, known_words};
-ghost use Rattle.gib_check.specs.NameViews.{generic_globals};
 
 use crate::fault::{Kind, TypeFault};
 use crate::named::Named;

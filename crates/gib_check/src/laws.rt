@@ -2,12 +2,9 @@
 
 ghost use Rattle.std.specs.Prelude.{◌≡◌, ◌+◌, ◌≤◌, ℕ, List, None, Ok};
 ghost use Rattle.gib_types.specs.Form.{Form, Meant};
-ghost use Rattle.gib_syntax.specs.Results.{Results};
-ghost use Rattle.gib_syntax.specs.GenericTree.{GenericExpression, GenericGlobals, GenericProgramTree};
+ghost use Rattle.gib_syntax.specs.{Results.{Results}, GenericTree.{GenericExpression, GenericGlobals, GenericProgramTree}};
 ghost use Rattle.gib_syntax.specs.GenericTyping.{FormScope, HasForm, generic_expressions, generic_bindings, IsTypedGeneric};
-ghost use Rattle.gib_check.specs.declared.counts.Counts.{Counts};
-ghost use Rattle.gib_check.specs.declared.standing.Standing.{Standing};
-ghost use Rattle.gib_check.specs.Faults.{MayGive, infer};
+ghost use Rattle.gib_check.specs.{declared.counts.Counts.{Counts}, declared.standing.Standing.{Standing}, Faults.{MayGive, infer}};
 ghost use Rattle.gib_check.specs.FirstFault.{IsCountedOn, first_fault};
 
 /// An expression gives what is inferred, and it was counted whole.

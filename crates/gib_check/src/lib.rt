@@ -3,12 +3,8 @@
 #![tactic(auto)]
 
 ghost use Rattle.std.specs.Prelude.{◌≡◌, Some, IfOk, IfErr, MatchResult};
-ghost use Rattle.gib_syntax.specs.GenericParts.{generic_program_of};
-ghost use Rattle.gib_syntax.specs.GenericTyping.{IsTypedGeneric};
-ghost use Rattle.gib_check.specs.Answers.{Gives};
-ghost use Rattle.gib_check.specs.declared.fault.Fault.{Fault};
-ghost use Rattle.gib_check.specs.Refusals.{IsMemory, IsMemoryOr, IsFirst};
-ghost use Rattle.gib_check.specs.FirstFault.{first_fault};
+ghost use Rattle.gib_syntax.specs.{GenericParts.{generic_program_of}, GenericTyping.{IsTypedGeneric}};
+ghost use Rattle.gib_check.specs.{Answers.{Gives}, declared.fault.Fault.{Fault}, Refusals.{IsMemory, IsMemoryOr, IsFirst}, FirstFault.{first_fault}};
 ghost use Rattle.gib_check.specs.FirstFault as rule;
 
 mod arm_index;

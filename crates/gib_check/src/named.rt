@@ -1,12 +1,10 @@
 //! A program with type parameters, and the places of its names.
 
 ghost use Rattle.std.specs.Prelude.{◌≡◌, ◌<◌, ◌+◌, ◌++◌, Some, None, map, length, IfOk};
-ghost use Rattle.gib_syntax.specs.GenericParts.{generic_program_of, function_in};
-ghost use Rattle.gib_syntax.specs.GenericTree.{data_named};
-ghost use Rattle.gib_syntax.specs.Words.{run_words, stack_of};
+ghost use Rattle.gib_syntax.specs.{GenericParts.{generic_program_of, function_in}, GenericTree.{data_named}, Words.{run_words, stack_of}};
 ghost use Rattle.gib_check.specs.Answers.{Gives};
-ghost use Rattle.gib_check.specs.Faults as rule;
 ghost use Rattle.gib_check.specs.NameViews.{generic_globals, data_number, function_number, row_decl, all_rows, row_in, row_option, kept_name, arity_of, variables_at, count_of};
+ghost use Rattle.gib_check.specs.Faults as rule;
 
 use crate::fault::{Kind, TypeFault};
 use crate::names::NameList;

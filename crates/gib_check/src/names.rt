@@ -17,8 +17,7 @@ pub struct NameList {
 
 impl Model for NameList {
     ghost use Rattle.std.specs.Prelude.{ℕ, List, map};
-    ghost use Rattle.gib_check.specs.Answers.{number};
-    ghost use Rattle.gib_check.specs.Entries.{ArePlaces};
+    ghost use Rattle.gib_check.specs.{Answers.{number}, Entries.{ArePlaces}};
 
     ghost Value = { List ℕ };
 

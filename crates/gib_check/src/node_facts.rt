@@ -2,13 +2,9 @@
 
 ghost use Rattle.std.specs.Prelude.{◌≡◌, ◌<◌, ℕ, None, Some, length, slice_get, IfOk};
 ghost use Rattle.gib_base.specs.declared.Span.{Span};
-ghost use Rattle.gib_syntax.specs.declared.tree.Ident.{Ident};
-ghost use Rattle.gib_syntax.specs.Arena.{layer, case_from, PartsBelow, ArmsBelow};
-ghost use Rattle.gib_syntax.specs.Tree.{Expression, Case};
+ghost use Rattle.gib_syntax.specs.{declared.tree.Ident.{Ident}, Arena.{layer, case_from, PartsBelow, ArmsBelow}, Tree.{Expression, Case}};
 ghost use Rattle.gib_syntax.specs.Typing.{Globals, names_of, types_of};
-ghost use Rattle.gib_check.specs.ArmPlaces.{place_named, place_in, case_names};
-ghost use Rattle.gib_check.specs.NodeFacts.{AreFacts};
-ghost use Rattle.gib_check.specs.Origins.{origin, outside_arm};
+ghost use Rattle.gib_check.specs.{ArmPlaces.{place_named, place_in, case_names}, NodeFacts.{AreFacts}, Origins.{origin, outside_arm}};
 ghost use Rattle.gib_check.specs.Views.{table_in, tree_in, globals_in};
 
 use crate::arm_index::{ArmIndex, index_arms};

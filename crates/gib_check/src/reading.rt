@@ -2,11 +2,8 @@
 
 ghost use Rattle.std.specs.Prelude.{◌≡◌, ◌<◌, List, [], ◌∷◌, length, map, IfOk, IfSome, OnOk};
 ghost use Rattle.gib_types.specs.Types.{form_at, forms_of, form_from, forms_at, AreBelow, ArgumentsBelow};
-ghost use Rattle.gib_syntax.specs.Declarations.{number_of};
-ghost use Rattle.gib_syntax.specs.Forms.{WrittenType, assign, formed, written_place};
-ghost use Rattle.gib_syntax.specs.Words.{stack_of, first_type, read_word};
-ghost use Rattle.gib_check.specs.Judging.{Grows, Meets, Reads, meant_by, IsMeaningBelow};
-ghost use Rattle.gib_check.specs.ReadingSteps.{ReadsOn, read_one, put_form, data_form};
+ghost use Rattle.gib_syntax.specs.{Declarations.{number_of}, Forms.{WrittenType, assign, formed, written_place}, Words.{stack_of, first_type, read_word}};
+ghost use Rattle.gib_check.specs.{Judging.{Grows, Meets, Reads, meant_by, IsMeaningBelow}, ReadingSteps.{ReadsOn, read_one, put_form, data_form}};
 
 use crate::stack::Stack;
 use gib_base::{Memory, Span};

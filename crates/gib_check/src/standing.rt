@@ -2,10 +2,7 @@
 
 ghost use Rattle.std.specs.Prelude.{◌≡◌, List};
 ghost use Rattle.gib_types.specs.Form.{Meant};
-ghost use Rattle.gib_syntax.specs.Forms.{formed};
-ghost use Rattle.gib_syntax.specs.GenericParts.{results_in};
-ghost use Rattle.gib_syntax.specs.Results.{map_results};
-ghost use Rattle.gib_syntax.specs.declared.written.Word.{Word};
+ghost use Rattle.gib_syntax.specs.{Forms.{formed}, GenericParts.{results_in}, Results.{map_results}, declared.written.Word.{Word}};
 ghost use Rattle.gib_check.specs.Answers.{Gives};
 ghost use Rattle.gib_check.specs.Faults as rule;
 

@@ -40,13 +40,10 @@ impl Model for State {
 impl State {
     ghost use Rattle.std.specs.Prelude.{◌<◌, ◌≤◌, ◌+◌, ◌-◌, [], ◌++◌, length, drop, IfOk, OnOk};
     ghost use Rattle.gib_types.specs.Types.{form_at, form_from, ArgumentsBelow, AreBelow};
-    ghost use Rattle.gib_syntax.specs.Forms.{formed};
-    ghost use Rattle.gib_syntax.specs.Results.{Several};
-    ghost use Rattle.gib_syntax.specs.Words.{stack_of, first_type};
-    ghost use Rattle.gib_syntax.specs.GenericTyping.{FormScope, form_bound};
+    ghost use Rattle.gib_syntax.specs.{Forms.{formed}, Results.{Several}, Words.{stack_of, first_type}, GenericTyping.{FormScope, form_bound}};
     ghost use Rattle.gib_check.specs.Answers.{Gives};
-    ghost use Rattle.gib_check.specs.Faults as rule;
     ghost use Rattle.gib_check.specs.Judging.{Judging, forms, in_scope, listed, run_of, ids_of, forms_given, AreMet, Met, Meets, Reads, Keeps, meant_by, IsMeaningBelow};
+    ghost use Rattle.gib_check.specs.Faults as rule;
 
     /// Nothing was met but so many parameters, which are not in scope yet.
     pub fn new(alloc: Global, variables: u32) -> State

@@ -2,16 +2,12 @@
 
 ghost use Rattle.std.specs.Prelude.{◌≡◌, ◌<◌, map, length, IfOk};
 ghost use Rattle.gib_types.specs.Types.{forms_at, AreBelow};
-ghost use Rattle.gib_syntax.specs.Forms.{formed, formed_all, assign};
-ghost use Rattle.gib_syntax.specs.GenericTree.{GenericParameterTree};
-ghost use Rattle.gib_syntax.specs.GenericTyping.{variable_numbers, opaque, field_forms};
-ghost use Rattle.gib_syntax.specs.GenericParts.{function_in, parameter_in, results_in};
-ghost use Rattle.gib_syntax.specs.Results.{map_results};
-ghost use Rattle.gib_syntax.specs.Words.{IsTypesRun, type_in, types_in};
-ghost use Rattle.gib_check.specs.Answers.{Gives};
-ghost use Rattle.gib_check.specs.Faults as rule;
-ghost use Rattle.gib_check.specs.Judging.{forms, in_scope, listed, forms_given, parts_in, ArePartsMet, Met, Keeps, meant_by, IsMeaningBelow};
+ghost use Rattle.gib_syntax.specs.{Forms.{formed, formed_all, assign}, GenericTree.{GenericParameterTree}};
+ghost use Rattle.gib_syntax.specs.{GenericTyping.{variable_numbers, opaque, field_forms}, GenericParts.{function_in, parameter_in, results_in}};
+ghost use Rattle.gib_syntax.specs.{Results.{map_results}, Words.{IsTypesRun, type_in, types_in}};
+ghost use Rattle.gib_check.specs.{Answers.{Gives}, Judging.{forms, in_scope, listed, forms_given, parts_in, ArePartsMet, Met, Keeps, meant_by, IsMeaningBelow}};
 ghost use Rattle.gib_check.specs.NameViews.{generic_globals, row_in};
+ghost use Rattle.gib_check.specs.Faults as rule;
 
 use crate::fault::TypeFault;
 use crate::known::all_known;

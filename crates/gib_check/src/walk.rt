@@ -2,16 +2,14 @@
 
 ghost use Rattle.std.specs.Prelude.{◌≡◌, ◌<◌, List, Ok, length, map, IfOk};
 ghost use Rattle.std.specs.List.{AllByRecursion};
-ghost use Rattle.gib_types.specs.Form.{Form};
-ghost use Rattle.gib_types.specs.Types.{forms_at, form_from, AreBelow};
-ghost use Rattle.gib_syntax.specs.GenericArena.{IsArmBelow, Opens, arguments_from};
-ghost use Rattle.gib_syntax.specs.GenericTree as tree;
-ghost use Rattle.gib_syntax.specs.GenericTyping.{variable_numbers, opaque, operator_form};
+ghost use Rattle.gib_types.specs.{Form.{Form}, Types.{forms_at, form_from, AreBelow}};
+ghost use Rattle.gib_syntax.specs.{GenericArena.{IsArmBelow, Opens, arguments_from}, GenericTyping.{variable_numbers, opaque, operator_form}};
 ghost use Rattle.gib_syntax.specs.Words.{IsTypesRun, types_in};
+ghost use Rattle.gib_syntax.specs.GenericTree as tree;
 ghost use Rattle.gib_check.specs.Answers.{Gives};
-ghost use Rattle.gib_check.specs.Faults as rule;
 ghost use Rattle.gib_check.specs.Judging.{forms, in_scope, forms_given, Met, AllMet, parts_in, ArePartsMet, arm_head, infer_each_arm, family_of, Binding, Choosing, IsClosed};
 ghost use Rattle.gib_check.specs.NameViews.{generic_globals, generic_tree};
+ghost use Rattle.gib_check.specs.Faults as rule;
 
 use crate::arms::{all_counted, all_declared, covered};
 use crate::bindings::{bind_given, bind_sides};

@@ -16,8 +16,7 @@ pub struct Code {
 
 impl Model for Code {
     ghost use Rattle.std.specs.Prelude.{map};
-    ghost use Rattle.gib_code.specs.Instruction.{instruction_of};
-    ghost use Rattle.gib_code.specs.Program.{CodeTree};
+    ghost use Rattle.gib_code.specs.{Instruction.{instruction_of}, Program.{CodeTree}};
 
     ghost Value = { CodeTree };
 

@@ -1,15 +1,12 @@
 //! Packs the value of a root, by several workers.
 
 ghost use Rattle.std.specs.Prelude.{◌≡◌, ◌<◌, ◌≤◌, ◌+◌, ◌^◌, [], ℕ, List, length, IfOk, IsErrOf};
-ghost use Rattle.gib_types.specs.declared.table.Ty.{Ty as Type_of};
-ghost use Rattle.gib_types.specs.Tree.{Datum};
+ghost use Rattle.gib_types.specs.{declared.table.Ty.{Ty as Type_of}, Tree.{Datum}};
 ghost use Rattle.gib_mem.specs.Memory.{Grows, fresh};
-ghost use Rattle.gib_file.specs.Packed.{packed};
-ghost use Rattle.gib_file.specs.Framed.{Framed2, File2};
+ghost use Rattle.gib_file.specs.{Packed.{packed}, Framed.{Framed2, File2}};
 ghost use Rattle.gib_arena.specs.Passes.{view, cells, IsOf};
 ghost use Rattle.gib_packed.specs.Stands.{Stands};
-ghost use Rattle.gib_compact.specs.Back.{IsBack};
-ghost use Rattle.gib_compact.specs.declared.fault.CompactFault.TheVariants.{Long};
+ghost use Rattle.gib_compact.specs.{Back.{IsBack}, declared.fault.CompactFault.TheVariants.{Long}};
 
 use crate::fault::CompactFault;
 use crate::packing::{HEADER_BYTES, MOST_BYTES, Packing};

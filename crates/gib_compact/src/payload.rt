@@ -1,16 +1,11 @@
 //! The packed file of the value of a root in buffers, by several workers.
 
 ghost use Rattle.std.specs.Prelude.{◌≡◌, ◌<◌, ◌≤◌, ◌+◌, ◌^◌, ◌++◌, ◌∷◌, [], ℕ, List, length, IfOk, IsErrOf};
-ghost use Rattle.gib_types.specs.declared.table.Ty.{Ty as Type_of};
-ghost use Rattle.gib_types.specs.Tree.{Datum};
+ghost use Rattle.gib_types.specs.{declared.table.Ty.{Ty as Type_of}, Tree.{Datum}};
 ghost use Rattle.gib_file.specs.Packed.{tree, packed, number, bit};
 ghost use Rattle.gib_arena.specs.Passes.{view, cells, IsOf};
-ghost use Rattle.gib_packed.specs.Decoding.{Dec, Decodes};
-ghost use Rattle.gib_packed.specs.Stands.{Stands};
-ghost use Rattle.gib_compact.specs.Cut.{Cut, IsFew};
-ghost use Rattle.gib_compact.specs.Back.{IsBack};
-ghost use Rattle.gib_compact.specs.Gathered.{gathered, with_head};
-ghost use Rattle.gib_compact.specs.declared.fault.CompactFault.TheVariants.{Long};
+ghost use Rattle.gib_packed.specs.{Decoding.{Dec, Decodes}, Stands.{Stands}};
+ghost use Rattle.gib_compact.specs.{Cut.{Cut, IsFew}, Back.{IsBack}, Gathered.{gathered, with_head}, declared.fault.CompactFault.TheVariants.{Long}};
 
 use crate::cut::cut;
 use crate::fault::CompactFault;

@@ -1,8 +1,7 @@
 //! How many bytes pieces have, and these bytes.
 
 ghost use Rattle.std.specs.Prelude.{◌≡◌, ◌<◌, ◌≤◌, ◌+◌, ◌^◌, ◌++◌, ℕ, List, length, IfOk, OnOk};
-ghost use Rattle.gib_compact.specs.Counts.{IsCount};
-ghost use Rattle.gib_compact.specs.Cut.{IsPiece, Cut, IsFew};
+ghost use Rattle.gib_compact.specs.{Counts.{IsCount}, Cut.{IsPiece, Cut, IsFew}};
 
 use crate::count::count_at;
 use crate::piece::Piece;

@@ -3,10 +3,7 @@
 ghost use Rattle.std.specs.Prelude.{◌≡◌, ◌<◌, ◌≤◌, ◌+◌, ◌^◌, ◌++◌, [], ℕ, List, length, IfOk};
 ghost use Rattle.std.specs.Thread.{IsSync};
 ghost use Rattle.gib_arena.specs.Passes.{view, cells, IsOf};
-ghost use Rattle.gib_compact.specs.Cut.{Cut, IsFew};
-ghost use Rattle.gib_compact.specs.Counts.{IsCount};
-ghost use Rattle.gib_compact.specs.Back.{IsBack, IsSplit, Parts};
-ghost use Rattle.gib_compact.specs.Gathered.{gathered};
+ghost use Rattle.gib_compact.specs.{Cut.{Cut, IsFew}, Counts.{IsCount}, Back.{IsBack, IsSplit, Parts}, Gathered.{gathered}};
 
 use crate::packing::Packing;
 use crate::parts::{alone, in_front};

@@ -10,8 +10,7 @@ pub struct Checked {
 }
 
 impl Model for Checked {
-    ghost use Rattle.gib_core.specs.Parts.{Parts, core_of};
-    ghost use Rattle.gib_core.specs.Rules.{AreBuilt};
+    ghost use Rattle.gib_core.specs.{Parts.{Parts, core_of}, Rules.{AreBuilt}};
 
     ghost Value = { Parts };
 
@@ -22,8 +21,7 @@ impl Model for Checked {
 
 impl Checked {
     ghost use Rattle.std.specs.Prelude.{◌≡◌};
-    ghost use Rattle.gib_core.specs.Parts.{core_of};
-    ghost use Rattle.gib_core.specs.Rules.{AreBuilt};
+    ghost use Rattle.gib_core.specs.{Parts.{core_of}, Rules.{AreBuilt}};
 
     /// A core that breaks no build rule.
     pub fn make(core: Core) -> Checked

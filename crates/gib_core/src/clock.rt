@@ -28,8 +28,7 @@ impl Model for Clock {
 
 impl Clock {
     ghost use Rattle.std.specs.Prelude.{◌≡◌, [], IfOk, OnOk};
-    ghost use Rattle.gib_core.specs.ByVariable.{number_at};
-    ghost use Rattle.gib_core.specs.Noted.{ArePast, Ticks, Notes};
+    ghost use Rattle.gib_core.specs.{ByVariable.{number_at}, Noted.{ArePast, Ticks, Notes}};
 
     /// Nothing was noted.
     pub fn new(alloc: Global) -> Clock

@@ -2,22 +2,17 @@
 
 ghost use Rattle.std.specs.Prelude.{◌≡◌, ◌∷◌, [], ℕ, pos, true, false, Bool, List};
 ghost use Rattle.gib_base.specs.declared.name.Name.{Name};
-ghost use Rattle.gib_types.specs.declared.table.Ty.{Ty as FieldType};
-ghost use Rattle.gib_types.specs.declared.table.Ty.TheVariants as ty;
-ghost use Rattle.gib_types.specs.declared.table.ConId.{ConId as Con};
-ghost use Rattle.gib_types.specs.Row.{Table};
+ghost use Rattle.gib_types.specs.{declared.table.Ty.{Ty as FieldType}, declared.table.ConId.{ConId as Con}, Row.{Table}};
 ghost use Rattle.gib_types.specs.Tree.{Datum, whole, con, Data, none as no_fields, more as field};
+ghost use Rattle.gib_types.specs.declared.table.Ty.TheVariants as ty;
 ghost use Rattle.gib_types.specs.declared.operator.Operator.TheVariants as o;
 ghost use Rattle.gib_core.specs.declared.atom.Atom.TheVariants as a;
 ghost use Rattle.gib_core.specs.declared.atom.Access.TheVariants as by;
-ghost use Rattle.gib_core.specs.declared.atom.Kind.{Kind as HowBound};
-ghost use Rattle.gib_core.specs.declared.atom.Kind.TheVariants as kind;
-ghost use Rattle.gib_core.specs.declared.atom.Variable.{Variable as X};
-ghost use Rattle.gib_syntax.specs.Results as results;
+ghost use Rattle.gib_core.specs.{declared.atom.Kind.{Kind as HowBound}, declared.atom.Variable.{Variable as X}};
 ghost use Rattle.gib_core.specs.Tree.{Term, Then, Write, Point, CallTerm, CaseTerm, IfTerm, Past, One, Both, Prim, Reach, Side, On, NoBranch, BranchThen, var, CoreTree};
-ghost use Rattle.gib_core.specs.Cost.{Cost, run_cost};
-ghost use Rattle.gib_core.specs.SampleCores.{tree, v, same, sample, zero_term};
-ghost use Rattle.gib_core.specs.Tight.{Tight};
+ghost use Rattle.gib_core.specs.{Cost.{Cost, run_cost}, SampleCores.{tree, v, same, sample, zero_term}, Tight.{Tight}};
+ghost use Rattle.gib_core.specs.declared.atom.Kind.TheVariants as kind;
+ghost use Rattle.gib_syntax.specs.Results as results;
 
 /// What it costs to add 1 to each leaf of `(Node (Leaf 1) (Leaf 2))`, both sides of each node in a marked `par`: with the
 /// sides in regions of their own; in their fields' places; in their places with no level of forks left;

@@ -2,20 +2,16 @@
 
 ghost use Rattle.std.specs.Prelude.{◌≡◌, ◌∷◌, [], ℕ, ℤ, pos, negsuc, true, false};
 ghost use Rattle.gib_base.specs.declared.name.Name.{Name};
-ghost use Rattle.gib_types.specs.declared.table.Ty.{Ty as FieldType};
-ghost use Rattle.gib_types.specs.declared.table.Ty.TheVariants as ty;
-ghost use Rattle.gib_types.specs.declared.table.ConId.{ConId as Con};
-ghost use Rattle.gib_types.specs.Tree.{whole};
+ghost use Rattle.gib_types.specs.{declared.table.Ty.{Ty as FieldType}, declared.table.ConId.{ConId as Con}, Tree.{whole}};
 ghost use Rattle.gib_types.specs.declared.operator.Operator.{Operator};
+ghost use Rattle.gib_types.specs.declared.table.Ty.TheVariants as ty;
 ghost use Rattle.gib_types.specs.declared.operator.Operator.TheVariants as o;
 ghost use Rattle.gib_syntax.specs.Meaning.{Gives, Stops, Deep, Trap};
 ghost use Rattle.gib_core.specs.declared.atom.Atom.TheVariants as a;
 ghost use Rattle.gib_core.specs.declared.atom.Kind.TheVariants as kind;
 ghost use Rattle.gib_core.specs.declared.atom.Variable.{Variable as X};
+ghost use Rattle.gib_core.specs.{Tree.{Term, Then, Write, CallTerm, Give, Past, One, Both, Prim, Side, On, var, CoreTree}, Meaning.{core_run}, Cost.{run_cost}};
 ghost use Rattle.gib_syntax.specs.Results as results;
-ghost use Rattle.gib_core.specs.Tree.{Term, Then, Write, CallTerm, Give, Past, One, Both, Prim, Side, On, var, CoreTree};
-ghost use Rattle.gib_core.specs.Meaning.{core_run};
-ghost use Rattle.gib_core.specs.Cost.{run_cost};
 
 /// What `prim %1 = z quot %0` and `prim %1 = z rem %0` mean, for a number z.
 pub fn dividing()

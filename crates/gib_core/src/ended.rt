@@ -1,11 +1,8 @@
 //! Sets of packed parameters, which of them are ended among these.
 
 ghost use Rattle.std.specs.Prelude.{◌≡◌, ◌<◌, ◌≤◌, ◌+◌, ◌*◌, ◌^◌, ◌++◌, [], ◌∷◌, ℕ, List, drop, map, length, IfOk, OnOk};
-ghost use Rattle.gib_core.specs.declared.atom.Ended.{Ended as Pair};
-ghost use Rattle.gib_core.specs.Tree.{Term, is_variable as variable};
-ghost use Rattle.gib_core.specs.Parts.{function_term};
-ghost use Rattle.gib_core.specs.Ending.{has_ended, packed_from, all_packed};
-ghost use Rattle.gib_core.specs.EndedSet.{number_of, HasNumbers};
+ghost use Rattle.gib_core.specs.{declared.atom.Ended.{Ended as Pair}, Tree.{Term, is_variable as variable}, Parts.{function_term}};
+ghost use Rattle.gib_core.specs.{Ending.{has_ended, packed_from, all_packed}, EndedSet.{number_of, HasNumbers}};
 
 use crate::atom::{Atom, Ended, Variable};
 use crate::program::CoreFunction;
@@ -63,8 +60,7 @@ pub struct EndedSet {
 
 impl Model for EndedSet {
     ghost use Rattle.std.specs.Prelude.{List};
-    ghost use Rattle.gib_core.specs.declared.atom.Ended.{Ended as Pair};
-    ghost use Rattle.gib_core.specs.EndedSet.{HasNumbers};
+    ghost use Rattle.gib_core.specs.{declared.atom.Ended.{Ended as Pair}, EndedSet.{HasNumbers}};
 
     ghost Value = { List Pair };
 

@@ -2,21 +2,17 @@
 
 ghost use Rattle.std.specs.Prelude.{◌≡◌, ◌∷◌, [], ℕ, pos, false, None, Some};
 ghost use Rattle.gib_base.specs.declared.Span.{Span};
-ghost use Rattle.gib_types.specs.declared.table.Ty.{Ty as FieldType};
+ghost use Rattle.gib_types.specs.{declared.table.Ty.{Ty as FieldType}, declared.table.ConId.{ConId as Con}, Row.{Table}};
 ghost use Rattle.gib_types.specs.declared.table.Ty.TheVariants as ty;
-ghost use Rattle.gib_types.specs.declared.table.ConId.{ConId as Con};
-ghost use Rattle.gib_types.specs.Row.{Table};
-ghost use Rattle.gib_syntax.specs.declared.tree.Ident.{Ident};
+ghost use Rattle.gib_syntax.specs.{declared.tree.Ident.{Ident}, Tree.{Num, Op, Paren, ProgramTree, Var}};
 ghost use Rattle.gib_syntax.specs.declared.tree.TypeName.TheVariants as written;
 ghost use Rattle.gib_types.specs.declared.operator.Operator.TheVariants as o;
-ghost use Rattle.gib_syntax.specs.Tree.{Num, Op, Paren, ProgramTree, Var};
 ghost use Rattle.gib_core.specs.declared.atom.Atom.TheVariants as a;
 ghost use Rattle.gib_core.specs.declared.atom.Access.TheVariants as by;
 ghost use Rattle.gib_core.specs.declared.atom.Kind.TheVariants as kind;
 ghost use Rattle.gib_core.specs.declared.atom.Variable.{Variable as X};
 ghost use Rattle.gib_core.specs.Tree.{Term, Then, Write, Point, Give, CaseTerm, Past, One, Prim, Reach, On, NoBranch, BranchThen, var, CoreTree};
-ghost use Rattle.gib_core.specs.Inferring.{infer_program};
-ghost use Rattle.gib_core.specs.Rules.{first_broken};
+ghost use Rattle.gib_core.specs.{Inferring.{infer_program}, Rules.{first_broken}};
 
 /// What `main (n : Int) : Int = ((n + 1))` becomes; and which rule cores over
 /// `data Tree = Leaf Int | Node Tree Tree` break first, with the number of the term.

@@ -1,25 +1,13 @@
 //! Laws of cores: functions whose contracts are the laws.
 
 ghost use Rattle.std.specs.Prelude.{◌≡◌, ◌<◌, ◌≤◌, ◌^◌, ◌↔◌, ℕ, List, None, Some, length};
-ghost use Rattle.gib_types.specs.Table.{Table, IsTable};
-ghost use Rattle.gib_types.specs.Tree.{Datum};
-ghost use Rattle.gib_syntax.specs.Tree.{DataTree};
-ghost use Rattle.gib_syntax.specs.Declarations.{table_of_program};
-ghost use Rattle.gib_syntax.specs.Meaning.{Environment, calls, run};
-ghost use Rattle.gib_core.specs.Tree.{Bind, FunctionTerm, Term, prepend, CoreTree};
-ghost use Rattle.gib_core.specs.Meaning.{Calls, function_at, run_all, core_calls, core_run};
-ghost use Rattle.gib_core.specs.declared.atom.AccessMode.{AccessMode as Mode};
-ghost use Rattle.gib_core.specs.Erasing.{erase_core};
-ghost use Rattle.gib_core.specs.Reaching.{reach_core};
-ghost use Rattle.gib_core.specs.Rules.{AreBuilt, first_broken};
-ghost use Rattle.gib_core.specs.Reachable.{AreReachable};
-ghost use Rattle.gib_core.specs.Numbering.{AreNumbered};
-ghost use Rattle.gib_core.specs.Ordered.{AreOrdered, AreNatural};
-ghost use Rattle.gib_core.specs.Literals.{AllLiteralsFit};
-ghost use Rattle.gib_core.specs.Fits.{AllFit, EachFits};
-ghost use Rattle.gib_core.specs.TypesNamed.{AllTypesDeclared, SignaturesDeclared};
-ghost use Rattle.gib_core.specs.Cost.{Costs, IsAtMost, plus, cost_from, cost, cost_all, run_cost};
-ghost use Rattle.gib_core.specs.Low.{IsLowered, HasCode, HasMain, function_number};
+ghost use Rattle.gib_types.specs.{Table.{Table, IsTable}, Tree.{Datum}};
+ghost use Rattle.gib_syntax.specs.{Tree.{DataTree}, Declarations.{table_of_program}, Meaning.{Environment, calls, run}};
+ghost use Rattle.gib_core.specs.{Tree.{Bind, FunctionTerm, Term, prepend, CoreTree}, Meaning.{Calls, function_at, run_all, core_calls, core_run}};
+ghost use Rattle.gib_core.specs.{declared.atom.AccessMode.{AccessMode as Mode}, Erasing.{erase_core}, Reaching.{reach_core}, Rules.{AreBuilt, first_broken}};
+ghost use Rattle.gib_core.specs.{Reachable.{AreReachable}, Numbering.{AreNumbered}, Ordered.{AreOrdered, AreNatural}, Literals.{AllLiteralsFit}};
+ghost use Rattle.gib_core.specs.{Fits.{AllFit, EachFits}, TypesNamed.{AllTypesDeclared, SignaturesDeclared}};
+ghost use Rattle.gib_core.specs.{Cost.{Costs, IsAtMost, plus, cost_from, cost, cost_all, run_cost}, Low.{IsLowered, HasCode, HasMain, function_number}};
 ghost use Rattle.gib_code.specs.Program.{CodeTree, Runs};
 
 /// A core meets the build rules exactly where none is the first broken one.

@@ -2,8 +2,7 @@
 
 ghost use Rattle.std.specs.Prelude.{◌<◌, ℕ, length};
 ghost use Rattle.std.specs.List.{AllByRecursion};
-ghost use Rattle.gib_core.specs.Arena.{term_of};
-ghost use Rattle.gib_core.specs.Literals.{LiteralFits, LiteralsFit, BindingLiterals, NodeLiterals};
+ghost use Rattle.gib_core.specs.{Arena.{term_of}, Literals.{LiteralFits, LiteralsFit, BindingLiterals, NodeLiterals}};
 
 use crate::atom::Atom;
 use crate::node::{Binding, Node, Terms};

@@ -24,10 +24,7 @@ impl Model for Lowered {
 
 impl Lowered {
     ghost use Rattle.std.specs.Prelude.{◌≡◌};
-    ghost use Rattle.gib_core.specs.Parts.{core_of};
-    ghost use Rattle.gib_core.specs.Rules.{AreBuilt};
-    ghost use Rattle.gib_core.specs.Low.{IsLowered};
-    ghost use Rattle.gib_core.specs.Fits.{AllFit};
+    ghost use Rattle.gib_core.specs.{Parts.{core_of}, Rules.{AreBuilt}, Low.{IsLowered}, Fits.{AllFit}};
     ghost use Rattle.gib_code.specs.Program.{Runs};
 
     /// A core with its code.

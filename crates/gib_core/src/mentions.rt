@@ -3,11 +3,7 @@
 ghost use Rattle.std.specs.Prelude.{◌≡◌, ◌<◌, ◌++◌, length, IfOk, OnOk};
 ghost use Rattle.std.specs.List.{AllByRecursion};
 ghost use Rattle.gib_core.specs.Arena.{IsBindingBelow, IsBranchBelow, IsPartBelow, IsEnd, term_in, term_of, side_from, bind_from, parts_from, branches_from};
-ghost use Rattle.gib_core.specs.Tree.{variables_from};
-ghost use Rattle.gib_core.specs.PartTypes.{types_in};
-ghost use Rattle.gib_core.specs.Numbering.{binders};
-ghost use Rattle.gib_core.specs.declared.atom.Variable.{Variable as X};
-ghost use Rattle.gib_core.specs.Counting.{count};
+ghost use Rattle.gib_core.specs.{Tree.{variables_from}, PartTypes.{types_in}, Numbering.{binders}, declared.atom.Variable.{Variable as X}, Counting.{count}};
 ghost use Rattle.gib_core.specs.Mentioned.{all_bound, all_used, mentions as said, binder, binders_in, uses_in, bind_mentions, side_mentions, part_mentions, branch_mentions};
 
 use crate::atom::{Atom, Variable};

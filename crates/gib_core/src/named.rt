@@ -1,11 +1,8 @@
 //! Functions that are found by their names in constant time.
 
 ghost use Rattle.std.specs.Prelude.{◌≡◌, ◌==◌, ℕ, if◌then◌else◌, map, ◌<◌, MatchOption, IfSome, None, Some, IfOk, OnOk};
-ghost use Rattle.gib_core.specs.Tree.{Term};
-ghost use Rattle.gib_core.specs.Meaning.{function_at};
+ghost use Rattle.gib_core.specs.{Tree.{Term}, Meaning.{function_at}, Parts.{IsFunctionInside, function_term}, NamedFunctions.{IsIndex, entry_at, first_named}};
 ghost use Rattle.std.specs.List.{AllByRecursion};
-ghost use Rattle.gib_core.specs.Parts.{IsFunctionInside, function_term};
-ghost use Rattle.gib_core.specs.NamedFunctions.{IsIndex, entry_at, first_named};
 
 use crate::program::CoreFunction;
 use gib_base::{ByNumber, Memory, Name};

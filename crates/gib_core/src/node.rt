@@ -141,9 +141,7 @@ fn with_fork(binding: Binding, fork: bool) -> Binding
 }
 
 impl Layered for Node {
-    ghost use Rattle.gib_core.specs.Tree.{Term};
-    ghost use Rattle.gib_core.specs.Arena.{nothing, layer, PartsBelow};
-    ghost use Rattle.gib_core.specs.ArenaLaws.{layer_same_if};
+    ghost use Rattle.gib_core.specs.{Tree.{Term}, Arena.{nothing, layer, PartsBelow}, ArenaLaws.{layer_same_if}};
 
     ghost Tree = { Term };
 
@@ -174,8 +172,7 @@ impl Model for Terms {
 impl Terms {
     ghost use Rattle.std.specs.Prelude.{◌≡◌, ◌<◌, [], length, Some, IfOk, OnErr};
     ghost use Rattle.std.specs.List.{AllByRecursion};
-    ghost use Rattle.gib_core.specs.Tree.{prepend};
-    ghost use Rattle.gib_core.specs.Arena.{IsArena, IsBindingBelow, PartsBelow, Opens, IsLine, Makes, Grows, term_of, binds_from, layer};
+    ghost use Rattle.gib_core.specs.{Tree.{prepend}, Arena.{IsArena, IsBindingBelow, PartsBelow, Opens, IsLine, Makes, Grows, term_of, binds_from, layer}};
     ghost use Rattle.gib_core.specs.Marking.{IsSet};
 
     /// No terms.

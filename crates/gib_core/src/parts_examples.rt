@@ -1,20 +1,12 @@
 //! Examples of results of several parts: what programs become, what cores mean, and what their runs cost.
 
 ghost use Rattle.std.specs.Prelude.{◌≡◌, ◌∷◌, [], ℕ, pos, None};
-ghost use Rattle.gib_types.specs.Tree.{Datum, whole, con, none, more};
-ghost use Rattle.gib_types.specs.declared.operator.Operator.TheVariants.{Quotient};
+ghost use Rattle.gib_types.specs.{Tree.{Datum, whole, con, none, more}, declared.operator.Operator.TheVariants.{Quotient}};
 ghost use Rattle.gib_syntax.specs.Meaning.{Gives, Stops, Deep, Trap};
-ghost use Rattle.gib_core.specs.declared.atom.AccessMode.TheVariants.{Offsets};
+ghost use Rattle.gib_core.specs.{declared.atom.AccessMode.TheVariants.{Offsets}, Tree.{Then, Point, CallTerm, Tuple, NoPart, PartThen, Prim, CoreTree, var}};
+ghost use Rattle.gib_core.specs.{Inferring.{infer_program}, Reaching.{reach_core}, Marking.{mark_core}, Meaning.{core_run}, Cost.{body_cost}};
+ghost use Rattle.gib_core.specs.{Rules.{first_broken}, SampleCores.{v, tree, same, sample, pair_types, pair_bound, next_to, summed}, SamplePrograms.{summing}};
 ghost use Rattle.gib_core.specs.declared.atom.Atom.TheVariants as a;
-ghost use Rattle.gib_core.specs.Tree.{Then, Point, CallTerm, Tuple, NoPart, PartThen, Prim, CoreTree, var};
-ghost use Rattle.gib_core.specs.Inferring.{infer_program};
-ghost use Rattle.gib_core.specs.Reaching.{reach_core};
-ghost use Rattle.gib_core.specs.Marking.{mark_core};
-ghost use Rattle.gib_core.specs.Meaning.{core_run};
-ghost use Rattle.gib_core.specs.Cost.{body_cost};
-ghost use Rattle.gib_core.specs.Rules.{first_broken};
-ghost use Rattle.gib_core.specs.SampleCores.{v, tree, same, sample, pair_types, pair_bound, next_to, summed};
-ghost use Rattle.gib_core.specs.SamplePrograms.{summing};
 
 /// A leaf of a number and the next number, put into a node.
 pub fn of_a_number()

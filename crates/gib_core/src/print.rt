@@ -5,9 +5,7 @@
 ghost use Rattle.std.specs.Prelude.{◌≡◌, ◌≤◌, ◌<◌, ◌+◌, ◌*◌, ◌^◌, [], ◌∷◌, length, map, drop, IfOk, OnOk};
 ghost use Rattle.std.specs.List.{AllByRecursion};
 ghost use Rattle.gib_core.specs.Arena.{IsBindingBelow, IsBranchBelow, IsPartBelow, IsEnd, term_of, term_in, side_from, bind_from, parts_from, branches_from};
-ghost use Rattle.gib_core.specs.Tree.{variables_from};
-ghost use Rattle.gib_core.specs.PartTypes.{types_in};
-ghost use Rattle.gib_core.specs.Parts.{IsFunctionInside, results_of, function_term, main_term, core_of};
+ghost use Rattle.gib_core.specs.{Tree.{variables_from}, PartTypes.{types_in}, Parts.{IsFunctionInside, results_of, function_term, main_term, core_of}};
 ghost use Rattle.gib_core.specs.CoreText.{kind_word, spell_access, spell_fork, spell_variables, spell_atoms, ended_from, spell_ends, spell_term, spell_bind, spell_parts, spell_side, spell_branches, spell_parameters, spell_further, spell_result, spell_function, spell_functions, spell_main, spell_core, core_text};
 
 use crate::atom::{Access, Atom, Kind, Variable};

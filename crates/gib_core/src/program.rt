@@ -57,9 +57,7 @@ impl Model for Core {
 }
 
 impl Core {
-    ghost use Rattle.gib_core.specs.Parts.{Parts, AreInside, core_of};
-    ghost use Rattle.gib_core.specs.Literals.{AllLiteralsFit};
-    ghost use Rattle.gib_core.specs.TypesNamed.{SignaturesDeclared};
+    ghost use Rattle.gib_core.specs.{Parts.{Parts, AreInside, core_of}, Literals.{AllLiteralsFit}, TypesNamed.{SignaturesDeclared}};
 
     /// A core of these parts.
     pub fn new(

@@ -4,15 +4,14 @@ ghost use Rattle.std.specs.Prelude.{◌≡◌, List, ◌∷◌, [], pos, true, f
 ghost use Rattle.gib_types.specs.declared.table.Ty.TheVariants as ty;
 ghost use Rattle.gib_types.specs.declared.operator.Operator.TheVariants as o;
 ghost use Rattle.gib_types.specs.declared.table.Ty.{Ty};
-ghost use Rattle.gib_core.specs.declared.atom.Variable.{Variable};
-ghost use Rattle.gib_core.specs.declared.atom.Atom.{Atom};
-ghost use Rattle.gib_core.specs.declared.atom.Atom.TheVariants as a;
-ghost use Rattle.gib_core.specs.declared.atom.Access.TheVariants as by;
-ghost use Rattle.gib_core.specs.declared.atom.Kind.TheVariants as kind;
+ghost use Rattle.gib_core.specs.{declared.atom.Variable.{Variable}, declared.atom.Atom.{Atom}};
 ghost use Rattle.gib_core.specs.Tree.{Term, Then, Write, Point, CallTerm, Give, CaseTerm, IfTerm, Tuple, NoPart, PartThen, Past, One, Both, Prim, Reach, On, Several, NoBranch, BranchThen, CoreTree, var};
 ghost use Rattle.gib_core.specs.Rules.{first_broken};
 ghost use Rattle.gib_core.specs.SampleCores.{tree, empty, triple, leaf, node, nil, three, v, same, sample, size, sized, zero_term, points, arms, sizes, told as core_told, pair, pair_types, pair_bound, split, parted};
 ghost use Rattle.gib_core.specs.Ending.{ended};
+ghost use Rattle.gib_core.specs.declared.atom.Atom.TheVariants as a;
+ghost use Rattle.gib_core.specs.declared.atom.Access.TheVariants as by;
+ghost use Rattle.gib_core.specs.declared.atom.Kind.TheVariants as kind;
 
 /// Rules 1, 2, 3, 5 and 6: where values are put. Main's terms count from 1.
 pub fn places()

@@ -1,9 +1,7 @@
 //! The ended parameters of a core.
 
 ghost use Rattle.std.specs.Prelude.{◌≡◌, true, filter, IfOk};
-ghost use Rattle.gib_core.specs.Parts.{core_of};
-ghost use Rattle.gib_core.specs.Ending.{stays_ended, narrowed, settled, ended};
-ghost use Rattle.gib_core.specs.NamedFunctions.{IsIndex};
+ghost use Rattle.gib_core.specs.{Parts.{core_of}, Ending.{stays_ended, narrowed, settled, ended}, NamedFunctions.{IsIndex}};
 
 use crate::atom::{Ended, Variable};
 use crate::ended::{EndedSet, packed_parameters};

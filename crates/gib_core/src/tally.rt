@@ -1,9 +1,7 @@
 //! How often a body uses its variables.
 
 ghost use Rattle.std.specs.Prelude.{◌<◌, [], length, OnOk, IfOk};
-ghost use Rattle.gib_core.specs.Arena.{term_of};
-ghost use Rattle.gib_core.specs.Counting.{count, count_atom, Adds};
-ghost use Rattle.gib_core.specs.Mentioned.{use_of, uses_in};
+ghost use Rattle.gib_core.specs.{Arena.{term_of}, Counting.{count, count_atom, Adds}, Mentioned.{use_of, uses_in}};
 
 use crate::atom::{Atom, Variable};
 use crate::by_variable::{number_of, set_number};
@@ -29,8 +27,7 @@ impl Model for Tally {
 
 impl Tally {
     ghost use Rattle.std.specs.Prelude.{◌≡◌, ◌==◌, [], OnOk, if◌then◌else◌};
-    ghost use Rattle.gib_core.specs.ByVariable.{number_at};
-    ghost use Rattle.gib_core.specs.Counting.{Adds};
+    ghost use Rattle.gib_core.specs.{ByVariable.{number_at}, Counting.{Adds}};
 
     /// No variable was used.
     fn new(alloc: Global) -> Tally

@@ -32,8 +32,7 @@ impl<'a, R: Files> DirShelf<'a, R> {
 }
 
 impl<R: Files> Shelf for DirShelf<'_, R> {
-    ghost use Rattle.gib_edge.specs.Views.{Hidden, ReadOf, WriteOf};
-    ghost use Rattle.gib_edge.specs.Causes.{Rose, raised, told, IsFrontOf, Appends, AppendsPart};
+    ghost use Rattle.gib_edge.specs.{Views.{Hidden, ReadOf, WriteOf}, Causes.{Rose, raised, told, IsFrontOf, Appends, AppendsPart}};
 
     ghost tells = { false };
 

@@ -1,8 +1,7 @@
 //! A shelf in memory, which fails when it is told to.
 
 ghost use Rattle.std.specs.Prelude.{if◌then◌else◌, bytes_eq, ◌≡◌, ◌≢◌, ◌+◌, ◌≤◌, ◌++◌, ◌∷◌, ℕ, [], List, length, take, map, Some, None, IfOk, OnOk, OnErr, IsErr, vec_capacity, vec_len, MatchOption, IsErrOf, IsTrue, true, false};
-ghost use Rattle.gib_edge.specs.Views.{Missing, Has, ReadOf, WriteOf};
-ghost use Rattle.gib_edge.specs.Causes.{Rose, raised, IsFrontOf, IsUntold, Appends, AppendsPart};
+ghost use Rattle.gib_edge.specs.{Views.{Missing, Has, ReadOf, WriteOf}, Causes.{Rose, raised, IsFrontOf, IsUntold, Appends, AppendsPart}};
 ghost use Rattle.gib_edge.specs.InMemory.{kept_by, failed_reads, failed_writes, call_of, calls_of, shelf_view, is_due, ShelfTurned, IsNewShelf};
 ghost use Rattle.gib_edge.specs.Files.{held, held_or_missing, others};
 

@@ -1,8 +1,7 @@
 //! A sink in memory, which fails when it is told to.
 
 ghost use Rattle.std.specs.Prelude.{◌≡◌, ◌+◌, ◌≤◌, ◌++◌, ℕ, [], List, length, take, Some, None, IfOk, vec_capacity, vec_len, OnOk, OnErr, IsOk, IsErr, IfSome, ◌<◌};
-ghost use Rattle.gib_edge.specs.Causes.{HasCause, Appends, AppendsPart, raised};
-ghost use Rattle.gib_edge.specs.Fails.{part_at};
+ghost use Rattle.gib_edge.specs.{Causes.{HasCause, Appends, AppendsPart, raised}, Fails.{part_at}};
 
 use crate::Memory;
 use crate::outside::{Failed, Sink};
@@ -68,8 +67,7 @@ impl MemSink {
 }
 
 impl Sink for MemSink {
-    ghost use Rattle.gib_edge.specs.Causes.{HasPut};
-    ghost use Rattle.gib_edge.specs.InMemory.{taken_by, room_left, failed_puts, part_due, sink_view};
+    ghost use Rattle.gib_edge.specs.{Causes.{HasPut}, InMemory.{taken_by, room_left, failed_puts, part_due, sink_view}};
 
     ghost view = { sink_view };
 

@@ -1,8 +1,7 @@
 //! What a shelf or a sink makes of a reader or a writer.
 
 ghost use Rattle.std.specs.Prelude.{◌≡◌, ◌≤◌, ◌<◌, ◌+◌, ℕ, List, length, take, vec_len, IfOk, OnOk, OnErr, IfSome, IsOk, IsErrOf};
-ghost use Rattle.gib_edge.specs.Causes.{Rose, Appends, AppendsPart, raised};
-ghost use Rattle.gib_edge.specs.Moving.{Moves};
+ghost use Rattle.gib_edge.specs.{Causes.{Rose, Appends, AppendsPart, raised}, Moving.{Moves}};
 
 use crate::outside::{Failed, ShelfFault};
 use std::alloc::Global;

@@ -4,11 +4,7 @@
 ghost use Rattle.std.specs.Prelude.{◌≡◌, ℕ, List};
 ghost use Rattle.gib_types.specs.Tree.{Datum};
 ghost use Rattle.gib_syntax.specs.Tree.{DataTree};
-ghost use Rattle.gib_core.specs.Parts.{core_of};
-ghost use Rattle.gib_core.specs.Meaning.{core_calls, core_run};
-ghost use Rattle.gib_core.specs.Erasing.{erase_core};
-ghost use Rattle.gib_core.specs.Marking.{mark_core};
-ghost use Rattle.gib_core.specs.Numbering.{AreNumbered};
+ghost use Rattle.gib_core.specs.{Parts.{core_of}, Meaning.{core_calls, core_run}, Erasing.{erase_core}, Marking.{mark_core}, Numbering.{AreNumbered}};
 ghost use Rattle.gib_core.specs.Rules.{AreBuilt};
 
 pub mod law;

@@ -3,11 +3,8 @@
 ghost use Rattle.std.specs.Prelude.{◌≡◌, [], IfOk, IfErr};
 ghost use Rattle.std.specs.Arc.{arc_value};
 ghost use Rattle.gib_arena.specs.Passes.{view, cells, IsOf};
-ghost use Rattle.gib_machine.specs.Frames.{FitsFrame};
-ghost use Rattle.gib_machine.specs.State.{widest};
-ghost use Rattle.gib_machine.specs.Starting.{waiting_of};
-ghost use Rattle.gib_frame.specs.Answers.{Delivers, Owes, drawn_by};
-ghost use Rattle.gib_frame.specs.Dues.{frame_due, reply_due};
+ghost use Rattle.gib_machine.specs.{Frames.{FitsFrame}, State.{widest}, Starting.{waiting_of}};
+ghost use Rattle.gib_frame.specs.{Answers.{Delivers, Owes, drawn_by}, Dues.{frame_due, reply_due}};
 
 use crate::due::{Due, Ending, Give, Given, Sit, Take};
 use crate::ends::{Cell, Frame, Reply, Task};

@@ -1,20 +1,12 @@
 //! The laws of programs whose inputs have one description: functions whose contracts are the laws.
 
 ghost use Rattle.std.specs.Prelude.{◌↔◌, ◌<◌, ℕ, List, length};
-ghost use Rattle.gib_base.specs.Names.{AreNames};
-ghost use Rattle.gib_base.specs.Lexed.{Lexed};
-ghost use Rattle.gib_types.specs.Table.{IsTyBelow};
-ghost use Rattle.gib_types.specs.Tree.{Datum};
-ghost use Rattle.gib_syntax.specs.Tree.{ProgramTree};
-ghost use Rattle.gib_syntax.specs.Source.{Spells};
-ghost use Rattle.gib_syntax.specs.Plain.{generic_of};
-ghost use Rattle.gib_syntax.specs.Typing.{IsTypedProgram};
+ghost use Rattle.gib_base.specs.{Names.{AreNames}, Lexed.{Lexed}};
+ghost use Rattle.gib_types.specs.{Table.{IsTyBelow}, Tree.{Datum}};
+ghost use Rattle.gib_syntax.specs.{Tree.{ProgramTree}, Source.{Spells}, Plain.{generic_of}, Typing.{IsTypedProgram}};
 ghost use Rattle.gib_syntax.specs.Declarations.{table_of_program, input_type, output_type};
-ghost use Rattle.gib_file.specs.Packed.{Packed};
-ghost use Rattle.gib_file.specs.Framed.{File2};
+ghost use Rattle.gib_file.specs.{Packed.{Packed}, Framed.{File2}, Describing.{Describes, type_text}, Named.{AreNamed}};
 ghost use Rattle.gib_value.specs.Reading.{IsWord, AreWords};
-ghost use Rattle.gib_file.specs.Describing.{Describes, type_text};
-ghost use Rattle.gib_file.specs.Named.{AreNamed};
 
 /// The table and the names of a program that is spelled and typed are as descriptions need them, and so are the types of its input
 /// and result. Its names are different texts, and those of its types and constructors are words.

@@ -3,8 +3,7 @@
 ghost use Rattle.std.specs.Prelude.{◌≡◌, ◌≤◌, ◌<◌, ◌^◌, ◌++◌, length, pos, IfOk, OnOk};
 ghost use Rattle.gib_types.specs.Bytes.{number};
 ghost use Rattle.gib_file.specs.Framed.{header};
-ghost use Rattle.gib_gen.specs.Made.{next, grown, packed_tree, file_of};
-ghost use Rattle.gib_gen.specs.NumberTree.{Leaf};
+ghost use Rattle.gib_gen.specs.{Made.{next, grown, packed_tree, file_of}, NumberTree.{Leaf}};
 
 use byteorder::{ByteOrder, LittleEndian};
 use gib_base::Memory;

@@ -2,11 +2,9 @@
 
 ghost use Rattle.std.specs.Prelude.{◌≡◌, ℕ, ◌<◌, ◌≤◌, ◌^◌, ◌%◌};
 ghost use Rattle.std.specs.Int.{w64, int_wrap};
-ghost use Rattle.gib_types.specs.Table.{Table};
-ghost use Rattle.gib_types.specs.Tree.{HasType};
+ghost use Rattle.gib_types.specs.{Table.{Table}, Tree.{HasType}};
 ghost use Rattle.gib_print.specs.Numbers.{numbers, count_of, total_of};
-ghost use Rattle.gib_gen.specs.Made.{source_text, grown, file_of, IsProgramWith};
-ghost use Rattle.gib_gen.specs.NumberTree.{NumberTree, value_of, tree_type, height, leaves, sum, worked};
+ghost use Rattle.gib_gen.specs.{Made.{source_text, grown, file_of, IsProgramWith}, NumberTree.{NumberTree, value_of, tree_type, height, leaves, sum, worked}};
 
 /// The text with a literal below 1,000 is that of a typed program, and a full tree of up to 18 levels below its root,
 /// packed, is an input for it, whatever the number it grows from.

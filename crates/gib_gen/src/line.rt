@@ -1,8 +1,7 @@
 //! The line about what a made program gives.
 
 ghost use Rattle.std.specs.Prelude.{◌≡◌, IfOk};
-ghost use Rattle.gib_types.specs.declared.table.Ty.{Ty as Type_of};
-ghost use Rattle.gib_types.specs.Tree.{Datum};
+ghost use Rattle.gib_types.specs.{declared.table.Ty.{Ty as Type_of}, Tree.{Datum}};
 ghost use Rattle.gib_packed.specs.Stands.{Stands};
 ghost use Rattle.gib_gen.specs.Summary.{summary_line};
 

@@ -1,15 +1,9 @@
 //! The walk over the bodies of a program.
 
 ghost use Rattle.std.specs.Prelude.{◌≡◌, ◌<◌, length, map, slice_get, Some, IfOk};
-ghost use Rattle.gib_syntax.specs.Tree.{FunctionTree};
-ghost use Rattle.gib_syntax.specs.Arena.{tree_of};
-ghost use Rattle.gib_syntax.specs.Parts.{program_of};
-ghost use Rattle.gib_syntax.specs.Meaning.{names_of as all_names};
-ghost use Rattle.gib_syntax.specs.Typing.{result_types};
-ghost use Rattle.gib_core.specs.Parts.{results_of};
-ghost use Rattle.gib_core.specs.Inferring.{infer_body, infer_function, infer_program};
-ghost use Rattle.gib_infer.specs.Made.{globals_in};
-ghost use Rattle.gib_infer.specs.Bodies.{MakesBody, MakesFunction, MakesFunctions, MakesMain};
+ghost use Rattle.gib_syntax.specs.{Tree.{FunctionTree}, Arena.{tree_of}, Parts.{program_of}, Meaning.{names_of as all_names}, Typing.{result_types}};
+ghost use Rattle.gib_core.specs.{Parts.{results_of}, Inferring.{infer_body, infer_function, infer_program}};
+ghost use Rattle.gib_infer.specs.{Made.{globals_in}, Bodies.{MakesBody, MakesFunction, MakesFunctions, MakesMain}};
 
 use crate::fields::bind_fields;
 use crate::parts::{part_types, types_named};

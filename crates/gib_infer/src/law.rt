@@ -2,18 +2,10 @@
 //! rules of tables: `TypeTable::rules`.
 
 ghost use Rattle.std.specs.Prelude.{◌≡◌, ℕ};
-ghost use Rattle.gib_types.specs.Table.{IsTable};
-ghost use Rattle.gib_types.specs.Tree.{Datum};
-ghost use Rattle.gib_syntax.specs.Tree.{ProgramTree};
-ghost use Rattle.gib_syntax.specs.Declarations.{table_of_program};
-ghost use Rattle.gib_syntax.specs.Typing.{IsTypedProgram};
-ghost use Rattle.gib_syntax.specs.Meaning.{calls, run};
-ghost use Rattle.gib_core.specs.Meaning.{core_calls, core_run};
-ghost use Rattle.gib_core.specs.Erasing.{erase_core};
-ghost use Rattle.gib_core.specs.Inferring.{infer_program};
-ghost use Rattle.gib_core.specs.Ordered.{AreOrdered};
-ghost use Rattle.gib_core.specs.Reachable.{AreReachable};
-ghost use Rattle.gib_core.specs.Numbering.{AreNumbered};
+ghost use Rattle.gib_types.specs.{Table.{IsTable}, Tree.{Datum}};
+ghost use Rattle.gib_syntax.specs.{Tree.{ProgramTree}, Declarations.{table_of_program}, Typing.{IsTypedProgram}, Meaning.{calls, run}};
+ghost use Rattle.gib_core.specs.{Meaning.{core_calls, core_run}, Erasing.{erase_core}, Inferring.{infer_program}, Ordered.{AreOrdered}};
+ghost use Rattle.gib_core.specs.{Reachable.{AreReachable}, Numbering.{AreNumbered}};
 
 /// What a typed program becomes means what the program means: each call, with any depth left, and main.
 pub fn infer_keeps_the_meaning()

@@ -3,13 +3,8 @@
 
 ghost use Rattle.std.specs.Prelude.{◌≡◌, ℕ, IfOk};
 ghost use Rattle.gib_types.specs.Tree.{Datum};
-ghost use Rattle.gib_syntax.specs.Parts.{program_of};
-ghost use Rattle.gib_syntax.specs.Meaning.{calls, run};
-ghost use Rattle.gib_core.specs.Parts.{core_of};
-ghost use Rattle.gib_core.specs.Meaning.{core_calls, core_run};
-ghost use Rattle.gib_core.specs.Erasing.{erase_core};
-ghost use Rattle.gib_core.specs.Inferring.{infer_program};
-ghost use Rattle.gib_core.specs.Numbering.{AreNumbered};
+ghost use Rattle.gib_syntax.specs.{Parts.{program_of}, Meaning.{calls, run}};
+ghost use Rattle.gib_core.specs.{Parts.{core_of}, Meaning.{core_calls, core_run}, Erasing.{erase_core}, Inferring.{infer_program}, Numbering.{AreNumbered}};
 ghost use Rattle.gib_core.specs.Reachable.{AreReachable};
 
 mod bodies;

@@ -2,9 +2,7 @@
 
 ghost use Rattle.std.specs.Prelude.{◌≡◌, ◌≤◌, ◌+◌, ℕ, List, None, Some, MatchOption, IfSome};
 ghost use Rattle.gib_types.specs.Table.{fields_at, owner_at, numbers_from, constructors_of as all_of};
-ghost use Rattle.gib_syntax.specs.declared.exprs.Node.{Node as Expr};
-ghost use Rattle.gib_syntax.specs.Arena.{IsArmBelow, ArmsBelow};
-ghost use Rattle.gib_syntax.specs.Declarations.{number_of, function_named};
+ghost use Rattle.gib_syntax.specs.{declared.exprs.Node.{Node as Expr}, Arena.{IsArmBelow, ArmsBelow}, Declarations.{number_of, function_named}};
 ghost use Rattle.gib_core.specs.Inferring.{con_named, gives_type, first_constructor as first_of_arms, arm_for};
 ghost use Rattle.gib_infer.specs.Made.{globals_in, arms_at, arm_at, one_of, scalar_one};
 

@@ -1,10 +1,8 @@
 //! Names and types of several parts.
 
 ghost use Rattle.std.specs.Prelude.{◌≡◌, ◌∷◌, [], map, IfOk, MatchOption};
-ghost use Rattle.gib_syntax.specs.Declarations.{type_of_name};
-ghost use Rattle.gib_syntax.specs.Typing.{names_of, types_of};
-ghost use Rattle.gib_core.specs.PartTypes.{types_in};
-ghost use Rattle.gib_core.specs.Inferring.{slot};
+ghost use Rattle.gib_syntax.specs.{Declarations.{type_of_name}, Typing.{names_of, types_of}};
+ghost use Rattle.gib_core.specs.{PartTypes.{types_in}, Inferring.{slot}};
 ghost use Rattle.gib_core.specs.declared.atom.Atom.TheVariants as a;
 ghost use Rattle.gib_infer.specs.Made.{globals_in, Enters, IsNotOne, MakesSlots};
 

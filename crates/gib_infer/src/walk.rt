@@ -3,9 +3,7 @@
 ghost use Rattle.std.specs.Prelude.{◌≡◌, ℕ, ◌+◌, ◌<◌, ◌++◌, ◌∷◌, List, Option, [], map, length, IfOk};
 ghost use Rattle.std.specs.Option.{option_or};
 ghost use Rattle.gib_types.specs.declared.table.Ty.{Ty};
-ghost use Rattle.gib_syntax.specs.Tree.{Call, Make};
-ghost use Rattle.gib_syntax.specs.Arena.{Opens, tree_of, arguments_from, ArmsBelow, IsArmBelow};
-ghost use Rattle.gib_syntax.specs.Declarations.{type_of_name};
+ghost use Rattle.gib_syntax.specs.{Tree.{Call, Make}, Arena.{Opens, tree_of, arguments_from, ArmsBelow, IsArmBelow}, Declarations.{type_of_name}};
 ghost use Rattle.gib_syntax.specs.Typing.{names_of, types_of};
 ghost use Rattle.gib_core.specs.Inferring.{Branched, infer, several, boxed, given, operation_atom, let_line, par_line, if_line, case_line, tuple_line, part_lines, several_line, sides_line, several_side, bound_side as of_names};
 ghost use Rattle.gib_infer.specs.Made.{scope_of, globals_in, code_at, codes_at, arms_at, AreBelow, AreBindingsBelow, MakesLine, MakesAtom, MakesAtoms, MakesParts, MakesSide, MakesNamed, MakesBranch, BranchesSoFar};

@@ -3,8 +3,7 @@
 ghost use Rattle.std.specs.Prelude.{◌≡◌, ℕ, ◌+◌, ◌-◌, ◌^◌, ◌<◌, ◌++◌, ◌∷◌, [], length, Some, IfOk, IfErr};
 ghost use Rattle.gib_core.specs.declared.node.Binding.TheVariants as b;
 ghost use Rattle.gib_core.specs.declared.node.BoundSide.TheVariants as s;
-ghost use Rattle.gib_core.specs.Arena.{Grows, term_of};
-ghost use Rattle.gib_core.specs.Inferring.{atom_at, type_at, kind_of, result_of};
+ghost use Rattle.gib_core.specs.{Arena.{Grows, term_of}, Inferring.{atom_at, type_at, kind_of, result_of}};
 ghost use Rattle.gib_infer.specs.Made.{scope_of};
 
 use gib_base::{Memory, Name};

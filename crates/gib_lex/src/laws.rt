@@ -2,10 +2,9 @@
 
 ghost use Rattle.std.specs.Prelude.{◌≡◌, ◌≤◌, ℕ, List, length};
 ghost use Rattle.std.specs.List.{AllByRecursion};
-ghost use Rattle.gib_base.specs.Spelling.{tokens_text};
-ghost use Rattle.gib_base.specs.Lexed.{Lexed, IsLexed, IsLexedIn, AreTokens};
-ghost use Rattle.gib_lex.specs.Refused.{IsRefused, IsRefusedIn};
+ghost use Rattle.gib_base.specs.{Spelling.{tokens_text}, Lexed.{Lexed, IsLexed, IsLexedIn, AreTokens}};
 ghost use Rattle.gib_base.specs.Printing.{IsWritable, IsWritableIn, IsReadAgain, IsReadAgainIn};
+ghost use Rattle.gib_lex.specs.Refused.{IsRefused, IsRefusedIn};
 
 use crate::fault::LexFault;
 use gib_base::token::{Dialect, Token};

@@ -2,14 +2,9 @@
 
 ghost use Rattle.std.specs.Prelude.{◌≡◌, ◌≤◌, ℕ};
 ghost use Rattle.gib_mem.specs.Memory.{Memory};
-ghost use Rattle.gib_types.specs.declared.table.Ty.{Ty as Type_of};
-ghost use Rattle.gib_types.specs.Layout.{LaidOut, head_size};
-ghost use Rattle.gib_types.specs.Table.{IsTable};
-ghost use Rattle.gib_types.specs.Tree.{Datum, HasType};
+ghost use Rattle.gib_types.specs.{declared.table.Ty.{Ty as Type_of}, Layout.{LaidOut, head_size}, Table.{IsTable}, Tree.{Datum, HasType}};
 ghost use Rattle.gib_region.specs.Leaving.{IsBounded};
-ghost use Rattle.gib_load.specs.Placement.{placed_in};
-ghost use Rattle.gib_load.specs.Holding.{Holding};
-ghost use Rattle.gib_load.specs.Refusal.{Refused, Spent};
+ghost use Rattle.gib_load.specs.{Placement.{placed_in}, Holding.{Holding}, Refusal.{Refused, Spent}};
 
 /// What is placed stands: with offsets or without, a value that was loaded into the chunks that there are stands for
 /// its root, its tails are owned, and it took no more chunks than it needs.

@@ -3,8 +3,7 @@
 ghost use Rattle.std.specs.Prelude.{◌≡◌, ◌<◌, ◌≤◌, ◌+◌, ◌*◌, ◌-◌, ◌^◌, ℕ, List, length, take, drop, IfSome};
 ghost use Rattle.gib_mem.specs.Memory.{Memory, Owned};
 ghost use Rattle.gib_region.specs.Stream.{streamed, MayWait};
-ghost use Rattle.gib_load.specs.Gaps.{noted};
-ghost use Rattle.gib_load.specs.Runs.{carried, with_head, Carries};
+ghost use Rattle.gib_load.specs.{Gaps.{noted}, Runs.{carried, with_head, Carries}};
 
 use crate::run::Run;
 use gib_mem::Mem;

@@ -20,8 +20,7 @@ pub struct Variables {
 
 impl Model for Variables {
     ghost use Rattle.std.specs.Prelude.{List};
-    ghost use Rattle.gib_local.specs.Building.{VariableName};
-    ghost use Rattle.gib_local.specs.Scoped.{variables_in};
+    ghost use Rattle.gib_local.specs.{Building.{VariableName}, Scoped.{variables_in}};
 
     ghost Value = { List VariableName };
 
@@ -90,8 +89,7 @@ pub struct Places {
 
 impl Model for Places {
     ghost use Rattle.std.specs.Prelude.{List};
-    ghost use Rattle.gib_local.specs.Building.{PlaceName};
-    ghost use Rattle.gib_local.specs.Scoped.{places_in, AreNumbersBelow};
+    ghost use Rattle.gib_local.specs.{Building.{PlaceName}, Scoped.{places_in, AreNumbersBelow}};
 
     ghost Value = { List PlaceName };
 

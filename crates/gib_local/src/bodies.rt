@@ -5,11 +5,10 @@ ghost use Rattle.std.specs.List.{AllByRecursion};
 ghost use Rattle.gib_syntax.specs.declared.tree.Ident.{Ident as Named};
 ghost use Rattle.gib_core.specs.Parts.{core_of};
 ghost use Rattle.gib_local.specs.declared.destination.Goal.{Goal as Where};
-ghost use Rattle.gib_local_parse.specs.LineArena.{tree_of};
-ghost use Rattle.gib_local_parse.specs.TextParts.{IsFunctionIn, function_text, text_of};
 ghost use Rattle.gib_local.specs.Building.{Around, build, build_body, build_core as core_made, build_functions, con, no_mark as unmarked, types_of};
 ghost use Rattle.gib_local.specs.Builds.{Gives, around_of, passed_of, program_in};
 ghost use Rattle.gib_local.specs.Bodied.{BuildsBody, BuildsFunction, BuildsFunctions, BuildsMain, name_of, packed_body as packed_made, scalar_body as scalar_made};
+ghost use Rattle.gib_local_parse.specs.{LineArena.{tree_of}, TextParts.{IsFunctionIn, function_text, text_of}};
 
 use crate::build_fault::BuildFault;
 use crate::builder::Builder;

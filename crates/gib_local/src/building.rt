@@ -2,8 +2,7 @@
 
 ghost use Rattle.std.specs.Prelude.{◌<◌, true, false, length};
 ghost use Rattle.gib_local_parse.specs.Tree.{Cased, Chosen, In, LastArm, LetIn, ParIn};
-ghost use Rattle.gib_local_parse.specs.LineArena.{ArmsBelow, BindingBelow, IsArmBelow, binding_from, side_from, tree_of};
-ghost use Rattle.gib_local_parse.specs.ReadingTerms.{arms_text};
+ghost use Rattle.gib_local_parse.specs.{LineArena.{ArmsBelow, BindingBelow, IsArmBelow, binding_from, side_from, tree_of}, ReadingTerms.{arms_text}};
 ghost use Rattle.gib_local.specs.Building.{bind, build, build_arms, build_binding, build_bound};
 ghost use Rattle.gib_local.specs.Builds.{around_of, passed_of, program_in, nowhere, Builds, BuildsArms, BuildsBranch, BuildsSide, Steps};
 

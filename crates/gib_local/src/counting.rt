@@ -5,11 +5,9 @@ ghost use Rattle.std.specs.Prelude.{◌≡◌, ◌<◌, ◌+◌, Some, None, map
 ghost use Rattle.std.specs.List.{AllByRecursion};
 ghost use Rattle.gib_core.specs.Parts.{core_of};
 ghost use Rattle.gib_loccheck.specs.Judging.{Says};
-ghost use Rattle.gib_local.specs.Building.{con, is_flat};
+ghost use Rattle.gib_local.specs.{Building.{con, is_flat}, CountingSteps.{Adds, Goes, GoesOver, program_in, unlike_type}};
 ghost use Rattle.gib_local.specs.Counting as rule;
-ghost use Rattle.gib_local.specs.CountingSteps.{Adds, Goes, GoesOver, program_in, unlike_type};
-ghost use Rattle.gib_local_parse.specs.LineArena.{ArmsBelow, BindingBelow, binding_from, side_from, tree_of};
-ghost use Rattle.gib_local_parse.specs.ReadingTerms.{arms_text};
+ghost use Rattle.gib_local_parse.specs.{LineArena.{ArmsBelow, BindingBelow, binding_from, side_from, tree_of}, ReadingTerms.{arms_text}};
 ghost use Rattle.gib_local_parse.specs.TextParts.{IsFunctionIn, function_text, text_of};
 
 use crate::known::Known;

@@ -1,9 +1,7 @@
 //! Data declarations of a text: names, counts of fields, field types.
 
 ghost use Rattle.std.specs.Prelude.{◌≡◌, [], map};
-ghost use Rattle.gib_syntax.specs.Forms.{written_place};
-ghost use Rattle.gib_syntax.specs.Parts.{constructor_tree, data_tree};
-ghost use Rattle.gib_syntax.specs.Plain.{written_of, generic_constructor, generic_data};
+ghost use Rattle.gib_syntax.specs.{Forms.{written_place}, Parts.{constructor_tree, data_tree}, Plain.{written_of, generic_constructor, generic_data}};
 ghost use Rattle.gib_check.specs.Answers.{Gives};
 ghost use Rattle.gib_check.specs.FirstFault as rule;
 ghost use Rattle.gib_local.specs.Knowing.{datas_of};

@@ -2,13 +2,9 @@
 
 ghost use Rattle.std.specs.Prelude.{◌≡◌, ℕ, length, IfOk, OnOk};
 ghost use Rattle.gib_types.specs.Table.{tree_types};
-ghost use Rattle.gib_core.specs.Parts.{results_of};
-ghost use Rattle.gib_core.specs.Tree.{Term};
-ghost use Rattle.gib_core.specs.Arena.{side_from};
-ghost use Rattle.gib_core.specs.Met.{result_place, stands_behind, stands_too, with_field};
+ghost use Rattle.gib_core.specs.{Parts.{results_of}, Tree.{Term}, Arena.{side_from}, Met.{result_place, stands_behind, stands_too, with_field}};
 ghost use Rattle.gib_core.specs.Rules.{is_empty as empty, is_nowhere as nowhere};
-ghost use Rattle.gib_local.specs.Building.{behind_last, head_of, is_flat as flat, is_open_at as open_at, next_place as place_next};
-ghost use Rattle.gib_local.specs.Builds.{destination_of};
+ghost use Rattle.gib_local.specs.{Building.{behind_last, head_of, is_flat as flat, is_open_at as open_at, next_place as place_next}, Builds.{destination_of}};
 
 use crate::place::Place;
 use gib_base::Memory;

@@ -6,10 +6,8 @@ ghost use Rattle.gib_syntax.specs.Results as results;
 ghost use Rattle.gib_syntax.specs.Plain.{written_of, generic_of, generic_parameter, generic_function};
 ghost use Rattle.gib_check.specs.Answers.{Gives};
 ghost use Rattle.gib_check.specs.FirstFault as rule;
-ghost use Rattle.gib_local.specs.Building.{declared, head};
-ghost use Rattle.gib_local.specs.Knowing.{datas_of, HasFew};
-ghost use Rattle.gib_local_parse.specs.LineArena.{tree_of};
-ghost use Rattle.gib_local_parse.specs.TextParts.{text_of, function_text};
+ghost use Rattle.gib_local.specs.{Building.{declared, head}, Knowing.{datas_of, HasFew}};
+ghost use Rattle.gib_local_parse.specs.{LineArena.{tree_of}, TextParts.{text_of, function_text}};
 
 use crate::datas::{check_datas, check_fields};
 use crate::known::Known;

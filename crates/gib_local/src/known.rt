@@ -1,8 +1,7 @@
 //! The declarations round the bodies of a text, each found by its name.
 
 ghost use Rattle.std.specs.Prelude.{◌≡◌, ◌++◌, [], map, IfOk};
-ghost use Rattle.gib_syntax.specs.Plain.{written_of};
-ghost use Rattle.gib_syntax.specs.Declarations.{type_of_name as type_of_written};
+ghost use Rattle.gib_syntax.specs.{Plain.{written_of}, Declarations.{type_of_name as type_of_written}};
 ghost use Rattle.gib_check.specs.Answers.{Gives};
 ghost use Rattle.gib_check.specs.Faults as generic;
 ghost use Rattle.gib_local.specs.Knowing.{datas_of, declared_of, function_number, kept_name, kept_in, all_kept, no_tree, constructor_of, function_of};

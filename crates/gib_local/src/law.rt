@@ -1,29 +1,14 @@
 //! Laws of the core that a text makes: functions that do nothing, whose contracts say what holds of every tree.
 
 ghost use Rattle.std.specs.Prelude.{◌≡◌, ◌≤◌, ℕ, List, length, Ok, Err, None, Some};
-ghost use Rattle.gib_core.specs.Tree.{CoreTree};
-ghost use Rattle.gib_core.specs.Marking.{mark_core};
-ghost use Rattle.gib_core.specs.Met.{Setting, met};
-ghost use Rattle.gib_local.specs.Counting.{broken_text, terms};
-ghost use Rattle.gib_local.specs.Local.{Local, answer};
-ghost use Rattle.gib_core.specs.Numbering.{AreNumbered};
-ghost use Rattle.gib_local_parse.specs.Tree.{LocalTree};
-ghost use Rattle.gib_local.specs.Building.{Around, Passed, Termed, Program, build, build_core};
-ghost use Rattle.gib_types.specs.Table.{IsTable};
-ghost use Rattle.gib_syntax.specs.Declarations.{table_of_program, input_type, output_type};
-ghost use Rattle.gib_core.specs.TypesNamed.{SignaturesDeclared};
-ghost use Rattle.gib_core.specs.Ordered.{AreNatural};
-ghost use Rattle.gib_core.specs.Rules.{AreBuilt, first_broken};
-ghost use Rattle.gib_local_parse.specs.Tree.{Line as Term};
-ghost use Rattle.gib_syntax.specs.Spelling.{places_of};
-ghost use Rattle.gib_base.specs.Lexed.{Lexed, IsLexedIn};
-ghost use Rattle.gib_base.specs.declared.token.Dialect.TheVariants.{Located};
-ghost use Rattle.gib_types.specs.Tree.{Datum};
-ghost use Rattle.gib_syntax.specs.Meaning.{run as mean};
-ghost use Rattle.gib_core.specs.Meaning.{core_run};
-ghost use Rattle.gib_core.specs.Erasing.{erase_core};
-ghost use Rattle.gib_local.specs.Naming.{check_text};
-ghost use Rattle.gib_local.specs.Sample.{text, fields, made, boxed, core, filled};
+ghost use Rattle.gib_core.specs.{Tree.{CoreTree}, Marking.{mark_core}, Met.{Setting, met}, Numbering.{AreNumbered}, TypesNamed.{SignaturesDeclared}};
+ghost use Rattle.gib_core.specs.{Ordered.{AreNatural}, Rules.{AreBuilt, first_broken}, Meaning.{core_run}, Erasing.{erase_core}};
+ghost use Rattle.gib_local.specs.{Counting.{broken_text, terms}, Local.{Local, answer}, Building.{Around, Passed, Termed, Program, build, build_core}};
+ghost use Rattle.gib_local.specs.{Naming.{check_text}, Sample.{text, fields, made, boxed, core, filled}};
+ghost use Rattle.gib_local_parse.specs.{Tree.{LocalTree}, Tree.{Line as Term}};
+ghost use Rattle.gib_types.specs.{Table.{IsTable}, Tree.{Datum}};
+ghost use Rattle.gib_syntax.specs.{Declarations.{table_of_program, input_type, output_type}, Spelling.{places_of}, Meaning.{run as mean}};
+ghost use Rattle.gib_base.specs.{Lexed.{Lexed, IsLexedIn}, declared.token.Dialect.TheVariants.{Located}};
 
 use gib_core::law::{built_is_ordered, erasing_keeps_the_meaning};
 use gib_lex::laws::one_reading_in;

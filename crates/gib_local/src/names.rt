@@ -3,12 +3,9 @@
 ghost use Rattle.std.specs.Prelude.{◌≡◌, map, IfOk};
 ghost use Rattle.std.specs.List.{AllByRecursion};
 ghost use Rattle.gib_types.specs.Table.{IsTable};
-ghost use Rattle.gib_syntax.specs.Declarations.{table_of_program};
-ghost use Rattle.gib_syntax.specs.Fine.{HasConstructor};
-ghost use Rattle.gib_syntax.specs.Parts.{data_tree};
+ghost use Rattle.gib_syntax.specs.{Declarations.{table_of_program}, Fine.{HasConstructor}, Parts.{data_tree}};
 ghost use Rattle.gib_check.specs.Answers.{Gives};
-ghost use Rattle.gib_local.specs.Building.{declared};
-ghost use Rattle.gib_local.specs.Naming.{check_text};
+ghost use Rattle.gib_local.specs.{Building.{declared}, Naming.{check_text}};
 ghost use Rattle.gib_local_parse.specs.TextParts.{text_of};
 
 use crate::heads::check_declarations;

@@ -4,11 +4,10 @@ ghost use Rattle.std.specs.Prelude.{◌≡◌, ◌<◌, ◌≤◌, length, map, 
 ghost use Rattle.std.specs.List.{AllByRecursion};
 ghost use Rattle.gib_check.specs.Answers.{Gives};
 ghost use Rattle.gib_local.specs.Knowing.{declared_of, arm as arm_rule, side as side_rule, body as body_rule, given, pointed, called, made, HasFew, IsKept};
-ghost use Rattle.gib_local_parse.specs.LineArena.{ArmsBelow, BindingBelow, binding_from, tree_of};
+ghost use Rattle.gib_local_parse.specs.{LineArena.{ArmsBelow, BindingBelow, binding_from, tree_of}, ReadingTerms.{arms_text}};
+ghost use Rattle.gib_local_parse.specs.TextParts.{IsFunctionIn, function_text};
 ghost use Rattle.gib_local.specs.Naming as rule;
 ghost use Rattle.gib_local_parse.specs.Tree as tree;
-ghost use Rattle.gib_local_parse.specs.ReadingTerms.{arms_text};
-ghost use Rattle.gib_local_parse.specs.TextParts.{IsFunctionIn, function_text};
 
 use crate::known::Known;
 use crate::scopes::Scopes;

@@ -32,8 +32,7 @@ pub struct Scopes {
 }
 
 impl Model for Scopes {
-    ghost use Rattle.gib_local.specs.Naming.{After'};
-    ghost use Rattle.gib_local.specs.Knowing.{names_in};
+    ghost use Rattle.gib_local.specs.{Naming.{After'}, Knowing.{names_in}};
 
     ghost Value = { After' };
 

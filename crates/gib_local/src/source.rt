@@ -3,8 +3,7 @@
 ghost use Rattle.std.specs.Prelude.{◌≡◌, ◌<◌, length, IfOk};
 ghost use Rattle.gib_syntax.specs.Declarations.{number_of, type_of_name as type_in};
 ghost use Rattle.gib_types.specs.Table.{IsTable};
-ghost use Rattle.gib_local.specs.Building.{con, gives_scalar as scalar_given};
-ghost use Rattle.gib_local.specs.Builds.{program_in};
+ghost use Rattle.gib_local.specs.{Building.{con, gives_scalar as scalar_given}, Builds.{program_in}};
 
 use crate::known::Known;
 use gib_base::Memory;

@@ -1,9 +1,8 @@
 //! The constructs that contain no further terms.
 
 ghost use Rattle.std.specs.Prelude.{◌≡◌, ◌<◌, Ok, length, IfOk};
-ghost use Rattle.gib_core.specs.Tree.{prepend};
+ghost use Rattle.gib_core.specs.{Tree.{prepend}, Arena.{term_of}};
 ghost use Rattle.gib_syntax.specs.Declarations.{number_of};
-ghost use Rattle.gib_core.specs.Arena.{term_of};
 ghost use Rattle.gib_local_parse.specs.Tree.{Called, Given, Made, Pointed, NewPlace, NewRegion, PrimIn, ReachIn};
 ghost use Rattle.gib_local.specs.Building.{between as between_sides, build, build_binding, is_last as last, may_open as may_be_opened, new_place as place_named, no_mark as unmarked, write as written, with_variable, variable_at, type_start as start_of, Program};
 ghost use Rattle.gib_local.specs.Builds.{around_of, destination_of, passed_of, program_in, nowhere, Builds, BuildsBetween, Gives, IsStepBelow, PutsTerm, Steps, binds_of, call_due, filled_due, reserved as reserved_at, side_due};

@@ -1,16 +1,11 @@
 //! Declarations and whole texts.
 
 ghost use Rattle.std.specs.Prelude.{◌≡◌, [], map, IfOk};
-ghost use Rattle.gib_syntax.specs.Spelling.{places_of};
-ghost use Rattle.gib_syntax.specs.Parts.{constructor_tree, data_tree};
-ghost use Rattle.gib_reads.specs.Readers.{Fault, At, Nested, next_is, is_sign, then_at, con_at, many};
-ghost use Rattle.gib_reads.specs.Answers.{Fails, Gives};
+ghost use Rattle.gib_syntax.specs.{Spelling.{places_of}, Parts.{constructor_tree, data_tree}};
+ghost use Rattle.gib_reads.specs.{Readers.{Fault, At, Nested, next_is, is_sign, then_at, con_at, many}, Answers.{Fails, Gives}};
 ghost use Rattle.gib_local_parse.specs.Grammar.{type_at};
 ghost use Rattle.gib_local_parse.specs.Texts.{starts_type, is_constructor, listed_at, constructor_at, alternative_at, constructors_at, data_at, offsets_at, parameter_at, parameters_at, body_at, function_at, main_at, text_at, whole_text};
-ghost use Rattle.gib_local_parse.specs.LineArena.{tree_of};
-ghost use Rattle.gib_local_parse.specs.Sources.{places_in};
-ghost use Rattle.gib_local_parse.specs.ReadingTerms.{Reads};
-ghost use Rattle.gib_local_parse.specs.ReadingBodies.{body_text};
+ghost use Rattle.gib_local_parse.specs.{LineArena.{tree_of}, Sources.{places_in}, ReadingTerms.{Reads}, ReadingBodies.{body_text}};
 ghost use Rattle.gib_local_parse.specs.TextParts.{ReadsFunctions, function_text, main_text, text_of};
 
 use crate::lines::{LineId, Lines};

@@ -1,18 +1,13 @@
 //! Laws of the tree and its tokens: functions that do nothing, whose contracts say what holds of every tree.
 
 ghost use Rattle.std.specs.Prelude.{◌≡◌, ◌∷◌, ◌++◌, ◌<◌, [], ℕ, suc, List, length, Ok, Err};
-ghost use Rattle.gib_local_parse.specs.Tree.{LocalTree};
-ghost use Rattle.gib_local_parse.specs.Tree.{Line as Term};
+ghost use Rattle.gib_local_parse.specs.{Tree.{LocalTree}, Tree.{Line as Term}, Refused.{Blames, IsFirstBlamed, left_behind}, Grammar.{sign, spell_line, parse}};
+ghost use Rattle.gib_local_parse.specs.{Stepping.{Stack, One, TermS, Fails, run, HasOperands}, Placed.{LineAt, Follows}, Texts.{spell_text, whole_text}};
+ghost use Rattle.gib_local_parse.specs.PlacedTexts.{TextIn, TextAt};
 ghost use Rattle.gib_base.specs.declared.token.Token.{Token};
 ghost use Rattle.gib_base.specs.declared.token.Sign.TheVariants as s;
 ghost use Rattle.gib_reads.specs.Readers.{Fault, At, Nested, left_of};
-ghost use Rattle.gib_local_parse.specs.Refused.{Blames, IsFirstBlamed, left_behind};
 ghost use Rattle.gib_syntax.specs.Spelling.{Places};
-ghost use Rattle.gib_local_parse.specs.Grammar.{sign, spell_line, parse};
-ghost use Rattle.gib_local_parse.specs.Stepping.{Stack, One, TermS, Fails, run, HasOperands};
-ghost use Rattle.gib_local_parse.specs.Placed.{LineAt, Follows};
-ghost use Rattle.gib_local_parse.specs.Texts.{spell_text, whole_text};
-ghost use Rattle.gib_local_parse.specs.PlacedTexts.{TextIn, TextAt};
 
 /// Words spell one term at most that stands where they stand, in so many levels, where nothing goes on with an operand or an `@`.
 #[tactic(auto, using(crate::proofs::Reading::one_line))]

@@ -1,16 +1,10 @@
 //! Terms that have no terms in them, and where no term is.
 
 ghost use Rattle.std.specs.Prelude.{◌≡◌, ℕ, IfOk, MatchOption};
-ghost use Rattle.gib_syntax.specs.Spelling.{Places, places_of};
-ghost use Rattle.gib_syntax.specs.declared.tree.Ident.{Ident as Identifier};
-ghost use Rattle.gib_syntax.specs.declared.tree.TypeName.{TypeName as NamedType};
-ghost use Rattle.gib_reads.specs.Readers.{Reader, next_is};
-ghost use Rattle.gib_reads.specs.Answers.{Fails, Gives};
+ghost use Rattle.gib_syntax.specs.{Spelling.{Places, places_of}, declared.tree.Ident.{Ident as Identifier}, declared.tree.TypeName.{TypeName as NamedType}};
+ghost use Rattle.gib_reads.specs.{Readers.{Reader, next_is}, Answers.{Fails, Gives}};
 ghost use Rattle.gib_local_parse.specs.Grammar.{starts_term, no_level, give_at, point_at, let_from, side_in_at, prim_at, call_at, make_at};
-ghost use Rattle.gib_local_parse.specs.LineArena.{BindingBelow, binding_from, tree_of};
-ghost use Rattle.gib_local_parse.specs.Sources.{places_in};
-ghost use Rattle.gib_local_parse.specs.ReadingTerms.{Reads};
-ghost use Rattle.gib_local_parse.specs.Tree.{Line};
+ghost use Rattle.gib_local_parse.specs.{LineArena.{BindingBelow, binding_from, tree_of}, Sources.{places_in}, ReadingTerms.{Reads}, Tree.{Line}};
 
 use crate::lines::{BindingNode, LineId, LineNode, Lines};
 use crate::phrases::{further_operands, mark, operand, operands, operator, optional_mark};

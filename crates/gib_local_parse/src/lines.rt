@@ -65,9 +65,7 @@ pub enum LineNode {
 }
 
 impl Layered for LineNode {
-    ghost use Rattle.gib_local_parse.specs.Tree.{Line};
-    ghost use Rattle.gib_local_parse.specs.LineArena.{nothing, layer, PartsBelow};
-    ghost use Rattle.gib_local_parse.specs.LineLaws.{layer_same_if};
+    ghost use Rattle.gib_local_parse.specs.{Tree.{Line}, LineArena.{nothing, layer, PartsBelow}, LineLaws.{layer_same_if}};
 
     ghost Tree = { Line };
 

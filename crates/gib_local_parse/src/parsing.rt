@@ -2,11 +2,8 @@
 
 ghost use Rattle.std.specs.Prelude.{◌≡◌, [], Ok, IfOk, IfErr};
 ghost use Rattle.gib_syntax.specs.Spelling.{places_of};
-ghost use Rattle.gib_reads.specs.declared.stop.Stop.{Stop as Reason};
-ghost use Rattle.gib_reads.specs.Faults.{fault_of};
-ghost use Rattle.gib_reads.specs.Answers.{Fails};
-ghost use Rattle.gib_local_parse.specs.Texts.{whole_text};
-ghost use Rattle.gib_local_parse.specs.TextParts.{text_of};
+ghost use Rattle.gib_reads.specs.{declared.stop.Stop.{Stop as Reason}, Faults.{fault_of}, Answers.{Fails}};
+ghost use Rattle.gib_local_parse.specs.{Texts.{whole_text}, TextParts.{text_of}};
 
 use crate::declarations::whole;
 use crate::text::LocalText;

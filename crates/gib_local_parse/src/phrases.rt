@@ -2,8 +2,7 @@
 
 ghost use Rattle.std.specs.Prelude.{◌≡◌, ◌^◌, suc, nat_lt, length};
 ghost use Rattle.gib_syntax.specs.Spelling.{places_of};
-ghost use Rattle.gib_reads.specs.Readers.{Fault, At, Nested, next_is, then_at};
-ghost use Rattle.gib_reads.specs.Answers.{Fails, Gives, with_front};
+ghost use Rattle.gib_reads.specs.{Readers.{Fault, At, Nested, next_is, then_at}, Answers.{Fails, Gives, with_front}};
 ghost use Rattle.gib_local_parse.specs.Sources.{places_in};
 ghost use Rattle.gib_local_parse.specs.Grammar.{head_at, place_between_at, operator_found, type_at, operand_at, literal_at, starts_operand, operands_at, mark_from, mark_at, option_at, location_at, way_at, operator_at, between_at};
 

@@ -3,8 +3,7 @@
 ghost use Rattle.std.specs.Prelude.{◌≡◌, length, IfOk};
 ghost use Rattle.gib_reads.specs.Answers.{Gives};
 ghost use Rattle.gib_local_parse.specs.Grammar.{parse, line_at, in_at, binding_at, let_at, par_at, one_at, bound_at, bound_from, arm_at, next_arm_at, arms_at};
-ghost use Rattle.gib_local_parse.specs.LineArena.{binding_from, side_from, tree_of};
-ghost use Rattle.gib_local_parse.specs.Sources.{case_from, if_from, places_at, terms_at};
+ghost use Rattle.gib_local_parse.specs.{LineArena.{binding_from, side_from, tree_of}, Sources.{case_from, if_from, places_at, terms_at}};
 ghost use Rattle.gib_local_parse.specs.ReadingTerms.{Reads, ReadsArms, ReadsBinding, arm_text, arms_text};
 
 use crate::leaves::{Typed, behind_open, call, give, make, operation, point, too_deep};

@@ -1,31 +1,18 @@
 //! Laws of the text of a core: functions that do nothing, whose contracts say what holds of every core.
 
 ghost use Rattle.std.specs.Prelude.{◌≡◌, [], ℕ, List, Ok, Some};
-ghost use Rattle.gib_core.specs.Tree.{CoreTree, Term as CoreTerm};
-ghost use Rattle.gib_core.specs.Marking.{mark_core};
-ghost use Rattle.gib_core.specs.Reaching.{reach, reach_core};
-ghost use Rattle.gib_core.specs.Literals.{AllLiteralsFit};
-ghost use Rattle.gib_core.specs.declared.atom.Ended.{Ended};
-ghost use Rattle.gib_core.specs.declared.atom.AccessMode.{AccessMode as Mode};
-ghost use Rattle.gib_core.specs.Numbering.{AreNumbered};
+ghost use Rattle.gib_core.specs.{Tree.{CoreTree, Term as CoreTerm}, Marking.{mark_core}, Reaching.{reach, reach_core}, Literals.{AllLiteralsFit}};
+ghost use Rattle.gib_core.specs.{declared.atom.Ended.{Ended}, declared.atom.AccessMode.{AccessMode as Mode}, Numbering.{AreNumbered}};
+ghost use Rattle.gib_core.specs.{TypesNamed.{SignaturesDeclared, AllTypesDeclared}, Ordered.{AreNatural, AreOrdered, IsFound}, Rules.{AreBuilt}};
+ghost use Rattle.gib_core.specs.Inferring.{Scope, infer, infer_program};
 ghost use Rattle.gib_local.specs.Building.{build_core, declared};
-ghost use Rattle.gib_syntax.specs.Tree.{DataTree};
-ghost use Rattle.gib_local_print.specs.Printing.{Naming, Apart, local_of};
-ghost use Rattle.gib_local_print.specs.HasText.{HasCore, with_ends};
-ghost use Rattle.gib_local_print.specs.LocatedText.{numbered, given, datas_of, located_tree, located_text};
-ghost use Rattle.gib_local_print.specs.HasShape.{IsWrite, AreShaped};
-ghost use Rattle.gib_local_print.specs.HasForm.{FillsNext, HasForm, AreFormed, AreSingle};
+ghost use Rattle.gib_syntax.specs.{Tree.{DataTree}, Declarations.{table_of_program}, Fine.{IsFineProgram}, Typing.{Globals, IsTypedProgram}};
+ghost use Rattle.gib_syntax.specs.Tree.{Expression, ProgramTree};
+ghost use Rattle.gib_local_print.specs.{Printing.{Naming, Apart, local_of}, HasText.{HasCore, with_ends}};
+ghost use Rattle.gib_local_print.specs.{LocatedText.{numbered, given, datas_of, located_tree, located_text}, HasShape.{IsWrite, AreShaped}};
+ghost use Rattle.gib_local_print.specs.{HasForm.{FillsNext, HasForm, AreFormed, AreSingle}, Covered.{Covered, IsCovered}};
 ghost use Rattle.std.specs.List.{AllByRecursion};
 ghost use Rattle.gib_types.specs.Table.{Table, IsTable};
-ghost use Rattle.gib_syntax.specs.Declarations.{table_of_program};
-ghost use Rattle.gib_core.specs.TypesNamed.{SignaturesDeclared, AllTypesDeclared};
-ghost use Rattle.gib_core.specs.Ordered.{AreNatural, AreOrdered, IsFound};
-ghost use Rattle.gib_core.specs.Rules.{AreBuilt};
-ghost use Rattle.gib_syntax.specs.Fine.{IsFineProgram};
-ghost use Rattle.gib_syntax.specs.Typing.{Globals, IsTypedProgram};
-ghost use Rattle.gib_syntax.specs.Tree.{Expression, ProgramTree};
-ghost use Rattle.gib_core.specs.Inferring.{Scope, infer, infer_program};
-ghost use Rattle.gib_local_print.specs.Covered.{Covered, IsCovered};
 ghost use Rattle.gib_place.specs.Numbering.{place_core};
 
 use gib_core::law::{built_fits, built_is_ordered, types_of_a_built_core_are_declared};

@@ -3,8 +3,7 @@
 ghost use Rattle.std.specs.Prelude.{◌≡◌, ◌++◌, None, Some, [], not, nat_lt, slice_get, unwrap_or, if◌then◌else◌, IfOk, OnOk};
 ghost use Rattle.std.specs.Result.{IsErrOf};
 ghost use Rattle.std.specs.List.{list_all};
-ghost use Rattle.gib_base.specs.Piece.{is_name_byte};
-ghost use Rattle.gib_base.specs.Spelling.{sign_text};
+ghost use Rattle.gib_base.specs.{Piece.{is_name_byte}, Spelling.{sign_text}};
 ghost use Rattle.gib_local_print.specs.LocatedText.{is_word, is_name, is_named, given_text, written, gap, spaced, text_with};
 
 use crate::print_fault::PrintFault;

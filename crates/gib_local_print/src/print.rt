@@ -6,17 +6,14 @@ ghost use Rattle.std.specs.Prelude.{◌≡◌, ◌<◌, None, Some, true, false,
 ghost use Rattle.std.specs.List.{AllByRecursion};
 ghost use Rattle.std.specs.Result.{IsErrOf};
 ghost use Rattle.gib_core.specs.Arena.{IsBindingBelow, IsBranchBelow, IsEnd, term_of, side_from, bind_from, branches_from};
-ghost use Rattle.gib_core.specs.Parts.{IsFunctionInside, function_term, main_term, results_of, core_of};
-ghost use Rattle.gib_core.specs.Met.{result_place};
+ghost use Rattle.gib_core.specs.{Parts.{IsFunctionInside, function_term, main_term, results_of, core_of}, Met.{result_place}};
 ghost use Rattle.gib_types.specs.Table.{fields_at, merge};
 ghost use Rattle.gib_core.specs.declared.node.BoundSide.TheVariants as side_of;
-ghost use Rattle.gib_local_parse.specs.Tree.{Made, LetIn};
+ghost use Rattle.gib_local_parse.specs.{Tree.{Made, LetIn}, Grammar.{spell_line, spell_arms, spell_bound}};
+ghost use Rattle.gib_local_parse.specs.Texts.{spell_body, spell_function, spell_list, spell_main};
 ghost use Rattle.gib_local.specs.Builds.{destination_of};
 ghost use Rattle.gib_local_print.specs.Printing.{mark, operand, result_text, con_text, are_fields, side_number, side_text, branches_text, arms_or, text_of, function_text, results_mark};
-ghost use Rattle.gib_local_parse.specs.Grammar.{spell_line, spell_arms, spell_bound};
-ghost use Rattle.gib_local_parse.specs.Texts.{spell_body, spell_function, spell_list, spell_main};
-ghost use Rattle.gib_local_print.specs.LineTokens.{put_in, put_before, put_bind, put_sides, put_branch};
-ghost use Rattle.gib_local_print.specs.LineTokens.{main_text};
+ghost use Rattle.gib_local_print.specs.{LineTokens.{put_in, put_before, put_bind, put_sides, put_branch}, LineTokens.{main_text}};
 ghost use Rattle.gib_local_print.specs.LocatedText.{given, located_text, located_tokens};
 
 use crate::located_text::bytes_of;

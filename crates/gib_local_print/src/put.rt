@@ -2,16 +2,12 @@
 
 ghost use Rattle.std.specs.Prelude.{◌≡◌, ◌∷◌, ◌++◌, map, take, drop, get_or, IfOk, OnOk};
 ghost use Rattle.gib_types.specs.Table.{merge};
-ghost use Rattle.gib_core.specs.Erasing.{literal_of};
-ghost use Rattle.gib_core.specs.Met.{Nowhere};
-ghost use Rattle.gib_core.specs.Parts.{results_of};
-ghost use Rattle.gib_local_parse.specs.Tree.{NewPlace};
-ghost use Rattle.gib_local_parse.specs.declared.tree.Location.TheVariants.{After};
-ghost use Rattle.gib_local_print.specs.Printing.{ident, no_name, mark, atom_name, operand, type_text, result_text, con_text, way, named, last_of, side_mark, call_mark, result_mark, results_mark, side_number, place_number};
+ghost use Rattle.gib_core.specs.{Erasing.{literal_of}, Met.{Nowhere}, Parts.{results_of}};
+ghost use Rattle.gib_local_parse.specs.{Tree.{NewPlace}, declared.tree.Location.TheVariants.{After}};
 ghost use Rattle.gib_local_parse.specs.Grammar.{lower, upper, spell_mark, spell_option, operand_word, spell_operands, type_word, operator_word, spell_way, spell_names};
+ghost use Rattle.gib_local_print.specs.Printing.{ident, no_name, mark, atom_name, operand, type_text, result_text, con_text, way, named, last_of, side_mark, call_mark, result_mark, results_mark, side_number, place_number};
+ghost use Rattle.gib_local_print.specs.{LocatedText.{given}, LineTokens.{put_in, put_before, put_field}};
 ghost use Rattle.gib_local.specs.Builds.{destination_of};
-ghost use Rattle.gib_local_print.specs.LocatedText.{given};
-ghost use Rattle.gib_local_print.specs.LineTokens.{put_in, put_before, put_field};
 
 use crate::spelled::{FIRST_GIVEN, Spelled, put_location, put_region, put_sign, put_variable};
 use gib_base::token::{Sign, Token};

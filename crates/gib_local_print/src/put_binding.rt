@@ -1,12 +1,10 @@
 //! What a binding says beside its terms, as tokens, the last one first.
 
 ghost use Rattle.std.specs.Prelude.{◌≡◌, None, Some, OnOk};
-ghost use Rattle.gib_local_parse.specs.Tree.{PrimIn, ReachIn};
+ghost use Rattle.gib_local_parse.specs.{Tree.{PrimIn, ReachIn}, Grammar.{spell_arms, spell_between}};
 ghost use Rattle.gib_types.specs.Operators.{operator_type};
 ghost use Rattle.gib_local.specs.Building.{is_flat};
-ghost use Rattle.gib_local_print.specs.Printing.{ident, named, operand, type_text, con_text, way, arms_or};
-ghost use Rattle.gib_local_parse.specs.Grammar.{spell_arms, spell_between};
-ghost use Rattle.gib_local_print.specs.LineTokens.{put_in, put_room, put_no_text};
+ghost use Rattle.gib_local_print.specs.{Printing.{ident, named, operand, type_text, con_text, way, arms_or}, LineTokens.{put_in, put_room, put_no_text}};
 ghost use Rattle.gib_local_print.specs.LocatedText.{given};
 
 use crate::put::{put_constructor, put_no_name, put_operand, put_operator, put_type, put_way};

@@ -2,9 +2,8 @@
 
 ghost use Rattle.std.specs.Prelude.{◌≡◌, ◌≤◌, ◌<◌, ◌+◌, length, map, OnOk};
 ghost use Rattle.gib_types.specs.Table.{numbers_from};
-ghost use Rattle.gib_local_print.specs.Printing.{named, type_text, con_text, parameters_text};
+ghost use Rattle.gib_local_print.specs.{Printing.{named, type_text, con_text, parameters_text}, LocatedText.{given, constructor_of, data_of, datas_of}};
 ghost use Rattle.gib_local_parse.specs.Texts.{spell_list, spell_type, spell_con, spell_constructor, spell_alternative, spell_constructors, spell_data, spell_offsets, spell_parameter};
-ghost use Rattle.gib_local_print.specs.LocatedText.{given, constructor_of, data_of, datas_of};
 
 use crate::put::{put_constructor, put_type};
 use crate::spelled::{Spelled, put_sign, put_variable};

@@ -1,9 +1,8 @@
 //! The tokens of a text, put down from the last one to the first, with the names that the text gives.
 
 ghost use Rattle.std.specs.Prelude.{◌≡◌, ◌<◌, ◌+◌, ◌^◌, ◌∷◌, OnOk};
-ghost use Rattle.gib_local_print.specs.Printing.{ident, named};
+ghost use Rattle.gib_local_print.specs.{Printing.{ident, named}, LocatedText.{first_given, given}};
 ghost use Rattle.gib_local_parse.specs.Grammar.{lower};
-ghost use Rattle.gib_local_print.specs.LocatedText.{first_given, given};
 
 use gib_base::token::{Sign, Token};
 use gib_base::{Memory, Name, Reversed};

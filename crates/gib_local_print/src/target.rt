@@ -3,8 +3,7 @@
 ghost use Rattle.std.specs.Prelude.{◌≡◌, ◌+◌, ◌++◌, ◌∷◌, [], length, map, IfOk, OnOk};
 ghost use Rattle.gib_core.specs.Arena.{term_of, bind_from, binds_from};
 ghost use Rattle.gib_local.specs.Builds.{destination_of};
-ghost use Rattle.gib_local_print.specs.Printing.{are_fields, side_place, behind_bind};
-ghost use Rattle.gib_local_print.specs.LineTokens.{before_each, behind_all};
+ghost use Rattle.gib_local_print.specs.{Printing.{are_fields, side_place, behind_bind}, LineTokens.{before_each, behind_all}};
 
 use gib_base::Memory;
 use gib_core::{Binding, Kind, Terms};

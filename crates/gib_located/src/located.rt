@@ -3,13 +3,9 @@
 ghost use Rattle.std.specs.Prelude.{◌≡◌, ◌≤◌, ◌∷◌, [], ℕ, List, None, Some, OnOk, IfOk, IfErr, MatchOption};
 ghost use Rattle.std.specs.Result.{IsErrOf};
 ghost use Rattle.gib_edge.specs.Causes.{AppendsPart, IsFrontOf};
-ghost use Rattle.gib_app.specs.Ending.{ReadsStay, OutStays};
-ghost use Rattle.gib_app.specs.Lines.{IsPut};
-ghost use Rattle.gib_app.specs.Stopping.{answer_of};
+ghost use Rattle.gib_app.specs.{Ending.{ReadsStay, OutStays}, Lines.{IsPut}, Stopping.{answer_of}, Cores.{core_after}};
 ghost use Rattle.gib_words.specs.Words.{bytes_of};
-ghost use Rattle.gib_syntax.specs.Fine.{IsFineProgram};
-ghost use Rattle.gib_syntax.specs.Parts.{program_of};
-ghost use Rattle.gib_app.specs.Cores.{core_after};
+ghost use Rattle.gib_syntax.specs.{Fine.{IsFineProgram}, Parts.{program_of}};
 ghost use Rattle.gib_types.specs.declared.access.FieldAccess.TheVariants as access;
 ghost use Rattle.gib_local_print.specs.LocatedText.{located_text};
 ghost use Rattle.gib_located.specs.LocatedSource.{IsMadeAgain, HasCoreText, IsFault, IsUnreadSource, IsPrinted};

@@ -2,14 +2,9 @@
 
 ghost use Rattle.std.specs.Prelude.{◌≡◌, ◌<◌, [], ◌∷◌, length, None, IfOk, IfErr, OnOk};
 ghost use Rattle.std.specs.List.{AllByRecursion};
-ghost use Rattle.gib_core.specs.Arena.{term_of};
+ghost use Rattle.gib_core.specs.{Arena.{term_of}, Parts.{IsFunctionInside, core_of, results_of}, Met.{result_place as place_of}, Rules.{first_broken}};
 ghost use Rattle.gib_syntax.specs.Typing.{one_type as type_of_one};
-ghost use Rattle.gib_core.specs.Parts.{IsFunctionInside, core_of, results_of};
-ghost use Rattle.gib_core.specs.Met.{result_place as place_of};
-ghost use Rattle.gib_core.specs.Rules.{first_broken};
-ghost use Rattle.gib_loccheck.specs.Views.{destination_of};
-ghost use Rattle.gib_loccheck.specs.Judging.{Says};
-ghost use Rattle.gib_loccheck.specs.Bodies.{Pass, Blame, Opens, bodies_of};
+ghost use Rattle.gib_loccheck.specs.{Views.{destination_of}, Judging.{Says}, Bodies.{Pass, Blame, Opens, bodies_of}};
 
 use crate::fault::LocFault;
 use crate::index::bound::{BoundVariables, MarkedVariables};

@@ -5,8 +5,7 @@ ghost use Rattle.std.specs.Prelude.{◌≡◌, ◌∷◌, [], true, Some};
 ghost use Rattle.gib_types.specs.declared.table.Ty.TheVariants as ty;
 ghost use Rattle.gib_core.specs.declared.atom.Atom.TheVariants as a;
 ghost use Rattle.gib_core.specs.declared.atom.Kind.TheVariants as kind;
-ghost use Rattle.gib_core.specs.Tree.{Then, Write, Give, CaseTerm, Past, NoBranch, BranchThen, var};
-ghost use Rattle.gib_core.specs.Rules.{first_broken};
+ghost use Rattle.gib_core.specs.{Tree.{Then, Write, Give, CaseTerm, Past, NoBranch, BranchThen, var}, Rules.{first_broken}};
 ghost use Rattle.gib_core.specs.SampleCores.{tree, leaf, node, v, sample, zero_term, points};
 
 /// Halves of the rules on `write`, on `case` and on types.

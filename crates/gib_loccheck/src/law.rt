@@ -1,9 +1,7 @@
 //! Laws of build rules: functions whose contracts are the laws.
 
 ghost use Rattle.std.specs.Prelude.{◌≡◌, ℕ, Some};
-ghost use Rattle.gib_core.specs.Tree.{CoreTree};
-ghost use Rattle.gib_core.specs.Met.{Setting, Line};
-ghost use Rattle.gib_core.specs.Rules.{Before, least, rules};
+ghost use Rattle.gib_core.specs.{Tree.{CoreTree}, Met.{Setting, Line}, Rules.{Before, least, rules}};
 ghost use Rattle.gib_loccheck.specs.RuleOrder.{NoneBelow};
 
 /// The rule that is found broken at a term is the smallest that is broken there.

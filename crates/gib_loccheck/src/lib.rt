@@ -2,12 +2,8 @@
 #![tactic(auto)]
 
 ghost use Rattle.std.specs.Prelude.{◌≡◌, ℕ, None, Some, IfOk, IfErr, MatchResult};
-ghost use Rattle.gib_core.specs.declared.atom.AccessMode.{AccessMode as Mode};
-ghost use Rattle.gib_core.specs.Tree.{CoreTree};
-ghost use Rattle.gib_core.specs.Parts.{core_of};
-ghost use Rattle.gib_core.specs.Reaching.{reach_core};
-ghost use Rattle.gib_core.specs.Reachable.{AreReachable};
-ghost use Rattle.gib_core.specs.Rules.{AreBuilt, first_broken};
+ghost use Rattle.gib_core.specs.{declared.atom.AccessMode.{AccessMode as Mode}, Tree.{CoreTree}, Parts.{core_of}, Reaching.{reach_core}};
+ghost use Rattle.gib_core.specs.{Reachable.{AreReachable}, Rules.{AreBuilt, first_broken}};
 ghost use Rattle.gib_loccheck.specs.Answers.{IsMemory, IsMemoryOr, IsFirst};
 
 mod atoms;

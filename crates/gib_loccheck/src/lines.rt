@@ -3,8 +3,7 @@
 
 ghost use Rattle.std.specs.Prelude.{◌≡◌, ◌+◌, None, IfOk, IfErr, [], true, take, reverse, OnOk};
 ghost use Rattle.gib_core.specs.Rules.{or_later, bind_fields};
-ghost use Rattle.gib_loccheck.specs.Views.{numbered};
-ghost use Rattle.gib_loccheck.specs.Judging.{Says, BindsToo, Stays, Enters, EntersAll};
+ghost use Rattle.gib_loccheck.specs.{Views.{numbered}, Judging.{Says, BindsToo, Stays, Enters, EntersAll}};
 
 pub(crate) mod arm;
 pub(crate) mod bound;

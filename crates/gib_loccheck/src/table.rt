@@ -2,8 +2,7 @@
 //! not have.
 
 ghost use Rattle.std.specs.Prelude.{◌≡◌, length, get_or};
-ghost use Rattle.gib_types.specs.Table.{tree_types};
-ghost use Rattle.gib_types.specs.declared.table.Ty.TheVariants.{Whole};
+ghost use Rattle.gib_types.specs.{Table.{tree_types}, declared.table.Ty.TheVariants.{Whole}};
 ghost use Rattle.gib_core.specs.Rules.{is_of_type as of_type, is_declared as declared, are_declared as all_declared, same_types as same};
 
 use gib_types::{ConId, Ty, TypeTable};

@@ -1,14 +1,10 @@
 //! What is due at a term.
 
 ghost use Rattle.std.specs.Prelude.{◌≡◌, ℕ, false, IfOk, OnOk};
-ghost use Rattle.gib_core.specs.PartTypes.{types_in};
-ghost use Rattle.gib_core.specs.Tree.{Term};
-ghost use Rattle.gib_core.specs.Arena.{side_from};
+ghost use Rattle.gib_core.specs.{PartTypes.{types_in}, Tree.{Term}, Arena.{side_from}};
 ghost use Rattle.gib_core.specs.Met.{field_due as due_at, stands_too, stands_behind, with_field, in_side, in_several, in_part};
 ghost use Rattle.gib_core.specs.Rules.{is_nowhere as nowhere, is_empty as empty, is_in_parts as in_parts, are_due as parts_due, has_room as room_in};
-ghost use Rattle.gib_loccheck.specs.declared.state.Walk.{Walk as State};
-ghost use Rattle.gib_loccheck.specs.Views.{destination_of, setting_of, at_line};
-ghost use Rattle.gib_loccheck.specs.Judging.{past_side};
+ghost use Rattle.gib_loccheck.specs.{declared.state.Walk.{Walk as State}, Views.{destination_of, setting_of, at_line}, Judging.{past_side}};
 ghost use Rattle.gib_loccheck.specs.declared.target.Target.{Target as Goal};
 
 use crate::table::{packed_at, packed_count, same_types};

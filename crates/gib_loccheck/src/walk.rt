@@ -3,13 +3,10 @@
 ghost use Rattle.std.specs.Prelude.{◌<◌, length, false, Some};
 ghost use Rattle.std.specs.List.{AllByRecursion};
 ghost use Rattle.gib_types.specs.Table.{tree_types};
-ghost use Rattle.gib_core.specs.PartTypes.{types_in};
-ghost use Rattle.gib_core.specs.Tree.{CaseTerm, IfTerm, Tuple as TupleTerm, One, Both};
+ghost use Rattle.gib_core.specs.{PartTypes.{types_in}, Tree.{CaseTerm, IfTerm, Tuple as TupleTerm, One, Both}};
 ghost use Rattle.gib_core.specs.Arena.{Opens, IsEnd, IsBindingBelow, IsBranchBelow, IsPartBelow, layer, term_in, term_of, side_from, bind_from, parts_from, branches_from};
-ghost use Rattle.gib_core.specs.Parts.{core_of};
-ghost use Rattle.gib_core.specs.Met.{met, met_bind, met_side, met_parts, met_branches, left_of, in_arm};
-ghost use Rattle.gib_loccheck.specs.Views.{setting_of, at_line};
-ghost use Rattle.gib_loccheck.specs.Judging.{Checks, ChecksBinding, part_lines};
+ghost use Rattle.gib_core.specs.{Parts.{core_of}, Met.{met, met_bind, met_side, met_parts, met_branches, left_of, in_arm}};
+ghost use Rattle.gib_loccheck.specs.{Views.{setting_of, at_line}, Judging.{Checks, ChecksBinding, part_lines}};
 
 use crate::fault::LocFault;
 use crate::index::indexed::IndexedCore;

@@ -3,9 +3,7 @@
 ghost use Rattle.std.specs.Prelude.{◌≡◌, ◌<◌, ◌^◌, ◌++◌, ◌∷◌, ℕ, List, true, MatchOption};
 ghost use Rattle.std.specs.Fmt.{decimal};
 ghost use Rattle.gib_types.specs.declared.access.FieldAccess.{FieldAccess as Accesses};
-ghost use Rattle.gib_locked.specs.Cuts.{lacks};
-ghost use Rattle.gib_locked.specs.JournalText.{access_text, settings_text};
-ghost use Rattle.gib_locked.specs.declared.settings.Settings.{Settings};
+ghost use Rattle.gib_locked.specs.{Cuts.{lacks}, JournalText.{access_text, settings_text}, declared.settings.Settings.{Settings}};
 
 use crate::cut::{cut, read_number};
 use crate::settings::{Settings, are_settings};

@@ -3,12 +3,8 @@
 ghost use Rattle.std.specs.Prelude.{◌≡◌, ◌<◌, ℕ, [], ◌∷◌, ◌++◌, IsTrue, IfSome, IfNone, OnOk, OnErr};
 ghost use Rattle.std.specs.Vec.{vec_len, vec_capacity};
 ghost use Rattle.gib_types.specs.Tree.{Datum};
-ghost use Rattle.gib_weave.specs.Applied.{Applied, event_of};
-ghost use Rattle.gib_weave.specs.Weave.{Enabled};
-ghost use Rattle.gib_weave.specs.Woven.{IsSoundOn, WeaveParts, weave_of};
-ghost use Rattle.gib_locked.specs.Choice.{HasNoOwn, HasNothing, IsChosen, IsOwn};
-ghost use Rattle.gib_locked.specs.Lines.{counted_out};
-ghost use Rattle.gib_locked.specs.Run.{HasEnded, IsRun};
+ghost use Rattle.gib_weave.specs.{Applied.{Applied, event_of}, Weave.{Enabled}, Woven.{IsSoundOn, WeaveParts, weave_of}};
+ghost use Rattle.gib_locked.specs.{Choice.{HasNoOwn, HasNothing, IsChosen, IsOwn}, Lines.{counted_out}, Run.{HasEnded, IsRun}};
 ghost use Rattle.gib_locked.specs.declared.held.End.TheVariants.{Going};
 
 use crate::journal::Lines;

@@ -2,12 +2,9 @@
 
 ghost use Rattle.std.specs.Prelude.{◌≡◌, List, true};
 ghost use Rattle.gib_mem.specs.Memory.{Memory};
-ghost use Rattle.gib_code.specs.declared.answer.Answer.{Answer};
-ghost use Rattle.gib_code.specs.Program.{CodeTree};
+ghost use Rattle.gib_code.specs.{declared.answer.Answer.{Answer}, Program.{CodeTree}};
 ghost use Rattle.gib_weave.specs.Weave.{Weave};
-ghost use Rattle.gib_locked.specs.Replays.{IsAnswered, IsNoEnd};
-ghost use Rattle.gib_locked.specs.declared.journal.Line.{Line};
-ghost use Rattle.gib_locked.specs.declared.replay_fault.ReplayFault.{ReplayFault};
+ghost use Rattle.gib_locked.specs.{Replays.{IsAnswered, IsNoEnd}, declared.journal.Line.{Line}, declared.replay_fault.ReplayFault.{ReplayFault}};
 ghost use Rattle.gib_locked.specs.declared.replay_fault.ReplayFault.TheVariants as replay;
 
 /// Where nobody else draws, the same lines lead a weave to one answer and one memory; or they do not lead to an end, for one reason.

@@ -2,8 +2,7 @@
 
 ghost use Rattle.std.specs.Prelude.{◌≡◌, ◌≢◌, ◌++◌, ◌∷◌, [], ℕ, codes, true, MatchOption};
 ghost use Rattle.std.specs.Fmt.{decimal};
-ghost use Rattle.gib_locked.specs.Lines.{are_lines, is_line, is_task, may_follow};
-ghost use Rattle.gib_locked.specs.JournalText.{line_text, numbers_text, word_text};
+ghost use Rattle.gib_locked.specs.{Lines.{are_lines, is_line, is_task, may_follow}, JournalText.{line_text, numbers_text, word_text}};
 ghost use Rattle.gib_locked.specs.declared.journal.Line.TheVariants.{Steps};
 
 use crate::cut::{cut, read_number};

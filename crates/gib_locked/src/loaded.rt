@@ -3,14 +3,8 @@
 ghost use Rattle.std.specs.Prelude.{◌≡◌, ◌<◌, IfOk, IfErr, IsErrOf};
 ghost use Rattle.gib_types.specs.Tree.{Datum};
 ghost use Rattle.gib_syntax.specs.Results as results;
-ghost use Rattle.gib_core.specs.Cost.{run_cost};
-ghost use Rattle.gib_core.specs.Meaning.{core_run};
-ghost use Rattle.gib_core.specs.Parts.{core_of};
-ghost use Rattle.gib_core.specs.Tight.{Tight};
-ghost use Rattle.gib_weave.specs.Running.{IsStart, word_of};
-ghost use Rattle.gib_weave.specs.Sound.{IsAnswer};
-ghost use Rattle.gib_weave.specs.Weave.{weave_start};
-ghost use Rattle.gib_weave.specs.Woven.{IsSoundOn, weave_of};
+ghost use Rattle.gib_core.specs.{Cost.{run_cost}, Meaning.{core_run}, Parts.{core_of}, Tight.{Tight}};
+ghost use Rattle.gib_weave.specs.{Running.{IsStart, word_of}, Sound.{IsAnswer}, Weave.{weave_start}, Woven.{IsSoundOn, weave_of}};
 ghost use Rattle.gib_locked.specs.Replays.{IsAnswered, IsNoEnd};
 
 use crate::journal::Journal;

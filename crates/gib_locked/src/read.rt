@@ -1,10 +1,7 @@
 //! The journal that a text is.
 
 ghost use Rattle.std.specs.Prelude.{◌≡◌, List, true, MatchResult};
-ghost use Rattle.gib_locked.specs.Lines.{are_lines};
-ghost use Rattle.gib_locked.specs.JournalText.{journal_text};
-ghost use Rattle.gib_locked.specs.JournalReading.{EventsReadTo, ReadsTo};
-ghost use Rattle.gib_locked.specs.declared.journal.Line.{Line};
+ghost use Rattle.gib_locked.specs.{Lines.{are_lines}, JournalText.{journal_text}, JournalReading.{EventsReadTo, ReadsTo}, declared.journal.Line.{Line}};
 ghost use Rattle.gib_locked.specs.declared.settings.Settings.{Settings};
 
 use crate::cut::cut;

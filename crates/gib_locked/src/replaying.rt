@@ -1,12 +1,9 @@
 //! The events of a journal happen to a weave.
 
 ghost use Rattle.std.specs.Prelude.{◌≡◌, ◌++◌, ℕ, List, replicate, true, false, OnOk, IfErr};
-ghost use Rattle.gib_weave.specs.Applied.{event_of};
+ghost use Rattle.gib_weave.specs.{Applied.{event_of}, Woven.{WeaveParts}};
 ghost use Rattle.gib_weave.specs.Weave as w;
-ghost use Rattle.gib_weave.specs.Woven.{WeaveParts};
-ghost use Rattle.gib_locked.specs.Lines.{counted};
-ghost use Rattle.gib_locked.specs.Replays.{AllHappen, Goes, ReplaysTo, StopsAmong};
-ghost use Rattle.gib_locked.specs.Run.{HasEnded};
+ghost use Rattle.gib_locked.specs.{Lines.{counted}, Replays.{AllHappen, Goes, ReplaysTo, StopsAmong}, Run.{HasEnded}};
 
 use crate::journal::{Journal, Line};
 use crate::replay_fault::ReplayFault;

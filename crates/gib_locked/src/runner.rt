@@ -1,8 +1,7 @@
 //! The workers of a run, and the lock that they share.
 
 ghost use Rattle.std.specs.Prelude.{◌≡◌, ◌<◌};
-ghost use Rattle.gib_locked.specs.Run.{IsRun};
-ghost use Rattle.gib_locked.specs.Locked.{IsAnswerOf};
+ghost use Rattle.gib_locked.specs.{Run.{IsRun}, Locked.{IsAnswerOf}};
 
 use crate::held::{Did, End, Held};
 use crate::journal::{Journal, Lines};

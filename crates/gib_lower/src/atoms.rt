@@ -2,9 +2,7 @@
 
 ghost use Rattle.std.specs.Prelude.{◌≡◌, ℕ, map, IfOk};
 ghost use Rattle.gib_core.specs.Low.{operand as operand_spec, operands as operands_spec, slot_of as slot_spec, slots_of as slots_spec, kind_of as kind_spec, answer_type as answer_spec, side_kind as side_kind_spec, side_slots, side_type as side_type_spec};
-ghost use Rattle.gib_core.specs.Arena.{side_from};
-ghost use Rattle.gib_core.specs.Parts.{results_of};
-ghost use Rattle.gib_core.specs.Tree.{Term};
+ghost use Rattle.gib_core.specs.{Arena.{side_from}, Parts.{results_of}, Tree.{Term}};
 ghost use Rattle.gib_code.specs.Instruction.{target_slots};
 
 use gib_base::Memory;

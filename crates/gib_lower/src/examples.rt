@@ -2,10 +2,8 @@
 
 ghost use Rattle.gib_syntax.specs.Results as results;
 ghost use Rattle.std.specs.Prelude.{◌≡◌, ◌∷◌, [], ℕ, pos, true, false, Some, None};
-ghost use Rattle.gib_types.specs.declared.table.Ty.{Ty as FieldType};
+ghost use Rattle.gib_types.specs.{declared.table.Ty.{Ty as FieldType}, declared.table.ConId.{ConId as Con}, Row.{Table}};
 ghost use Rattle.gib_types.specs.declared.table.Ty.TheVariants as ty;
-ghost use Rattle.gib_types.specs.declared.table.ConId.{ConId as Con};
-ghost use Rattle.gib_types.specs.Row.{Table};
 ghost use Rattle.gib_base.specs.declared.name.Name.{Name as FunctionName};
 ghost use Rattle.gib_types.specs.declared.operator.Operator.TheVariants as o;
 ghost use Rattle.gib_core.specs.declared.atom.Atom.TheVariants as a;

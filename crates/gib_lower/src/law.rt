@@ -1,7 +1,6 @@
 //! The law of lowering: a function whose contract is the law.
 
-ghost use Rattle.gib_core.specs.Tree.{CoreTree};
-ghost use Rattle.gib_core.specs.Low.{IsLowered};
+ghost use Rattle.gib_core.specs.{Tree.{CoreTree}, Low.{IsLowered}};
 ghost use Rattle.gib_lower.specs.Lowering.{lower_program};
 
 /// The code that is made of a core is its code, label by label.

@@ -3,9 +3,7 @@
 ghost use Rattle.std.specs.Prelude.{◌≡◌, ℕ, Bool, map, IfOk};
 ghost use Rattle.gib_types.specs.Table.{at_fields};
 ghost use Rattle.gib_code.specs.Instruction.{instruction_of};
-ghost use Rattle.gib_core.specs.declared.atom.Variable.{Variable as Var};
-ghost use Rattle.gib_core.specs.PartTypes.{types_in};
-ghost use Rattle.gib_core.specs.Tree.{variables_from};
+ghost use Rattle.gib_core.specs.{declared.atom.Variable.{Variable as Var}, PartTypes.{types_in}, Tree.{variables_from}};
 ghost use Rattle.gib_core.specs.Low.{operands as operands_spec, moves as moves_spec, takes_parts as takes_spec, begin_all};
 
 use crate::atoms::operand;

@@ -2,16 +2,12 @@
 
 ghost use Rattle.std.specs.Prelude.{◌≡◌, ◌<◌, ◌^◌, ◌∷◌, [], Some, length, map, reverse, IfOk, OnOk};
 ghost use Rattle.std.specs.List.{AllByRecursion};
-ghost use Rattle.gib_core.specs.Arena.{term_of};
-ghost use Rattle.gib_core.specs.Parts.{IsFunctionInside, core_of, function_term, results_of};
+ghost use Rattle.gib_core.specs.{Arena.{term_of}, Parts.{IsFunctionInside, core_of, function_term, results_of}};
+ghost use Rattle.gib_core.specs.{Ending.{within_function, within_main, main_ended}, Low.{laid_of, Returns, answer_type as answer_spec}};
+ghost use Rattle.gib_core.specs.{Numbering.{AreNumbered}, Fits.{AllFit, EachFits}};
 ghost use Rattle.gib_code.specs.Instruction.{instruction_of};
-ghost use Rattle.gib_core.specs.Ending.{within_function, within_main, main_ended};
-ghost use Rattle.gib_core.specs.Low.{laid_of, Returns, answer_type as answer_spec};
 ghost use Rattle.gib_code.specs.declared.instruction.AnswerType.TheVariants as of;
-ghost use Rattle.gib_lower.specs.Ends.{within_of};
-ghost use Rattle.gib_core.specs.Numbering.{AreNumbered};
-ghost use Rattle.gib_core.specs.Fits.{AllFit, EachFits};
-ghost use Rattle.gib_lower.specs.Counting.{variables_of};
+ghost use Rattle.gib_lower.specs.{Ends.{within_of}, Counting.{variables_of}};
 ghost use Rattle.gib_lower.specs.Lowering.{label_in, entry_in, entry_of, numbered, lowered, lowered_functions, begun, lower_program};
 
 use crate::atoms::answer_type;

@@ -32,9 +32,7 @@ impl Model for Source {
 
 impl Source {
     ghost use Rattle.std.specs.Prelude.{◌≡◌, IfOk};
-    ghost use Rattle.gib_core.specs.Parts.{AreInside, core_of};
-    ghost use Rattle.gib_core.specs.Ending.{ended};
-    ghost use Rattle.gib_core.specs.Low.{laid_of, function_number};
+    ghost use Rattle.gib_core.specs.{Parts.{AreInside, core_of}, Ending.{ended}, Low.{laid_of, function_number}};
 
     /// A core with what lowering asks of it.
     pub(crate) fn make(alloc: Global, core: Core) -> Result<Source, Memory>

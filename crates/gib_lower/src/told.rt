@@ -3,11 +3,9 @@
 ghost use Rattle.std.specs.Prelude.{◌≡◌, ◌<◌, ◌≤◌, ◌-◌, ◌∷◌, ◌++◌, [], List, length, map, drop, IfOk, OnOk, MatchOption};
 ghost use Rattle.gib_types.specs.Layout.{head_size, packed_at};
 ghost use Rattle.gib_code.specs.Instruction.{instruction_of};
-ghost use Rattle.gib_core.specs.Arena.{term_of};
-ghost use Rattle.gib_core.specs.Parts.{core_of};
+ghost use Rattle.gib_core.specs.{Arena.{term_of}, Parts.{core_of}};
 ghost use Rattle.gib_core.specs.Low.{Over, giving, got_from as gots_from, gots as all_gots, operands as operands_spec, ending as ending_spec, call_ending, giving_parts, arm_overs, arm_end};
-ghost use Rattle.gib_lower.specs.Ends.{over_of, end_of, within_of};
-ghost use Rattle.gib_lower.specs.Lowering.{leaf_end, got_one};
+ghost use Rattle.gib_lower.specs.{Ends.{over_of, end_of, within_of}, Lowering.{leaf_end, got_one}};
 
 use crate::atoms::operands;
 use crate::counts::plus;

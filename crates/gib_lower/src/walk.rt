@@ -7,8 +7,7 @@ ghost use Rattle.std.specs.Prelude.{◌≡◌, ◌<◌, ◌∷◌, ◌++◌, tru
 ghost use Rattle.std.specs.List.{AllByRecursion};
 ghost use Rattle.gib_types.specs.Table.{fields_at};
 ghost use Rattle.gib_core.specs.Arena.{IsBindingBelow, IsBranchBelow, IsPartBelow, IsEnd, term_in, term_of, side_from, bind_from, branches_from, parts_from};
-ghost use Rattle.gib_core.specs.Parts.{core_of};
-ghost use Rattle.gib_core.specs.Tree.{CallTerm, Both};
+ghost use Rattle.gib_core.specs.{Parts.{core_of}, Tree.{CallTerm, Both}};
 ghost use Rattle.gib_core.specs.Low.{laid_of, IsNoCall, function_number, with_fields, arm_opening, gots as gots_spec, operands as operands_spec, slots_of as slots_spec, ending as ending_spec, call_ending, done_all, reaching};
 ghost use Rattle.gib_core.specs.declared.node.BoundSide.TheVariants as side_of;
 ghost use Rattle.gib_code.specs.Instruction as i;

@@ -1,10 +1,9 @@
 //! Calls and their ends: they have no memory action.
 
 ghost use Rattle.std.specs.Prelude.{◌≡◌, ◌<◌, ◌+◌, ◌^◌, ℕ, List, IfSome};
-ghost use Rattle.gib_machine.specs.State.{Over, doing, word, words, widest};
-ghost use Rattle.gib_machine.specs.Machine.{word_answer, called, returned, gives, unwound, slots_at};
-ghost use Rattle.gib_machine.specs.Machine as m;
+ghost use Rattle.gib_machine.specs.{State.{Over, doing, word, words, widest}, Machine.{word_answer, called, returned, gives, unwound, slots_at}};
 ghost use Rattle.gib_machine.specs.Stepping.{with_tails};
+ghost use Rattle.gib_machine.specs.Machine as m;
 ghost use Rattle.gib_machine.specs.declared.turn.Turn.TheVariants as turns;
 
 use crate::state::{Doing, End, Machine};

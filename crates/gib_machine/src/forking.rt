@@ -2,10 +2,8 @@
 
 ghost use Rattle.std.specs.Prelude.{◌≡◌, ◌<◌, ◌+◌, ◌-◌, ◌^◌, ℕ, length, map};
 ghost use Rattle.gib_mem.specs.Memory.{Memory};
-ghost use Rattle.gib_machine.specs.State.{slot};
-ghost use Rattle.gib_machine.specs.Machine.{enters, forks_at, joins_at, backs_at, ends_with};
+ghost use Rattle.gib_machine.specs.{State.{slot}, Machine.{enters, forks_at, joins_at, backs_at, ends_with}, Stepping.{Makes}};
 ghost use Rattle.gib_code.specs.Instruction.{target_slots};
-ghost use Rattle.gib_machine.specs.Stepping.{Makes};
 
 use crate::regions::Forked;
 use crate::state::{Doing, End, Machine};

@@ -3,8 +3,7 @@
 ghost use Rattle.std.specs.Prelude.{◌≡◌, ◌<◌, ◌≤◌, ◌+◌, ◌-◌, ◌++◌, ℕ, suc, [], ◌∷◌, length, take, drop, ◌↔◌, IsTrue};
 ghost use Rattle.std.specs.Int.{w64, to_le_bytes};
 ghost use Rattle.gib_mem.specs.Memory.{Owned, after_puts};
-ghost use Rattle.gib_machine.specs.Items.{Bytes, bytes_of};
-ghost use Rattle.gib_machine.specs.State.{left_in};
+ghost use Rattle.gib_machine.specs.{Items.{Bytes, bytes_of}, State.{left_in}};
 
 use gib_mem::{Mem, WORD_BYTES};
 use std::marker::Model;

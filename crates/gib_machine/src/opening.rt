@@ -1,9 +1,7 @@
 //! Instructions that open and finish regions.
 
 ghost use Rattle.std.specs.Prelude.{◌≡◌, ◌<◌, ◌+◌, ◌^◌, ℕ};
-ghost use Rattle.gib_machine.specs.State.{sets};
-ghost use Rattle.gib_machine.specs.Machine.{opens, closed};
-ghost use Rattle.gib_machine.specs.Stepping.{Made, with_tails};
+ghost use Rattle.gib_machine.specs.{State.{sets}, Machine.{opens, closed}, Stepping.{Made, with_tails}};
 ghost use Rattle.gib_machine.specs.declared.turn.Turn.TheVariants as turns;
 
 use crate::state::{Doing, End, Machine};

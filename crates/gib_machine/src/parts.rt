@@ -2,11 +2,8 @@
 
 ghost use Rattle.std.specs.Prelude.{◌≡◌, ◌<◌, ◌+◌, ◌-◌, ◌^◌, ℕ, List, get_or};
 ghost use Rattle.gib_code.specs.Instruction.{target_slots};
-ghost use Rattle.gib_machine.specs.State.{words, pull, sink, sets};
-ghost use Rattle.gib_machine.specs.Machine.{ordered};
-ghost use Rattle.gib_machine.specs.Sides.{sets_all};
+ghost use Rattle.gib_machine.specs.{State.{words, pull, sink, sets}, Machine.{ordered}, Sides.{sets_all}, Stepping.{with_tails}};
 ghost use Rattle.gib_machine.specs.Machine as m;
-ghost use Rattle.gib_machine.specs.Stepping.{with_tails};
 ghost use Rattle.gib_machine.specs.declared.turn.Turn.TheVariants as turns;
 
 use crate::frames::set_targets;

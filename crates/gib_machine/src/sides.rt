@@ -1,15 +1,10 @@
 //! What becomes of a right side at a fork and at a join. Whoever runs the tasks decides it.
 
 ghost use Rattle.std.specs.Prelude.{◌≡◌, ◌<◌, ◌≤◌, ◌+◌, ◌-◌, ◌^◌, ℕ, List, drop, length, None, Some, IfOk, IfSome, IfNone, slice_get, get_or};
-ghost use Rattle.gib_machine.specs.State.{AtFork, AtJoin};
-ghost use Rattle.gib_machine.specs.Machine.{next, unwound};
-ghost use Rattle.gib_machine.specs.Sides.{fork_of, right_of, left_starts, takes, joins, unwinding};
+ghost use Rattle.gib_machine.specs.{State.{AtFork, AtJoin}, Machine.{next, unwound}, Sides.{fork_of, right_of, left_starts, takes, joins, unwinding}};
+ghost use Rattle.gib_machine.specs.{Frames.{FitsFrame}, Starting.{forking_of, waiting_of}, Stepping.{with_tails}};
 ghost use Rattle.gib_machine.specs.Sides as m;
-ghost use Rattle.gib_machine.specs.Frames.{FitsFrame};
-ghost use Rattle.gib_code.specs.Instruction.{target_slots};
-ghost use Rattle.gib_machine.specs.Starting.{forking_of, waiting_of};
-ghost use Rattle.gib_code.specs.Program.{Runs};
-ghost use Rattle.gib_machine.specs.Stepping.{with_tails};
+ghost use Rattle.gib_code.specs.{Instruction.{target_slots}, Program.{Runs}};
 
 use crate::starting::fork_in;
 use crate::state::{Doing, Machine};

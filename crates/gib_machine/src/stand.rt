@@ -3,11 +3,8 @@
 ghost use Rattle.std.specs.Prelude.{◌≡◌, ℕ, List, Some, slice_get, IfSome, IfNone};
 ghost use Rattle.gib_code.specs.declared.answer.Answer.TheVariants as answers;
 ghost use Rattle.gib_types.specs.declared.reason.Reason.TheVariants as reasons;
-ghost use Rattle.gib_code.specs.Instruction.{instruction_of};
-ghost use Rattle.gib_code.specs.Program.{CodeTree};
-ghost use Rattle.gib_machine.specs.State.{Ended, Over, Ready};
-ghost use Rattle.gib_machine.specs.Machine.{begin, next};
-ghost use Rattle.gib_machine.specs.Stepping.{stand_of, with_tails};
+ghost use Rattle.gib_code.specs.{Instruction.{instruction_of}, Program.{CodeTree}};
+ghost use Rattle.gib_machine.specs.{State.{Ended, Over, Ready}, Machine.{begin, next}, Stepping.{stand_of, with_tails}};
 
 use crate::state::{Doing, End, Machine};
 use gib_code::{Answer, Code, Instr};

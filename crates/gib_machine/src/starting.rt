@@ -2,12 +2,10 @@
 
 ghost use Rattle.std.specs.Prelude.{◌≡◌, ◌≤◌, ◌<◌, ◌+◌, ◌-◌, ◌^◌, ℕ, [], length, map, Option, Some, None, IfOk, IfErr, IfSome, IfNone, IsTrue, if◌then◌else◌};
 ghost use Rattle.gib_code.specs.Instruction.{instruction_of, target_slots};
-ghost use Rattle.gib_machine.specs.State.{Ready, Opening, nesting_from};
-ghost use Rattle.gib_machine.specs.Sides.{fork_of, side_doing, side_start};
+ghost use Rattle.gib_machine.specs.{State.{Ready, Opening, nesting_from}, Sides.{fork_of, side_doing, side_start}, Frames.{FitsFrame}};
+ghost use Rattle.gib_machine.specs.Starting.{begun, is_packed, main_entry, started, forking_of, waiting_of};
 ghost use Rattle.gib_machine.specs.State as st;
 ghost use Rattle.gib_machine.specs.Machine as m;
-ghost use Rattle.gib_machine.specs.Frames.{FitsFrame};
-ghost use Rattle.gib_machine.specs.Starting.{begun, is_packed, main_entry, started, forking_of, waiting_of};
 ghost use Rattle.gib_machine.specs.Starting as s;
 
 use crate::frames::Frames;

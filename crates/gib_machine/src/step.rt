@@ -1,11 +1,8 @@
 //! One micro-step, by the running instruction and how far it is.
 
 ghost use Rattle.std.specs.Prelude.{◌≡◌, ◌<◌, ◌+◌, ◌^◌, Some, slice_get, false};
-ghost use Rattle.gib_code.specs.Instruction.{instruction_of, IsFine};
-ghost use Rattle.gib_machine.specs.State.{widest};
-ghost use Rattle.gib_machine.specs.Machine.{begin, next};
-ghost use Rattle.gib_code.specs.Program.{Runs};
-ghost use Rattle.gib_machine.specs.Stepping.{with_tails, at_rest, Made, Can, CanStep, IsSmallAsk};
+ghost use Rattle.gib_code.specs.{Instruction.{instruction_of, IsFine}, Program.{Runs}};
+ghost use Rattle.gib_machine.specs.{State.{widest}, Machine.{begin, next}, Stepping.{with_tails, at_rest, Made, Can, CanStep, IsSmallAsk}};
 
 use crate::state::{Doing, Machine};
 use crate::turn::Turn;

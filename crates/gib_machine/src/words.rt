@@ -1,10 +1,9 @@
 //! Instructions on the words of the frame: they have no memory action.
 
 ghost use Rattle.std.specs.Prelude.{◌≡◌, ◌<◌, ◌+◌, ◌%◌, ◌==◌, ◌^◌, ℕ, List, IsTrue, if◌then◌else◌};
-ghost use Rattle.gib_machine.specs.State.{slot, word, sets, went, went_to};
+ghost use Rattle.gib_machine.specs.{State.{slot, word, sets, went, went_to}, Stepping.{with_tails}};
 ghost use Rattle.gib_machine.specs.State as st;
 ghost use Rattle.gib_machine.specs.Machine as m;
-ghost use Rattle.gib_machine.specs.Stepping.{with_tails};
 ghost use Rattle.gib_machine.specs.declared.turn.Turn.TheVariants as turns;
 
 use crate::state::Machine;

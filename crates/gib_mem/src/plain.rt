@@ -2,8 +2,7 @@
 
 ghost use Rattle.std.specs.Prelude.{◌≡◌, ◌<◌, ◌≤◌, ◌^◌, ◌*◌, ◌+◌, ◌++◌, ℕ, true, length, replicate, slice_get, Some, None, IfOk};
 ghost use Rattle.std.specs.Vec.{vec_len, vec_capacity};
-ghost use Rattle.gib_mem.specs.Plain.{IsPlain, plain_memory, nothing};
-ghost use Rattle.gib_mem.specs.Memory.{Memory, IsThere};
+ghost use Rattle.gib_mem.specs.{Plain.{IsPlain, plain_memory, nothing}, Memory.{Memory, IsThere}};
 
 use crate::{CHUNK, Mem};
 use std::alloc::{AllocError, Global};

@@ -2,11 +2,8 @@
 
 ghost use Rattle.std.specs.Prelude.{◌<◌, ◌++◌, length, IfOk};
 ghost use Rattle.std.specs.List.{AllByRecursion};
-ghost use Rattle.gib_syntax.specs.GenericArena.{ArmsBelow, arguments_from, case_from, tree_of};
-ghost use Rattle.gib_syntax.specs.GenericTree.{GenericCase};
-ghost use Rattle.gib_mono.specs.Walk.{asks, all_asks};
-ghost use Rattle.gib_mono.specs.Sources.{globals_in, asks_in};
-ghost use Rattle.gib_mono.specs.Searching.{Asks};
+ghost use Rattle.gib_syntax.specs.{GenericArena.{ArmsBelow, arguments_from, case_from, tree_of}, GenericTree.{GenericCase}};
+ghost use Rattle.gib_mono.specs.{Walk.{asks, all_asks}, Sources.{globals_in, asks_in}, Searching.{Asks}};
 
 use crate::search::{Search, ask_call, ask_make};
 use crate::source::Source;

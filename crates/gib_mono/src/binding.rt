@@ -1,10 +1,8 @@
 //! The bindings of the copy: one name is bound without a type, and several carry theirs.
 
 ghost use Rattle.std.specs.Prelude.{◌≡◌, ℕ, ◌<◌, Some, IfOk};
-ghost use Rattle.gib_syntax.specs.Arena.{PartsBelow, layer};
-ghost use Rattle.gib_syntax.specs.Tree.{Expression};
-ghost use Rattle.gib_mono.specs.Bindings.{let_of, only_name, par_of};
-ghost use Rattle.gib_mono.specs.Made.{AreMet, variables_given};
+ghost use Rattle.gib_syntax.specs.{Arena.{PartsBelow, layer}, Tree.{Expression}};
+ghost use Rattle.gib_mono.specs.{Bindings.{let_of, only_name, par_of}, Made.{AreMet, variables_given}};
 
 use crate::copier::{Copied, Copier};
 use gib_base::{Memory, Span};

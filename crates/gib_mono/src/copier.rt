@@ -1,22 +1,13 @@
 //! What is copied so far, the types that copies have, and the names that they get.
 
 ghost use Rattle.std.specs.Prelude.{◌≡◌, ◌<◌, length, map, IfOk, OnOk};
-ghost use Rattle.gib_types.specs.Form.{form_or};
-ghost use Rattle.gib_types.specs.Types.{form_at, forms_at, form_from, AreBelow, ArgumentsBelow};
-ghost use Rattle.gib_syntax.specs.Arena.{PartsBelow};
-ghost use Rattle.gib_syntax.specs.Declarations.{number_of};
-ghost use Rattle.gib_syntax.specs.Forms.{assign, formed};
-ghost use Rattle.gib_syntax.specs.Results.{Several, list_results, map_results};
-ghost use Rattle.gib_syntax.specs.GenericParts.{results_in};
-ghost use Rattle.gib_syntax.specs.GenericTree.{generic_named, place_named};
-ghost use Rattle.gib_syntax.specs.GenericTyping.{form_in, form_bound};
+ghost use Rattle.gib_types.specs.{Form.{form_or}, Types.{form_at, forms_at, form_from, AreBelow, ArgumentsBelow}};
+ghost use Rattle.gib_syntax.specs.{Arena.{PartsBelow}, Declarations.{number_of}, Forms.{assign, formed}, Results.{Several, list_results, map_results}};
+ghost use Rattle.gib_syntax.specs.{GenericParts.{results_in}, GenericTree.{generic_named, place_named}, GenericTyping.{form_in, form_bound}};
 ghost use Rattle.gib_syntax.specs.Words.{first_type, stack_of, type_in};
 ghost use Rattle.gib_mono.specs.Copying.{arguments_of, bind_forms, copy_variables, forms_named, name_of_form, one_form, renamed, results_at};
-ghost use Rattle.gib_mono.specs.Made.{AreMet, Binds, Gives, Leaves, Meets, MeetsAll, Puts, first_form, forms_given, naming};
-ghost use Rattle.gib_mono.specs.Naming.{number_with};
-ghost use Rattle.gib_mono.specs.Reading.{listed};
-ghost use Rattle.gib_mono.specs.Scenes.{forms, meaning, names_in, scope_in};
-ghost use Rattle.gib_mono.specs.Sources.{globals_in};
+ghost use Rattle.gib_mono.specs.{Made.{AreMet, Binds, Gives, Leaves, Meets, MeetsAll, Puts, first_form, forms_given, naming}, Naming.{number_with}};
+ghost use Rattle.gib_mono.specs.{Reading.{listed}, Scenes.{forms, meaning, names_in, scope_in}, Sources.{globals_in}};
 
 use crate::scene::Scene;
 use crate::source::Source;

@@ -2,12 +2,9 @@
 
 ghost use Rattle.std.specs.Prelude.{◌≡◌, ◌<◌, ◌≤◌, ◌++◌, length, map, IfOk, OnOk};
 ghost use Rattle.gib_base.specs.Texts.{short_of, long_of, AreOfSource};
-ghost use Rattle.gib_types.specs.Form.{DataForm};
-ghost use Rattle.gib_types.specs.Types.{forms_of, form_at, forms_at, AreBelow};
-ghost use Rattle.gib_mono.specs.Entries.{item_of, items_of, AreEntriesBelow};
-ghost use Rattle.gib_mono.specs.Pieces.{form_pieces, types_pieces, further_pieces};
-ghost use Rattle.gib_mono.specs.Showing.{short_texts, long_texts, short_name, long_name};
-ghost use Rattle.gib_mono.specs.Naming.{AreItemsBelow};
+ghost use Rattle.gib_types.specs.{Form.{DataForm}, Types.{forms_of, form_at, forms_at, AreBelow}};
+ghost use Rattle.gib_mono.specs.{Entries.{item_of, items_of, AreEntriesBelow}, Pieces.{form_pieces, types_pieces, further_pieces}};
+ghost use Rattle.gib_mono.specs.{Showing.{short_texts, long_texts, short_name, long_name}, Naming.{AreItemsBelow}};
 
 use crate::copy_names::CopyNames;
 use crate::entries::Entry;

@@ -2,15 +2,11 @@
 
 ghost use Rattle.std.specs.Prelude.{◌≡◌, ℕ, ◌<◌, ◌^◌, List, length, IfOk};
 ghost use Rattle.std.specs.List.{AllByRecursion};
-ghost use Rattle.gib_types.specs.Form.{Form};
-ghost use Rattle.gib_types.specs.Types.{AreBelow, ArgumentsBelow, form_from, forms_at};
+ghost use Rattle.gib_types.specs.{Form.{Form}, Types.{AreBelow, ArgumentsBelow, form_from, forms_at}};
 ghost use Rattle.gib_syntax.specs.GenericArena.{ArmsBelow, IsArmBelow, arguments_from, case_from, tree_of};
 ghost use Rattle.gib_syntax.specs.GenericTree.{GenericGlobals, GenericVar, GenericNum, GenericBit, GenericParen, GenericOp, GenericCall, GenericMake, GenericLet, GenericPar, GenericIf, GenericCase, GenericTuple};
-ghost use Rattle.gib_syntax.specs.GenericTyping.{operator_form};
-ghost use Rattle.gib_syntax.specs.Words.{types_in};
-ghost use Rattle.gib_mono.specs.Scenes.{forms};
-ghost use Rattle.gib_mono.specs.Sources.{globals_in};
-ghost use Rattle.gib_mono.specs.Made.{Copies, CopiesAll, CopiesTuple, CopiesArm, CopiesArms, Meets};
+ghost use Rattle.gib_syntax.specs.{GenericTyping.{operator_form}, Words.{types_in}};
+ghost use Rattle.gib_mono.specs.{Scenes.{forms}, Sources.{globals_in}, Made.{Copies, CopiesAll, CopiesTuple, CopiesArm, CopiesArms, Meets}};
 
 use crate::binding::{CopiedSide, let_node, par_node};
 use crate::copier::{Copied, Copier};

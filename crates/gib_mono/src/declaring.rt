@@ -2,17 +2,12 @@
 
 ghost use Rattle.std.specs.Prelude.{◌≡◌, ◌<◌, [], ◌∷◌, length, map, slice_get, Some, IfOk};
 ghost use Rattle.gib_types.specs.Types.{form_at, forms_at, AreBelow};
-ghost use Rattle.gib_syntax.specs.Parts.{constructor_tree};
-ghost use Rattle.gib_syntax.specs.GenericArena.{tree_of as generic_of};
+ghost use Rattle.gib_syntax.specs.{Parts.{constructor_tree}, GenericArena.{tree_of as generic_of}};
 ghost use Rattle.gib_syntax.specs.GenericParts.{constructor_in, generic_program_of, parameter_in, results_in};
-ghost use Rattle.gib_syntax.specs.GenericTree.{GenericDataTree, GenericFunctionTree};
-ghost use Rattle.gib_syntax.specs.Words.{first_type, stack_of, type_in};
+ghost use Rattle.gib_syntax.specs.{GenericTree.{GenericDataTree, GenericFunctionTree}, Words.{first_type, stack_of, type_in}};
 ghost use Rattle.gib_mono.specs.Copying.{copy_written};
 ghost use Rattle.gib_mono.specs.Declaring.{first_span, named_forms, Writes, WritesAll, WritesResults, CopiesConstructors, CopiesData, CopiesParameters, CopiesParts, CopiesFunction, CopiesMain, Declares, IsKeyInside, AreKeysInside, copies_from};
-ghost use Rattle.gib_mono.specs.Made.{naming};
-ghost use Rattle.gib_mono.specs.Reading.{listed};
-ghost use Rattle.gib_mono.specs.Scenes.{forms, meaning};
-ghost use Rattle.gib_mono.specs.Sources.{globals_in};
+ghost use Rattle.gib_mono.specs.{Made.{naming}, Reading.{listed}, Scenes.{forms, meaning}, Sources.{globals_in}};
 
 use crate::copier::Copier;
 use crate::copying::copy_expression;

@@ -5,14 +5,9 @@ ghost use Rattle.std.specs.List.{AllByRecursion};
 ghost use Rattle.gib_types.specs.Types.{forms_at, AreBelow};
 ghost use Rattle.gib_syntax.specs.GenericArena.{tree_of};
 ghost use Rattle.gib_syntax.specs.GenericParts.{generic_program_of, constructor_in, parameter_in, results_in, IsParameterInside, AreResultsInside};
-ghost use Rattle.gib_syntax.specs.GenericTree.{GenericDataTree, GenericFunctionTree, GenericParameterTree};
-ghost use Rattle.gib_syntax.specs.Words.{type_in, IsTypeRun};
-ghost use Rattle.gib_mono.specs.Contexts.{forms};
-ghost use Rattle.gib_mono.specs.Found.{IsFound};
-ghost use Rattle.gib_mono.specs.Limits.{IsLimitOf, IsMemory};
-ghost use Rattle.gib_mono.specs.Closed.{IsGood};
-ghost use Rattle.gib_mono.specs.Searching.{IsAt, IsOpen, Walked, Asks, AsksAll};
-ghost use Rattle.gib_mono.specs.Sources.{globals_in};
+ghost use Rattle.gib_syntax.specs.{GenericTree.{GenericDataTree, GenericFunctionTree, GenericParameterTree}, Words.{type_in, IsTypeRun}};
+ghost use Rattle.gib_mono.specs.{Contexts.{forms}, Found.{IsFound}, Limits.{IsLimitOf, IsMemory}, Closed.{IsGood}};
+ghost use Rattle.gib_mono.specs.{Searching.{IsAt, IsOpen, Walked, Asks, AsksAll}, Sources.{globals_in}};
 ghost use Rattle.gib_mono.specs.Walk.{Copy, DataOf, FunctionOf, copies_of, copy_asks, main_asks, copies_asks, constructor_asks, function_asks, results_asks, types_asks, plain_copies, plain_data, plain_datas, plain_function, plain_functions};
 
 use crate::asks::ask_expression;

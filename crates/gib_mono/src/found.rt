@@ -1,12 +1,10 @@
 //! The copies that were asked for, each once.
 
 ghost use Rattle.std.specs.Prelude.{◌≡◌, ℕ, ◌<◌, ◌≤◌, List, [], ◌∷◌, false, length, slice_get, Some, IfOk};
-ghost use Rattle.gib_mono.specs.declared.found.CopyKey.{CopyKey as Kind};
-ghost use Rattle.gib_syntax.specs.Forms.{Form};
-ghost use Rattle.gib_syntax.specs.GenericTree.{GenericGlobals};
-ghost use Rattle.gib_mono.specs.Walk.{Copy, add_new, is_found, constructors_in};
-ghost use Rattle.gib_types.specs.Types.{AreOnce};
+ghost use Rattle.gib_mono.specs.{declared.found.CopyKey.{CopyKey as Kind}, Walk.{Copy, add_new, is_found, constructors_in}};
 ghost use Rattle.gib_mono.specs.Found.{AreDeclarations, KeyBelow, copy_from, IsFound, Adds, IsNewKey, types_by, functions_by, has_room, AreAlike};
+ghost use Rattle.gib_syntax.specs.{Forms.{Form}, GenericTree.{GenericGlobals}};
+ghost use Rattle.gib_types.specs.Types.{AreOnce};
 
 use gib_base::{Memory, Span};
 use gib_types::types::TypeId;

@@ -3,30 +3,19 @@
 ghost use Rattle.std.specs.Prelude.{◌≡◌, ℕ, List, ◌∷◌, [], pos, Ok, Err, slice_get, Some, length, map, ◌<◌};
 ghost use Rattle.std.specs.List.{AllByRecursion};
 ghost use Rattle.gib_base.specs.declared.Span.{Span};
-ghost use Rattle.gib_types.specs.Tree.{Datum, whole, HasType, IsTyped};
-ghost use Rattle.gib_types.specs.declared.table.Ty.{Ty};
-ghost use Rattle.gib_types.specs.Table.{name_at};
-ghost use Rattle.gib_syntax.specs.Tree.{Expression, ProgramTree};
-ghost use Rattle.gib_syntax.specs.Fine.{IsFineProgram};
-ghost use Rattle.gib_syntax.specs.Declarations.{constructor_names, number_of, table_of_program, input_type};
-ghost use Rattle.gib_syntax.specs.Typing.{Has, IsTypedProgram, Scope, globals_of};
-ghost use Rattle.gib_syntax.specs.Meaning.{Gives, Environment, means, run};
-ghost use Rattle.gib_syntax.specs.Forms.{Form, Forms, Meant, formed, assign};
+ghost use Rattle.gib_types.specs.{Tree.{Datum, whole, HasType, IsTyped}, declared.table.Ty.{Ty}, Table.{name_at}};
+ghost use Rattle.gib_syntax.specs.{Tree.{Expression, ProgramTree}, Fine.{IsFineProgram}};
+ghost use Rattle.gib_syntax.specs.{Declarations.{constructor_names, number_of, table_of_program, input_type}, Typing.{Has, IsTypedProgram, Scope, globals_of}};
+ghost use Rattle.gib_syntax.specs.{Meaning.{Gives, Environment, means, run}, Forms.{Form, Forms, Meant, formed, assign}};
 ghost use Rattle.gib_syntax.specs.GenericTree.{GenericExpression, GenericFunctionTree, GenericProgramTree, GenericRow, rows_of, globals_of_generic};
 ghost use Rattle.gib_syntax.specs.GenericFine.{HasGenericConstructor, IsGenericFine, IsGenericFineProgram};
-ghost use Rattle.gib_syntax.specs.GenericTyping.{FormScope, HasForm, IsTypedGeneric, variable_numbers};
-ghost use Rattle.gib_syntax.specs.GenericMeaning.{means_generic, run_generic};
+ghost use Rattle.gib_syntax.specs.{GenericTyping.{FormScope, HasForm, IsTypedGeneric, variable_numbers}, GenericMeaning.{means_generic, run_generic}};
+ghost use Rattle.gib_syntax.specs.{Plain.{as_generic, generic_of}, Results.{Results, map_results}, Single.{IsSingle, IsSingleProgram}};
 ghost use Rattle.gib_mono.specs.Copying.{Naming, copy, parameter_scope};
 ghost use Rattle.gib_mono.specs.Copied.{Item, IsAsked, ScopeHere, plain_scope, shown, shown_outcome, shown_given, shown_environment};
 ghost use Rattle.gib_mono.specs.Walk.{Copy, DataOf, FunctionOf, DataCopy, datas_in, plain_copies, function_copies, copied_program, copies_of, base_of, IsNaming};
-ghost use Rattle.gib_mono.specs.Laws.{set_of, Agree, SameScalars};
-ghost use Rattle.gib_mono.specs.Naming.{entries, naming_of, number_with, AreBelow};
-ghost use Rattle.gib_syntax.specs.Plain.{as_generic, generic_of};
-ghost use Rattle.gib_syntax.specs.Results.{Results, map_results};
-ghost use Rattle.gib_syntax.specs.Single.{IsSingle, IsSingleProgram};
-ghost use Rattle.gib_mono.specs.Showing.{source_text, long_text, long_texts, short_texts};
-ghost use Rattle.gib_mono.specs.Placed.{placed_program};
-ghost use Rattle.gib_mono.specs.Bare.{IsPlainProgram, bare_program};
+ghost use Rattle.gib_mono.specs.{Laws.{set_of, Agree, SameScalars}, Naming.{entries, naming_of, number_with, AreBelow}};
+ghost use Rattle.gib_mono.specs.{Showing.{source_text, long_text, long_texts, short_texts}, Placed.{placed_program}, Bare.{IsPlainProgram, bare_program}};
 ghost use Rattle.gib_mono.specs.Examples.{list_data, len_function, len_program, growing_program, whole_only};
 
 /// The copy of a typed program of the grammar is one.

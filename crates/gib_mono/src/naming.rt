@@ -4,9 +4,7 @@ ghost use Rattle.std.specs.Prelude.{◌≡◌, ◌<◌, length, map, slice_get, 
 ghost use Rattle.gib_types.specs.Types.{forms_at, AreBelow};
 ghost use Rattle.gib_syntax.specs.GenericTree.{GenericDataTree, GenericFunctionTree};
 ghost use Rattle.gib_mono.specs.Declaring.{AreKeysInside, IsKeyInside, copies_from, Enters, own_entry};
-ghost use Rattle.gib_mono.specs.Naming.{entry, copy_entries, listed_entries, with_entry, with_entries};
-ghost use Rattle.gib_mono.specs.Scenes.{forms, names_in};
-ghost use Rattle.gib_mono.specs.Sources.{globals_in};
+ghost use Rattle.gib_mono.specs.{Naming.{entry, copy_entries, listed_entries, with_entry, with_entries}, Scenes.{forms, names_in}, Sources.{globals_in}};
 ghost use Rattle.gib_mono.specs.Walk.{DataOf, FunctionOf};
 
 use crate::copier::Copier;

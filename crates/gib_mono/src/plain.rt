@@ -3,13 +3,10 @@
 
 ghost use Rattle.std.specs.Prelude.{◌≡◌, List, true, length, map, IfOk, OnOk};
 ghost use Rattle.std.specs.List.{AllByRecursion};
-ghost use Rattle.gib_syntax.specs.Arena.{Makes, PartsBelow};
-ghost use Rattle.gib_syntax.specs.Forms.{WrittenType};
+ghost use Rattle.gib_syntax.specs.{Arena.{Makes, PartsBelow}, Forms.{WrittenType}};
 ghost use Rattle.gib_syntax.specs.GenericParts.{IsFunctionInside, constructor_in, data_in, function_in, generic_program_of, main_in, parameter_in, results_in};
 ghost use Rattle.gib_syntax.specs.Parts.{constructor_tree, data_tree, results_tree, function_tree, main_tree, program_of, IsFunctionInside as IsInside};
-ghost use Rattle.gib_syntax.specs.Printing.{Binds, Chooses};
-ghost use Rattle.gib_syntax.specs.Results.{map_results};
-ghost use Rattle.gib_syntax.specs.Words.{first_type, read_word, stack_of};
+ghost use Rattle.gib_syntax.specs.{Printing.{Binds, Chooses}, Results.{map_results}, Words.{first_type, read_word, stack_of}};
 ghost use Rattle.gib_mono.specs.Bare.{AreBare, AreSingleTrees, GivesOne, IsOne, IsSingleNode, IsPlainHere, IsPlainKept, IsPlainProgram, bare_constructor, bare_data, bare_function, bare_main, bare_node, bare_parameter, bare_program, bare_tree, bare_written, one_name};
 
 use gib_base::{Memory, Span};

@@ -1,14 +1,9 @@
 //! The names of the copies of a program without type variables: its own names, each once.
 
 ghost use Rattle.std.specs.Prelude.{◌≡◌, map, IfOk};
-ghost use Rattle.gib_syntax.specs.Forms.{NoForm};
-ghost use Rattle.gib_syntax.specs.GenericParts.{generic_program_of};
-ghost use Rattle.gib_mono.specs.Bare.{IsPlainProgram, data_names, datas_names, function_names};
-ghost use Rattle.gib_mono.specs.Declaring.{own_entry};
-ghost use Rattle.gib_mono.specs.Entries.{items_of};
-ghost use Rattle.gib_mono.specs.Naming.{entries, entry, with_entries, with_entry};
-ghost use Rattle.gib_mono.specs.Scenes.{names_in};
-ghost use Rattle.gib_mono.specs.Walk.{plain_copies};
+ghost use Rattle.gib_syntax.specs.{Forms.{NoForm}, GenericParts.{generic_program_of}};
+ghost use Rattle.gib_mono.specs.{Bare.{IsPlainProgram, data_names, datas_names, function_names}, Declaring.{own_entry}, Entries.{items_of}};
+ghost use Rattle.gib_mono.specs.{Naming.{entries, entry, with_entries, with_entry}, Scenes.{names_in}, Walk.{plain_copies}};
 
 use crate::copy_names::CopyNames;
 use crate::scene::Scene;

@@ -2,14 +2,9 @@
 
 ghost use Rattle.std.specs.Prelude.{◌≡◌, ℕ, List, Ok, Err, IfOk, IfErr, MatchResult};
 ghost use Rattle.gib_base.specs.declared.Span.{Span as SpanOf};
-ghost use Rattle.gib_syntax.specs.GenericParts.{generic_program_of};
-ghost use Rattle.gib_syntax.specs.GenericTyping.{IsTypedGeneric};
-ghost use Rattle.gib_syntax.specs.Parts.{program_of};
-ghost use Rattle.gib_mono.specs.Walk.{Copy, copies_of, copied_program, plain_copies};
-ghost use Rattle.gib_mono.specs.Naming.{entries, naming_of, AreNamedBelow};
-ghost use Rattle.gib_mono.specs.Bare.{AreSingleTrees, IsPlainProgram, bare_program};
-ghost use Rattle.gib_mono.specs.Declaring.{Finds};
-ghost use Rattle.gib_mono.specs.Entries.{items_of};
+ghost use Rattle.gib_syntax.specs.{GenericParts.{generic_program_of}, GenericTyping.{IsTypedGeneric}, Parts.{program_of}};
+ghost use Rattle.gib_mono.specs.{Walk.{Copy, copies_of, copied_program, plain_copies}, Naming.{entries, naming_of, AreNamedBelow}};
+ghost use Rattle.gib_mono.specs.{Bare.{AreSingleTrees, IsPlainProgram, bare_program}, Declaring.{Finds}, Entries.{items_of}};
 ghost use Rattle.gib_mono.specs.Limits.{IsLimitOf, IsMemory, IsMemoryOr};
 
 use crate::copier::Copier;

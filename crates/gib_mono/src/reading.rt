@@ -2,8 +2,7 @@
 
 ghost use Rattle.std.specs.Prelude.{◌<◌, ◌≤◌, length, IfOk};
 ghost use Rattle.gib_types.specs.Types.{forms_of, form_from, forms_at, AreBelow, ArgumentsBelow};
-ghost use Rattle.gib_syntax.specs.Declarations.{number_of};
-ghost use Rattle.gib_syntax.specs.Forms.{assign};
+ghost use Rattle.gib_syntax.specs.{Declarations.{number_of}, Forms.{assign}};
 ghost use Rattle.gib_mono.specs.Reading.{IsReadBelow, ReadsOn, read_one, put_form, read_data, HasRead};
 
 use gib_base::{Memory, Name, Span};

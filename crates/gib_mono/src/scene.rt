@@ -2,8 +2,7 @@
 //! and the names of copies.
 
 ghost use Rattle.std.specs.Prelude.{◌≡◌, ◌<◌, ℕ, [], List, Some, None, IfSome, MatchOption};
-ghost use Rattle.gib_types.specs.Form.{Form};
-ghost use Rattle.gib_types.specs.Types.{form_at};
+ghost use Rattle.gib_types.specs.{Form.{Form}, Types.{form_at}};
 ghost use Rattle.gib_syntax.specs.GenericTyping.{form_in};
 ghost use Rattle.gib_mono.specs.Scenes.{scope_onto, AreInScopeBelow};
 
@@ -62,12 +61,9 @@ impl Model for Scene {
 
 impl Scene {
     ghost use Rattle.std.specs.Prelude.{◌≡◌, ◌<◌, [], ◌∷◌, ◌++◌, length, take, IfOk, OnOk};
-    ghost use Rattle.gib_types.specs.Form.{form_or};
-    ghost use Rattle.gib_types.specs.Types.{AreBelow, ArgumentsBelow, form_from, forms_at};
-    ghost use Rattle.gib_syntax.specs.Forms.{assign};
-    ghost use Rattle.gib_syntax.specs.GenericTyping.{form_in};
-    ghost use Rattle.gib_mono.specs.Naming.{number_with};
-    ghost use Rattle.gib_mono.specs.Scenes.{Scenery, IsScenery, forms, meaning, scope_in, names_in, MakesIn, NamesIn, ReadsIn};
+    ghost use Rattle.gib_types.specs.{Form.{form_or}, Types.{AreBelow, ArgumentsBelow, form_from, forms_at}};
+    ghost use Rattle.gib_syntax.specs.{Forms.{assign}, GenericTyping.{form_in}};
+    ghost use Rattle.gib_mono.specs.{Naming.{number_with}, Scenes.{Scenery, IsScenery, forms, meaning, scope_in, names_in, MakesIn, NamesIn, ReadsIn}};
 
     /// These types were met, and nothing is in scope or named yet.
     pub fn new(alloc: Global, types: Types) -> Scene

@@ -2,16 +2,9 @@
 
 ghost use Rattle.std.specs.Prelude.{◌≡◌, ◌≤◌, Bool, Result, Some, None, length, true, false, ◌∷◌, IfOk};
 ghost use Rattle.gib_types.specs.Types.{forms_at, AreBelow};
-ghost use Rattle.gib_syntax.specs.Declarations.{number_of};
-ghost use Rattle.gib_syntax.specs.Forms.{formed_all};
-ghost use Rattle.gib_syntax.specs.GenericTree.{GenericGlobals, place_named};
-ghost use Rattle.gib_syntax.specs.Words.{all_types, stack_of};
-ghost use Rattle.gib_mono.specs.Copying.{owner_named};
-ghost use Rattle.gib_mono.specs.Walk.{types_asks, writtens_asks};
-ghost use Rattle.gib_mono.specs.Contexts.{forms};
-ghost use Rattle.gib_mono.specs.Reading.{use_ask, AreUsesBelow};
-ghost use Rattle.gib_mono.specs.Sources.{globals_in};
-ghost use Rattle.gib_mono.specs.Searching.{AddsKey, AsksOne, AsksUses, Asks, GoesOn};
+ghost use Rattle.gib_syntax.specs.{Declarations.{number_of}, Forms.{formed_all}, GenericTree.{GenericGlobals, place_named}, Words.{all_types, stack_of}};
+ghost use Rattle.gib_mono.specs.{Copying.{owner_named}, Walk.{types_asks, writtens_asks}, Contexts.{forms}, Reading.{use_ask, AreUsesBelow}};
+ghost use Rattle.gib_mono.specs.{Sources.{globals_in}, Searching.{AddsKey, AsksOne, AsksUses, Asks, GoesOn}};
 
 use crate::context::Context;
 use crate::found::{CopyKey, Found, MonoFault};

@@ -1,8 +1,7 @@
 //! A program with type parameters, and where its names are declared.
 
 ghost use Rattle.std.specs.Prelude.{◌≡◌, ◌+◌, ◌++◌, map, IfOk};
-ghost use Rattle.gib_syntax.specs.GenericTyping.{IsTypedGeneric};
-ghost use Rattle.gib_syntax.specs.GenericParts.{generic_program_of};
+ghost use Rattle.gib_syntax.specs.{GenericTyping.{IsTypedGeneric}, GenericParts.{generic_program_of}};
 ghost use Rattle.gib_mono.specs.Sources.{row_name, rows_in, numbered, all_places, globals_in};
 
 use gib_base::{Memory, Name};
@@ -108,13 +107,9 @@ fn list_constructors(alloc: Global, program: &GenericProgram) -> Result<NameList
 
 impl Source {
     ghost use Rattle.std.specs.Prelude.{◌≤◌, ◌<◌, length, slice_get, Some, None, MatchOption};
-    ghost use Rattle.gib_syntax.specs.GenericTree.{GenericDataTree, GenericFunctionTree, data_named, generic_named, place_named};
-    ghost use Rattle.gib_syntax.specs.GenericArena.{Opens};
-    ghost use Rattle.gib_syntax.specs.GenericParts.{AreInside, IsFunctionInside};
-    ghost use Rattle.gib_syntax.specs.Words.{run_words};
-    ghost use Rattle.gib_mono.specs.Copying.{owner_named};
-    ghost use Rattle.gib_mono.specs.Found.{AreDeclarations};
-    ghost use Rattle.gib_mono.specs.Made.{IsRowOf};
+    ghost use Rattle.gib_syntax.specs.{GenericTree.{GenericDataTree, GenericFunctionTree, data_named, generic_named, place_named}, GenericArena.{Opens}};
+    ghost use Rattle.gib_syntax.specs.{GenericParts.{AreInside, IsFunctionInside}, Words.{run_words}};
+    ghost use Rattle.gib_mono.specs.{Copying.{owner_named}, Found.{AreDeclarations}, Made.{IsRowOf}};
 
     /// A program with the places of its names.
     ///

@@ -2,17 +2,10 @@
 
 ghost use Rattle.std.specs.Prelude.{◌≡◌, ◌<◌, ◌≤◌, ◌+◌, ◌*◌, ◌^◌, suc, ℕ, List, length, slice_get, Some};
 ghost use Rattle.gib_mem.specs.Memory.{Store, Grows, byte, Memory, IsBounded};
-ghost use Rattle.gib_packed.specs.Decoding.{Dec, Decs, Points};
-ghost use Rattle.gib_packed.specs.Reaching.{Leads, Turns};
-ghost use Rattle.gib_packed.specs.Walking.{Below, Reaches, Span, Walk};
-ghost use Rattle.gib_packed.specs.Fields.{Field};
-ghost use Rattle.gib_packed.specs.declared.root.Root.{Root as Root_of};
-ghost use Rattle.gib_packed.specs.Stands.{Stands};
-ghost use Rattle.gib_types.specs.declared.table.Ty.{Ty as Type_of};
-ghost use Rattle.gib_types.specs.Layout.{LaidOut, head_size, packed_at, is_among};
-ghost use Rattle.gib_types.specs.Table.{Table};
-ghost use Rattle.gib_types.specs.declared.table.Ty.TheVariants.{Tree as tree_type};
-ghost use Rattle.gib_types.specs.Tree.{Datum, Data, HasType};
+ghost use Rattle.gib_packed.specs.{Decoding.{Dec, Decs, Points}, Reaching.{Leads, Turns}, Walking.{Below, Reaches, Span, Walk}, Fields.{Field}};
+ghost use Rattle.gib_packed.specs.{declared.root.Root.{Root as Root_of}, Stands.{Stands}};
+ghost use Rattle.gib_types.specs.{declared.table.Ty.{Ty as Type_of}, Layout.{LaidOut, head_size, packed_at, is_among}, Table.{Table}};
+ghost use Rattle.gib_types.specs.{declared.table.Ty.TheVariants.{Tree as tree_type}, Tree.{Datum, Data, HasType}};
 
 /// What stands in a store stands there when the store grows, and redirects and indirections lead where they led.
 pub fn grown_keeps()

@@ -1,8 +1,7 @@
 //! Declarations and whole programs.
 
 ghost use Rattle.std.specs.Prelude.{◌≡◌, [], map, IfOk};
-ghost use Rattle.gib_syntax.specs.Spelling.{places_of};
-ghost use Rattle.gib_syntax.specs.GenericArena.{tree_of};
+ghost use Rattle.gib_syntax.specs.{Spelling.{places_of}, GenericArena.{tree_of}};
 ghost use Rattle.gib_syntax.specs.GenericParts.{IsFunctionInside, constructor_in, data_in, parameter_in, function_in, main_in, generic_program_of};
 ghost use Rattle.gib_parse.specs.Reading.{Any, Fault, At, Nested, many, is_sign, constructor_at, alternative_at, constructors_at, data_at, parameter_at, parameters_at, names_at, type_parameters_at, body_at, function_at, main_at, parse, program_at, whole};
 ghost use Rattle.gib_parse.specs.Parsing.{Fails, Gives, Reads, Stands, AllStand, IsConstructorIn, IsDataIn, IsParameterIn, IsMainIn};
@@ -39,10 +38,8 @@ fn alternative<'a>(
 
 impl Repeated for GenericConstructor {
     ghost use Rattle.gib_base.specs.declared.token.Sign.TheVariants as s;
-    ghost use Rattle.gib_syntax.specs.GenericTree.{GenericConstructorTree};
-    ghost use Rattle.gib_syntax.specs.GenericParts.{constructor_in};
-    ghost use Rattle.gib_parse.specs.Reading.{alternative_at};
-    ghost use Rattle.gib_parse.specs.Parsing.{IsConstructorIn};
+    ghost use Rattle.gib_syntax.specs.{GenericTree.{GenericConstructorTree}, GenericParts.{constructor_in}};
+    ghost use Rattle.gib_parse.specs.{Reading.{alternative_at}, Parsing.{IsConstructorIn}};
 
     ghost Tree = { GenericConstructorTree };
 
@@ -93,10 +90,8 @@ fn constructors<'a>(
 
 impl Repeated for GenericData {
     ghost use Rattle.gib_base.specs.declared.token.Sign.TheVariants as s;
-    ghost use Rattle.gib_syntax.specs.GenericTree.{GenericDataTree};
-    ghost use Rattle.gib_syntax.specs.GenericParts.{data_in};
-    ghost use Rattle.gib_parse.specs.Reading.{data_at};
-    ghost use Rattle.gib_parse.specs.Parsing.{IsDataIn};
+    ghost use Rattle.gib_syntax.specs.{GenericTree.{GenericDataTree}, GenericParts.{data_in}};
+    ghost use Rattle.gib_parse.specs.{Reading.{data_at}, Parsing.{IsDataIn}};
 
     ghost Tree = { GenericDataTree };
 
@@ -144,10 +139,8 @@ impl Repeated for GenericData {
 
 impl Repeated for GenericParameter {
     ghost use Rattle.gib_base.specs.declared.token.Sign.TheVariants as s;
-    ghost use Rattle.gib_syntax.specs.GenericTree.{GenericParameterTree};
-    ghost use Rattle.gib_syntax.specs.GenericParts.{parameter_in};
-    ghost use Rattle.gib_parse.specs.Reading.{parameter_at};
-    ghost use Rattle.gib_parse.specs.Parsing.{IsParameterIn};
+    ghost use Rattle.gib_syntax.specs.{GenericTree.{GenericParameterTree}, GenericParts.{parameter_in}};
+    ghost use Rattle.gib_parse.specs.{Reading.{parameter_at}, Parsing.{IsParameterIn}};
 
     ghost Tree = { GenericParameterTree };
 
@@ -253,8 +246,7 @@ fn type_parameters<'a>(
 
 impl Repeated for GenericFunction {
     ghost use Rattle.gib_base.specs.declared.token.Sign.TheVariants as s;
-    ghost use Rattle.gib_syntax.specs.GenericTree.{GenericFunctionTree};
-    ghost use Rattle.gib_syntax.specs.GenericParts.{IsFunctionInside, function_in};
+    ghost use Rattle.gib_syntax.specs.{GenericTree.{GenericFunctionTree}, GenericParts.{IsFunctionInside, function_in}};
     ghost use Rattle.gib_parse.specs.Reading.{Any, function_at, parse};
 
     ghost Tree = { GenericFunctionTree };

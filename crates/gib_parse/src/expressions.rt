@@ -2,12 +2,8 @@
 
 ghost use Rattle.std.specs.Prelude.{◌≡◌, ◌<◌, ◌∷◌, ℕ, List, map, length, Some, Ok, IfOk};
 ghost use Rattle.std.specs.List.{AllByRecursion};
-ghost use Rattle.gib_syntax.specs.declared.written.Word.{Word};
-ghost use Rattle.gib_syntax.specs.GenericTree.{GenericExpression, GenericBit};
-ghost use Rattle.gib_syntax.specs.GenericFine.{is_generic_application};
-ghost use Rattle.gib_syntax.specs.Spelling.{places_of};
-ghost use Rattle.gib_syntax.specs.Words.{types_in, IsTypesRun};
-ghost use Rattle.gib_syntax.specs.GenericArena.{PartsBelow, IsRunWithin, layer, tree_of, arguments_from};
+ghost use Rattle.gib_syntax.specs.{declared.written.Word.{Word}, GenericTree.{GenericExpression, GenericBit}, GenericFine.{is_generic_application}};
+ghost use Rattle.gib_syntax.specs.{Spelling.{places_of}, Words.{types_in, IsTypesRun}, GenericArena.{PartsBelow, IsRunWithin, layer, tree_of, arguments_from}};
 ghost use Rattle.gib_base.specs.declared.token.Sign.TheVariants as s;
 ghost use Rattle.gib_parse.specs.Reading.{Any, Atom, next_is, is_sign, many, starts, starts_atom, is_literal, literal_at, no_level, parse, any_at, let_at, binding_at, bind_at, par_at, if_at, case_at, arms_at, arm_at, next_arm_at, app_at, variable_at, make_at, constant_at, arguments_at, atom_at, open_at, close_at, next_part_at, tuple_at, close_any_at, open_any_at, operation_at, side_at, Fault, At, Nested};
 ghost use Rattle.gib_parse.specs.Parsing.{Fails, Gives, mode_of, Reads, AllStand, IsExpressionIn, ReadsArms, expression_tree, bound_tree, arm_tree, arms_tree, call_tree, may_call};

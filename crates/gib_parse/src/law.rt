@@ -1,11 +1,8 @@
 //! Laws of reading: functions that do nothing, whose contracts say what holds of every list of tokens.
 
 ghost use Rattle.std.specs.Prelude.{◌≡◌, ◌≤◌, ◌<◌, ◌⊎◌, ℕ, List, [], Ok, Err, length};
-ghost use Rattle.gib_base.specs.Lexed.{Lexed, IsLexed};
-ghost use Rattle.gib_base.specs.Spelling.{tokens_text};
-ghost use Rattle.gib_base.specs.declared.token.Token.{Token};
-ghost use Rattle.gib_syntax.specs.Source.{Spells};
-ghost use Rattle.gib_syntax.specs.GenericTree.{GenericProgramTree};
+ghost use Rattle.gib_base.specs.{Lexed.{Lexed, IsLexed}, Spelling.{tokens_text}, declared.token.Token.{Token}};
+ghost use Rattle.gib_syntax.specs.{Source.{Spells}, GenericTree.{GenericProgramTree}};
 ghost use Rattle.gib_syntax.specs.Spelling.{Places, spell_program, Derives, IsPlacedProgram, levels_program, Blames};
 ghost use Rattle.gib_parse.specs.Reading.{Fault, At, Nested, left_of, whole_in, whole};
 ghost use Rattle.gib_parse.specs.Blaming.{Deepens, Begun, BegunWith, Sinks, Floats, IsBlamedAt, IsTooDeepAt};

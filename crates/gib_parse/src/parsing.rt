@@ -1,11 +1,9 @@
 //! Parsing: from the tokens of a text to its program.
 
 ghost use Rattle.std.specs.Prelude.{◌≡◌, ◌≤◌, ℕ, Err, IfOk, IfErr};
-ghost use Rattle.gib_syntax.specs.GenericTree.{GenericProgramTree};
-ghost use Rattle.gib_syntax.specs.Spelling.{Derives, IsPlacedProgram, places_of, levels_program};
+ghost use Rattle.gib_syntax.specs.{GenericTree.{GenericProgramTree}, Spelling.{Derives, IsPlacedProgram, places_of, levels_program}};
 ghost use Rattle.gib_syntax.specs.GenericParts.{generic_program_of};
-ghost use Rattle.gib_parse.specs.Answers.{AnswersRead, AnswersOnly, AnswersFault};
-ghost use Rattle.gib_parse.specs.Blaming.{IsBlamedAt, IsTooDeepAt};
+ghost use Rattle.gib_parse.specs.{Answers.{AnswersRead, AnswersOnly, AnswersFault}, Blaming.{IsBlamedAt, IsTooDeepAt}};
 
 use crate::declarations::whole;
 use gib_lex::Tokens;

@@ -1,10 +1,7 @@
 //! Types: words, read from left to right with a stack of what stands open, since types nest without a bound.
 
 ghost use Rattle.std.specs.Prelude.{◌≡◌, ◌<◌, [], ◌∷◌, map, length, IfOk, IfErr};
-ghost use Rattle.gib_syntax.specs.Forms.{DataAt, NoType};
-ghost use Rattle.gib_syntax.specs.GenericParts.{results_in};
-ghost use Rattle.gib_syntax.specs.Spelling.{places_of};
-ghost use Rattle.gib_syntax.specs.Words.{stack_of, run_words, types_in, type_in};
+ghost use Rattle.gib_syntax.specs.{Forms.{DataAt, NoType}, GenericParts.{results_in}, Spelling.{places_of}, Words.{stack_of, run_words, types_in, type_in}};
 ghost use Rattle.gib_parse.specs.Reading.{Fault, At, then_at, inside, type_at, bracket_at, type_arguments_at, next_type_at, further_types_at, one_type_at, declared_at, open_results_at, results_at, starts_type, is_sign, next_is, many};
 ghost use Rattle.gib_parse.specs.OpenTypes.{counted};
 ghost use Rattle.gib_parse.specs.Parsing.{Fails, Gives, Follows, FailsHere, ReadsWords, ReadsAllWords, Stands, AllStand, IsTypeIn, AreTypesIn, AreResultsIn};
@@ -181,12 +178,8 @@ impl Model for TypeReader {
 impl TypeReader {
     ghost use Rattle.std.specs.Prelude.{◌≡◌, [], ◌∷◌, ◌++◌, false, List, length, IfOk, IfErr};
     ghost use Rattle.gib_base.specs.declared.token.Token.{Token as Piece};
-    ghost use Rattle.gib_syntax.specs.Forms.{WrittenType};
-    ghost use Rattle.gib_syntax.specs.Spelling.{Places, places_of};
-    ghost use Rattle.gib_syntax.specs.declared.written.Word.{Word as TheWord};
-    ghost use Rattle.gib_parse.specs.Reading.{Read};
-    ghost use Rattle.gib_parse.specs.Parsing.{Fails, Follows, ReadsWords};
-    ghost use Rattle.gib_parse.specs.OpenTypes.{TypeState, open_type, counted, InType, AfterToken};
+    ghost use Rattle.gib_syntax.specs.{Forms.{WrittenType}, Spelling.{Places, places_of}, declared.written.Word.{Word as TheWord}};
+    ghost use Rattle.gib_parse.specs.{Reading.{Read}, Parsing.{Fails, Follows, ReadsWords}, OpenTypes.{TypeState, open_type, counted, InType, AfterToken}};
 
     /// A declared type begins.
     fn new(alloc: Global, words: Vec<Word>, span: Span, name: Ident) -> Result<TypeReader, Stop>
@@ -399,10 +392,8 @@ pub(crate) fn types<'a>(
 
 impl Repeated for Run {
     ghost use Rattle.gib_base.specs.declared.token.Sign.TheVariants as s;
-    ghost use Rattle.gib_syntax.specs.Forms.{WrittenType};
-    ghost use Rattle.gib_syntax.specs.Words.{type_in};
-    ghost use Rattle.gib_parse.specs.Reading.{next_type_at};
-    ghost use Rattle.gib_parse.specs.Parsing.{IsTypeIn};
+    ghost use Rattle.gib_syntax.specs.{Forms.{WrittenType}, Words.{type_in}};
+    ghost use Rattle.gib_parse.specs.{Reading.{next_type_at}, Parsing.{IsTypeIn}};
 
     ghost Tree = { WrittenType };
 

@@ -2,11 +2,8 @@
 
 ghost use Rattle.std.specs.Prelude.{◌≡◌, ◌<◌, length, map, IfOk};
 ghost use Rattle.std.specs.List.{AllByRecursion};
-ghost use Rattle.gib_core.specs.Arena.{term_of};
-ghost use Rattle.gib_core.specs.Parts.{IsFunctionInside, function_term, main_term};
-ghost use Rattle.gib_place.specs.Numbering.{number_anew};
-ghost use Rattle.gib_place.specs.Placing.{place_body as body_placed};
-ghost use Rattle.gib_place.specs.Made.{MakesTerm, PlacesFunction, PlacesFunctions, PlacesMain};
+ghost use Rattle.gib_core.specs.{Arena.{term_of}, Parts.{IsFunctionInside, function_term, main_term}};
+ghost use Rattle.gib_place.specs.{Numbering.{number_anew}, Placing.{place_body as body_placed}, Made.{MakesTerm, PlacesFunction, PlacesFunctions, PlacesMain}};
 
 use crate::placing::{Placing, Scratch};
 use crate::renumber::{copy_term, numbers_of};

@@ -1,17 +1,15 @@
 //! Examples of what is placed.
 
 ghost use Rattle.std.specs.Prelude.{◌≡◌, ◌∷◌, [], ℕ, pos, false};
-ghost use Rattle.gib_types.specs.declared.table.Ty.{Ty as FieldType};
+ghost use Rattle.gib_types.specs.{declared.table.Ty.{Ty as FieldType}, declared.table.ConId.{ConId as Con}};
 ghost use Rattle.gib_types.specs.declared.table.Ty.TheVariants as ty;
-ghost use Rattle.gib_types.specs.declared.table.ConId.{ConId as Con};
 ghost use Rattle.gib_types.specs.declared.operator.Operator.TheVariants as o;
 ghost use Rattle.gib_core.specs.declared.atom.Atom.TheVariants as a;
 ghost use Rattle.gib_core.specs.declared.atom.Kind.TheVariants as kind;
 ghost use Rattle.gib_core.specs.declared.atom.Variable.{Variable as X};
-ghost use Rattle.gib_base.specs.declared.name.Name.{Name as Fun};
 ghost use Rattle.gib_core.specs.Tree.{Term, Then, Write, Point, CallTerm, Tuple, NoPart, PartThen, Past, One, Both, Prim, Side, On, Several, var};
-ghost use Rattle.gib_place.specs.Placing.{place_body};
-ghost use Rattle.gib_place.specs.Numbering.{number_anew};
+ghost use Rattle.gib_base.specs.declared.name.Name.{Name as Fun};
+ghost use Rattle.gib_place.specs.{Placing.{place_body}, Numbering.{number_anew}};
 
 /// Fields over `data Tree = Leaf Int | Node Tree Tree`.
 pub fn examples()

@@ -3,10 +3,8 @@
 ghost use Rattle.std.specs.Prelude.{◌≡◌, ◌<◌, suc, Bool, List, [], ◌∷◌, take, drop, length, Some, IfOk};
 ghost use Rattle.std.specs.List.{AllByRecursion};
 ghost use Rattle.gib_types.specs.declared.table.ConId.{ConId as Con};
-ghost use Rattle.gib_core.specs.Arena.{IsBindingBelow, PartsBelow, term_of, bind_from, binds_from, layer};
-ghost use Rattle.gib_core.specs.Tree.{Past, Write, prepend};
-ghost use Rattle.gib_core.specs.declared.atom.Atom.{Atom as Operand};
-ghost use Rattle.gib_core.specs.declared.atom.Variable.{Variable as X};
+ghost use Rattle.gib_core.specs.{Arena.{IsBindingBelow, PartsBelow, term_of, bind_from, binds_from, layer}, Tree.{Past, Write, prepend}};
+ghost use Rattle.gib_core.specs.{declared.atom.Atom.{Atom as Operand}, declared.atom.Variable.{Variable as X}};
 ghost use Rattle.gib_place.specs.Placing.{ending_of, filling_of, room_first, place_line, laid_line, lay as laid};
 ghost use Rattle.gib_place.specs.Filled.{field_of as field_in, ending_from, bindings_first, room_in, filling_from, AreFound, IsFound, once_by, ending_with, IsLineOf, IsOtherEnd};
 ghost use Rattle.gib_place.specs.Made.{MakesTerm};

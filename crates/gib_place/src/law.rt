@@ -3,14 +3,8 @@
 ghost use Rattle.std.specs.Prelude.{◌≡◌, ℕ, List};
 ghost use Rattle.gib_types.specs.Tree.{Datum};
 ghost use Rattle.gib_syntax.specs.Tree.{DataTree};
-ghost use Rattle.gib_core.specs.Erasing.{erase_core};
-ghost use Rattle.gib_core.specs.Tree.{CoreTree};
-ghost use Rattle.gib_core.specs.Meaning.{core_calls, core_run};
-ghost use Rattle.gib_core.specs.Numbering.{AreNumbered};
-ghost use Rattle.gib_core.specs.Reachable.{AreReachable};
-ghost use Rattle.gib_place.specs.Numbering.{place_core};
-ghost use Rattle.gib_place.specs.Placing.{place_bodies};
-ghost use Rattle.gib_place.specs.SameSource.{IsSameProgram};
+ghost use Rattle.gib_core.specs.{Erasing.{erase_core}, Tree.{CoreTree}, Meaning.{core_calls, core_run}, Numbering.{AreNumbered}, Reachable.{AreReachable}};
+ghost use Rattle.gib_place.specs.{Numbering.{place_core}, Placing.{place_bodies}, SameSource.{IsSameProgram}};
 
 /// To place fields keeps what a numbered core means, and that it is numbered.
 pub fn placing_keeps_the_meaning()

@@ -1,12 +1,8 @@
 //! A line that fills a head is laid anew, with the fields placed that can be.
 
 ghost use Rattle.std.specs.Prelude.{◌≡◌, ◌≤◌, ◌+◌, ◌++◌, ◌&&◌, ℕ, List, map, length, IfOk, OnOk};
-ghost use Rattle.gib_core.specs.Tree.{Term};
-ghost use Rattle.gib_core.specs.Inferring.{as_atoms};
-ghost use Rattle.gib_core.specs.Reaching.{is_variable as is_this};
-ghost use Rattle.gib_core.specs.declared.atom.Variable.{Variable as X};
-ghost use Rattle.gib_place.specs.declared.field.Field.{Field as Pointing};
-ghost use Rattle.gib_place.specs.Placing.{are_fields as name_fields};
+ghost use Rattle.gib_core.specs.{Tree.{Term}, Inferring.{as_atoms}, Reaching.{is_variable as is_this}, declared.atom.Variable.{Variable as X}};
+ghost use Rattle.gib_place.specs.{declared.field.Field.{Field as Pointing}, Placing.{are_fields as name_fields}};
 ghost use Rattle.gib_place.specs.Filled.{once_by, ArePointing, AreLate, Opens, Puts, LaysSpot, Lays, LaysLine, IsLineOf};
 
 use crate::field::Field;

@@ -1,9 +1,7 @@
 //! Variables one behind another, from a first one on.
 
 ghost use Rattle.std.specs.Prelude.{◌≡◌, ◌+◌, IfOk, OnOk};
-ghost use Rattle.gib_core.specs.PartTypes.{types_in};
-ghost use Rattle.gib_core.specs.Rules.{is_among};
-ghost use Rattle.gib_core.specs.Tree.{variables_from};
+ghost use Rattle.gib_core.specs.{PartTypes.{types_in}, Rules.{is_among}, Tree.{variables_from}};
 ghost use Rattle.gib_place.specs.Late.{NotesAll, side_variables};
 
 use gib_base::Memory;

@@ -2,12 +2,9 @@
 
 ghost use Rattle.std.specs.Prelude.{◌≡◌, ◌<◌, ◌≤◌, ◌++◌, ℕ, suc, Bool, List, not, length, drop};
 ghost use Rattle.std.specs.List.{list_any};
-ghost use Rattle.gib_core.specs.Arena.{IsBindingBelow, term_in, bind_from, side_from};
-ghost use Rattle.gib_core.specs.Reaching.{is_variable as is_this};
-ghost use Rattle.gib_core.specs.Tree.{Term, One, Both, variables_of};
-ghost use Rattle.gib_core.specs.declared.atom.Variable.{Variable as X};
-ghost use Rattle.gib_place.specs.declared.field.Field.{Field as Pointing};
-ghost use Rattle.gib_place.specs.Late.{is_late_or};
+ghost use Rattle.gib_core.specs.{Arena.{IsBindingBelow, term_in, bind_from, side_from}, Reaching.{is_variable as is_this}};
+ghost use Rattle.gib_core.specs.{Tree.{Term, One, Both, variables_of}, declared.atom.Variable.{Variable as X}};
+ghost use Rattle.gib_place.specs.{declared.field.Field.{Field as Pointing}, Late.{is_late_or}};
 ghost use Rattle.gib_place.specs.Placing.{cut_at as cut, are_there, are_none, place_at, place_side, place_right, place_too, place_bind};
 ghost use Rattle.gib_place.specs.Filled.{once_by, cut_from, taken, side_at, side_placed, IsPlace, IsTaken, IsTakenBelow, IsFirst, placed_at, bind_placed, IsSpot, IsSpotBelow, AreLate};
 

@@ -4,8 +4,7 @@ ghost use Rattle.std.specs.Prelude.{◌≡◌, ◌<◌, map, length, Some, IfOk}
 ghost use Rattle.std.specs.List.{AllByRecursion};
 ghost use Rattle.gib_core.specs.Arena.{IsBindingBelow, IsBranchBelow, IsPartBelow, PartsBelow, IsEnd, term_in, term_of, side_from, bind_from, binds_from, parts_from, branches_from, layer};
 ghost use Rattle.gib_core.specs.Tree.{prepend};
-ghost use Rattle.gib_place.specs.Placing.{place, place_line, place_inner, inner_bind, inner_side, inner_parts, inner_branches};
-ghost use Rattle.gib_place.specs.Filled.{once_by, IsBranching};
+ghost use Rattle.gib_place.specs.{Placing.{place, place_line, place_inner, inner_bind, inner_side, inner_parts, inner_branches}, Filled.{once_by, IsBranching}};
 ghost use Rattle.gib_place.specs.Made.{MakesTerm, MakesBinding, MakesBindings, MakesSide, MakesEnd, MakesParts, MakesBranch, MakesBranches};
 
 use crate::filling::{fill, put_other_line};

@@ -2,13 +2,9 @@
 
 ghost use Rattle.std.specs.Prelude.{◌≡◌, ◌<◌, ◌+◌, ℕ, [], ◌∷◌, ◌++◌, None, Some, MatchOption, OnOk, IfOk, drop, length};
 ghost use Rattle.gib_base.specs.declared.Span.{Span};
-ghost use Rattle.gib_syntax.specs.declared.tree.Ident.{Ident};
-ghost use Rattle.gib_syntax.specs.Tree.{Expression, Case};
-ghost use Rattle.gib_syntax.specs.Arena.{layer, tree_of, arguments_from, case_from};
-ghost use Rattle.gib_syntax.specs.Parts.{program_of, function_tree};
-ghost use Rattle.gib_syntax.specs.Declarations.{table_of_program, constructor_named, function_named};
-ghost use Rattle.gib_plain.specs.Running.{IsNext, expressions_of, fields_made, types_in, arm_of};
-ghost use Rattle.gib_plain.specs.Turns.{in_turn};
+ghost use Rattle.gib_syntax.specs.{declared.tree.Ident.{Ident}, Tree.{Expression, Case}, Arena.{layer, tree_of, arguments_from, case_from}};
+ghost use Rattle.gib_syntax.specs.{Parts.{program_of, function_tree}, Declarations.{table_of_program, constructor_named, function_named}};
+ghost use Rattle.gib_plain.specs.{Running.{IsNext, expressions_of, fields_made, types_in, arm_of}, Turns.{in_turn}};
 
 use crate::turns::argument_at;
 use gib_base::{Memory, Name};

@@ -3,20 +3,14 @@
 ghost use Rattle.std.specs.Prelude.{◌≡◌, ◌<◌, ◌≤◌, ◌+◌, ◌-◌, [], ◌∷◌, ◌++◌, ℕ, List, length, map, drop, MatchOption, OnOk, OnErr, IfOk, if◌then◌else◌, true, false, is_ok};
 ghost use Rattle.std.specs.Prelude.{pos};
 ghost use Rattle.gib_types.specs.Tree.{Datum, whole, truth, con as con_of, data_of};
-ghost use Rattle.gib_value.specs.Heap.{value_of};
+ghost use Rattle.gib_value.specs.{Heap.{value_of}, Heap.{IsWithin}};
 ghost use Rattle.gib_syntax.specs.Meaning.{bind, bind_results, tuple, value_in, parts, Deep, outcome, number_in, is_true, names_of, run};
-ghost use Rattle.gib_syntax.specs.Declarations.{table_of_program};
-ghost use Rattle.gib_syntax.specs.Parts.{program_of};
-ghost use Rattle.gib_syntax.specs.Arena.{tree_of};
+ghost use Rattle.gib_syntax.specs.{Declarations.{table_of_program}, Parts.{program_of}, Arena.{tree_of}, declared.tree.Ident.{Ident}};
+ghost use Rattle.gib_syntax.specs.{Tree.{Arguments, Call, Make, Case, Tuple}, Arena.{arguments_from, case_from, ArmsBelow}};
 ghost use Rattle.gib_plain.specs.Running.{Waiting, Entering, Leaving, Ended, doing_for, IsScalar, IsMadeBy, with_done, value_at, is_over, IsReady, ComesTo, Goes, owes, complete, finished, finished_cost, complete_cost, frame_at, types_in, code_of, Code};
+ghost use Rattle.gib_plain.specs.{Told.{told}, Turns.{in_place}};
 ghost use Rattle.gib_base.specs.declared.Span.{Span};
-ghost use Rattle.gib_syntax.specs.declared.tree.Ident.{Ident};
-ghost use Rattle.gib_syntax.specs.Tree.{Arguments, Call, Make, Case, Tuple};
-ghost use Rattle.gib_syntax.specs.Arena.{arguments_from, case_from, ArmsBelow};
 ghost use Rattle.std.specs.List.{AllByRecursion};
-ghost use Rattle.gib_value.specs.Heap.{IsWithin};
-ghost use Rattle.gib_plain.specs.Told.{told};
-ghost use Rattle.gib_plain.specs.Turns.{in_place};
 
 use crate::lookup::{Next, arm, function, next_part, push_types, tuple_part};
 use crate::operators::{operated, truth_of};

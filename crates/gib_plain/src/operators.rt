@@ -4,8 +4,7 @@ ghost use Rattle.std.specs.Prelude.{◌≡◌, ℕ, List, false};
 ghost use Rattle.gib_types.specs.Tree.{Datum};
 ghost use Rattle.gib_value.specs.Heap.{value_of, IsWithin};
 ghost use Rattle.gib_syntax.specs.Meaning.{operate, is_by_zero, outcome, number_in, is_true};
-ghost use Rattle.gib_plain.specs.Running.{doing_for};
-ghost use Rattle.gib_plain.specs.Machines.{doing_of, IsNowWithin};
+ghost use Rattle.gib_plain.specs.{Running.{doing_for}, Machines.{doing_of, IsNowWithin}};
 
 use crate::machine::Now;
 use gib_types::{Operator, Reason};

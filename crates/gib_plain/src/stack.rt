@@ -5,8 +5,7 @@ ghost use Rattle.std.specs.List.{AllByRecursion};
 ghost use Rattle.gib_types.specs.Tree.{Datum};
 ghost use Rattle.gib_value.specs.Heap.{value_of, IsWithin};
 ghost use Rattle.gib_syntax.specs.Meaning.{bind, bind_results, parts, value_in, names_of};
-ghost use Rattle.gib_plain.specs.Running.{value_at};
-ghost use Rattle.gib_plain.specs.Stacks.{cut, bindings_of, env_of, Adds, IsBound};
+ghost use Rattle.gib_plain.specs.{Running.{value_at}, Stacks.{cut, bindings_of, env_of, Adds, IsBound}};
 
 use gib_base::{Memory, Name};
 use gib_syntax::{Ident, Parameter};

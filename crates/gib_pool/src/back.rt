@@ -3,13 +3,9 @@
 ghost use Rattle.std.specs.Prelude.{◌≡◌, ◌<◌, ◌≤◌, ◌++◌, ◌∷◌, [], ℕ, List, Option, Some};
 ghost use Rattle.crossbeam_deque.specs.Handles.{worker_deque, worker_view};
 ghost use Rattle.gib_mem.specs.Memory.{Grows, fresh};
-ghost use Rattle.gib_arena.specs.Sums.{times_path};
-ghost use Rattle.gib_arena.specs.Passes.{view, cells, IsOf};
-ghost use Rattle.gib_frame.specs.declared.due.Due.{Due};
-ghost use Rattle.gib_frame.specs.Dues.{frame_due};
-ghost use Rattle.gib_pool.specs.Lent.{Lends, path};
-ghost use Rattle.gib_pool.specs.Mine.{IsMine};
-ghost use Rattle.gib_pool.specs.Backs.{IsBack, IsLatest};
+ghost use Rattle.gib_arena.specs.{Sums.{times_path}, Passes.{view, cells, IsOf}};
+ghost use Rattle.gib_frame.specs.{declared.due.Due.{Due}, Dues.{frame_due}};
+ghost use Rattle.gib_pool.specs.{Lent.{Lends, path}, Mine.{IsMine}, Backs.{IsBack, IsLatest}};
 
 use crate::forks::{Forks, take_back};
 use crate::permits::Permit;

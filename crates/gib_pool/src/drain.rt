@@ -2,15 +2,10 @@
 
 ghost use Rattle.std.specs.Prelude.{◌≡◌, ◌≤◌, []};
 ghost use Rattle.crossbeam_deque.specs.Handles.{worker_deque, worker_view};
-ghost use Rattle.gib_core.specs.Cost.{Cost};
-ghost use Rattle.gib_core.specs.LoweredParts.{LoweredParts};
+ghost use Rattle.gib_core.specs.{Cost.{Cost}, LoweredParts.{LoweredParts}};
 ghost use Rattle.gib_arena.specs.Passes.{view, IsOf};
 ghost use Rattle.gib_frame.specs.Answers.{IsPaid, drawn_by};
-ghost use Rattle.gib_pool.specs.Active.{IsSamePass};
-ghost use Rattle.gib_pool.specs.Lent.{Lends};
-ghost use Rattle.gib_pool.specs.Mine.{IsMine};
-ghost use Rattle.gib_pool.specs.Frames.{lent_of, AreHere};
-ghost use Rattle.gib_pool.specs.Turn.{Pays};
+ghost use Rattle.gib_pool.specs.{Active.{IsSamePass}, Lent.{Lends}, Mine.{IsMine}, Frames.{lent_of, AreHere}, Turn.{Pays}};
 
 use crate::back::settle;
 use crate::forks::Forks;

@@ -4,23 +4,12 @@ ghost use Rattle.std.specs.Prelude.{◌≡◌, ◌<◌, ◌+◌, ◌^◌, ◌∷
 ghost use Rattle.crossbeam_deque.specs.Handles.{worker_deque, worker_view};
 ghost use Rattle.gib_mem.specs.Memory.{fresh};
 ghost use Rattle.gib_core.specs.Parts.{core_of};
-ghost use Rattle.gib_machine.specs.State.{widest};
-ghost use Rattle.gib_machine.specs.Machine.{next};
-ghost use Rattle.gib_machine.specs.Sides.{right_of};
+ghost use Rattle.gib_machine.specs.{State.{widest}, Machine.{next}, Sides.{right_of}, Stepping.{with_tails}, declared.turn.Turn.TheVariants.{AtFork}};
 ghost use Rattle.gib_machine.specs.State as asks;
-ghost use Rattle.gib_machine.specs.Stepping.{with_tails};
-ghost use Rattle.gib_machine.specs.declared.turn.Turn.TheVariants.{AtFork};
-ghost use Rattle.gib_weave.specs.Owing.{Debt};
-ghost use Rattle.gib_weave.specs.Sound.{SideSafe};
+ghost use Rattle.gib_weave.specs.{Owing.{Debt}, Sound.{SideSafe}};
 ghost use Rattle.gib_arena.specs.Passes.{cells, IsOf};
-ghost use Rattle.gib_frame.specs.declared.due.Due.{Due};
-ghost use Rattle.gib_frame.specs.Answers.{drawn_by};
-ghost use Rattle.gib_frame.specs.Dues.{frame_due};
-ghost use Rattle.gib_pool.specs.Frames.{due_maybe, AreHere};
-ghost use Rattle.gib_pool.specs.Active.{Holds, IsHere, IsOn, IsSamePass, StandsAt};
-ghost use Rattle.gib_pool.specs.Lent.{Lends};
-ghost use Rattle.gib_pool.specs.Mine.{IsMine};
-ghost use Rattle.gib_pool.specs.Turn.{IsFor};
+ghost use Rattle.gib_frame.specs.{declared.due.Due.{Due}, Answers.{drawn_by}, Dues.{frame_due}};
+ghost use Rattle.gib_pool.specs.{Frames.{due_maybe, AreHere}, Active.{Holds, IsHere, IsOn, IsSamePass, StandsAt}, Lent.{Lends}, Mine.{IsMine}, Turn.{IsFor}};
 
 use crate::active::ActiveTask;
 use crate::forks::{Forks, are_enough};

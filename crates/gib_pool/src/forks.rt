@@ -2,8 +2,7 @@
 
 ghost use Rattle.std.specs.Prelude.{◌≡◌, [], ◌∷◌, ◌++◌, IfOk, IfErr, IfSome, IfNone};
 ghost use Rattle.crossbeam_deque.specs.Handles.{IsPassOf, stealer_deque, worker_deque, worker_view, view};
-ghost use Rattle.gib_pool.specs.Mine.{IsMine};
-ghost use Rattle.gib_pool.specs.Stacks.{own, guest, due_of};
+ghost use Rattle.gib_pool.specs.{Mine.{IsMine}, Stacks.{own, guest, due_of}};
 
 use crossbeam_deque::protocol::{Lesson, Outcome, Protocol};
 use crossbeam_deque::{Pass, Steal, Stealer, Worker};

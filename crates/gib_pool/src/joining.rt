@@ -3,11 +3,9 @@
 ghost use Rattle.std.specs.Prelude.{◌≡◌, IsOk, Some};
 ghost use Rattle.crossbeam_deque.specs.Handles.{worker_deque, worker_view};
 ghost use Rattle.gib_types.specs.declared.reason.Reason.{Reason};
-ghost use Rattle.gib_machine.specs.Sides.{unwinding};
-ghost use Rattle.gib_machine.specs.declared.turn.Turn.TheVariants.{AtJoin};
+ghost use Rattle.gib_machine.specs.{Sides.{unwinding}, declared.turn.Turn.TheVariants.{AtJoin}};
 ghost use Rattle.gib_weave.specs.Owing.{Debt};
-ghost use Rattle.gib_pool.specs.Active.{Goes, Holds, IsHere, StandsAt};
-ghost use Rattle.gib_pool.specs.Mine.{IsMine};
+ghost use Rattle.gib_pool.specs.{Active.{Goes, Holds, IsHere, StandsAt}, Mine.{IsMine}};
 
 use crate::active::ActiveTask;
 use crate::back::{Back, settle};

@@ -2,33 +2,17 @@
 
 ghost use Rattle.std.specs.Prelude.{◌≡◌, ◌<◌, ◌^◌, ◌∷◌, length, ℕ, List, [], Option, Some};
 ghost use Rattle.atomic_table.specs.Table.{State as TableState};
-ghost use Rattle.gib_types.specs.declared.table.Ty.{Ty};
-ghost use Rattle.gib_types.specs.Layout.{LaidOut};
-ghost use Rattle.gib_syntax.specs.Meaning.{Outcome};
-ghost use Rattle.gib_syntax.specs.Results.{Results};
+ghost use Rattle.gib_types.specs.{declared.table.Ty.{Ty}, Layout.{LaidOut}};
+ghost use Rattle.gib_syntax.specs.{Meaning.{Outcome}, Results.{Results}};
 ghost use Rattle.gib_mem.specs.Memory.{IsBounded, Memory, Store};
-ghost use Rattle.gib_core.specs.LoweredParts.{IsWhole, LoweredParts};
-ghost use Rattle.gib_core.specs.Parts.{core_of};
+ghost use Rattle.gib_core.specs.{LoweredParts.{IsWhole, LoweredParts}, Parts.{core_of}};
 ghost use Rattle.gib_code.specs.declared.answer.Answer.{Answer};
-ghost use Rattle.gib_machine.specs.State.{State};
-ghost use Rattle.gib_machine.specs.Machine.{next};
-ghost use Rattle.gib_machine.specs.Sides.{Waiting, side_start};
-ghost use Rattle.gib_weave.specs.Owing.{Debt};
-ghost use Rattle.gib_weave.specs.Places.{IsSmall};
-ghost use Rattle.gib_weave.specs.Sound.{IsAnswer, SideSafe};
-ghost use Rattle.gib_arena.specs.declared.memory.Pass.{Pass};
-ghost use Rattle.gib_arena.specs.declared.view.View.{View};
-ghost use Rattle.gib_arena.specs.Cells.{cells_of};
-ghost use Rattle.gib_arena.specs.Passes.{view};
-ghost use Rattle.gib_arena.specs.Rule.{ArenaRule};
-ghost use Rattle.gib_arena.specs.Says.{IsPass};
-ghost use Rattle.gib_arena.specs.Steps.{split_left, split_right, joined_view, saw};
-ghost use Rattle.gib_arena.specs.Sums.{times_path};
+ghost use Rattle.gib_machine.specs.{State.{State}, Machine.{next}, Sides.{Waiting, side_start}, Levels.{IsWithin}};
+ghost use Rattle.gib_weave.specs.{Owing.{Debt}, Places.{IsSmall}, Sound.{IsAnswer, SideSafe}};
+ghost use Rattle.gib_arena.specs.{declared.memory.Pass.{Pass}, declared.view.View.{View}, Cells.{cells_of}, Passes.{view}, Rule.{ArenaRule}, Says.{IsPass}};
+ghost use Rattle.gib_arena.specs.{Steps.{split_left, split_right, joined_view, saw}, Sums.{times_path}};
 ghost use Rattle.gib_frame.specs.declared.due.Due.{Due};
-ghost use Rattle.gib_pool.specs.Lent.{Lends, path};
-ghost use Rattle.gib_pool.specs.Together.{Together, fresh_to};
-ghost use Rattle.gib_pool.specs.Turn.{Works, WorksAfter, WorksOn, Wider};
-ghost use Rattle.gib_machine.specs.Levels.{IsWithin};
+ghost use Rattle.gib_pool.specs.{Lent.{Lends, path}, Together.{Together, fresh_to}, Turn.{Works, WorksAfter, WorksOn, Wider}};
 
 /// Who begins a right side owes what it owes, with no right sides of its own, and drew nothing.
 pub fn a_side_begins()

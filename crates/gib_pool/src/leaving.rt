@@ -5,8 +5,7 @@ ghost use Rattle.crossbeam_deque.specs.Handles.{worker_deque, worker_view};
 ghost use Rattle.gib_arena.specs.Passes.{view};
 ghost use Rattle.gib_core.specs.LoweredParts.{LoweredParts};
 ghost use Rattle.gib_weave.specs.Owing.{Debt};
-ghost use Rattle.gib_pool.specs.Active.{Holds, IsHere, IsBackWhole, PaysStill, Settles};
-ghost use Rattle.gib_pool.specs.Mine.{IsMine};
+ghost use Rattle.gib_pool.specs.{Active.{Holds, IsHere, IsBackWhole, PaysStill, Settles}, Mine.{IsMine}};
 
 use crate::active::ActiveTask;
 use crate::drain::drain_frames;

@@ -1,7 +1,6 @@
 //! How many workers run at a time.
 
-ghost use Rattle.gib_frame.specs.Answers.{Delivers};
-ghost use Rattle.gib_frame.specs.Dues.{frame_due};
+ghost use Rattle.gib_frame.specs.{Answers.{Delivers}, Dues.{frame_due}};
 
 use gib_arena::Pass;
 use gib_frame::{Ending, Frame, wait_answer};

@@ -5,8 +5,7 @@ ghost use Rattle.gib_code.specs.Instruction.{instruction_of};
 ghost use Rattle.gib_machine.specs.Sides.{fork_of};
 ghost use Rattle.gib_weave.specs.Owing.{Debt};
 ghost use Rattle.gib_pool.specs.Forking as spec;
-ghost use Rattle.gib_pool.specs.Active.{Holds, IsOver, OwesStill};
-ghost use Rattle.gib_pool.specs.Victims.{deques, victims, listed, in_turn};
+ghost use Rattle.gib_pool.specs.{Active.{Holds, IsOver, OwesStill}, Victims.{deques, victims, listed, in_turn}};
 
 use crate::active::ActiveTask;
 use crate::forks::new_forks;

@@ -3,8 +3,7 @@
 ghost use Rattle.std.specs.Prelude.{◌≡◌};
 ghost use Rattle.crossbeam_deque.specs.Handles.{worker_deque, worker_view};
 ghost use Rattle.gib_weave.specs.Owing.{Debt};
-ghost use Rattle.gib_pool.specs.Active.{Goes, Holds, IsHere, IsOver, OwesStill};
-ghost use Rattle.gib_pool.specs.Mine.{IsMine};
+ghost use Rattle.gib_pool.specs.{Active.{Goes, Holds, IsHere, IsOver, OwesStill}, Mine.{IsMine}};
 
 use crate::active::ActiveTask;
 use crate::forking::fork_here;

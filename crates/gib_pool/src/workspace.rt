@@ -2,10 +2,7 @@
 
 ghost use Rattle.std.specs.Prelude.{◌≡◌, ◌≤◌, IsTrue, IfOk};
 ghost use Rattle.std.specs.Vec.{vec_capacity};
-ghost use Rattle.gib_machine.specs.Frames.{FitsFrame};
-ghost use Rattle.gib_machine.specs.State.{widest};
-ghost use Rattle.gib_machine.specs.Sides.{side_start};
-ghost use Rattle.gib_machine.specs.Starting.{waiting_of};
+ghost use Rattle.gib_machine.specs.{Frames.{FitsFrame}, State.{widest}, Sides.{side_start}, Starting.{waiting_of}};
 
 use gib_base::Memory;
 use gib_code::{Code, Side};

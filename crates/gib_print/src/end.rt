@@ -1,8 +1,7 @@
 //! Passes a value whose text becomes an item.
 
 ghost use Rattle.std.specs.Prelude.{◌≡◌, ◌<◌, ◌≤◌, ◌+◌, ◌∷◌, ℕ, List, length, drop, reverse, vec_len, vec_capacity, IsTrue, IsFalse, IfSome, IfNone, suc};
-ghost use Rattle.gib_types.specs.Tree.{Datum};
-ghost use Rattle.gib_types.specs.declared.table.TyId.{TyId};
+ghost use Rattle.gib_types.specs.{Tree.{Datum}, declared.table.TyId.{TyId}};
 ghost use Rattle.gib_packed.specs.Decoding.{Dec, Decodes};
 ghost use Rattle.gib_print.specs.Cut.{Comes, IsLeft};
 

@@ -2,9 +2,7 @@
 
 ghost use Rattle.std.specs.Prelude.{◌≡◌, ℕ, List, OnOk};
 ghost use Rattle.gib_value.specs.Text.{AreHeld};
-ghost use Rattle.gib_print.specs.Cut.{IsItem};
-ghost use Rattle.gib_print.specs.Framing.{printed_text, IsPrintable};
-ghost use Rattle.gib_print.specs.Sending.{Sent};
+ghost use Rattle.gib_print.specs.{Cut.{IsItem}, Framing.{printed_text, IsPrintable}, Sending.{Sent}};
 
 use crate::fault::PrintFault;
 use crate::piece::{Piece, put_piece};

@@ -5,17 +5,13 @@ ghost use Rattle.gib_base.specs.declared.Span.{Span};
 ghost use Rattle.gib_base.specs.declared.token.Sign.TheVariants as s;
 ghost use Rattle.gib_base.specs.declared.token.Token.TheVariants as t;
 ghost use Rattle.gib_types.specs.Tree.{whole, con, none, more};
-ghost use Rattle.gib_syntax.specs.declared.tree.Ident.{Ident};
-ghost use Rattle.gib_syntax.specs.declared.tree.Parameter.{Parameter};
-ghost use Rattle.gib_syntax.specs.declared.tree.TypeName.{TypeName};
+ghost use Rattle.gib_syntax.specs.{declared.tree.Ident.{Ident}, declared.tree.Parameter.{Parameter}, declared.tree.TypeName.{TypeName}};
+ghost use Rattle.gib_syntax.specs.Tree.{Expression, Var, Num, Op, Call, Make, Par, If, Tuple, LetSeveral, NoArgument, Argument, ProgramTree};
+ghost use Rattle.gib_syntax.specs.{Results.{One, Several}, Forms.{WholeAt, VariableAt, DataAt, NoType, MoreTypes}};
+ghost use Rattle.gib_syntax.specs.GenericTree.{GenericVar, GenericNum, GenericParen, GenericOp, GenericCall, GenericLet, GenericTuple, GenericNoArgument, GenericArgument};
+ghost use Rattle.gib_syntax.specs.{Spelling.{levels, spell}, Meaning.{Gives, Stops, Deep, Trap, run}};
 ghost use Rattle.gib_syntax.specs.declared.tree.TypeName.TheVariants as ty;
 ghost use Rattle.gib_types.specs.declared.operator.Operator.TheVariants as o;
-ghost use Rattle.gib_syntax.specs.Tree.{Expression, Var, Num, Op, Call, Make, Par, If, Tuple, LetSeveral, NoArgument, Argument, ProgramTree};
-ghost use Rattle.gib_syntax.specs.Results.{One, Several};
-ghost use Rattle.gib_syntax.specs.Forms.{WholeAt, VariableAt, DataAt, NoType, MoreTypes};
-ghost use Rattle.gib_syntax.specs.GenericTree.{GenericVar, GenericNum, GenericParen, GenericOp, GenericCall, GenericLet, GenericTuple, GenericNoArgument, GenericArgument};
-ghost use Rattle.gib_syntax.specs.Spelling.{levels, spell};
-ghost use Rattle.gib_syntax.specs.Meaning.{Gives, Stops, Deep, Trap, run};
 
 /// Expressions of these programs, and what the programs mean: `main (n : Int) : Int = (n + 1) ;`, and
 /// `fun down (n : Int) : Int = if (n < 1) then 0 else down (n - 1) ; main (n : Int) : Int = down n ;`.

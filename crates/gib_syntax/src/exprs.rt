@@ -105,9 +105,7 @@ pub enum Node {
 }
 
 impl Layered for Node {
-    ghost use Rattle.gib_syntax.specs.Tree.{Expression};
-    ghost use Rattle.gib_syntax.specs.Arena.{nothing, layer, PartsBelow};
-    ghost use Rattle.gib_syntax.specs.ArenaLaws.{layer_same_if};
+    ghost use Rattle.gib_syntax.specs.{Tree.{Expression}, Arena.{nothing, layer, PartsBelow}, ArenaLaws.{layer_same_if}};
 
     ghost Tree = { Expression };
 

@@ -63,9 +63,7 @@ pub enum GenericNode {
 
 impl Layered for GenericNode {
     ghost use Rattle.std.specs.Prelude.{List};
-    ghost use Rattle.gib_syntax.specs.declared.written.Word.{Word as Item};
-    ghost use Rattle.gib_syntax.specs.GenericTree.{GenericExpression};
-    ghost use Rattle.gib_syntax.specs.GenericArena.{nothing_of, layer_of, PartsBelow};
+    ghost use Rattle.gib_syntax.specs.{declared.written.Word.{Word as Item}, GenericTree.{GenericExpression}, GenericArena.{nothing_of, layer_of, PartsBelow}};
     ghost use Rattle.gib_syntax.specs.GenericLaws.{layer_of_same_if};
 
     ghost Tree = { List Item → GenericExpression };
@@ -98,8 +96,7 @@ impl Model for GenericExprs {
 
 impl GenericExprs {
     ghost use Rattle.std.specs.Prelude.{◌≡◌, ◌<◌, length, IfOk, OnErr};
-    ghost use Rattle.gib_syntax.specs.Words.{run_words, IsRunIn};
-    ghost use Rattle.gib_syntax.specs.GenericArena.{empty, IsArena, PartsBelow, IsRunWithin, Opens, Grows, Makes};
+    ghost use Rattle.gib_syntax.specs.{Words.{run_words, IsRunIn}, GenericArena.{empty, IsArena, PartsBelow, IsRunWithin, Opens, Grows, Makes}};
 
     /// No expressions and no words.
     pub fn new(alloc: Global) -> GenericExprs

@@ -2,19 +2,11 @@
 
 ghost use Rattle.std.specs.Prelude.{◌≡◌, ◌≤◌, ℕ, [], ◌∷◌};
 ghost use Rattle.gib_types.specs.Tree.{Datum, HasType};
-ghost use Rattle.gib_syntax.specs.Tree.{ProgramTree};
-ghost use Rattle.gib_syntax.specs.Fine.{IsFineProgram};
-ghost use Rattle.gib_syntax.specs.GenericFine.{IsGenericFineProgram};
-ghost use Rattle.gib_syntax.specs.GenericTree.{GenericExpression, GenericProgramTree};
-ghost use Rattle.gib_syntax.specs.GenericTyping.{FormScope};
-ghost use Rattle.gib_syntax.specs.GenericMeaning.{means_generic};
-ghost use Rattle.gib_syntax.specs.Single.{IsSingle, IsSingleProgram, HasNoComma};
-ghost use Rattle.gib_syntax.specs.Spelling.{spell_program};
-ghost use Rattle.gib_syntax.specs.Forms.{WrittenType, WrittenTypes, Meant};
-ghost use Rattle.gib_syntax.specs.Words.{stack_of, all_types, words_of, words_in};
-ghost use Rattle.gib_syntax.specs.Declarations.{table_of_program, input_type, output_type};
-ghost use Rattle.gib_syntax.specs.Typing.{IsTypedProgram};
-ghost use Rattle.gib_syntax.specs.Meaning.{Gives, Environment, run, OutcomeHas};
+ghost use Rattle.gib_syntax.specs.{Tree.{ProgramTree}, Fine.{IsFineProgram}, GenericFine.{IsGenericFineProgram}};
+ghost use Rattle.gib_syntax.specs.{GenericTree.{GenericExpression, GenericProgramTree}, GenericTyping.{FormScope}, GenericMeaning.{means_generic}};
+ghost use Rattle.gib_syntax.specs.{Single.{IsSingle, IsSingleProgram, HasNoComma}, Spelling.{spell_program}, Forms.{WrittenType, WrittenTypes, Meant}};
+ghost use Rattle.gib_syntax.specs.{Words.{stack_of, all_types, words_of, words_in}, Declarations.{table_of_program, input_type, output_type}};
+ghost use Rattle.gib_syntax.specs.{Typing.{IsTypedProgram}, Meaning.{Gives, Environment, run, OutcomeHas}};
 
 /// A typed program of the grammar gives a value of the type of its result, where its input is of the
 /// type of its parameter and it gives one at all.

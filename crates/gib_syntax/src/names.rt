@@ -18,8 +18,7 @@ pub struct Names(Kept);
 
 impl Model for Names {
     ghost use Rattle.std.specs.Prelude.{List};
-    ghost use Rattle.gib_syntax.specs.declared.tree.Ident.{Ident as Item};
-    ghost use Rattle.gib_syntax.specs.Naming.{kept_names};
+    ghost use Rattle.gib_syntax.specs.{declared.tree.Ident.{Ident as Item}, Naming.{kept_names}};
 
     ghost Value = { List Item };
 

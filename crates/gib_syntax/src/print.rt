@@ -8,9 +8,7 @@ ghost use Rattle.gib_base.specs.Spelling.{tokens_text};
 ghost use Rattle.gib_syntax.specs.Spelling.{spell, sign_of, spell_operator, spell_bit, spell_variables, spell_further_names, spell_names, spell_arguments, spell_parts, spell_further_parts, spell_type, spell_written, spell_types, spell_type_arguments, spell_type_parameters, spell_constructor, spell_constructors, spell_more, spell_data, spell_datas, spell_parameter, spell_parameters, spell_further_types, spell_results, spell_function, spell_functions, spell_main, spell_program, levels_program};
 ghost use Rattle.gib_syntax.specs.Printing.{spell_arm, spell_further, spell_all_arms, spell_case, Binds, Chooses};
 ghost use Rattle.gib_syntax.specs.GenericArena.{IsArmBelow, ArmsBelow, Opens, tree_of, arguments_from};
-ghost use Rattle.gib_syntax.specs.Words.{run_words, stack_of, types_in, type_in, words_in, IsTypeRun, IsTypesRun};
-ghost use Rattle.gib_syntax.specs.Forms.{WrittenTypes};
-ghost use Rattle.gib_syntax.specs.Results.{Several};
+ghost use Rattle.gib_syntax.specs.{Words.{run_words, stack_of, types_in, type_in, words_in, IsTypeRun, IsTypesRun}, Forms.{WrittenTypes}, Results.{Several}};
 ghost use Rattle.gib_syntax.specs.GenericParts.{IsParameterInside, IsConstructorInside, IsDataInside, IsFunctionInside, AreResultsInside, constructor_in, data_in, parameter_in, results_in, function_in, main_in, generic_program_of};
 
 use crate::exprs::{Arm, ExprId};

@@ -2,9 +2,7 @@
 
 ghost use Rattle.std.specs.Prelude.{◌≤◌, IfSome};
 ghost use Rattle.gib_types.specs.Tree.{HasType};
-ghost use Rattle.gib_syntax.specs.Spelling.{levels_program};
-ghost use Rattle.gib_syntax.specs.GenericParts.{generic_program_of};
-ghost use Rattle.gib_syntax.specs.Parts.{program_of};
+ghost use Rattle.gib_syntax.specs.{Spelling.{levels_program}, GenericParts.{generic_program_of}, Parts.{program_of}};
 ghost use Rattle.gib_syntax.specs.Declarations.{table_of_program, input_type};
 ghost use Rattle.gib_app.specs.Stops.{IsReady};
 

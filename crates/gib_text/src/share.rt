@@ -5,8 +5,7 @@ ghost use Rattle.std.specs.Thread.{IsSync};
 ghost use Rattle.gib_arena.specs.Passes.{view, cells, IsOf};
 ghost use Rattle.gib_value.specs.Text.{AreHeld};
 ghost use Rattle.gib_print.specs.Cut.{Cut};
-ghost use Rattle.gib_compact.specs.Back.{IsBack, IsSplit};
-ghost use Rattle.gib_compact.specs.Gathered.{gathered};
+ghost use Rattle.gib_compact.specs.{Back.{IsBack, IsSplit}, Gathered.{gathered}};
 ghost use Rattle.gib_text.specs.Dealt.{Dealt};
 
 use crate::sharing::Sharing;

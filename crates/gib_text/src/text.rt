@@ -1,13 +1,11 @@
 //! The text of the value of a root, by several workers.
 
 ghost use Rattle.std.specs.Prelude.{◌≡◌, ◌++◌, ◌∷◌, [], ℕ, List, IfOk};
-ghost use Rattle.gib_types.specs.declared.table.Ty.{Ty as Type_of};
-ghost use Rattle.gib_types.specs.Tree.{Datum};
+ghost use Rattle.gib_types.specs.{declared.table.Ty.{Ty as Type_of}, Tree.{Datum}};
 ghost use Rattle.gib_value.specs.Text.{text, AreHeld};
 ghost use Rattle.gib_mem.specs.Memory.{Grows, fresh};
 ghost use Rattle.gib_arena.specs.Passes.{view, cells, IsOf};
-ghost use Rattle.gib_packed.specs.Decoding.{Dec, Decodes};
-ghost use Rattle.gib_packed.specs.Stands.{Stands};
+ghost use Rattle.gib_packed.specs.{Decoding.{Dec, Decodes}, Stands.{Stands}};
 ghost use Rattle.gib_print.specs.Cut.{Cut};
 ghost use Rattle.gib_compact.specs.Back.{IsBack};
 

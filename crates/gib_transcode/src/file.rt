@@ -3,8 +3,7 @@
 ghost use Rattle.std.specs.Prelude.{◌≡◌, IfOk, IfSome};
 ghost use Rattle.gib_file.specs.Framed.{Framed1, File1, File2};
 ghost use Rattle.gib_types.specs.Tree.{Datum};
-ghost use Rattle.gib_value.specs.Reading.{IsTextOf};
-ghost use Rattle.gib_value.specs.Text.{AreHeld};
+ghost use Rattle.gib_value.specs.{Reading.{IsTextOf}, Text.{AreHeld}};
 
 use crate::walk::payload_of;
 use gib_base::{Memory, Texts};

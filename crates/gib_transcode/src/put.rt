@@ -2,11 +2,9 @@
 
 ghost use Rattle.std.specs.Prelude.{◌≡◌, ◌≤◌, ◌<◌, ◌+◌, ◌++◌, ◌∷◌, [], ℕ, List, length, IfOk, IfSome, IsTrue, OnOk};
 ghost use Rattle.gib_file.specs.Packed.{number as number_bytes, bit};
-ghost use Rattle.gib_types.specs.Table.{Table, fields_at};
-ghost use Rattle.gib_types.specs.declared.table.Ty.TheVariants.{Whole, Truth, Tree};
+ghost use Rattle.gib_types.specs.{Table.{Table, fields_at}, declared.table.Ty.TheVariants.{Whole, Truth, Tree}};
 ghost use Rattle.gib_value.specs.Text.{AreHeld};
-ghost use Rattle.gib_transcode.specs.Fronts.{Reads, Enters};
-ghost use Rattle.gib_transcode.specs.Rooms.{room, over};
+ghost use Rattle.gib_transcode.specs.{Fronts.{Reads, Enters}, Rooms.{room, over}};
 
 use crate::front::{named, number, truth};
 use gib_base::{Memory, Texts};

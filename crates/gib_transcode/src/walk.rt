@@ -3,11 +3,8 @@
 ghost use Rattle.std.specs.Prelude.{◌≡◌, ◌<◌, ◌≤◌, ◌∷◌, ℕ, List, length, IfOk, IfSome};
 ghost use Rattle.gib_file.specs.Packed.{packed};
 ghost use Rattle.gib_transcode.specs.Going.{Walks};
-ghost use Rattle.gib_types.specs.declared.table.Ty.{Ty as Types};
-ghost use Rattle.gib_types.specs.Table.{fields_at};
-ghost use Rattle.gib_types.specs.Tree.{Datum};
-ghost use Rattle.gib_value.specs.Reading.{IsTextOf};
-ghost use Rattle.gib_value.specs.Text.{AreHeld};
+ghost use Rattle.gib_types.specs.{declared.table.Ty.{Ty as Types}, Table.{fields_at}, Tree.{Datum}};
+ghost use Rattle.gib_value.specs.{Reading.{IsTextOf}, Text.{AreHeld}};
 
 use crate::front::{behind_byte, is_over};
 use crate::opened::Open;

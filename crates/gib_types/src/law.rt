@@ -1,8 +1,7 @@
 //! Laws of tables and layouts.
 
 ghost use Rattle.std.specs.Prelude.{◌≡◌, ◌<◌, ℕ, List, length};
-ghost use Rattle.gib_types.specs.Table.{Table};
-ghost use Rattle.gib_types.specs.Layout.{is_among, layout_at};
+ghost use Rattle.gib_types.specs.{Table.{Table}, Layout.{is_among, layout_at}};
 
 /// A layout depends on which constructors of the table have offsets, and on nothing else of the list that says so.
 pub fn layouts_are_of_the_set()

@@ -1,8 +1,7 @@
 //! How the heads of constructors lie in memory.
 
 ghost use Rattle.std.specs.Prelude.{◌≡◌, ◌≤◌, ℕ, length, IfOk};
-ghost use Rattle.gib_types.specs.Table.{IsTable};
-ghost use Rattle.gib_types.specs.Layout.{layout_of, layout_at, is_among, numbers_of, field_types, has_offsets, head_size, packed_at};
+ghost use Rattle.gib_types.specs.{Table.{IsTable}, Layout.{layout_of, layout_at, is_among, numbers_of, field_types, has_offsets, head_size, packed_at}};
 
 use crate::{ConId, Ty, TypeTable};
 use gib_base::Memory;

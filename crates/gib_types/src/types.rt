@@ -31,8 +31,7 @@ pub struct Types {
 
 impl Model for Types {
     ghost use Rattle.std.specs.Prelude.{List};
-    ghost use Rattle.gib_types.specs.declared.types.TypeNode.{TypeNode as Item};
-    ghost use Rattle.gib_types.specs.Types.{AreTypes};
+    ghost use Rattle.gib_types.specs.{declared.types.TypeNode.{TypeNode as Item}, Types.{AreTypes}};
 
     ghost Value = { List Item };
 

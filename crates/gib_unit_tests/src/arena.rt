@@ -1,9 +1,7 @@
 //! Two threads over one arena.
 ghost use Rattle.std.specs.Prelude.{◌≡◌, ◌+◌, ◌<◌, ◌≤◌, ℕ, length, IfOk, IfSome};
 ghost use Rattle.gib_mem.specs.Memory.{fresh, byte, after_put};
-ghost use Rattle.gib_arena.specs.Rule.{first_view};
-ghost use Rattle.gib_arena.specs.Steps.{split_left, split_right};
-ghost use Rattle.gib_arena.specs.Passes.{view, cells, IsOf};
+ghost use Rattle.gib_arena.specs.{Rule.{first_view}, Steps.{split_left, split_right}, Passes.{view, cells, IsOf}};
 
 use gib_arena::{Arena, ArenaMem, Pass, SoleMem, arena, close};
 use gib_mem::{Mem, PlainMem};

@@ -1,8 +1,7 @@
 //! Values that were put by hand are printed, and images of them written; images that are read stand in `examples/rows`.
 
 ghost use Rattle.std.specs.Prelude.{◌≡◌, ◌≤◌, ◌^◌, ◌+◌, [], length, true, IsTrue, IfOk, OnOk};
-ghost use Rattle.gib_mem.specs.Memory.{Owned, after_puts};
-ghost use Rattle.gib_mem.specs.Plain.{nothing};
+ghost use Rattle.gib_mem.specs.{Memory.{Owned, after_puts}, Plain.{nothing}};
 ghost use Rattle.gib_packed.specs.Example.{table as example_table, laid};
 ghost use Rattle.gib_base.specs.Texts.{plain_texts};
 ghost use Rattle.gib_print.specs.Example.{names as example_names};

@@ -2,8 +2,7 @@
 
 ghost use Rattle.std.specs.Prelude.{◌≡◌, ◌∷◌, [], ◌<◌, ◌≤◌, length, IfOk};
 ghost use Rattle.gib_types.specs.declared.table.Ty.TheVariants.{Whole, Tree};
-ghost use Rattle.gib_core.specs.Arena.{term_in};
-ghost use Rattle.gib_core.specs.PartTypes.{types_in};
+ghost use Rattle.gib_core.specs.{Arena.{term_in}, PartTypes.{types_in}};
 
 use crate::sample::trees;
 use crate::terms::*;

@@ -1,9 +1,7 @@
 //! Examples of value texts.
 
 ghost use Rattle.std.specs.Prelude.{◌≡◌, ◌∷◌, [], pos, negsuc, true, codes};
-ghost use Rattle.gib_types.specs.declared.table.Ty.TheVariants.{Whole, Tree};
-ghost use Rattle.gib_types.specs.Table.{Table};
-ghost use Rattle.gib_types.specs.Tree.{whole, truth, con, none, more};
+ghost use Rattle.gib_types.specs.{declared.table.Ty.TheVariants.{Whole, Tree}, Table.{Table}, Tree.{whole, truth, con, none, more}};
 ghost use Rattle.gib_value.specs.Text.{text};
 
 /// Texts of values of `data Tree = Leaf Int | Node Tree Tree ;`, of `data List = Nil | Cons Int List ;`, and

@@ -21,8 +21,7 @@ pub struct Heap {
 impl Model for Heap {
     ghost use Rattle.std.specs.Prelude.{List};
     ghost use Rattle.std.specs.Coded.{coded_list};
-    ghost use Rattle.gib_types.specs.Tree.{Datum};
-    ghost use Rattle.gib_types.specs.TreeCode.{datum_code};
+    ghost use Rattle.gib_types.specs.{Tree.{Datum}, TreeCode.{datum_code}};
 
     ghost Value = { List Datum };
 

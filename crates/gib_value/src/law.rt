@@ -1,10 +1,8 @@
 //! Laws of value texts.
 
 ghost use Rattle.std.specs.Prelude.{◌≡◌, ◌<◌, ◌++◌, ◌∷◌, [], ℕ, List, drop};
-ghost use Rattle.gib_types.specs.declared.table.Ty.{Ty as Type_of};
-ghost use Rattle.gib_types.specs.Tree.{Datum, HasType};
-ghost use Rattle.gib_value.specs.Text.{text};
-ghost use Rattle.gib_value.specs.Reading.{AreWords, AreApart, IsRefusedAt, IsTextOf, Cut, token_len, first_token};
+ghost use Rattle.gib_types.specs.{declared.table.Ty.{Ty as Type_of}, Tree.{Datum, HasType}};
+ghost use Rattle.gib_value.specs.{Text.{text}, Reading.{AreWords, AreApart, IsRefusedAt, IsTextOf, Cut, token_len, first_token}};
 
 use gib_base::Texts;
 use gib_types::TypeTable;

@@ -4,13 +4,10 @@ ghost use Rattle.std.specs.Prelude.{◌≡◌, ◌<◌, ◌≤◌, ◌+◌, ◌-
 ghost use Rattle.std.specs.Int.{w64};
 ghost use Rattle.std.specs.List.{AllByRecursion};
 ghost use Rattle.std.specs.Fmt.{signed_decimal};
-ghost use Rattle.gib_types.specs.Tree.{Datum};
-ghost use Rattle.gib_types.specs.Table.{con_at, fields_at, name_at};
-ghost use Rattle.gib_value.specs.Heap.{value_of, IsWithin};
-ghost use Rattle.gib_value.specs.Due.{Due, due_of};
-ghost use Rattle.gib_value.specs.Due as item;
-ghost use Rattle.gib_value.specs.Text.{truth_text, con_text, AreHeld};
+ghost use Rattle.gib_types.specs.{Tree.{Datum}, Table.{con_at, fields_at, name_at}};
+ghost use Rattle.gib_value.specs.{Heap.{value_of, IsWithin}, Due.{Due, due_of}, Text.{truth_text, con_text, AreHeld}};
 ghost use Rattle.gib_value.specs.Reading.{token_len as token_len_of, fields_wanted, closed, HasFull, AreWords, AreTold, IsLeaf, Opens, IsReady, Steps, Refuses, IsTextOf, ReadsTo};
+ghost use Rattle.gib_value.specs.Due as item;
 
 use crate::context::Context;
 use crate::fault::TextFault;

@@ -17,8 +17,7 @@ pub struct Value {
 }
 
 impl Model for Value {
-    ghost use Rattle.gib_types.specs.Tree.{Datum};
-    ghost use Rattle.gib_types.specs.TreeCode.{datum_code};
+    ghost use Rattle.gib_types.specs.{Tree.{Datum}, TreeCode.{datum_code}};
 
     ghost Value = { Datum };
 

@@ -4,11 +4,8 @@ ghost use Rattle.std.specs.Prelude.{◌≡◌, ◌<◌, ◌+◌, ◌++◌, ◌�
 ghost use Rattle.std.specs.Fmt.{signed_decimal};
 ghost use Rattle.std.specs.List.{AllByRecursion};
 ghost use Rattle.gib_types.specs.Tree.{IsTyped};
-ghost use Rattle.gib_value.specs.declared.write.Due.TheVariants.{Field as field_due};
-ghost use Rattle.gib_value.specs.Heap.{value_of, IsWithin};
-ghost use Rattle.gib_value.specs.Text.{spell, text, truth_text, con_text, AreHeld};
-ghost use Rattle.gib_value.specs.Tags.{HasTags};
-ghost use Rattle.gib_value.specs.Writing.{due_text, due_size, size, IsDue};
+ghost use Rattle.gib_value.specs.{declared.write.Due.TheVariants.{Field as field_due}, Heap.{value_of, IsWithin}};
+ghost use Rattle.gib_value.specs.{Text.{spell, text, truth_text, con_text, AreHeld}, Tags.{HasTags}, Writing.{due_text, due_size, size, IsDue}};
 
 use crate::context::Context;
 use crate::heap::Heap;

@@ -6,8 +6,7 @@ ghost use Rattle.std.specs.BTreeSet.{contains};
 ghost use Rattle.gib_mem.specs.Memory as M;
 ghost use Rattle.gib_core.specs.Parts.{core_of};
 ghost use Rattle.gib_weave.specs.Applied.{Applied, CanGo, TakesMemory, can_steal_from, event_of, number_of, opens, over, picked_of};
-ghost use Rattle.gib_weave.specs.Weave.{Finished, IsFinished, task, weave_start};
-ghost use Rattle.gib_weave.specs.Running.{word_of};
+ghost use Rattle.gib_weave.specs.{Weave.{Finished, IsFinished, task, weave_start}, Running.{word_of}};
 ghost use Rattle.gib_weave.specs.Weave as w;
 
 use crate::event::Event;

@@ -3,12 +3,10 @@
 ghost use Rattle.std.specs.Prelude.{◌≡◌, ◌<◌, ◌≤◌, ◌-◌, ◌^◌, ℕ, List, length, true, Some, IfOk};
 ghost use Rattle.gib_types.specs.Tree.{Datum};
 ghost use Rattle.gib_core.specs.Parts.{core_of};
-ghost use Rattle.gib_machine.specs.Machine.{start_at};
+ghost use Rattle.gib_machine.specs.{Machine.{start_at}, Stepping.{with_tails}};
 ghost use Rattle.gib_code.specs.Program.{Runs};
-ghost use Rattle.gib_machine.specs.Stepping.{with_tails};
 ghost use Rattle.gib_weave.specs.Running as spec;
-ghost use Rattle.gib_weave.specs.Running.{CanEnd, IsOutcome, IsStart, Kept, RunEnds, WantsMemory};
-ghost use Rattle.gib_weave.specs.Starting.{root_start};
+ghost use Rattle.gib_weave.specs.{Running.{CanEnd, IsOutcome, IsStart, Kept, RunEnds, WantsMemory}, Starting.{root_start}};
 
 use crate::steps::run_for;
 use gib_base::Memory;

@@ -26,10 +26,7 @@ impl<'a> Model for Runnable<'a> {
 
 impl<'a> Runnable<'a> {
     ghost use Rattle.std.specs.Prelude.{◌≡◌};
-    ghost use Rattle.gib_core.specs.Parts.{core_of};
-    ghost use Rattle.gib_core.specs.Rules.{AreBuilt};
-    ghost use Rattle.gib_core.specs.Low.{IsLowered};
-    ghost use Rattle.gib_core.specs.Fits.{AllFit};
+    ghost use Rattle.gib_core.specs.{Parts.{core_of}, Rules.{AreBuilt}, Low.{IsLowered}, Fits.{AllFit}};
     ghost use Rattle.gib_code.specs.Program.{Runs};
 
     /// Prepares the code of a core.

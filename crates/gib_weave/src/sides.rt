@@ -1,10 +1,8 @@
 //! The right sides of a task that it neither joined nor took.
 
 ghost use Rattle.std.specs.Prelude.{◌≡◌, ◌<◌, [], ◌∷◌, length, drop, OnOk, OnErr, IfSome, IfNone, IsTrue, ◌↔◌};
-ghost use Rattle.gib_machine.specs.Sides.{Waiting};
-ghost use Rattle.gib_machine.specs.Starting.{waiting_of};
-ghost use Rattle.gib_weave.specs.Applied.{IsBegun, IsOldest, status_of, newest_of};
-ghost use Rattle.gib_weave.specs.Weave.{HasWaiting, NewestWaits, Runs, Status, Stolen, Waits};
+ghost use Rattle.gib_machine.specs.{Sides.{Waiting}, Starting.{waiting_of}};
+ghost use Rattle.gib_weave.specs.{Applied.{IsBegun, IsOldest, status_of, newest_of}, Weave.{HasWaiting, NewestWaits, Runs, Status, Stolen, Waits}};
 
 use gib_base::Memory;
 use gib_code::Side;
@@ -40,8 +38,7 @@ pub struct Sides {
 
 impl Model for Sides {
     ghost use Rattle.std.specs.Prelude.{List};
-    ghost use Rattle.gib_weave.specs.Weave.{Status};
-    ghost use Rattle.gib_weave.specs.Applied.{newest_first, AreBegunFirst};
+    ghost use Rattle.gib_weave.specs.{Weave.{Status}, Applied.{newest_first, AreBegunFirst}};
 
     ghost Value = { List Status };
 

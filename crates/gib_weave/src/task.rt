@@ -2,9 +2,7 @@
 
 ghost use Rattle.std.specs.Prelude.{◌≡◌, ◌<◌, [], ◌∷◌, length, drop, slice_get, IsTrue, ◌↔◌, IfOk, IfSome, IfNone};
 ghost use Rattle.gib_code.specs.Program.{Runs};
-ghost use Rattle.gib_machine.specs.State.{AtFork, AtJoin, Ended, widest};
-ghost use Rattle.gib_machine.specs.Machine.{next};
-ghost use Rattle.gib_machine.specs.Sides.{Waiting, side_start, takes, joins};
+ghost use Rattle.gib_machine.specs.{State.{AtFork, AtJoin, Ended, widest}, Machine.{next}, Sides.{Waiting, side_start, takes, joins}};
 ghost use Rattle.gib_machine.specs.Stepping.{CanStep, Made, stand_of, with_tails};
 ghost use Rattle.gib_weave.specs.Applied.{IsBegun, IsForked, IsOldest, newest_of};
 ghost use Rattle.gib_weave.specs.Weave.{Running, Finished, Joined, HasWaiting, IsEnd, IsFinished, NewestWaits, Status, Stolen, Runs as Begun, ended_task, no_task};

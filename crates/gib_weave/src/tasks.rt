@@ -5,8 +5,7 @@ ghost use Rattle.gib_mem.specs.Memory as M;
 ghost use Rattle.gib_core.specs.Parts.{core_of};
 ghost use Rattle.gib_code.specs.Program.{Runs};
 ghost use Rattle.gib_weave.specs.Applied.{Applied, CanGo, HaveWidth, can_steal_from, event_of, over, picked_of, stepped};
-ghost use Rattle.gib_weave.specs.Weave.{Finished, IsFinished, IsOn, pick_steal, steal_below, task, weave_start};
-ghost use Rattle.gib_weave.specs.Running.{word_of};
+ghost use Rattle.gib_weave.specs.{Weave.{Finished, IsFinished, IsOn, pick_steal, steal_below, task, weave_start}, Running.{word_of}};
 ghost use Rattle.gib_weave.specs.Weave as w;
 
 use crate::event::Event;

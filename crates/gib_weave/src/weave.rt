@@ -3,11 +3,9 @@
 ghost use Rattle.std.specs.Prelude.{◌≡◌, ℕ, length, IfOk, IfSome, IfNone};
 ghost use Rattle.gib_types.specs.Tree.{Datum};
 ghost use Rattle.gib_core.specs.Parts.{core_of};
-ghost use Rattle.gib_weave.specs.Applied.{Applied, event_of};
-ghost use Rattle.gib_weave.specs.Running.{IsStart, word_of};
+ghost use Rattle.gib_weave.specs.{Applied.{Applied, event_of}, Running.{IsStart, word_of}};
+ghost use Rattle.gib_weave.specs.{Weave.{Enabled, Finished, IsFinished, IsOf, IsSteal, Steal, task, weave_start}, Woven.{IsMeant, IsSoundOn, weave_of}};
 ghost use Rattle.gib_weave.specs.Weave as w;
-ghost use Rattle.gib_weave.specs.Weave.{Enabled, Finished, IsFinished, IsOf, IsSteal, Steal, task, weave_start};
-ghost use Rattle.gib_weave.specs.Woven.{IsMeant, IsSoundOn, weave_of};
 
 use crate::event::Event;
 use crate::open_tasks::OpenTasks;
@@ -39,8 +37,7 @@ pub struct Weave<'a> {
 
 impl<'a> Model for Weave<'a> {
     ghost use Rattle.gib_mem.specs.Plain.{plain_memory};
-    ghost use Rattle.gib_weave.specs.Applied.{over};
-    ghost use Rattle.gib_weave.specs.Woven.{WeaveParts, IsWoven};
+    ghost use Rattle.gib_weave.specs.{Applied.{over}, Woven.{WeaveParts, IsWoven}};
 
     ghost Value = { WeaveParts };
 

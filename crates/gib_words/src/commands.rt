@@ -1,8 +1,7 @@
 //! The commands of the program with their arguments, as `clap` takes them.
 
 ghost use Rattle.std.specs.Prelude.{◌≡◌, [], ◌∷◌, IfOk, codes, false, true, fold};
-ghost use Rattle.clap.specs.Walk.{rule_of};
-ghost use Rattle.clap.specs.Simple.{App, app_of, new_app, with_rule, with_subcommand};
+ghost use Rattle.clap.specs.{Walk.{rule_of}, Simple.{App, app_of, new_app, with_rule, with_subcommand}};
 ghost use Rattle.gib_words.specs.Words.{app_for, bare_program, chunks, command_set, depth, flag, fork, gen_app, number, numeral, positional, skips, word, workers};
 ghost use Rattle.gib_words.specs.Words.{check_form, code_form, core_form, local_form, pack_form, plain_form, replay_form, run_form, show_form, trace_form};
 

@@ -1,12 +1,9 @@
 //! What the matches of a command ask for.
 
 ghost use Rattle.std.specs.Prelude.{◌≡◌, None, Some, codes, is_some, option_map, option_and_then};
-ghost use Rattle.clap.specs.Walk.{rows_of};
-ghost use Rattle.clap.specs.Simple.{subcommand_rows_of};
-ghost use Rattle.clap.specs.Matches.{found_of};
+ghost use Rattle.clap.specs.{Walk.{rows_of}, Simple.{subcommand_rows_of}, Matches.{found_of}};
 ghost use Rattle.gib_words.specs.Words.{access_of, file_of, flag_of, number_of, number_or as number_asked, byte_or as byte_asked, made_requested, options_of, planned, read_requested, requested, usual as usual_options, word_of};
-ghost use Rattle.gib_words.specs.Words.{NoTarget, AtPlace, ByOption};
-ghost use Rattle.gib_words.specs.Kept.{document_of, plan_of};
+ghost use Rattle.gib_words.specs.{Words.{NoTarget, AtPlace, ByOption}, Kept.{document_of, plan_of}};
 
 use crate::plan::{Document, Job, MadeNames, Options, Plan};
 use clap::ArgMatches;

@@ -2,8 +2,7 @@
 
 ghost use Rattle.std.specs.Prelude.{◌≡◌, ◌∷◌, [], ℕ, List, None, Some, codes, is_some, true};
 ghost use Rattle.gib_types.specs.declared.access.FieldAccess.TheVariants.{Skips};
-ghost use Rattle.gib_words.specs.declared.plan.Job.TheVariants.{Run, Plain, Core, Code, Pack, Trace, Replay, Local};
-ghost use Rattle.gib_words.specs.Plan.{Named};
+ghost use Rattle.gib_words.specs.{declared.plan.Job.TheVariants.{Run, Plain, Core, Code, Pack, Trace, Replay, Local}, Plan.{Named}};
 ghost use Rattle.gib_words.specs.Words.{asked, taken, usual};
 
 /// Words ask for something exactly where they are taken: each name of a file is there.

@@ -2,8 +2,7 @@
 
 ghost use Rattle.std.specs.Prelude.{◌≡◌, ◌↔◌, IsTrue, None, Some, IfOk, MatchOption, option_map};
 ghost use Rattle.clap.specs.Values.{kind_of};
-ghost use Rattle.gib_words.specs.Words.{asked, asked_by_command, bytes_of, sample as sample_plan};
-ghost use Rattle.gib_words.specs.Kept.{plan_of};
+ghost use Rattle.gib_words.specs.{Words.{asked, asked_by_command, bytes_of, sample as sample_plan}, Kept.{plan_of}};
 
 use crate::commands::command_set;
 use crate::matches::{entered_plan, usual};

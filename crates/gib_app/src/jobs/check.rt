@@ -1,9 +1,7 @@
 //! `check`: says that a source is a typed program.
 
 ghost use Rattle.std.specs.Prelude.{◌≡◌, IfOk, IfErr, None};
-ghost use Rattle.gib_app.specs.Jobs.{OnlyPrints};
-ghost use Rattle.gib_app.specs.Rows.{ok_line};
-ghost use Rattle.gib_app.specs.Kept.{EndsBy, file_of};
+ghost use Rattle.gib_app.specs.{Jobs.{OnlyPrints}, Rows.{ok_line}, Kept.{EndsBy, file_of}};
 
 use crate::made::Made;
 use crate::printing::{ok_answer, only_prints};

@@ -3,9 +3,7 @@
 ghost use Rattle.std.specs.Prelude.{◌≡◌, IfOk, IfErr, None};
 ghost use Rattle.gib_code.specs.ListingText.{listing_text};
 ghost use Rattle.gib_lower.specs.Lowering.{lower_program};
-ghost use Rattle.gib_app.specs.Cores.{core_asked};
-ghost use Rattle.gib_app.specs.Jobs.{OnlyPrints};
-ghost use Rattle.gib_app.specs.Kept.{EndsBy, file_of, names_in, tree_in};
+ghost use Rattle.gib_app.specs.{Cores.{core_asked}, Jobs.{OnlyPrints}, Kept.{EndsBy, file_of, names_in, tree_in}};
 
 use crate::lowering::lowered;
 use crate::made::Made;

@@ -2,11 +2,8 @@
 
 ghost use Rattle.std.specs.Prelude.{◌≡◌, IfOk, IfErr, None};
 ghost use Rattle.gib_syntax.specs.Parts.{program_of};
-ghost use Rattle.gib_core.specs.Parts.{core_of};
-ghost use Rattle.gib_core.specs.CoreText.{core_text as text_of_core};
-ghost use Rattle.gib_app.specs.Cores.{core_after};
-ghost use Rattle.gib_app.specs.Jobs.{OnlyPrints};
-ghost use Rattle.gib_app.specs.Kept.{EndsBy, file_of, names_in, tree_in};
+ghost use Rattle.gib_core.specs.{Parts.{core_of}, CoreText.{core_text as text_of_core}};
+ghost use Rattle.gib_app.specs.{Cores.{core_after}, Jobs.{OnlyPrints}, Kept.{EndsBy, file_of, names_in, tree_in}};
 
 use crate::lowering::{checked_core, marked_core, placed_core};
 use crate::made::Made;

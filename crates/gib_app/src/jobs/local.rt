@@ -1,14 +1,8 @@
 //! `local`: prints what a program means that writes its places out.
 
 ghost use Rattle.std.specs.Prelude.{◌≡◌, ◌≤◌, Some, length, IfOk, IfErr, None};
-ghost use Rattle.gib_core.specs.Numbering.{AreNumbered};
-ghost use Rattle.gib_core.specs.Parts.{core_of};
-ghost use Rattle.gib_app.specs.Jobs.{RunsLocated};
-ghost use Rattle.gib_app.specs.Kept.{EndsBy, file_of};
-ghost use Rattle.gib_app.specs.MachineRun.{RunsFor};
-ghost use Rattle.gib_app.specs.Remains.{ComesOfCore};
-ghost use Rattle.gib_app.specs.Running.{Program};
-ghost use Rattle.gib_app.specs.Stops.{IsRunStop};
+ghost use Rattle.gib_core.specs.{Numbering.{AreNumbered}, Parts.{core_of}};
+ghost use Rattle.gib_app.specs.{Jobs.{RunsLocated}, Kept.{EndsBy, file_of}, MachineRun.{RunsFor}, Remains.{ComesOfCore}, Running.{Program}, Stops.{IsRunStop}};
 
 use crate::located::LocatedCore;
 use crate::machine_run::{RunEnd, run_located};

@@ -4,10 +4,7 @@ ghost use Rattle.gib_base.specs.Texts.{TextsView};
 ghost use Rattle.std.specs.Prelude.{◌≡◌, ◌≤◌, ℕ, List, length, IfOk, IfErr, None};
 ghost use Rattle.gib_gen.specs.Summary.{summary_line};
 ghost use Rattle.gib_syntax.specs.Tree.{ProgramTree};
-ghost use Rattle.gib_app.specs.Jobs.{Sums};
-ghost use Rattle.gib_app.specs.Kept.{EndsBy, file_of, names_in, tree_in};
-ghost use Rattle.gib_app.specs.MachineRun.{SomeStandsIn, IsMeantBy};
-ghost use Rattle.gib_app.specs.Remains.{IsLeft, SumsMemory};
+ghost use Rattle.gib_app.specs.{Jobs.{Sums}, Kept.{EndsBy, file_of, names_in, tree_in}, MachineRun.{SomeStandsIn, IsMeantBy}, Remains.{IsLeft, SumsMemory}};
 ghost use Rattle.gib_app.specs.Stops.{IsRunStop};
 
 use crate::machine_run::{Ran, RunEnd, run_packed};

@@ -3,12 +3,9 @@
 ghost use Rattle.std.specs.Prelude.{◌≡◌, ◌≤◌, length, IfOk, IfErr, IfSome, None};
 ghost use Rattle.gib_types.specs.Tree.{Datum, HasType};
 ghost use Rattle.gib_value.specs.Reading.{IsTextOf};
-ghost use Rattle.gib_syntax.specs.Parts.{program_of};
-ghost use Rattle.gib_syntax.specs.Declarations.{table_of_program, input_type};
-ghost use Rattle.gib_app.specs.Jobs.{Packs};
-ghost use Rattle.gib_app.specs.Kept.{EndsBy, StopsPack, file_of, names_in, tree_in};
-ghost use Rattle.gib_app.specs.Packing.{IsFileOf, IsPackable, IsPackedBy, without_feed as feed_cut};
-ghost use Rattle.gib_app.specs.Stops.{IsReady};
+ghost use Rattle.gib_syntax.specs.{Parts.{program_of}, Declarations.{table_of_program, input_type}};
+ghost use Rattle.gib_app.specs.{Jobs.{Packs}, Kept.{EndsBy, StopsPack, file_of, names_in, tree_in}};
+ghost use Rattle.gib_app.specs.{Packing.{IsFileOf, IsPackable, IsPackedBy, without_feed as feed_cut}, Stops.{IsReady}};
 
 use crate::compile::Compiled;
 use crate::input_fault::InputFault;

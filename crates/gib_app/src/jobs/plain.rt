@@ -2,13 +2,8 @@
 
 ghost use Rattle.std.specs.Prelude.{◌≡◌, ◌≤◌, length, IfOk, IfErr, MatchResult, None};
 ghost use Rattle.gib_types.specs.Tree.{Datum, HasType};
-ghost use Rattle.gib_syntax.specs.Parts.{program_of};
-ghost use Rattle.gib_syntax.specs.Declarations.{table_of_program, input_type};
-ghost use Rattle.gib_syntax.specs.Meaning.{run, Gives, Stops};
-ghost use Rattle.gib_app.specs.Running.{text_line};
-ghost use Rattle.gib_app.specs.Jobs.{Means};
-ghost use Rattle.gib_app.specs.Kept.{EndsBy, file_of, names_in, tree_in};
-ghost use Rattle.gib_app.specs.Stops.{IsReady, IsRunStop};
+ghost use Rattle.gib_syntax.specs.{Parts.{program_of}, Declarations.{table_of_program, input_type}, Meaning.{run, Gives, Stops}};
+ghost use Rattle.gib_app.specs.{Running.{text_line}, Jobs.{Means}, Kept.{EndsBy, file_of, names_in, tree_in}, Stops.{IsReady, IsRunStop}};
 
 use crate::compile::Compiled;
 use crate::made::{Made, Reason};

@@ -2,9 +2,7 @@
 
 ghost use Rattle.std.specs.Prelude.{◌≡◌, ◌≤◌, [], ◌∷◌, length, IfOk, IfErr, None};
 ghost use Rattle.gib_syntax.specs.Parts.{program_of};
-ghost use Rattle.gib_app.specs.Jobs.{Replays};
-ghost use Rattle.gib_app.specs.Kept.{EndsBy, file_of};
-ghost use Rattle.gib_app.specs.Stops.{IsReady, IsReplayStop};
+ghost use Rattle.gib_app.specs.{Jobs.{Replays}, Kept.{EndsBy, file_of}, Stops.{IsReady, IsReplayStop}};
 
 use crate::compile::Compiled;
 use crate::imaging::shown;

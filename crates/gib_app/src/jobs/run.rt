@@ -2,18 +2,11 @@
 
 ghost use Rattle.std.specs.Prelude.{◌≡◌, ◌≤◌, ℕ, List, length, Some, None, IfOk, IfErr};
 ghost use Rattle.gib_value.specs.Text.{AreHeld};
-ghost use Rattle.gib_syntax.specs.Declarations.{output_type};
-ghost use Rattle.gib_syntax.specs.Tree.{ProgramTree};
-ghost use Rattle.gib_syntax.specs.Parts.{program_of};
-ghost use Rattle.gib_app.specs.Cores.{layouts_asked};
-ghost use Rattle.gib_app.specs.Imaging.{IsShownWith};
-ghost use Rattle.gib_app.specs.Jobs.{Runs, RunsBoth};
-ghost use Rattle.gib_app.specs.Kept.{EndsBy, EndsByBoth, file_of, packed_of};
-ghost use Rattle.gib_app.specs.MachineRun.{IsMeant, IsMeantAs, IsMeantBy};
-ghost use Rattle.gib_words.specs.Ranges.{AreOfRun};
-ghost use Rattle.gib_app.specs.Remains.{ComesOfMemory, IsLeft};
-ghost use Rattle.gib_app.specs.Replaying.{IsImageFile};
+ghost use Rattle.gib_syntax.specs.{Declarations.{output_type}, Tree.{ProgramTree}, Parts.{program_of}};
+ghost use Rattle.gib_app.specs.{Cores.{layouts_asked}, Imaging.{IsShownWith}, Jobs.{Runs, RunsBoth}, Kept.{EndsBy, EndsByBoth, file_of, packed_of}};
+ghost use Rattle.gib_app.specs.{MachineRun.{IsMeant, IsMeantAs, IsMeantBy}, Remains.{ComesOfMemory, IsLeft}, Replaying.{IsImageFile}};
 ghost use Rattle.gib_app.specs.Stops.{IsReady, IsRunStop};
+ghost use Rattle.gib_words.specs.Ranges.{AreOfRun};
 
 use crate::compile::Compiled;
 use crate::imaging::{image_alone, with_text};

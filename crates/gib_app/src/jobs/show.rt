@@ -2,13 +2,9 @@
 
 ghost use Rattle.std.specs.Prelude.{◌≡◌, ◌≤◌, length, IfOk, IfErr, None};
 ghost use Rattle.gib_types.specs.Tree.{Datum};
-ghost use Rattle.gib_syntax.specs.Declarations.{table_of_program, input_type};
-ghost use Rattle.gib_syntax.specs.Parts.{program_of};
-ghost use Rattle.gib_app.specs.InputFaults.{HasImageSign};
-ghost use Rattle.gib_app.specs.Jobs.{OnlyPrints};
-ghost use Rattle.gib_app.specs.Kept.{EndsBy, IsShownFor, StopsShow, file_of, names_in, tree_in};
-ghost use Rattle.gib_app.specs.Running.{IsInput, text_line};
-ghost use Rattle.gib_app.specs.Stops.{IsReady, IsPackedStop};
+ghost use Rattle.gib_syntax.specs.{Declarations.{table_of_program, input_type}, Parts.{program_of}};
+ghost use Rattle.gib_app.specs.{InputFaults.{HasImageSign}, Jobs.{OnlyPrints}, Kept.{EndsBy, IsShownFor, StopsShow, file_of, names_in, tree_in}};
+ghost use Rattle.gib_app.specs.{Running.{IsInput, text_line}, Stops.{IsReady, IsPackedStop}};
 
 use crate::compile::Compiled;
 use crate::image_file::{has_image_sign, read_image_of};

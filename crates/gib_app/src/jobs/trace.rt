@@ -3,12 +3,8 @@
 ghost use Rattle.std.specs.Prelude.{◌≡◌, ◌≤◌, ℕ, List, length, IfOk, IfErr, None};
 ghost use Rattle.gib_value.specs.Text.{AreHeld};
 ghost use Rattle.gib_syntax.specs.Tree.{ProgramTree};
-ghost use Rattle.gib_words.specs.declared.plan.Options.{Options as OptionValues};
-ghost use Rattle.gib_app.specs.Cores.{layouts_asked};
-ghost use Rattle.gib_app.specs.Jobs.{Traces};
-ghost use Rattle.gib_app.specs.Kept.{EndsBy, file_of, names_in, tree_in};
-ghost use Rattle.gib_words.specs.Ranges.{AreOfRun};
-ghost use Rattle.gib_app.specs.Stops.{IsReady, IsRunStop};
+ghost use Rattle.gib_words.specs.{declared.plan.Options.{Options as OptionValues}, Ranges.{AreOfRun}};
+ghost use Rattle.gib_app.specs.{Cores.{layouts_asked}, Jobs.{Traces}, Kept.{EndsBy, file_of, names_in, tree_in}, Stops.{IsReady, IsRunStop}};
 ghost use Rattle.gib_app.specs.Workers.{IsTraced};
 
 use crate::imaging::text_of;

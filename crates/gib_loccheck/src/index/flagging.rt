@@ -2,8 +2,7 @@
 
 ghost use Rattle.std.specs.Prelude.{◌≡◌, ◌==◌, ◌||◌, ℕ, IfOk, OnOk};
 ghost use Rattle.gib_base.specs.Entries.{entry_at};
-ghost use Rattle.gib_loccheck.specs.Found.{is_found};
-ghost use Rattle.gib_loccheck.specs.Indexing.{AreFlagged};
+ghost use Rattle.gib_loccheck.specs.{Found.{is_found}, Indexing.{AreFlagged}};
 
 use gib_base::{ByNumber, Memory};
 use gib_types::ConId;

@@ -23,9 +23,7 @@ pub struct IndexedCore {
 
 impl Model for IndexedCore {
     ghost use Rattle.std.specs.Prelude.{◌≡◌};
-    ghost use Rattle.gib_core.specs.Parts.{Parts, core_of};
-    ghost use Rattle.gib_core.specs.Ending.{ended as ended_of};
-    ghost use Rattle.gib_core.specs.NamedFunctions.{IsIndex};
+    ghost use Rattle.gib_core.specs.{Parts.{Parts, core_of}, Ending.{ended as ended_of}, NamedFunctions.{IsIndex}};
     ghost use Rattle.gib_loccheck.specs.Indexing.{AreFlagged};
 
     ghost Value = { Parts };
@@ -37,10 +35,7 @@ impl Model for IndexedCore {
 
 impl IndexedCore {
     ghost use Rattle.std.specs.Prelude.{◌≡◌, IfOk, MatchOption, None, Some};
-    ghost use Rattle.gib_core.specs.Arena.{term_of};
-    ghost use Rattle.gib_core.specs.Meaning.{function_at};
-    ghost use Rattle.gib_core.specs.Parts.{AreInside, core_of, function_term};
-    ghost use Rattle.gib_core.specs.Ending.{ended as ended_of};
+    ghost use Rattle.gib_core.specs.{Arena.{term_of}, Meaning.{function_at}, Parts.{AreInside, core_of, function_term}, Ending.{ended as ended_of}};
     ghost use Rattle.gib_core.specs.Rules.{is_one_of};
 
     /// A core with its index.

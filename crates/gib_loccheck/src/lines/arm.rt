@@ -2,8 +2,7 @@
 
 ghost use Rattle.std.specs.Prelude.{◌≡◌, reverse, IfOk, OnOk, None};
 ghost use Rattle.gib_core.specs.Met.{with_arm, field as field_of_arm, packed_before as packed_before_next};
-ghost use Rattle.gib_loccheck.specs.Views.{setting_of, before_arm};
-ghost use Rattle.gib_loccheck.specs.Judging.{Extends, Binds, Stays};
+ghost use Rattle.gib_loccheck.specs.{Views.{setting_of, before_arm}, Judging.{Extends, Binds, Stays}};
 
 use crate::index::indexed::IndexedCore;
 use crate::index::scope::Scope;

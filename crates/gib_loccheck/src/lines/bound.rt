@@ -1,13 +1,10 @@
 //! What is bound to a term: one variable, or several.
 
 ghost use Rattle.std.specs.Prelude.{◌≡◌, ◌<◌, ℕ, length, IfOk, OnOk};
-ghost use Rattle.gib_core.specs.Parts.{core_of};
-ghost use Rattle.gib_core.specs.Met.{behind_side, calls_behind};
-ghost use Rattle.gib_core.specs.Tree.{Term, variables_of as variables_bound};
+ghost use Rattle.gib_core.specs.{Parts.{core_of}, Met.{behind_side, calls_behind}, Tree.{Term, variables_of as variables_bound}};
 ghost use Rattle.gib_core.specs.Arena.{term_in, term_of, side_from};
 ghost use Rattle.gib_core.specs.declared.node.BoundSide.TheVariants as side_of;
-ghost use Rattle.gib_loccheck.specs.Views.{setting_of, calls_of};
-ghost use Rattle.gib_loccheck.specs.Judging.{Binds, ChecksOpening, EntersAll, Stays, Tells};
+ghost use Rattle.gib_loccheck.specs.{Views.{setting_of, calls_of}, Judging.{Binds, ChecksOpening, EntersAll, Stays, Tells}};
 
 use crate::fault::LocFault;
 use crate::index::indexed::IndexedCore;

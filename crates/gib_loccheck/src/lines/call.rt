@@ -2,12 +2,9 @@
 
 ghost use Rattle.std.specs.Prelude.{◌≡◌, ◌||◌, not, [], None, Some};
 ghost use Rattle.gib_types.specs.Table.{is_scalar as scalar};
-ghost use Rattle.gib_core.specs.Arena.{term_of};
-ghost use Rattle.gib_core.specs.Parts.{core_of, function_term, results_of};
-ghost use Rattle.gib_core.specs.Met.{CallLine};
+ghost use Rattle.gib_core.specs.{Arena.{term_of}, Parts.{core_of, function_term, results_of}, Met.{CallLine}};
 ghost use Rattle.gib_core.specs.Rules.{least, rules as all_rules, is_packed as packed, result_fits as fits_due, call_fits as fits};
-ghost use Rattle.gib_loccheck.specs.Views.{destination_of, setting_of, before_of, call_rules, numbered};
-ghost use Rattle.gib_loccheck.specs.Judging.{one, Checks};
+ghost use Rattle.gib_loccheck.specs.{Views.{destination_of, setting_of, before_of, call_rules, numbered}, Judging.{one, Checks}};
 
 use crate::atoms::{all_usable, any_other, have_types};
 use crate::fault::LocFault;

@@ -2,11 +2,8 @@
 
 ghost use Rattle.std.specs.Prelude.{◌≡◌, ◌==◌, ◌&&◌, [], length, reverse, IfOk, OnOk, IfErr};
 ghost use Rattle.gib_types.specs.Table.{fields_at, constructors_of as all_of};
-ghost use Rattle.gib_core.specs.Parts.{core_of};
-ghost use Rattle.gib_core.specs.Met.{CaseLine};
-ghost use Rattle.gib_core.specs.Rules.{least, rules, cover, are_arms as arms_are, arm_variables, bind_arms as arms_bound};
-ghost use Rattle.gib_loccheck.specs.Views.{setting_of, before_of, arms_in, numbered};
-ghost use Rattle.gib_loccheck.specs.Judging.{one, Checks, CasesToo};
+ghost use Rattle.gib_core.specs.{Parts.{core_of}, Met.{CaseLine}, Rules.{least, rules, cover, are_arms as arms_are, arm_variables, bind_arms as arms_bound}};
+ghost use Rattle.gib_loccheck.specs.{Views.{setting_of, before_of, arms_in, numbered}, Judging.{one, Checks, CasesToo}};
 
 use crate::atoms::any_bound;
 use crate::fault::LocFault;

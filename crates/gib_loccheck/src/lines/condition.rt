@@ -1,11 +1,8 @@
 //! `if`: the condition of two branches.
 
 ghost use Rattle.std.specs.Prelude.{◌≡◌};
-ghost use Rattle.gib_core.specs.Parts.{core_of};
-ghost use Rattle.gib_core.specs.Met.{IfLine};
-ghost use Rattle.gib_core.specs.Rules.{least, rules};
-ghost use Rattle.gib_loccheck.specs.Views.{setting_of, before_of, numbered};
-ghost use Rattle.gib_loccheck.specs.Judging.{one, Checks};
+ghost use Rattle.gib_core.specs.{Parts.{core_of}, Met.{IfLine}, Rules.{least, rules}};
+ghost use Rattle.gib_loccheck.specs.{Views.{setting_of, before_of, numbered}, Judging.{one, Checks}};
 
 use crate::fault::LocFault;
 use crate::index::indexed::IndexedCore;

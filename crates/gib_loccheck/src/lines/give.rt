@@ -1,11 +1,8 @@
 //! `give`: a scalar result.
 
 ghost use Rattle.std.specs.Prelude.{◌≡◌};
-ghost use Rattle.gib_core.specs.Parts.{core_of};
-ghost use Rattle.gib_core.specs.Met.{GiveLine};
-ghost use Rattle.gib_core.specs.Rules.{least, rules};
-ghost use Rattle.gib_loccheck.specs.Views.{setting_of, before_of, numbered};
-ghost use Rattle.gib_loccheck.specs.Judging.{one, Checks};
+ghost use Rattle.gib_core.specs.{Parts.{core_of}, Met.{GiveLine}, Rules.{least, rules}};
+ghost use Rattle.gib_loccheck.specs.{Views.{setting_of, before_of, numbered}, Judging.{one, Checks}};
 
 use crate::fault::LocFault;
 use crate::index::indexed::IndexedCore;

@@ -1,11 +1,8 @@
 //! `par`: two variables are bound to terms that may run at the same time.
 
 ghost use Rattle.std.specs.Prelude.{IfOk, ℕ, ◌≡◌, ◌++◌, reverse, false, OnOk};
-ghost use Rattle.gib_core.specs.Tree.{CoreTree, Term, Both, variables_of as variables_bound};
-ghost use Rattle.gib_core.specs.Met.{ParLine, behind};
-ghost use Rattle.gib_core.specs.Arena.{side_from};
-ghost use Rattle.gib_loccheck.specs.Views.{setting_of, in_scope};
-ghost use Rattle.gib_loccheck.specs.Judging.{one, Checks, Binds, Stays, HasOthers};
+ghost use Rattle.gib_core.specs.{Tree.{CoreTree, Term, Both, variables_of as variables_bound}, Met.{ParLine, behind}, Arena.{side_from}};
+ghost use Rattle.gib_loccheck.specs.{Views.{setting_of, in_scope}, Judging.{one, Checks, Binds, Stays, HasOthers}};
 
 use crate::fault::LocFault;
 use crate::lines::bound::enter_side;

@@ -1,7 +1,6 @@
 //! `to`: a packed part of a tuple.
 
-ghost use Rattle.gib_core.specs.Tree.{CoreTree};
-ghost use Rattle.gib_core.specs.Met.{Setting, PartLine};
+ghost use Rattle.gib_core.specs.{Tree.{CoreTree}, Met.{Setting, PartLine}};
 ghost use Rattle.gib_loccheck.specs.Judging.{one, Checks};
 
 use crate::fault::LocFault;

@@ -1,12 +1,8 @@
 //! `past`: room is kept for the head of a constructor.
 
 ghost use Rattle.std.specs.Prelude.{◌≡◌};
-ghost use Rattle.gib_core.specs.Parts.{core_of};
-ghost use Rattle.gib_core.specs.Met.{PastLine};
-ghost use Rattle.gib_core.specs.Rules.{least, rules};
-ghost use Rattle.gib_core.specs.Tree.{Past};
-ghost use Rattle.gib_loccheck.specs.Views.{setting_of, before_of, numbered};
-ghost use Rattle.gib_loccheck.specs.Judging.{one, Checks, ChecksBinding};
+ghost use Rattle.gib_core.specs.{Parts.{core_of}, Met.{PastLine}, Rules.{least, rules}, Tree.{Past}};
+ghost use Rattle.gib_loccheck.specs.{Views.{setting_of, before_of, numbered}, Judging.{one, Checks, ChecksBinding}};
 
 use crate::fault::LocFault;
 use crate::index::indexed::IndexedCore;

@@ -1,11 +1,8 @@
 //! An operation on two numbers.
 
 ghost use Rattle.std.specs.Prelude.{◌≡◌};
-ghost use Rattle.gib_core.specs.Rules.{least};
-ghost use Rattle.gib_core.specs.Tree.{CoreTree, Prim};
-ghost use Rattle.gib_core.specs.Met.{PrimLine};
-ghost use Rattle.gib_loccheck.specs.Views.{setting_of, before_of, prim_rules, numbered};
-ghost use Rattle.gib_loccheck.specs.Judging.{one, Checks, ChecksBinding};
+ghost use Rattle.gib_core.specs.{Rules.{least}, Tree.{CoreTree, Prim}, Met.{PrimLine}};
+ghost use Rattle.gib_loccheck.specs.{Views.{setting_of, before_of, prim_rules, numbered}, Judging.{one, Checks, ChecksBinding}};
 
 use crate::fault::LocFault;
 use crate::lines::{bind, enter, judge};

@@ -1,13 +1,10 @@
 //! `reach`: from here on a field of an arm can be used.
 
 ghost use Rattle.std.specs.Prelude.{◌≡◌, ◌&&◌, not, reverse, OnOk};
-ghost use Rattle.gib_core.specs.Parts.{core_of};
-ghost use Rattle.gib_core.specs.Met.{ReachLine, known};
+ghost use Rattle.gib_core.specs.{Parts.{core_of}, Met.{ReachLine, known}};
 ghost use Rattle.gib_core.specs.Rules.{least, rules, by_access as accessed, may_reach as reaches, is_reached, is_outside, one_tells, is_among};
-ghost use Rattle.gib_core.specs.Ending.{ended};
-ghost use Rattle.gib_core.specs.Tree.{Reach};
-ghost use Rattle.gib_loccheck.specs.Views.{setting_of, in_scope, before_of, calls_of, numbered};
-ghost use Rattle.gib_loccheck.specs.Judging.{one, Checks, ChecksBinding, Reaches};
+ghost use Rattle.gib_core.specs.{Ending.{ended}, Tree.{Reach}};
+ghost use Rattle.gib_loccheck.specs.{Views.{setting_of, in_scope, before_of, calls_of, numbered}, Judging.{one, Checks, ChecksBinding, Reaches}};
 
 use crate::fault::LocFault;
 use crate::index::indexed::IndexedCore;

@@ -1,14 +1,10 @@
 //! `several`: variables are bound to the parts of a term.
 
 ghost use Rattle.std.specs.Prelude.{◌≡◌, ℕ, IfOk};
-ghost use Rattle.gib_core.specs.PartTypes.{types_in};
-ghost use Rattle.gib_core.specs.Tree.{CoreTree, Term, variables_from};
-ghost use Rattle.gib_core.specs.Arena.{side_from};
-ghost use Rattle.gib_core.specs.Met.{SeveralLine};
+ghost use Rattle.gib_core.specs.{PartTypes.{types_in}, Tree.{CoreTree, Term, variables_from}, Arena.{side_from}, Met.{SeveralLine}};
 ghost use Rattle.gib_core.specs.Rules.{least, are_several as several_are};
 ghost use Rattle.gib_core.specs.declared.node.BoundSide.TheVariants as side_of;
-ghost use Rattle.gib_loccheck.specs.declared.target.Target.{Target as Goal};
-ghost use Rattle.gib_loccheck.specs.Views.{setting_of, before_of, several_rules, numbered};
+ghost use Rattle.gib_loccheck.specs.{declared.target.Target.{Target as Goal}, Views.{setting_of, before_of, several_rules, numbered}};
 ghost use Rattle.gib_loccheck.specs.Judging.{one, Checks, ChecksOpening};
 
 use crate::atoms::any_bound;

@@ -2,12 +2,8 @@
 
 ghost use Rattle.std.specs.Prelude.{◌≡◌, length, ◌<◌, OnOk};
 ghost use Rattle.gib_types.specs.Table.{Table};
-ghost use Rattle.gib_core.specs.Parts.{core_of};
-ghost use Rattle.gib_core.specs.Met.{SideLine, call_too};
-ghost use Rattle.gib_core.specs.Rules.{least, rules, side_rules};
-ghost use Rattle.gib_core.specs.Arena.{term_of};
-ghost use Rattle.gib_loccheck.specs.Views.{setting_of, in_scope, before_of, calls_of, numbered};
-ghost use Rattle.gib_loccheck.specs.Judging.{one, Checks, Tells};
+ghost use Rattle.gib_core.specs.{Parts.{core_of}, Met.{SideLine, call_too}, Rules.{least, rules, side_rules}, Arena.{term_of}};
+ghost use Rattle.gib_loccheck.specs.{Views.{setting_of, in_scope, before_of, calls_of, numbered}, Judging.{one, Checks, Tells}};
 
 use crate::fault::LocFault;
 use crate::index::indexed::IndexedCore;

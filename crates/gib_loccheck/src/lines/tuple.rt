@@ -1,12 +1,8 @@
 //! `tuple`: several parts.
 
 ghost use Rattle.std.specs.Prelude.{◌≡◌, length};
-ghost use Rattle.gib_core.specs.Parts.{core_of};
-ghost use Rattle.gib_core.specs.PartTypes.{types_in};
-ghost use Rattle.gib_core.specs.Met.{TupleLine};
-ghost use Rattle.gib_core.specs.Rules.{least, rules, are_parts as parts_are};
-ghost use Rattle.gib_loccheck.specs.Views.{destination_of, setting_of, before_of, is_whole as whole_is, numbered};
-ghost use Rattle.gib_loccheck.specs.Judging.{one, Checks};
+ghost use Rattle.gib_core.specs.{Parts.{core_of}, PartTypes.{types_in}, Met.{TupleLine}, Rules.{least, rules, are_parts as parts_are}};
+ghost use Rattle.gib_loccheck.specs.{Views.{destination_of, setting_of, before_of, is_whole as whole_is, numbered}, Judging.{one, Checks}};
 
 use crate::atoms::{all_usable, any_other, have_scalar_types};
 use crate::fault::LocFault;

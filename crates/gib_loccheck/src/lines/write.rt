@@ -1,11 +1,9 @@
 //! `write`: the open head is filled.
 
 ghost use Rattle.std.specs.Prelude.{◌≡◌, ◌==◌, ◌&&◌, length};
-ghost use Rattle.gib_core.specs.Parts.{core_of};
-ghost use Rattle.gib_core.specs.Met.{WriteLine, packed_types};
+ghost use Rattle.gib_core.specs.{Parts.{core_of}, Met.{WriteLine, packed_types}};
 ghost use Rattle.gib_core.specs.Rules.{least, rules, may_write as writes, are_scalars as scalars_are, are_variables as variables_are};
-ghost use Rattle.gib_loccheck.specs.Views.{destination_of, setting_of, before_of, numbered};
-ghost use Rattle.gib_loccheck.specs.Judging.{one, Checks};
+ghost use Rattle.gib_loccheck.specs.{Views.{destination_of, setting_of, before_of, numbered}, Judging.{one, Checks}};
 
 use crate::atoms::{all_usable, any_cased, any_other, are_variables, further, have_scalar_types};
 use crate::fault::LocFault;

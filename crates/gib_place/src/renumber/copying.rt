@@ -3,13 +3,8 @@
 //! Each node is copied by itself, so this goes along the nodes and not along the terms.
 
 ghost use Rattle.std.specs.Prelude.{◌≡◌, ◌<◌, ◌+◌, map, length, IfOk};
-ghost use Rattle.gib_core.specs.Arena.{term_of};
-ghost use Rattle.gib_core.specs.PartTypes.{types_in};
-ghost use Rattle.gib_core.specs.Tree.{variables_from};
-ghost use Rattle.gib_place.specs.Made.{MakesTerm};
-ghost use Rattle.gib_place.specs.Renaming.{rename, rename_variable, rename_atom, rename_access};
-ghost use Rattle.gib_place.specs.Numbering.{place_in};
-ghost use Rattle.gib_place.specs.Filled.{IsBranching};
+ghost use Rattle.gib_core.specs.{Arena.{term_of}, PartTypes.{types_in}, Tree.{variables_from}};
+ghost use Rattle.gib_place.specs.{Made.{MakesTerm}, Renaming.{rename, rename_variable, rename_atom, rename_access}, Numbering.{place_in}, Filled.{IsBranching}};
 ghost use Rattle.gib_place.specs.Shifting.{SideShifted, BindingShifted, PartsShifted, BranchShifted, BranchesShifted, NodeShifted, Copies};
 
 use super::numbers::Numbers;

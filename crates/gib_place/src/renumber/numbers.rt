@@ -2,8 +2,7 @@
 
 ghost use Rattle.std.specs.Prelude.{◌≡◌, ◌<◌, ◌≤◌, ◌^◌, length, IfOk, IfErr};
 ghost use Rattle.gib_core.specs.Arena.{term_of};
-ghost use Rattle.gib_place.specs.Numbered.{ArePlaces};
-ghost use Rattle.gib_place.specs.Numbering.{variables_in};
+ghost use Rattle.gib_place.specs.{Numbered.{ArePlaces}, Numbering.{variables_in}};
 
 use gib_base::{ByNumber, Memory};
 use gib_core::{Atom, TermId, Terms, Variable, push_binders};
@@ -55,8 +54,7 @@ impl Model for Numbers {
 
 impl Numbers {
     ghost use Rattle.std.specs.Prelude.{◌≡◌, IfOk};
-    ghost use Rattle.gib_place.specs.Renaming.{rename_variable, rename_atom};
-    ghost use Rattle.gib_place.specs.Numbering.{place_in};
+    ghost use Rattle.gib_place.specs.{Renaming.{rename_variable, rename_atom}, Numbering.{place_in}};
 
     /// The variables of an order.
     ///
