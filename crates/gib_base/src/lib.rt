@@ -4,7 +4,7 @@
 mod by_number;
 pub mod letters;
 pub mod limits;
-pub mod name;
+mod name;
 mod reversed;
 mod text;
 mod texts;

@@ -1,11 +1,11 @@
 //! Source text to tokens.
 #![tactic(auto)]
 
-pub mod fault;
+mod fault;
 pub mod laws;
-pub mod lexer;
+mod lexer;
 mod pieces;
-pub mod tokens;
+mod tokens;
 
 pub use fault::LexFault;
 pub use lexer::{lex, lex_in};

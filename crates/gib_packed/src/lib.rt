@@ -3,7 +3,7 @@
 
 pub mod law;
 pub mod read;
-pub mod root;
+mod root;
 
 pub use gib_mem::{INDIRECTION, POINTER_BYTES, REDIRECT};
 pub use read::{

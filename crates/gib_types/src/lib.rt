@@ -4,15 +4,16 @@
 mod access;
 mod copy;
 mod fields;
-pub mod law;
-pub mod layouts;
+mod law;
+mod layouts;
 mod operator;
 mod reason;
-pub mod table;
+mod table;
 pub mod types;
 
 pub use access::FieldAccess;
 pub use fields::{first_type, further_types, items_at};
+pub use law::layouts_are_of_the_set;
 pub use layouts::{Layout, Layouts};
 pub use operator::Operator;
 pub use reason::Reason;

@@ -2,15 +2,15 @@
 #![tactic(auto)]
 
 mod context;
-pub mod examples;
+mod examples;
 mod fault;
-pub mod heap;
+mod heap;
 pub mod law;
-pub mod node;
-pub mod read;
+mod node;
+mod read;
 mod todo;
-pub mod value;
-pub mod write;
+mod value;
+mod write;
 
 pub use fault::TextFault;
 pub use heap::Heap;
