@@ -19,7 +19,8 @@ use Rattle.gib_core.specs.Fits as f
 use Rattle.gib_core.specs.Fits.{Absent, Held, Placed, AtHead, Field, Scope, put, loosen, cased, Dest, packed_due, more, AtomsFit, arm_scope, Line, Needs, Inner, none_of, new_line, arm_line, side_tells, bound_scope, hold_all, Fits, PartsFit, BindFits, SideFits, AloneFits, BranchesFit}
 use Rattle.gib_core.specs.Ending.{Within, within_par, ended, is_known, all_known, lasts_known, last_packed, if_some}
 use Rattle.gib_core.proofs.Owing.{Owes, Tells, MayTell, BindsSome, side_line, bind_line, owes_leaf, owes_call, owes_if, owes_arm, owes_side, owes_none, owes_behind, tells_new, tells_inner, tells_behind, left_may, right_may}
-use Rattle.gib_core.specs.Literals.{LiteralsFit, BindLiterals, SideLiterals, PartLiterals, BranchLiterals}
+use Rattle.gib_core.specs.Walk.{EachInBind, EachInSide, EachInParts, EachInBranches}
+use Rattle.gib_core.specs.Literals.{LiteralsFit, EntryLiterals}
 use Rattle.gib_core.proofs.Facts.{least2, least3, least4, same_type_is, is_type_is, same_variable, itself, test}
 use Rattle.gib_core.proofs.Later.{have_on, later_on, bound_arms, fresh_arms, line_later, lines_later, built_apart, its_type, prim_facts, case_facts, ArmsHaveTypes, arms_have_on, typed_bound}
 use Rattle.gib_core.proofs.Unused.{cased_before}
@@ -102,7 +103,7 @@ mutual
         owes_leaf core ns (Tuple tys ss ps) ln refl (λ z. refl) owes,
       )
 
-  parts_fit : (core : CoreTree) (n : ℕ) → IsTable core.table → (w : Within) (ps : PartTerms) (ts : List Ty) (dues : List ℕ) (b : Before) (s : Setting) (sc : Scope) → MayTell s w → AllBelow n (part_binders ps) → PartLiterals ps
+  parts_fit : (core : CoreTree) (n : ℕ) → IsTable core.table → (w : Within) (ps : PartTerms) (ts : List Ty) (dues : List ℕ) (b : Before) (s : Setting) (sc : Scope) → MayTell s w → AllBelow n (part_binders ps) → EachInParts EntryLiterals ps
       → Vars n b s.scope sc → LinesAreBuilt core b (met_parts core.table s ts ps) → ArePaired ts dues → parts_count ps ≡ length ts → (ss : List Atom) (us : List Ty)
       → ((tc : Scope) → Vars n (next_all core.table b (met_parts core.table s ts ps)) s.scope tc → AtomsFit tc ss us) → PartsFit core w ps dues sc (λ tc. AtomsFit tc ss us)
   parts_fit core n is w NoPart [] [] b s sc may below lits v h pair count ss us on = on sc v
@@ -126,7 +127,7 @@ mutual
             (λ tc v'. on tc (subst (λ (z : Before). Vars n z s.scope tc) (sym (next_append core.table b lines rest)) v')),
       )
 
-  bind_fits : (core : CoreTree) (n : ℕ) → IsTable core.table → (k : Bind) (b : Before) (s : Setting) (sc : Scope) (d : Dest) (ln : Line) → Tells core s ln → (go : After) → AllBelow n (bind_binders k) → BindLiterals k
+  bind_fits : (core : CoreTree) (n : ℕ) → IsTable core.table → (k : Bind) (b : Before) (s : Setting) (sc : Scope) (d : Dest) (ln : Line) → Tells core s ln → (go : After) → AllBelow n (bind_binders k) → EachInBind EntryLiterals k
       → Vars n b s.scope sc → IsDest core.table b sc s.destination s.due d → LinesAreBuilt core b (met_bind core.table s k)
       → ((tc : Scope) (d' : Dest) → Vars n (next_all core.table b (met_bind core.table s k)) (behind s k).scope tc → IsDest core.table (next_all core.table b (met_bind core.table s k)) tc (behind s k).destination (behind s k).due d' → goes core go tc d' (bind_line core k ln))
       → BindFits core k sc d ln (goes core go)
@@ -271,7 +272,7 @@ mutual
         tells.told z w.0 w.1,
       )
 
-  side_fits : (core : CoreTree) (n : ℕ) → IsTable core.table → (w : Within) (side : Side) (b : Before) (s : Setting) (sc : Scope) (d : Dest) (ln : Line) → MayTell s w → (go : After) → AllBelow n (side_binders side) → SideLiterals side
+  side_fits : (core : CoreTree) (n : ℕ) → IsTable core.table → (w : Within) (side : Side) (b : Before) (s : Setting) (sc : Scope) (d : Dest) (ln : Line) → MayTell s w → (go : After) → AllBelow n (side_binders side) → EachInSide EntryLiterals side
       → Vars n b s.scope sc → IsDest core.table b sc s.destination s.due d → LinesAreBuilt core b (met_side core.table s side)
       → ((tc : Scope) (d' : Dest) → SideDone core n b s side sc (next_all core.table b (met_side core.table s side)) tc d' → goes core go tc d' (side_line w core side ln))
       → SideFits core w side sc d ln (goes core go)
@@ -362,7 +363,7 @@ mutual
 
   -- The right side of a par by itself, in the scope before the par: what the left side bound stands before it, and its
   -- variable is not in scope.
-  alone_fits : (core : CoreTree) (n : ℕ) → IsTable core.table → (w : Within) (r : Side) (b : Before) (s : Setting) (l : Side) → BindsSome l → (sc : Scope) → AllBelow n (side_binders r) → SideLiterals r
+  alone_fits : (core : CoreTree) (n : ℕ) → IsTable core.table → (w : Within) (r : Side) (b : Before) (s : Setting) (l : Side) → BindsSome l → (sc : Scope) → AllBelow n (side_binders r) → EachInSide EntryLiterals r
       → Vars n b s.scope sc → LinesAreBuilt core b (met_side core.table (right_of s l) r) → AloneFits core w r sc
   alone_fits core n is w (On Here x ty t) b s l some sc below lits v h =
       let d = stands_behind l s.destination in
@@ -429,7 +430,7 @@ mutual
 
   branches_fit : (core : CoreTree) (n : ℕ) → IsTable core.table → (ns : Needs) (whole bs : Branches) (x : Variable) (ln : Line) → Owes core ns (CaseTerm (a.Variable x) whole) ln
       → ((q : ℕ) → all_known core.table (ended core) whole (named q) ≡ true → all_known core.table (ended core) bs (named q) ≡ true) → (lasts_known core.table (ended core) whole ≡ true → lasts_known core.table (ended core) bs ≡ true)
-      → (b : Before) (s : Setting) (sc : Scope) (d : Dest) → Tells core s ln → AllBelow n (branch_binders bs) → BranchLiterals bs
+      → (b : Before) (s : Setting) (sc : Scope) (d : Dest) → Tells core s ln → AllBelow n (branch_binders bs) → EachInBranches EntryLiterals bs
       → Vars n b s.scope sc → IsDest core.table b sc s.destination s.due d → ArmsHaveTypes core.table (arms_of bs) b.bound → ArmsAreNew core.table sc (arms_of bs) → LinesAreBuilt core b (met_branches core.table s bs)
       → BranchesFit core ns bs x.0 sc d ln
   branches_fit core n is ns whole NoBranch x ln owes all lasts b s sc d tells below lits v e types new h = tt

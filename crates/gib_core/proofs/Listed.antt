@@ -11,7 +11,8 @@ use Rattle.gib_core.specs.Tree.{Term, variables_from, prepend}
 use Rattle.gib_core.specs.Arena.{IsBindingBelow, IsLine, term_of, bind_from, binds_from, parts_from, branches_from}
 use Rattle.gib_core.specs.declared.mentions.Mention.{Mention}
 use Rattle.gib_core.specs.declared.mentions.Mention.TheVariants.{Bound}
-use Rattle.gib_core.specs.Mentioned.{all_bound, mentions, bind_mentions, part_mentions, branch_mentions, binder, binders_in}
+use Rattle.gib_core.specs.Walk.{walk_bind, walk_parts, walk_branches}
+use Rattle.gib_core.specs.Mentioned.{all_bound, mentions, says, binder, binders_in}
 
 all_at : {A : Type 0} (P : A → Type 0) (xs : List A) (i : ℕ) (d : A) → AllByRecursion P xs → i < length xs → P (get_or xs i d)
 all_at P [] i d h lt = absurd (omega arith)
@@ -30,10 +31,10 @@ listed_start terms id last bindings old l = record { within = omega arith; below
 pub listed_below : (terms : List Node) (id : ℕ) (bindings : List Binding) (i : ℕ) (old now : List Mention) (binding d : Binding) → LineListed terms id bindings i old now → i < length bindings → binding ≡ get_or bindings i d → IsBindingBelow id binding
 listed_below terms id bindings i old now binding d h lt e = subst (IsBindingBelow id) (sym e) (all_at (IsBindingBelow id) bindings i d h.below lt)
 
-pub listed_next : (terms : List Node) (id : ℕ) (bindings : List Binding) (i : ℕ) (old now new : List Mention) (binding d : Binding) → LineListed terms id bindings i old now → i < length bindings → binding ≡ get_or bindings i d → new ≡ now ++ bind_mentions (bind_from (term_of terms) binding) → LineListed terms id bindings (i + 1) old new
+pub listed_next : (terms : List Node) (id : ℕ) (bindings : List Binding) (i : ℕ) (old now new : List Mention) (binding d : Binding) → LineListed terms id bindings i old now → i < length bindings → binding ≡ get_or bindings i d → new ≡ now ++ walk_bind (◌++◌) [] says (bind_from (term_of terms) binding) → LineListed terms id bindings (i + 1) old new
 listed_next terms id bindings i old now new binding d h lt e a =
     let left : drop i bindings ≡ binding ∷ drop (i + 1) bindings = drop_more bindings i d lt ∙ ap (λ (z : Binding). z ∷ drop (i + 1) bindings) (sym e) in
-    let own = bind_mentions (bind_from (term_of terms) binding) in
+    let own = walk_bind (◌++◌) [] says (bind_from (term_of terms) binding) in
     record {
       within = omega arith;
       below = h.below;
@@ -82,30 +83,30 @@ pub variables_end : {A : Type 0} (xs : List A) (first i : ℕ) (old now : List M
 variables_end xs first i old now le h = sym (append-nil now) ∙ (ap (λ l. now ++ all_bound (variables_from (first + i) l)) (sym (drop_all i xs le)) ∙ h)
 
 -- Parts that are listed one after another.
-pub parts_next : (f : ℕ → Term) (ts : List TermId) (i : ℕ) (t d : TermId) (old now new : List Mention) → i < length ts → t ≡ get_or ts i d → now ++ part_mentions (parts_from f (drop i ts)) ≡ old ++ part_mentions (parts_from f ts)
-    → new ≡ now ++ mentions (f t.0) → new ++ part_mentions (parts_from f (drop (i + 1) ts)) ≡ old ++ part_mentions (parts_from f ts)
+pub parts_next : (f : ℕ → Term) (ts : List TermId) (i : ℕ) (t d : TermId) (old now new : List Mention) → i < length ts → t ≡ get_or ts i d → now ++ walk_parts (◌++◌) [] says (parts_from f (drop i ts)) ≡ old ++ walk_parts (◌++◌) [] says (parts_from f ts)
+    → new ≡ now ++ mentions (f t.0) → new ++ walk_parts (◌++◌) [] says (parts_from f (drop (i + 1) ts)) ≡ old ++ walk_parts (◌++◌) [] says (parts_from f ts)
 parts_next f ts i t d old now new lt e h a =
     let left : drop i ts ≡ t ∷ drop (i + 1) ts = drop_more ts i d lt ∙ ap (λ (z : TermId). z ∷ drop (i + 1) ts) (sym e) in
-    let rest = part_mentions (parts_from f (drop (i + 1) ts)) in
-    ap (λ l. l ++ rest) a ∙ (append_assoc now (mentions (f t.0)) rest ∙ (sym (ap (λ l. now ++ part_mentions (parts_from f l)) left) ∙ h))
+    let rest = walk_parts (◌++◌) [] says (parts_from f (drop (i + 1) ts)) in
+    ap (λ l. l ++ rest) a ∙ (append_assoc now (mentions (f t.0)) rest ∙ (sym (ap (λ l. now ++ walk_parts (◌++◌) [] says (parts_from f l)) left) ∙ h))
 
-pub parts_end : (f : ℕ → Term) (ts : List TermId) (i : ℕ) (old now : List Mention) → length ts ≤ i → now ++ part_mentions (parts_from f (drop i ts)) ≡ old ++ part_mentions (parts_from f ts) → now ≡ old ++ part_mentions (parts_from f ts)
-parts_end f ts i old now le h = sym (append-nil now) ∙ (ap (λ l. now ++ part_mentions (parts_from f l)) (sym (drop_all i ts le)) ∙ h)
+pub parts_end : (f : ℕ → Term) (ts : List TermId) (i : ℕ) (old now : List Mention) → length ts ≤ i → now ++ walk_parts (◌++◌) [] says (parts_from f (drop i ts)) ≡ old ++ walk_parts (◌++◌) [] says (parts_from f ts) → now ≡ old ++ walk_parts (◌++◌) [] says (parts_from f ts)
+parts_end f ts i old now le h = sym (append-nil now) ∙ (ap (λ l. now ++ walk_parts (◌++◌) [] says (parts_from f l)) (sym (drop_all i ts le)) ∙ h)
 
-pub branches_next : (f : ℕ → Term) (bs : List Branch) (i : ℕ) (b d : Branch) (old now new : List Mention) → i < length bs → b ≡ get_or bs i d → now ++ branch_mentions (branches_from f (drop i bs)) ≡ old ++ branch_mentions (branches_from f bs)
-    → new ≡ now ++ (all_bound b.variables.items ++ mentions (f b.term.0)) → new ++ branch_mentions (branches_from f (drop (i + 1) bs)) ≡ old ++ branch_mentions (branches_from f bs)
+pub branches_next : (f : ℕ → Term) (bs : List Branch) (i : ℕ) (b d : Branch) (old now new : List Mention) → i < length bs → b ≡ get_or bs i d → now ++ walk_branches (◌++◌) [] says (branches_from f (drop i bs)) ≡ old ++ walk_branches (◌++◌) [] says (branches_from f bs)
+    → new ≡ now ++ (all_bound b.variables.items ++ mentions (f b.term.0)) → new ++ walk_branches (◌++◌) [] says (branches_from f (drop (i + 1) bs)) ≡ old ++ walk_branches (◌++◌) [] says (branches_from f bs)
 branches_next f bs i b d old now new lt e h a =
     let left : drop i bs ≡ b ∷ drop (i + 1) bs = drop_more bs i d lt ∙ ap (λ (z : Branch). z ∷ drop (i + 1) bs) (sym e) in
     let xs = all_bound b.variables.items in
     let ys = mentions (f b.term.0) in
-    let rest = branch_mentions (branches_from f (drop (i + 1) bs)) in
+    let rest = walk_branches (◌++◌) [] says (branches_from f (drop (i + 1) bs)) in
     ap (λ l. l ++ rest) a
     ∙ (append_assoc now (xs ++ ys) rest
     ∙ (ap (λ l. now ++ l) (append_assoc xs ys rest)
-    ∙ (sym (ap (λ l. now ++ branch_mentions (branches_from f l)) left) ∙ h)))
+    ∙ (sym (ap (λ l. now ++ walk_branches (◌++◌) [] says (branches_from f l)) left) ∙ h)))
 
-pub branches_end : (f : ℕ → Term) (bs : List Branch) (i : ℕ) (old now : List Mention) → length bs ≤ i → now ++ branch_mentions (branches_from f (drop i bs)) ≡ old ++ branch_mentions (branches_from f bs) → now ≡ old ++ branch_mentions (branches_from f bs)
-branches_end f bs i old now le h = sym (append-nil now) ∙ (ap (λ l. now ++ branch_mentions (branches_from f l)) (sym (drop_all i bs le)) ∙ h)
+pub branches_end : (f : ℕ → Term) (bs : List Branch) (i : ℕ) (old now : List Mention) → length bs ≤ i → now ++ walk_branches (◌++◌) [] says (branches_from f (drop i bs)) ≡ old ++ walk_branches (◌++◌) [] says (branches_from f bs) → now ≡ old ++ walk_branches (◌++◌) [] says (branches_from f bs)
+branches_end f bs i old now le h = sym (append-nil now) ∙ (ap (λ l. now ++ walk_branches (◌++◌) [] says (branches_from f l)) (sym (drop_all i bs le)) ∙ h)
 
 pub one_then : (old mid new : List Mention) (xs ys : List Mention) → mid ≡ old ++ xs → new ≡ mid ++ ys → new ≡ old ++ (xs ++ ys)
 one_then old mid new xs ys e f = f ∙ (ap (λ l. l ++ ys) e ∙ append_assoc old xs ys)

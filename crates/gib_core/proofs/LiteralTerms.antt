@@ -16,17 +16,18 @@ use Rattle.gib_core.specs.Tree.{Term, FunctionTerm}
 use Rattle.gib_core.specs.Arena.{IsBindingBelow, IsBranchBelow, IsPartBelow, PartsBelow, Opens, term_in, side_from, bind_from, parts_from, branches_from, layer, term_of}
 use Rattle.gib_core.specs.Parts.{Parts, AreInside, IsFunctionInside, function_term, core_of}
 use Rattle.gib_core.specs.Met.{Body}
-use Rattle.gib_core.specs.Literals.{LiteralsFit, BindLiterals, SideLiterals, PartLiterals, BranchLiterals, AllLiteralsFit, BindingLiterals, NodeLiterals}
+use Rattle.gib_core.specs.Walk.{EachInBind, EachInSide, EachInParts, EachInBranches}
+use Rattle.gib_core.specs.Literals.{LiteralsFit, EntryLiterals, AllLiteralsFit, BindingLiterals, NodeLiterals}
 
 Fit : (ℕ → Term) → ℕ → Type 0
 Fit f id = (other : ℕ) → other < id → LiteralsFit (f other)
 
-side_fits : (f : ℕ → Term) (id : ℕ) (x : BoundSide) → Fit f id → (term_in x).0 < id → SideLiterals (side_from f x)
+side_fits : (f : ℕ → Term) (id : ℕ) (x : BoundSide) → Fit f id → (term_in x).0 < id → EachInSide EntryLiterals (side_from f x)
 unfolding Fit
 side_fits f id (s.One x) fit below = (tt, fit x.term.0 below)
 side_fits f id (s.Several x) fit below = (tt, fit x.term.0 below)
 
-binding_fits : (f : ℕ → Term) (id : ℕ) (x : Binding) → Fit f id → IsBindingBelow id x → BindingLiterals x → BindLiterals (bind_from f x)
+binding_fits : (f : ℕ → Term) (id : ℕ) (x : Binding) → Fit f id → IsBindingBelow id x → BindingLiterals x → EachInBind EntryLiterals (bind_from f x)
 unfolding Fit
 binding_fits f id (b.Past h k) fit below l = tt
 binding_fits f id (b.One x) fit below l = side_fits f id x fit below
@@ -34,12 +35,12 @@ binding_fits f id (b.Par fork x y) fit below l = (tt, (side_fits f id x fit belo
 binding_fits f id (b.Prim x g y z) fit below l = l
 binding_fits f id (b.Reach y by) fit below l = tt
 
-branches_fit : (f : ℕ → Term) (id : ℕ) (bs : List Branch) → Fit f id → AllByRecursion (IsBranchBelow id) bs → BranchLiterals (branches_from f bs)
+branches_fit : (f : ℕ → Term) (id : ℕ) (bs : List Branch) → Fit f id → AllByRecursion (IsBranchBelow id) bs → EachInBranches EntryLiterals (branches_from f bs)
 unfolding Fit
 branches_fit f id [] fit below = tt
 branches_fit f id (x ∷ bs) fit below = (tt, (fit x.term.0 below.0, branches_fit f id bs fit below.1))
 
-parts_fit : (f : ℕ → Term) (id : ℕ) (ts : List TermId) → Fit f id → AllByRecursion (IsPartBelow id) ts → PartLiterals (parts_from f ts)
+parts_fit : (f : ℕ → Term) (id : ℕ) (ts : List TermId) → Fit f id → AllByRecursion (IsPartBelow id) ts → EachInParts EntryLiterals (parts_from f ts)
 unfolding Fit
 parts_fit f id [] fit below = tt
 parts_fit f id (t ∷ ts) fit below = (tt, (fit t.0 below.0, parts_fit f id ts fit below.1))

@@ -54,34 +54,19 @@ Scope = ℕ → Sort
 abbrev pub is_there : Sort → Bool
 is_there Outside = false
 is_there Absent = false
-is_there (Scalar ty) = true
-is_there Held = true
-is_there (Placed t) = true
-is_there (Loose t) = true
-is_there (AtHead t) = true
-is_there (Field t z x k p) = true
+is_there s = true
 
 -- The variable has a slot.
 abbrev pub has_slot : Sort → Bool
 has_slot Outside = false
-has_slot Absent = true
-has_slot (Scalar ty) = true
-has_slot Held = true
-has_slot (Placed t) = true
-has_slot (Loose t) = true
-has_slot (AtHead t) = true
-has_slot (Field t z x k p) = true
+has_slot s = true
 
 -- The type of a tree that can be used.
 abbrev pub tree_type : Sort → Option ℕ
-tree_type Outside = None
-tree_type Absent = None
-tree_type (Scalar ty) = None
-tree_type Held = None
 tree_type (Placed t) = Some t
 tree_type (Loose t) = Some t
 tree_type (AtHead t) = Some t
-tree_type (Field t z x k p) = None
+tree_type s = None
 
 -- A scalar of the type is due; a tree of the type at an empty place; a tree of the type t whose head h of the constructor
 -- k is open, where the fields xs stand and fields of these types are due; parts of these types, each packed one in a region of its own.
@@ -108,14 +93,8 @@ dest_of (results.Several tys) = InParts tys
 -- After a case on it a tree may be at another place.
 abbrev pub loosen_one : Bool → Sort → Sort
 loosen_one false s = s
-loosen_one true Outside = Outside
-loosen_one true Absent = Absent
-loosen_one true (Scalar ty) = Scalar ty
-loosen_one true Held = Held
 loosen_one true (Placed t) = Loose t
-loosen_one true (Loose t) = Loose t
-loosen_one true (AtHead t) = AtHead t
-loosen_one true (Field t z x k p) = Field t z x k p
+loosen_one true s = s
 
 -- A scope behind a term that has a case on these variables.
 abbrev pub loosen : (ℕ → Bool) → Scope → Scope

@@ -8,9 +8,9 @@ use Rattle.gib_core.specs.declared.node.Binding.{Binding}
 use Rattle.gib_core.specs.declared.node.Binding.TheVariants as b
 use Rattle.gib_core.specs.declared.node.Node.{Node}
 use Rattle.gib_core.specs.declared.node.Node.TheVariants as n
-use Rattle.gib_core.specs.Tree.{Term, Bind, Side, PartTerms, Branches, CoreTree}
+use Rattle.gib_core.specs.Tree.{Term, CoreTree}
 use Rattle.gib_core.specs.Met.{PrimLine, WriteLine, CallLine, GiveLine, TupleLine, Body, bodies}
-use Rattle.gib_core.specs.Walk.{Entry, AtLine, Each, EachInBind, EachInSide, EachInParts, EachInBranches}
+use Rattle.gib_core.specs.Walk.{Entry, AtLine, Each}
 
 -- An atom that is a number has 64 bits.
 abbrev pub LiteralFits : Atom → Type 0
@@ -27,25 +27,9 @@ EntryLiterals (AtLine (GiveLine x)) = LiteralFits x
 EntryLiterals (AtLine (TupleLine tys ss packed)) = AllByRecursion LiteralFits ss
 EntryLiterals l = Unit {0}
 
--- The numbers of a term have 64 bits; those of a binding, of a side, of parts, of branches.
+-- The numbers of a term have 64 bits.
 abbrev pub LiteralsFit : Term → Type 0
 LiteralsFit t = Each EntryLiterals t
-
--- The numbers of a binding have 64 bits.
-abbrev pub BindLiterals : Bind → Type 0
-BindLiterals b = EachInBind EntryLiterals b
-
--- The numbers of a side have 64 bits.
-abbrev pub SideLiterals : Side → Type 0
-SideLiterals s = EachInSide EntryLiterals s
-
--- The numbers of parts have 64 bits.
-abbrev pub PartLiterals : PartTerms → Type 0
-PartLiterals ps = EachInParts EntryLiterals ps
-
--- The numbers of branches have 64 bits.
-abbrev pub BranchLiterals : Branches → Type 0
-BranchLiterals bs = EachInBranches EntryLiterals bs
 
 -- The literals of each body fit.
 abbrev pub AllLiteralsFit : CoreTree → Type 0

@@ -5,7 +5,7 @@ use Rattle.gib_core.specs.declared.node.Binding.TheVariants as b
 use Rattle.gib_core.specs.declared.node.Node.{Node}
 use Rattle.gib_core.specs.declared.node.Node.TheVariants as n
 use Rattle.gib_core.specs.Arena.{IsArena}
-use Rattle.gib_core.specs.Tree.{Term, Then, Write, Point, CallTerm, Give, CaseTerm, IfTerm, Tuple, PartTerms, Bind, Past, One, Both, Prim, Reach, Side, Branches, CoreTree}
+use Rattle.gib_core.specs.Tree.{Term, Then, Write, Point, Give, Tuple, PartTerms, Bind, Past, One, Both, Prim, Reach, Side, Branches, CoreTree}
 use Rattle.gib_core.specs.Walk.{walk_bind, walk_side, walk_parts, walk_branches, some, Entry, AtLine, map_term, as_it_is, with_bodies}
 use Rattle.gib_core.specs.Met.{CallLine}
 
@@ -58,13 +58,7 @@ bind_may_fork (Reach y by) = false
 -- A term begins with a par whose sides both contain a call.
 abbrev pub may_fork : Term → Bool
 may_fork (Then b rest) = bind_may_fork b
-may_fork (Write h k ss ps) = false
-may_fork (Point x) = false
-may_fork (CallTerm f xs) = false
-may_fork (Give x) = false
-may_fork (CaseTerm x branches) = false
-may_fork (IfTerm x t u) = false
-may_fork (Tuple tys ss ps) = false
+may_fork t = false
 
 -- A par with this mark; another binding, and another node, is as it was.
 abbrev pub with_fork : Bool → Binding → Binding

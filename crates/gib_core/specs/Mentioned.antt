@@ -2,9 +2,9 @@
 use Rattle.std.specs.Prelude.{ℕ, ◌+◌, List, [], ◌∷◌, ◌++◌, map}
 use Rattle.gib_core.specs.declared.atom.Atom.{Atom}
 use Rattle.gib_core.specs.declared.atom.Variable.{Variable}
-use Rattle.gib_core.specs.Tree.{Term, Bind, Side, PartTerms, Branches}
+use Rattle.gib_core.specs.Tree.{Term}
 use Rattle.gib_core.specs.Met.{PastLine, SideLine, PrimLine, WriteLine, PointLine, CallLine, GiveLine, CaseLine, IfLine, SeveralLine, TupleLine}
-use Rattle.gib_core.specs.Walk.{Entry, AtLine, AtArm, walk, walk_bind, walk_side, walk_parts, walk_branches}
+use Rattle.gib_core.specs.Walk.{Entry, AtLine, AtArm, walk}
 use Rattle.gib_core.specs.declared.mentions.Mention.{Mention}
 use Rattle.gib_core.specs.declared.mentions.Mention.TheVariants.{Bound, Used}
 use Rattle.gib_core.specs.Counting.{count_atom}
@@ -33,25 +33,9 @@ says (AtLine (TupleLine tys ss packed)) = all_used ss
 says (AtArm k xs) = all_bound xs
 says l = []
 
--- What a term says, itself and in the terms that are nested in it; what a binding, a side, parts, branches say.
+-- What a term says, itself and in the terms that are nested in it.
 abbrev pub mentions : Term → List Mention
 mentions t = walk (◌++◌) [] says t
-
--- What a binding says.
-abbrev pub bind_mentions : Bind → List Mention
-bind_mentions b = walk_bind (◌++◌) [] says b
-
--- What a side says.
-abbrev pub side_mentions : Side → List Mention
-side_mentions s = walk_side (◌++◌) [] says s
-
--- What parts say.
-abbrev pub part_mentions : PartTerms → List Mention
-part_mentions ps = walk_parts (◌++◌) [] says ps
-
--- What branches say.
-abbrev pub branch_mentions : Branches → List Mention
-branch_mentions bs = walk_branches (◌++◌) [] says bs
 
 -- The number of the variable that is bound.
 abbrev pub binder : Mention → List ℕ

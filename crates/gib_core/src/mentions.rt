@@ -1,10 +1,11 @@
 //! What bodies say of variables, in the order of the text.
 
-ghost use Rattle.std.specs.Prelude.{◌≡◌, ◌<◌, ◌++◌, length, IfOk, OnOk};
+ghost use Rattle.std.specs.Prelude.{◌≡◌, ◌<◌, ◌++◌, [], length, IfOk, OnOk};
 ghost use Rattle.std.specs.List.{AllByRecursion};
 ghost use Rattle.gib_core.specs.Arena.{IsBindingBelow, IsBranchBelow, IsPartBelow, IsEnd, term_in, term_of, side_from, bind_from, parts_from, branches_from};
 ghost use Rattle.gib_core.specs.{Tree.{variables_from}, PartTypes.{types_in}, Numbering.{binders}, declared.atom.Variable.{Variable as X}, Counting.{count}};
-ghost use Rattle.gib_core.specs.Mentioned.{all_bound, all_used, mentions as said, binder, binders_in, uses_in, bind_mentions, side_mentions, part_mentions, branch_mentions};
+ghost use Rattle.gib_core.specs.Mentioned.{all_bound, all_used, mentions as said, binder, binders_in, uses_in, says};
+ghost use Rattle.gib_core.specs.Walk.{walk_bind, walk_side, walk_parts, walk_branches};
 
 use crate::atom::{Atom, Variable};
 use crate::node::{Binding, BoundSide, Branch, Node, TermId, Terms};
@@ -147,7 +148,7 @@ fn list_binding(
 ) -> Result<(), Memory>
     requires inside { parent.0 < length terms.now }
     requires below { IsBindingBelow parent.0 binding }
-    ensures { OnOk result (mentions.new.items ≡ mentions.old.items ++ bind_mentions (bind_from (term_of terms.now) binding)) }
+    ensures { OnOk result (mentions.new.items ≡ mentions.old.items ++ walk_bind (◌++◌) [] says (bind_from (term_of terms.now) binding)) }
 {
     match binding {
         Binding::Past { head, .. } => {
@@ -183,7 +184,7 @@ fn list_side(
     side: BoundSide,
 ) -> Result<(), Memory>
     requires { (term_in side).0 < length terms.now }
-    ensures { OnOk result (mentions.new.items ≡ mentions.old.items ++ side_mentions (side_from (term_of terms.now) side)) }
+    ensures { OnOk result (mentions.new.items ≡ mentions.old.items ++ walk_side (◌++◌) [] says (side_from (term_of terms.now) side)) }
 {
     match side {
         BoundSide::One(bound) => {
@@ -208,7 +209,7 @@ fn list_parts(
 ) -> Result<(), Memory>
     requires inside { parent.0 < length terms.now }
     requires below { AllByRecursion (IsPartBelow parent.0) parts.now }
-    ensures { OnOk result (mentions.new.items ≡ mentions.old.items ++ part_mentions (parts_from (term_of terms.now) parts.now)) }
+    ensures { OnOk result (mentions.new.items ≡ mentions.old.items ++ walk_parts (◌++◌) [] says (parts_from (term_of terms.now) parts.now)) }
 {
     let mut i = 0;
     'parts: while i < parts.len() {
@@ -229,7 +230,7 @@ fn list_branches(
 ) -> Result<(), Memory>
     requires inside { parent.0 < length terms.now }
     requires below { AllByRecursion (IsBranchBelow parent.0) branches.now }
-    ensures { OnOk result (mentions.new.items ≡ mentions.old.items ++ branch_mentions (branches_from (term_of terms.now) branches.now)) }
+    ensures { OnOk result (mentions.new.items ≡ mentions.old.items ++ walk_branches (◌++◌) [] says (branches_from (term_of terms.now) branches.now)) }
 {
     let mut i = 0;
     'branches: while i < branches.len() {

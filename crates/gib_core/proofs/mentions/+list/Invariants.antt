@@ -1,6 +1,7 @@
-use Rattle.std.proofs.Common.{◌≡◌, ◌++◌, ◌+◌, ◌-◌, ◌*◌, length, drop}
+use Rattle.std.proofs.Common.{◌≡◌, ◌++◌, ◌+◌, ◌-◌, ◌*◌, [], length, drop}
 use Rattle.gib_core.specs.Arena.{term_in, term_of, parts_from, branches_from}
-use Rattle.gib_core.specs.Mentioned.{part_mentions, branch_mentions}
+use Rattle.gib_core.specs.Walk.{walk_parts, walk_branches}
+use Rattle.gib_core.specs.Mentioned.{says}
 use Rattle.gib_core.proofs.Listed.{LineListed}
 use Rattle.gib_core.proofs.mentions.+list.Given as goal
 
@@ -26,7 +27,7 @@ abbrev pub decreases-list_parts : goal.decreases-list_parts
 decreases-list_parts l = 5 * l.parent.0 + 1
 
 abbrev pub invariant-list_parts-parts : goal.invariant-list_parts-parts
-invariant-list_parts-parts l = l.mentions.items ++ part_mentions (parts_from (term_of l.terms) (drop l.i l.parts)) ≡ l.fn.mentions.items ++ part_mentions (parts_from (term_of l.terms) l.parts)
+invariant-list_parts-parts l = l.mentions.items ++ walk_parts (◌++◌) [] says (parts_from (term_of l.terms) (drop l.i l.parts)) ≡ l.fn.mentions.items ++ walk_parts (◌++◌) [] says (parts_from (term_of l.terms) l.parts)
 
 abbrev pub decreases-list_parts-parts : goal.decreases-list_parts-parts
 decreases-list_parts-parts l = length l.parts - l.i
@@ -38,7 +39,7 @@ abbrev pub decreases-list_term-bindings : goal.decreases-list_term-bindings
 decreases-list_term-bindings l = length l.bindings.items - l.i
 
 abbrev pub invariant-list_branches-branches : goal.invariant-list_branches-branches
-invariant-list_branches-branches l = l.mentions.items ++ branch_mentions (branches_from (term_of l.terms) (drop l.i l.branches)) ≡ l.fn.mentions.items ++ branch_mentions (branches_from (term_of l.terms) l.branches)
+invariant-list_branches-branches l = l.mentions.items ++ walk_branches (◌++◌) [] says (branches_from (term_of l.terms) (drop l.i l.branches)) ≡ l.fn.mentions.items ++ walk_branches (◌++◌) [] says (branches_from (term_of l.terms) l.branches)
 
 abbrev pub decreases-list_branches-branches : goal.decreases-list_branches-branches
 decreases-list_branches-branches l = length l.branches - l.i
