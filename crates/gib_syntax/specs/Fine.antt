@@ -4,24 +4,6 @@ use Rattle.std.specs.List.{AllByRecursion}
 use Rattle.gib_syntax.specs.Results.{AreSeveral, AreSides, AreResults}
 use Rattle.gib_syntax.specs.Tree.{Expression, Arguments, Arms, Var, Num, Bit, Paren, Op, Call, Make, Let, Par, If, Case, Tuple, LetSeveral, ParSeveral, NoArgument, Argument, LastArm, NextArm, DataTree, FunctionTree, ProgramTree}
 
--- What may stand as an argument.
-abbrev pub is_atom : Expression → Bool
-is_atom (Var x) = true
-is_atom (Num p n) = true
-is_atom (Bit p b) = true
-is_atom (Paren p e) = true
-is_atom (Op p f a b) = true
-is_atom (Call f xs) = false
-is_atom (Make k NoArgument) = true
-is_atom (Make k (Argument a xs)) = false
-is_atom (Let p x a b) = false
-is_atom (Par p x a y b c) = false
-is_atom (If p a b c) = false
-is_atom (Case p x arms) = false
-is_atom (Tuple p ts xs) = false
-is_atom (LetSeveral p qs a b) = false
-is_atom (ParSeveral p qs a rs b c) = false
-
 -- What may stand as a side of an operation.
 abbrev pub is_application : Expression → Bool
 is_application (Var x) = true
@@ -38,6 +20,12 @@ is_application (Case p x arms) = false
 is_application (Tuple p ts xs) = false
 is_application (LetSeveral p qs a b) = false
 is_application (ParSeveral p qs a rs b c) = false
+
+-- What may stand as an argument: an application without arguments.
+abbrev pub is_atom : Expression → Bool
+is_atom (Call f xs) = false
+is_atom (Make k (Argument a xs)) = false
+is_atom e = is_application e
 
 -- The trees that the grammar has: literals run to 2^63 - 1 (so a reader of tokens refuses a greater number
 -- where it stands), arguments are atoms, a call has an argument at least, the sides of an operation

@@ -4,22 +4,6 @@ use Rattle.std.specs.List.{AllByRecursion}
 use Rattle.gib_syntax.specs.Results.{AreResults}
 use Rattle.gib_syntax.specs.GenericTree.{GenericExpression, GenericArguments, GenericArms, GenericVar, GenericNum, GenericBit, GenericParen, GenericOp, GenericCall, GenericMake, GenericLet, GenericPar, GenericIf, GenericCase, GenericTuple, GenericNoArgument, GenericArgument, GenericLastArm, GenericNextArm, GenericDataTree, GenericFunctionTree, GenericProgramTree}
 
--- What may stand as an argument.
-abbrev pub is_generic_atom : GenericExpression → Bool
-is_generic_atom (GenericVar x) = true
-is_generic_atom (GenericNum p n) = true
-is_generic_atom (GenericBit p b) = true
-is_generic_atom (GenericParen p e) = true
-is_generic_atom (GenericOp p f a b) = true
-is_generic_atom (GenericCall f ws xs) = false
-is_generic_atom (GenericMake k ws GenericNoArgument) = true
-is_generic_atom (GenericMake k ws (GenericArgument a xs)) = false
-is_generic_atom (GenericLet p xs a b) = false
-is_generic_atom (GenericPar p xs a ys b c) = false
-is_generic_atom (GenericIf p a b c) = false
-is_generic_atom (GenericCase p x arms) = false
-is_generic_atom (GenericTuple p xs) = false
-
 -- What may stand as a side of an operation.
 abbrev pub is_generic_application : GenericExpression → Bool
 is_generic_application (GenericVar x) = true
@@ -34,6 +18,12 @@ is_generic_application (GenericPar p xs a ys b c) = false
 is_generic_application (GenericIf p a b c) = false
 is_generic_application (GenericCase p x arms) = false
 is_generic_application (GenericTuple p xs) = false
+
+-- What may stand as an argument: an application without arguments.
+abbrev pub is_generic_atom : GenericExpression → Bool
+is_generic_atom (GenericCall f ws xs) = false
+is_generic_atom (GenericMake k ws (GenericArgument a xs)) = false
+is_generic_atom e = is_generic_application e
 
 -- The trees that the grammar has: literals run to 2^63 - 1, arguments are atoms, a call has an argument at least, the
 -- sides of an operation are applications, a tuple has two parts at least, and a binding has a name at least.

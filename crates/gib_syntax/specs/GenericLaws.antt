@@ -44,8 +44,8 @@ layer_same_if words f g id (Some (n.Make x ws v)) below e =
     ap (GenericMake x (types_in words ws)) (arguments_same f g id v.items (below (n.Make x ws v) refl) e)
 layer_same_if words f g id (Some (n.Let p xs a b)) below e =
     let h = below (n.Let p xs a b) refl in (λ k. GenericLet p xs (e a.0 h.0 k) (e b.0 h.1 k))
-layer_same_if words f g id (Some (n.LetPar p xs a ys b c)) below e =
-    let h = below (n.LetPar p xs a ys b c) refl in (λ k. GenericPar p xs (e a.0 h.0 k) ys (e b.0 h.1 k) (e c.0 h.2 k))
+layer_same_if words f g id (Some (n.LetPar p l r b)) below e =
+    let h = below (n.LetPar p l r b) refl in (λ k. GenericPar p l.names (e l.value.0 h.0 k) r.names (e r.value.0 h.1 k) (e b.0 h.2 k))
 layer_same_if words f g id (Some (n.If p a b c)) below e =
     let h = below (n.If p a b c) refl in (λ k. GenericIf p (e a.0 h.0 k) (e b.0 h.1 k) (e c.0 h.2 k))
 layer_same_if words f g id (Some (n.Case p x arms)) below e = case_same f g id arms.items (GenericCase p x) (below (n.Case p x arms) refl) e

@@ -32,7 +32,7 @@ spell_case f x arms rest = t.Sign s.Case ∷ t.Variable x.name ∷ t.Sign s.Of �
 -- The expression binds names, alone or in parallel.
 abbrev pub Binds : Node → Type 0
 Binds (n.Let p xs a b) = Unit {0}
-Binds (n.LetPar p xs a ys b c) = Unit {0}
+Binds (n.LetPar p l r b) = Unit {0}
 Binds node = ⊥
 
 -- The expression goes on by what a value is.

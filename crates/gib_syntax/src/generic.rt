@@ -12,6 +12,13 @@ use gib_types::Operator;
 use std::alloc::{AllocError, Global};
 use std::marker::Model;
 
+/// A side of a `let par`: its names, and the expression that they are bound to.
+#[derive(Drop)]
+pub struct Side {
+    pub names: Names,
+    pub value: ExprId,
+}
+
 /// One expression, with its parts by their numbers. A span is that of the first token.
 #[derive(Drop)]
 pub enum GenericNode {
@@ -40,10 +47,8 @@ pub enum GenericNode {
     /// Two sides, each with its names.
     LetPar {
         span: Span,
-        left_names: Names,
-        left: ExprId,
-        right_names: Names,
-        right: ExprId,
+        left: Side,
+        right: Side,
         body: ExprId,
     },
     If {

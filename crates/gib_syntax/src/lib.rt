@@ -5,7 +5,7 @@ pub mod examples;
 pub mod exprs;
 pub mod generic;
 pub mod law;
-pub mod names;
+mod names;
 pub mod print;
 pub mod program;
 mod spelled;
@@ -15,7 +15,7 @@ mod type_tokens;
 pub mod written;
 
 pub use exprs::{Arm, Bound, ExprId, Exprs, Node};
-pub use generic::{GenericExprs, GenericNode};
+pub use generic::{GenericExprs, GenericNode, Side};
 pub use names::Names;
 pub use print::{print_program, sign_of};
 pub use program::{

@@ -265,17 +265,12 @@ fn put_let(
             out.put_sign(Sign::Let)
         }
         GenericNode::LetPar {
-            left_names,
-            left,
-            right_names,
-            right,
-            body,
-            ..
+            left, right, body, ..
         } => {
             put_behind(exprs, Sign::In, *body, out)?;
-            put_binding(exprs, right_names.as_slice(), *right, out)?;
+            put_binding(exprs, right.names.as_slice(), right.value, out)?;
             out.put_sign(Sign::And)?;
-            put_binding(exprs, left_names.as_slice(), *left, out)?;
+            put_binding(exprs, left.names.as_slice(), left.value, out)?;
             out.put_sign(Sign::Par)?;
             out.put_sign(Sign::Let)
         }
