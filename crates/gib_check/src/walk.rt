@@ -231,20 +231,18 @@ fn infer_binding(
         }
         GenericNode::LetPar {
             span,
-            left_names,
             left,
-            right_names,
             right,
             body,
         } => {
             let at = At::new(id, *span, standing);
             let names = SideNames {
-                left: left_names.as_slice(),
-                right: right_names.as_slice(),
+                left: left.names.as_slice(),
+                right: right.names.as_slice(),
             };
             let parts = BoundParts {
-                left: *left,
-                right: *right,
+                left: left.value,
+                right: right.value,
                 body: *body,
             };
             infer_par(around, state, at, &names, parts)

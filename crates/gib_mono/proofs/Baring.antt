@@ -78,9 +78,10 @@ layer_bare f h words b (g.Operation p o a c) e l one = ap₂ (Op p o) (e a.0 l.0
 layer_bare f h words b (g.Call x ws ids) e l one = ap (Call x) (arguments_bare f h b ids.items e l)
 layer_bare f h words b (g.Make x ws ids) e l one = ap (Make x) (arguments_bare f h b ids.items e l)
 layer_bare f h words b (g.Let p xs a c) e l one = let_bare p xs (h a.0) (h c.0) one ∙ ap₂ (let_of p (only_name xs) []) (e a.0 l.0) (e c.0 l.1)
-layer_bare f h words b (g.LetPar p xs a ys c d) e l one =
-    par_bare p xs ys (h a.0) (h c.0) (h d.0) one.0 one.1 ∙ ap (λ (u : Expression). par_of p (only_name xs) [] u (only_name ys) [] (h c.0) (h d.0)) (e a.0 l.0)
-    ∙ ap₂ (par_of p (only_name xs) [] (bare (f a.0)) (only_name ys) []) (e c.0 l.1) (e d.0 l.2)
+layer_bare f h words b (g.LetPar p x y d) e l one =
+    par_bare p x.names y.names (h x.value.0) (h y.value.0) (h d.0) one.0 one.1
+    ∙ ap (λ (u : Expression). par_of p (only_name x.names) [] u (only_name y.names) [] (h y.value.0) (h d.0)) (e x.value.0 l.0)
+    ∙ ap₂ (par_of p (only_name x.names) [] (bare (f x.value.0)) (only_name y.names) []) (e y.value.0 l.1) (e d.0 l.2)
 layer_bare f h words b (g.If p a c d) e l one = ap (λ (u : Expression). If p u (h c.0) (h d.0)) (e a.0 l.0) ∙ ap₂ (If p (bare (f a.0))) (e c.0 l.1) (e d.0 l.2)
 layer_bare f h words b (g.Case p x arms) e l one = case_plain f h b arms.items p x e l
 layer_bare f h words b (g.Tuple p xs) e l one = absurd one
@@ -102,7 +103,7 @@ parts_below b c (g.Operation p o x y) le h one = let (l, k) = h in (omega (arith
 parts_below b c (g.Call x ws ids) le h one = all_inside b c ids.items le h
 parts_below b c (g.Make x ws ids) le h one = all_inside b c ids.items le h
 parts_below b c (g.Let p xs y z) le h one = let l = h.0 in let k = h.1 in (omega (arith, l, le), omega (arith, k, le))
-parts_below b c (g.LetPar p xs a ys d e) le h one = let l = h.0 in let k = h.1 in let m = h.2 in (omega (arith, l, le), omega (arith, k, le), omega (arith, m, le))
+parts_below b c (g.LetPar p x y e) le h one = let l = h.0 in let k = h.1 in let m = h.2 in (omega (arith, l, le), omega (arith, k, le), omega (arith, m, le))
 parts_below b c (g.If p x y z) le h one = let l = h.0 in let k = h.1 in let m = h.2 in (omega (arith, l, le), omega (arith, k, le), omega (arith, m, le))
 parts_below b c (g.Case p x arms) le h one = case_below b c arms.items le h
 parts_below b c (g.Tuple p xs) le h one = absurd one
@@ -148,7 +149,7 @@ node_single words f (g.Operation p o x y) h = tt {0}
 node_single words f (g.Call x ws ids) h = tt {0}
 node_single words f (g.Make x ws ids) h = tt {0}
 node_single words f (g.Let p xs y z) h = h.0
-node_single words f (g.LetPar p xs a ys d e) h = (h.0, h.1)
+node_single words f (g.LetPar p x y e) h = (h.0, h.1)
 node_single words f (g.If p x y z) h = tt {0}
 node_single words f (g.Case p x arms) h = tt {0}
 node_single words f (g.Tuple p xs) h = absurd h
@@ -265,7 +266,7 @@ layer_single words f b (g.Operation p o x y) k h one = (k x.0 h.0, k y.0 h.1)
 layer_single words f b (g.Call x ws ids) k h one = arguments_single f b ids.items k h
 layer_single words f b (g.Make x ws ids) k h one = arguments_single f b ids.items k h
 layer_single words f b (g.Let p xs y z) k h one = (one, k y.0 h.0, k z.0 h.1)
-layer_single words f b (g.LetPar p xs a ys d e) k h one = (one.0, one.1, k a.0 h.0, k d.0 h.1, k e.0 h.2)
+layer_single words f b (g.LetPar p x y e) k h one = (one.0, one.1, k x.value.0 h.0, k y.value.0 h.1, k e.0 h.2)
 layer_single words f b (g.If p x y z) k h one = (k x.0 h.0, k y.0 h.1, k z.0 h.2)
 layer_single words f b (g.Case p x arms) k h one = case_single f b arms.items p x k h
 layer_single words f b (g.Tuple p xs) k h one = absurd one

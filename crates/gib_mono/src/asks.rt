@@ -36,7 +36,7 @@ pub fn ask_expression(search: &mut Search, source: &Source, id: ExprId) -> Resul
             right,
             body,
             ..
-        } => ask_three(search, source, *left, *right, *body),
+        } => ask_three(search, source, left.value, right.value, *body),
         GenericNode::If {
             condition,
             then_part,

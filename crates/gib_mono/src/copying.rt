@@ -13,7 +13,7 @@ use crate::copier::{Copied, Copier};
 use crate::source::Source;
 use gib_base::{Memory, Span};
 use gib_check::ResultIds;
-use gib_syntax::{Arm, ExprId, GenericNode, Ident, Node, Run};
+use gib_syntax::{Arm, ExprId, GenericNode, Ident, Node, Run, Side};
 use gib_types::types::{TypeId, TypeNode};
 use gib_types::{Operator, Ty};
 
@@ -29,13 +29,6 @@ pub struct CopiedArm {
 pub struct CopiedTuple {
     pub exprs: Vec<ExprId>,
     pub types: Vec<TypeId>,
-}
-
-/// The names of a side of a `let par`, and its expression.
-#[derive(Drop)]
-struct Side<'a> {
-    names: &'a [Ident],
-    value: ExprId,
 }
 
 /// The copy of an expression, with what it gives.
@@ -69,22 +62,10 @@ pub fn copy_expression(copier: &mut Copier, source: &Source, id: ExprId) -> Resu
         } => copy_let(copier, source, *span, names.as_slice(), *bound, *body),
         GenericNode::LetPar {
             span,
-            left_names,
             left,
-            right_names,
             right,
             body,
-        } => {
-            let left = Side {
-                names: left_names.as_slice(),
-                value: *left,
-            };
-            let right = Side {
-                names: right_names.as_slice(),
-                value: *right,
-            };
-            copy_let_par(copier, source, *span, &left, &right, *body)
-        }
+        } => copy_let_par(copier, source, *span, left, right, *body),
         GenericNode::If {
             span,
             condition,
@@ -274,21 +255,23 @@ fn copy_let_par(
     requires left { left.now.value.0 < length source.now.exprs.nodes }
     requires right { right.now.value.0 < length source.now.exprs.nodes }
     requires body { body.0 < length source.now.exprs.nodes }
-    ensures { IfOk result (λ c. Copies (globals_in source.now) copier.old copier.new c (GenericPar span left.now.names.now (tree_of source.now.exprs left.now.value.0) right.now.names.now (tree_of source.now.exprs right.now.value.0) (tree_of source.now.exprs body.0))) }
+    ensures { IfOk result (λ c. Copies (globals_in source.now) copier.old copier.new c (GenericPar span left.now.names (tree_of source.now.exprs left.now.value.0) right.now.names (tree_of source.now.exprs right.now.value.0) (tree_of source.now.exprs body.0))) }
 {
     let first = copy_expression(copier, source, left.value)?;
     let second = copy_expression(copier, source, right.value)?;
     let outer = copier.scene.scope_len();
-    copier.bind_given(left.names, first.given)?;
-    copier.bind_given(right.names, second.given)?;
+    let left_names = left.names.as_slice();
+    let right_names = right.names.as_slice();
+    copier.bind_given(left_names, first.given)?;
+    copier.bind_given(right_names, second.given)?;
     let inner = copy_expression(copier, source, body)?;
     copier.leave(outer);
     let left = CopiedSide {
-        names: left.names,
+        names: left_names,
         copied: first,
     };
     let right = CopiedSide {
-        names: right.names,
+        names: right_names,
         copied: second,
     };
     let node = par_node(copier, span, &left, &right, inner.expr)?;

@@ -70,11 +70,7 @@ fn is_single(node: &GenericNode) -> bool
     match node {
         GenericNode::Tuple(..) => false,
         GenericNode::Let { names, .. } => is_one(names),
-        GenericNode::LetPar {
-            left_names,
-            right_names,
-            ..
-        } => is_one(left_names) && is_one(right_names),
+        GenericNode::LetPar { left, right, .. } => is_one(&left.names) && is_one(&right.names),
         GenericNode::Variable(_)
         | GenericNode::Whole(..)
         | GenericNode::Truth(..)
@@ -149,17 +145,15 @@ fn bare_let(node: GenericNode) -> Node
         },
         GenericNode::LetPar {
             span,
-            left_names,
             left,
-            right_names,
             right,
             body,
         } => Node::LetPar {
             span,
-            left_name: one_name(&left_names),
-            left,
-            right_name: one_name(&right_names),
-            right,
+            left_name: one_name(&left.names),
+            left: left.value,
+            right_name: one_name(&right.names),
+            right: right.value,
             body,
         },
         _ => unreachable!(),

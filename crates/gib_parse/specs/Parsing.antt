@@ -25,7 +25,7 @@ use Rattle.gib_syntax.specs.GenericArena.{Arena, Grows, ArmsBelow, arms_from, no
 use Rattle.gib_syntax.specs.GenericParts.{IsConstructorInside, IsDataInside, IsParameterInside, AreResultsInside}
 use Rattle.gib_reads.specs.declared.stop.Stop.{Stop}
 pub use Rattle.gib_reads.specs.Answers.{Fails, Gives, with_front}
-use Rattle.gib_parse.specs.declared.expressions.Bound.{Bound}
+use Rattle.gib_syntax.specs.declared.generic.Side.{Side}
 use Rattle.gib_parse.specs.declared.expressions.Kind.{Kind}
 use Rattle.gib_parse.specs.declared.expressions.Kind.TheVariants as kind
 use Rattle.gib_parse.specs.Reading.{Read, Reader, next_is, starts_atom, Opened, inside, type_at, Mode, Any, App, Atom, ArmTree, BoundTree}
@@ -111,7 +111,7 @@ abbrev pub arm_tree : (ℕ → GenericExpression) → code.Arm → ArmTree
 arm_tree f arm = record { constructor = arm.constructor; variables = arm.variables.items; body = f arm.body.0 }
 
 -- A binding as a tree.
-abbrev pub bound_tree : (ℕ → GenericExpression) → Bound → BoundTree
+abbrev pub bound_tree : (ℕ → GenericExpression) → Side → BoundTree
 bound_tree f x = record { names = x.names; value = f x.value.0 }
 
 -- Arms as a tree. A case has one at least; of none, it is an arm of no meaning.

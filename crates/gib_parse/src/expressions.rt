@@ -17,7 +17,7 @@ use gib_reads::Stop;
 use gib_reads::phrases::{
     begins, constructor, named, operator_of, span_at, variable, variables, want,
 };
-use gib_syntax::{Arm, ExprId, GenericExprs, GenericNode, Ident, Names, Run};
+use gib_syntax::{Arm, ExprId, GenericExprs, GenericNode, Ident, Run, Side};
 use gib_types::Operator;
 use std::alloc::Global;
 
@@ -121,13 +121,6 @@ fn any<'a>(
     }
 }
 
-/// The variables of a binding, and what they are bound to.
-#[derive(Drop)]
-struct Bound {
-    names: Names,
-    value: ExprId,
-}
-
 /// The variables of a binding, an equals sign and an expression.
 #[cycle(expressions)]
 #[tactic(auto, unfolding(crate::specs::Reading::binding_at))]
@@ -137,14 +130,14 @@ fn binding<'a>(
     exprs: &mut GenericExprs,
     level: u32,
     tokens: &'a [Token],
-) -> Result<(Bound, &'a [Token]), Stop>
+) -> Result<(Side, &'a [Token]), Stop>
     ensures kept { IfOk result (λ x. Reads exprs.old exprs.new x.0.value.0) }
     ensures read { Gives (λ x. (bound_tree (tree_of exprs.new) x.0, x.1.now)) result (binding_at (places_of spans.now) (parse (places_of spans.now) level Any) tokens.now) }
 {
     let (names, tokens) = names_bound(alloc, spans, tokens)?;
     let tokens = want(Sign::Equals, tokens)?;
     let (value, tokens) = expression(alloc, spans, exprs, level, Kind::Any, tokens)?;
-    Ok((Bound { names, value }, tokens))
+    Ok((Side { names, value }, tokens))
 }
 
 /// Behind `let`.
@@ -215,10 +208,8 @@ fn let_par<'a>(
     let (body, tokens) = expression(alloc, spans, exprs, level, Kind::Any, tokens)?;
     let id = exprs.put(GenericNode::LetPar {
         span,
-        left_names: left.names,
-        left: left.value,
-        right_names: right.names,
-        right: right.value,
+        left,
+        right,
         body,
     })?;
     Ok((id, tokens))

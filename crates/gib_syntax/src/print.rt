@@ -265,7 +265,10 @@ fn put_let(
             out.put_sign(Sign::Let)
         }
         GenericNode::LetPar {
-            left, right, body, ..
+            left,
+            right,
+            body,
+            ..
         } => {
             put_behind(exprs, Sign::In, *body, out)?;
             put_binding(exprs, right.names.as_slice(), right.value, out)?;

@@ -479,6 +479,6 @@ infer_binding-returns-in-LetPar-clause-read t c =
     gives_same (λ ty. (forms_given c.infer_par.new.state ty, c.infer_par.new.state.counts)) c.infer_par.result _ _
     (ap (infer (generic_globals c.args.around.now.named.now) (variable_numbers c.args.around.now.variables.now) opaque c.args.standing (in_scope c.args.state.now) c.args.state.now.counts)
     (c.requires.opens.0 ∙ ap (λ z. layer c.args.around.now.named.now.exprs.words (tree_of c.args.around.now.named.now.exprs) (Some z)) c.in-LetPar.is
-    ∙ ap₂ (λ xs ys. GenericPar c.in-LetPar.span xs (generic_tree c.args.around.now.named.now c.in-LetPar.left.0) ys (generic_tree c.args.around.now.named.now c.in-LetPar.right.0) (generic_tree c.args.around.now.named.now c.in-LetPar.body.0)) (sym c.as_slice-in-LetPar.ensures) (sym c.as_slice-in-LetPar-2.ensures))
-    ∙ ap (λ (a : At). infer (generic_globals c.args.around.now.named.now) (variable_numbers c.args.around.now.variables.now) opaque a.standing (in_scope c.args.state.now) c.args.state.now.counts (GenericPar a.span c.as_slice-in-LetPar.result.now (generic_tree c.args.around.now.named.now c.in-LetPar.left.0) c.as_slice-in-LetPar-2.result.now (generic_tree c.args.around.now.named.now c.in-LetPar.right.0) (generic_tree c.args.around.now.named.now c.in-LetPar.body.0))) (sym c.new-at-in-LetPar.ensures))
+    ∙ ap₂ (λ xs ys. GenericPar c.in-LetPar.span xs (generic_tree c.args.around.now.named.now c.in-LetPar.left.value.0) ys (generic_tree c.args.around.now.named.now c.in-LetPar.right.value.0) (generic_tree c.args.around.now.named.now c.in-LetPar.body.0)) (sym c.as_slice-in-LetPar.ensures) (sym c.as_slice-in-LetPar-2.ensures))
+    ∙ ap (λ (a : At). infer (generic_globals c.args.around.now.named.now) (variable_numbers c.args.around.now.variables.now) opaque a.standing (in_scope c.args.state.now) c.args.state.now.counts (GenericPar a.span c.as_slice-in-LetPar.result.now (generic_tree c.args.around.now.named.now c.in-LetPar.left.value.0) c.as_slice-in-LetPar-2.result.now (generic_tree c.args.around.now.named.now c.in-LetPar.right.value.0) (generic_tree c.args.around.now.named.now c.in-LetPar.body.0))) (sym c.new-at-in-LetPar.ensures))
     c.infer_par.ensures.read

@@ -68,7 +68,7 @@ ask_expression-returns-in-Let t c =
 pub ask_expression-returns-in-LetPar : goal.ask_expression-returns-in-LetPar
 ask_expression-returns-in-LetPar t c =
     if_ok _ _ c.ask_three.result (λ u a. opened_asks c.args.source.now c.args.search.now c.ask_three.new.search c.args.id.0 _
-    (opened_node c.args.source.now c.args.id.0 c.node.result.now (n.LetPar c.in-LetPar.span c.in-LetPar.left_names c.in-LetPar.left c.in-LetPar.right_names c.in-LetPar.right c.in-LetPar.body) c.node.ensures c.in-LetPar.is) a) c.ask_three.ensures
+    (opened_node c.args.source.now c.args.id.0 c.node.result.now (n.LetPar c.in-LetPar.span c.in-LetPar.left c.in-LetPar.right c.in-LetPar.body) c.node.ensures c.in-LetPar.is) a) c.ask_three.ensures
 
 pub ask_expression-returns-in-If : goal.ask_expression-returns-in-If
 ask_expression-returns-in-If t c =

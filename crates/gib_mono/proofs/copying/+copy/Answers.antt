@@ -1,7 +1,8 @@
-use Rattle.std.proofs.Common.{rules, ◌-◌, [], ◌++◌, ◌∷◌, length, take, drop, refl, sym, ap, ◌∙◌, subst}
+use Rattle.std.proofs.Common.{rules, ◌-◌, [], ◌++◌, ◌∷◌, length, take, drop, refl, sym, ap, ◌∙◌, subst, subst₂}
 use Rattle.gib_types.specs.Types.{forms_at}
 use Rattle.gib_syntax.specs.declared.generic.GenericNode.TheVariants as n
 use Rattle.gib_syntax.specs.GenericArena.{arguments_from, tree_of}
+use Rattle.gib_syntax.specs.GenericTree.{GenericPar}
 use Rattle.gib_mono.specs.Made.{Copies}
 use Rattle.gib_mono.specs.Scenes.{forms}
 use Rattle.gib_mono.specs.Sources.{globals_in}
@@ -87,9 +88,11 @@ copy_let_par-put-requires t c =
 
 pub copy_let_par-returns : goal.copy_let_par-returns
 copy_let_par-returns t c =
-    par_made (globals_in c.args.source.now) c.args.copier.now c.copy_expression.new.copier c.copy_expression-2.new.copier c.bind_given.new.self c.bind_given-2.new.self c.copy_expression-3.new.copier c.leave.new.self c.put.new.self c.scope_len-outer.result c.in_ok-expr.expr c.in_ok-first.first c.in_ok-second.second
-    c.in_ok-inner.inner c.in_ok-node.node c.args.span c.args.left.now.names.now c.args.right.now.names.now (tree_of c.args.source.now.exprs c.args.left.now.value.0) (tree_of c.args.source.now.exprs c.args.right.now.value.0) (tree_of c.args.source.now.exprs c.args.body.0)
-    c.in_ok-first.ensures c.in_ok-second.ensures c.scope_len-outer.ensures.known c.scope_len-outer.ensures.len c.in_ok-bind_given.ensures c.in_ok-bind_given-2.ensures c.in_ok-inner.ensures c.leave.ensures c.in_ok-node.ensures.tree c.in_ok-expr.ensures
+    subst₂ (λ xs ys. Copies (globals_in c.args.source.now) c.args.copier.now c.put.new.self (record { expr = c.in_ok-expr.expr; given = c.in_ok-inner.inner.given }) (GenericPar c.args.span xs (tree_of c.args.source.now.exprs c.args.left.now.value.0) ys (tree_of c.args.source.now.exprs c.args.right.now.value.0) (tree_of c.args.source.now.exprs c.args.body.0)))
+    c.as_slice-left_names.ensures c.as_slice-right_names.ensures
+    (par_made (globals_in c.args.source.now) c.args.copier.now c.copy_expression.new.copier c.copy_expression-2.new.copier c.bind_given.new.self c.bind_given-2.new.self c.copy_expression-3.new.copier c.leave.new.self c.put.new.self c.scope_len-outer.result c.in_ok-expr.expr c.in_ok-first.first c.in_ok-second.second
+    c.in_ok-inner.inner c.in_ok-node.node c.args.span c.as_slice-left_names.result.now c.as_slice-right_names.result.now (tree_of c.args.source.now.exprs c.args.left.now.value.0) (tree_of c.args.source.now.exprs c.args.right.now.value.0) (tree_of c.args.source.now.exprs c.args.body.0)
+    c.in_ok-first.ensures c.in_ok-second.ensures c.scope_len-outer.ensures.known c.scope_len-outer.ensures.len c.in_ok-bind_given.ensures c.in_ok-bind_given-2.ensures c.in_ok-inner.ensures c.leave.ensures c.in_ok-node.ensures.tree c.in_ok-expr.ensures)
 
 pub copy_tuple_parts-parts-init : goal.copy_tuple_parts-parts-init
 copy_tuple_parts-parts-init t c =
