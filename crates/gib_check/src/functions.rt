@@ -5,7 +5,7 @@ ghost use Rattle.gib_syntax.specs.{Declarations.{type_of_name}, Parts.{results_t
 ghost use Rattle.gib_check.specs.{Functions.{parameter_type, head_of, head_in}, Views.{function_name}};
 
 use crate::declared::type_of_name;
-use crate::names::NameList;
+use crate::names::{Called, NameList, list_names};
 use gib_base::Memory;
 use gib_syntax::{FunctionDecl, Parameter, ResultTypes};
 use gib_types::Ty;
@@ -76,15 +76,18 @@ pub fn list_heads(
     Ok(heads)
 }
 
+impl Called for FunctionDecl {
+    ghost called = { λ d. d.name.name.0 };
+
+    /// The name of the function.
+    fn name(&self) -> Name {
+        self.name.name
+    }
+}
+
 /// The names of the functions, in the order of the text.
 pub fn list_functions(alloc: Global, functions: &[FunctionDecl]) -> Result<NameList, Memory>
     ensures { IfOk result (λ names. names ≡ map function_name functions.now) }
 {
-    let mut names = NameList::new(alloc);
-    let mut rest = functions;
-    'functions: while let [function, after @ ..] = rest {
-        names.push(function.name.name)?;
-        rest = after;
-    }
-    Ok(names)
+    list_names(alloc, functions)
 }

@@ -49,7 +49,7 @@ use gib_syntax::{GenericProgram, ResultRuns};
 use heads::{check_head, check_heads};
 use named::{Around, Named};
 pub use named::{function_names, type_names};
-pub use names::NameList;
+pub use names::{Called, NameList, list_names};
 pub use origin::TypeOrigin;
 pub use reading::{given_type, put_type};
 pub use rules::ResultIds;

@@ -3,11 +3,11 @@
 ghost use Rattle.std.specs.Prelude.{◌≡◌, ◌<◌, ◌+◌, ◌++◌, Some, None, map, length, IfOk};
 ghost use Rattle.gib_syntax.specs.{GenericParts.{generic_program_of, function_in}, GenericTree.{data_named}, Words.{run_words, stack_of}};
 ghost use Rattle.gib_check.specs.Answers.{Gives};
-ghost use Rattle.gib_check.specs.NameViews.{generic_globals, data_number, function_number, row_decl, all_rows, row_in, row_option, kept_name, arity_of, variables_at, count_of};
+ghost use Rattle.gib_check.specs.NameViews.{generic_globals, data_number, function_number, row_decl, all_rows, row_in, row_option, arity_of, variables_at, count_of};
 ghost use Rattle.gib_check.specs.Faults as rule;
 
 use crate::fault::{Kind, TypeFault};
-use crate::names::NameList;
+use crate::names::{Called, NameList, list_names};
 use crate::reading::type_places;
 use crate::rules::broken;
 use gib_base::{Memory, Name};
@@ -57,6 +57,33 @@ pub struct Around<'a> {
     pub variables: &'a [Ident],
 }
 
+impl Called for RowDecl {
+    ghost called = { λ d. d.name.0 };
+
+    /// The name of the constructor.
+    fn name(&self) -> Name {
+        self.name
+    }
+}
+
+impl Called for GenericData {
+    ghost called = { λ d. d.name.name.0 };
+
+    /// The name of the declared type.
+    fn name(&self) -> Name {
+        self.name.name
+    }
+}
+
+impl Called for GenericFunction {
+    ghost called = { λ d. d.name.name.0 };
+
+    /// The name of the function.
+    fn name(&self) -> Name {
+        self.name.name
+    }
+}
+
 /// The names of the declared types, in their order.
 ///
 /// # Errors
@@ -65,13 +92,7 @@ pub struct Around<'a> {
 pub fn type_names(alloc: Global, program: &GenericProgram) -> Result<NameList, Memory>
     ensures { IfOk result (λ names. names ≡ map data_number (generic_program_of program.now).datas) }
 {
-    let mut names = NameList::new(alloc);
-    let mut rest = program.datas();
-    'datas: while let [declaration, after @ ..] = rest {
-        names.push(declaration.name.name)?;
-        rest = after;
-    }
-    Ok(names)
+    list_names(alloc, program.datas())
 }
 
 /// The names of the functions, in their order.
@@ -82,26 +103,7 @@ pub fn type_names(alloc: Global, program: &GenericProgram) -> Result<NameList, M
 pub fn function_names(alloc: Global, program: &GenericProgram) -> Result<NameList, Memory>
     ensures { IfOk result (λ names. names ≡ map function_number (generic_program_of program.now).functions) }
 {
-    let mut names = NameList::new(alloc);
-    let mut rest = program.functions();
-    'functions: while let [function, after @ ..] = rest {
-        names.push(function.name.name)?;
-        rest = after;
-    }
-    Ok(names)
-}
-
-/// The names of constructors.
-fn list_constructors(alloc: Global, rows: &[RowDecl]) -> Result<NameList, Memory>
-    ensures { IfOk result (λ names. names ≡ map kept_name rows.now) }
-{
-    let mut names = NameList::new(alloc);
-    let mut rest = rows;
-    'rows: while let [row, after @ ..] = rest {
-        names.push(row.name)?;
-        rest = after;
-    }
-    Ok(names)
+    list_names(alloc, program.functions())
 }
 
 /// How many types a run is.
@@ -169,7 +171,7 @@ impl Named {
         let types = type_names(alloc, &program)?;
         let functions = function_names(alloc, &program)?;
         let rows = list_rows(alloc, &program)?;
-        let constructors = list_constructors(alloc, &rows)?;
+        let constructors = list_names(alloc, &rows)?;
         Ok(Named {
             program,
             types,

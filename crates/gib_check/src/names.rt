@@ -1,11 +1,22 @@
 //! Names in an order, and the place of each.
 
-ghost use Rattle.std.specs.Prelude.{◌≡◌, ◌<◌, length, IfSome};
+ghost use Rattle.std.specs.Prelude.{◌≡◌, ◌<◌, ℕ, length, map, IfOk, IfSome};
 ghost use Rattle.gib_syntax.specs.Declarations.{place_of};
+ghost use Rattle.gib_check.specs.Answers.{number};
 
 use gib_base::{ByNumber, Memory, Name};
 use std::alloc::{AllocError, Global};
 use std::marker::Model;
+
+/// What has a name.
+pub trait Called: Drop {
+    // The number of its name.
+    ghost called: { Self → ℕ };
+
+    /// Its name.
+    fn name(&self) -> Name
+        ensures { result.0 ≡ called self.now };
+}
 
 /// Names, each with its place, which is found without a search.
 #[derive(Drop)]
@@ -65,6 +76,13 @@ impl NameList {
         Ok(())
     }
 
+    /// The names, in their order.
+    pub fn into_names(self) -> Vec<Name>
+        ensures { map number result.items ≡ self }
+    {
+        self.names
+    }
+
     /// The first place of a name.
     pub fn place(&self, name: Name) -> Option<u32>
         ensures place { result ≡ place_of self.now name.0 }
@@ -72,4 +90,21 @@ impl NameList {
     {
         self.places.get(name.0)
     }
+}
+
+/// The names of these, in their order.
+///
+/// # Errors
+///
+/// Want of memory.
+pub fn list_names<T: Called>(alloc: Global, items: &[T]) -> Result<NameList, Memory>
+    ensures { IfOk result (λ names. names ≡ map T.called items.now) }
+{
+    let mut names = NameList::new(alloc);
+    let mut rest = items;
+    'items: while let [item, after @ ..] = rest {
+        names.push(item.name())?;
+        rest = after;
+    }
+    Ok(names)
 }
