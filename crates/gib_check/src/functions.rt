@@ -6,7 +6,7 @@ ghost use Rattle.gib_check.specs.{Functions.{parameter_type, head_of, head_in}, 
 
 use crate::declared::type_of_name;
 use crate::names::{Called, NameList, list_names};
-use gib_base::Memory;
+use gib_base::{Memory, Name};
 use gib_syntax::{FunctionDecl, Parameter, ResultTypes};
 use gib_types::Ty;
 use std::alloc::Global;
