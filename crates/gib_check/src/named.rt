@@ -1,7 +1,7 @@
 //! A program with type parameters, and the places of its names.
 
 ghost use Rattle.std.specs.Prelude.{◌≡◌, ◌<◌, ◌+◌, ◌++◌, Some, None, map, length, IfOk};
-ghost use Rattle.gib_syntax.specs.{GenericParts.{generic_program_of, function_in}, GenericTree.{data_named}, Words.{run_words, stack_of}};
+ghost use Rattle.gib_syntax.specs.{Declarations.{place_of}, GenericParts.{generic_program_of, function_in}, GenericTree.{data_named}, Words.{run_words, stack_of}};
 ghost use Rattle.gib_check.specs.Answers.{Gives};
 ghost use Rattle.gib_check.specs.NameViews.{generic_globals, data_number, function_number, row_decl, all_rows, row_in, row_option, arity_of, variables_at, count_of};
 ghost use Rattle.gib_check.specs.Faults as rule;
@@ -209,6 +209,20 @@ impl Named {
         ensures within { IsRunWithin result.now self.now.exprs.words }
     {
         self.program.exprs().node(id)
+    }
+
+    /// The place of the declared type of a name.
+    pub fn type_place(&self, name: Name) -> Option<u32>
+        ensures { result ≡ place_of (map data_number (generic_globals self.now).datas) name.0 }
+    {
+        self.types.place(name)
+    }
+
+    /// The place of the function of a name.
+    pub fn function_place(&self, name: Name) -> Option<u32>
+        ensures { result ≡ place_of (map function_number (generic_globals self.now).functions) name.0 }
+    {
+        self.functions.place(name)
     }
 
     /// How many type variables the declared type of a name has; None where there is none.

@@ -1,5 +1,5 @@
 -- Types that are met and variables that come into scope.
-use Rattle.std.proofs.Common.{◌≡◌, ℕ, zero, suc, ◌<◌, List, [], ◌∷◌, ◌++◌, length, map, slice_get, get_or, Some, None, refl, sym, ap, ap₂, ◌∙◌, arith, subst, append_assoc}
+use Rattle.std.proofs.Common.{◌≡◌, ℕ, zero, suc, ◌<◌, List, [], ◌∷◌, ◌++◌, length, map, slice_get, get_or, Option, Some, None, refl, sym, ap, ap₂, ◌∙◌, arith, subst, append_assoc}
 use Rattle.std.specs.Global.{Vec}
 use Rattle.std.proofs.lemmas.List.{append-nil, length-map}
 use Rattle.std.proofs.lemmas.Option.{same_Some, slice_get_within}
@@ -24,17 +24,18 @@ use Rattle.gib_syntax.specs.GenericTree.{GenericFunctionTree, GenericDataTree, G
 use Rattle.gib_syntax.specs.GenericTyping.{FormScope, form_bound}
 use Rattle.gib_syntax.specs.declared.written.ResultRuns.{ResultRuns}
 use Rattle.gib_mono.specs.declared.copier.Copier.{Copier}
-use Rattle.gib_mono.specs.declared.source.RowPlace.{RowPlace}
+use Rattle.gib_check.specs.declared.named.RowDecl.{RowDecl}
+use Rattle.gib_check.specs.NameViews.{row_in, variables_at}
+use Rattle.gib_check.specs.Faults.{row_at, row_named}
 use Rattle.gib_mono.specs.declared.reading.Reading.{Reading}
 use Rattle.gib_mono.specs.Copying.{results_at, forms_named, bind_forms, forms_at as row_forms}
-use Rattle.gib_mono.specs.Made.{Stays, Meets, MeetsAll, Gives, Binds, IsRowOf, first_form}
+use Rattle.gib_mono.specs.Made.{Stays, Meets, MeetsAll, Gives, Binds, first_form}
 use Rattle.gib_mono.specs.Reading.{listed}
 use Rattle.gib_mono.specs.Scenes.{Scenery, forms, scope_in, Keeps, ReadsIn}
 use Rattle.gib_mono.specs.Sources.{globals_in}
 use Rattle.gib_mono.proofs.InScene.{scope_last}
 use Rattle.gib_mono.proofs.Making.{stays_same, stays_on, parts_same, parts_on, grows_same, grows_on as nodes_grow_on}
 use Rattle.gib_mono.proofs.Read.{grows_none, listed_grow}
-use Rattle.gib_mono.proofs.Sourcing.{RowThere, there_is}
 use Rattle.gib_check.proofs.Growing.{below_more}
 use Rattle.gib_check.proofs.RowRules.{get_map}
 use Rattle.gib_check.proofs.Singles.{listed_push, below_push}
@@ -130,73 +131,25 @@ parts_end words m old now ids rest all e h = record {
 
 -- fields
 
-pub fields_met : (p : GenericParts) (s0 : Copier) (k : Scenery) (q : RowPlace) (x : ℕ) (decl' : GenericData) (con : GenericConstructor) (vs : List Ident) (ts : Forms) (words : List Word) (r : Reading) (row : IsRowOf p q x) → slice_get p.datas q.owner ≡ Some decl' → slice_get decl'.constructors.items q.constructor ≡ Some con
-    → vs ≡ decl'.variables.items → words ≡ run_words p.exprs.words con.fields → ReadsIn s0.scene k (assign vs ts) words r → MeetsAll s0 (with_scene s0 k) r.types (forms_named (globals_in p).rows (place_named (globals_in p).rows x) ts)
-fields_met p s0 k q x decl con vs ts words r row at in_it v w read =
-    let same : decl ≡ row.decl = same_Some decl row.decl (sym at ∙ row.there) in
-    let one : con ≡ row.con = same_Some con row.con (sym in_it ∙ ap (λ (d : GenericData). slice_get d.constructors.items q.constructor) same ∙ row.at) in
-    record {
-      stays = scene_stays s0 k read.keeps;
-      below = read.below.0;
-      forms = read.types ∙ ap₂ (λ l ws. map (formed (assign l ts)) (stack_of ws)) (v ∙ ap (λ (d : GenericData). d.variables.items) same) (w ∙ ap (λ (c : GenericConstructor). run_words p.exprs.words c.fields) one) ∙ sym (row.fields ts);
-    }
+fields_of : (rows : List GenericRow) (o : Option ℕ) (ts : Forms) → row_forms (row_at rows o) ts ≡ forms_named rows o ts
+fields_of rows None ts = refl
+fields_of rows (Some c) ts = refl
 
-pub no_fields : (p : GenericParts) (s : Copier) (ids : List TypeId) (x : ℕ) (ts : Forms) → ids ≡ [] → place_named (globals_in p).rows x ≡ None → MeetsAll s s ids (forms_named (globals_in p).rows (place_named (globals_in p).rows x) ts)
-no_fields p s ids x ts e none = rw e (record { stays = stays_same s; below = tt; forms = sym (ap (λ o. forms_named (globals_in p).rows o ts) none) })
+pub no_fields : (p : GenericParts) (s : Copier) (ids : List TypeId) (x : ℕ) (ts : Forms) → ids ≡ [] → None ≡ row_named (globals_in p).rows x → MeetsAll s s ids (forms_named (globals_in p).rows (place_named (globals_in p).rows x) ts)
+no_fields p s ids x ts e none =
+    rw e (record { stays = stays_same s; below = tt; forms = ap (λ o. row_forms o ts) none ∙ fields_of (globals_in p).rows (place_named (globals_in p).rows x) ts })
 
 -- so where the constructor was looked up, and the types were taken out of a stack
-pub row_met : (p : GenericParts) (s0 : Copier) (k : Scenery) (q : RowPlace) (x : ℕ) (decl : GenericData) (con : GenericConstructor) (vs : List Ident) (ts : Forms) (words : List Word) (r : Reading) (ids : List TypeId) → IsRowOf p q x → slice_get p.datas q.owner ≡ Some decl
-    → con ≡ get_or decl.constructors.items q.constructor con → vs ≡ decl.variables.items → words ≡ run_words p.exprs.words con.fields → ReadsIn s0.scene k (assign vs ts) words r → ids ≡ r.types
+pub row_met : (p : GenericParts) (s0 : Copier) (k : Scenery) (row : RowDecl) (x : ℕ) (vs : List Ident) (ts : Forms) (words : List Word) (r : Reading) (ids : List TypeId) → Some (row_in p row) ≡ row_named (globals_in p).rows x
+    → vs ≡ variables_at p.datas row.declaration → words ≡ run_words p.exprs.words row.fields → ReadsIn s0.scene k (assign vs ts) words r → ids ≡ r.types
     → MeetsAll s0 (with_scene s0 k) ids (forms_named (globals_in p).rows (place_named (globals_in p).rows x) ts)
-row_met p s0 k q x decl con vs ts words r ids row at is v w read out =
-    let same : decl ≡ row.decl = same_Some decl row.decl (sym at ∙ row.there) in
-    let inside : q.constructor < length decl.constructors.items = subst (λ (d : GenericData). q.constructor < length d.constructors.items) (sym same) (slice_get_within row.decl.constructors.items q.constructor row.con row.at) in
+row_met p s0 k row x vs ts words r ids at v w read out =
     subst (λ l. MeetsAll s0 (with_scene s0 k) l (forms_named (globals_in p).rows (place_named (globals_in p).rows x) ts)) (sym out)
-    (fields_met p s0 k q x decl con vs ts words r row at (there_is decl.constructors.items q.constructor con inside is) v w read)
-
-pub owner_inside : (p : GenericParts) (q : RowPlace) (x : ℕ) → IsRowOf p q x → q.owner < length (globals_in p).datas
-owner_inside p q x h = let l = slice_get_within p.datas q.owner h.decl h.there in let e = length-map p.datas (data_in p.exprs.words) in omega (arith, l, e)
-
-pub con_inside : (p : GenericParts) (q : RowPlace) (x : ℕ) (decl : GenericData) → IsRowOf p q x → slice_get p.datas q.owner ≡ Some decl → q.constructor < length decl.constructors.items
-con_inside p q x decl h at = subst (λ (d : GenericData). q.constructor < length d.constructors.items) (same_Some h.decl decl (sym h.there ∙ at)) (slice_get_within h.decl.constructors.items q.constructor h.con h.at)
-
--- the row of a constructor's name, from where it is declared
-
-record DataFrom (words : List Word) (ds : List GenericData) (i : ℕ) (d : GenericDataTree) : Type 0 where
-  decl : GenericData
-  there : slice_get ds i ≡ Some decl
-  is : data_in words decl ≡ d
-
-data_from : (words : List Word) (ds : List GenericData) (i : ℕ) (d : GenericDataTree) → slice_get (map (data_in words) ds) i ≡ Some d → DataFrom words ds i d
-data_from words [] i d e = absurd cc
-data_from words (x ∷ ds) zero d e = record { decl = x; there = refl; is = same_Some (data_in words x) d e }
-data_from words (x ∷ ds) (suc i) d e = let h = data_from words ds i d e in record { decl = h.decl; there = h.there; is = h.is }
-
-record ConFrom (words : List Word) (cs : List GenericConstructor) (i : ℕ) (c : GenericConstructorTree) : Type 0 where
-  con : GenericConstructor
-  there : slice_get cs i ≡ Some con
-  is : constructor_in words con ≡ c
-
-con_from : (words : List Word) (cs : List GenericConstructor) (i : ℕ) (c : GenericConstructorTree) → slice_get (map (constructor_in words) cs) i ≡ Some c → ConFrom words cs i c
-con_from words [] i c e = absurd cc
-con_from words (x ∷ cs) zero c e = record { con = x; there = refl; is = same_Some (constructor_in words x) c e }
-con_from words (x ∷ cs) (suc i) c e = let h = con_from words cs i c e in record { con = h.con; there = h.there; is = h.is }
-
-pub row_is : (p : GenericParts) (q : RowPlace) (place x : ℕ) → RowThere (globals_in p).datas (globals_in p).rows q place → Some place ≡ place_named (globals_in p).rows x → IsRowOf p q x
-row_is p q place x t e =
-    let d = data_from p.exprs.words p.datas q.owner t.decl t.there in
-    let c = con_from p.exprs.words d.decl.constructors.items q.constructor t.con (ap (λ (y : GenericDataTree). slice_get y.constructors q.constructor) d.is ∙ t.at) in
-    record {
-      decl = d.decl;
-      there = d.there;
-      con = c.con;
-      at = c.there;
-      fields = λ ts. ap (λ o. forms_named (globals_in p).rows o ts) (sym e) ∙ ap (λ o. row_forms o ts) t.is
-          ∙ ap₂ (λ (y : GenericDataTree) (k : GenericConstructorTree). map (formed (assign y.variables ts)) k.fields) (sym d.is) (sym c.is);
-    }
-
-pub no_row : (p : GenericParts) (names : List ℕ) (x : ℕ) → names ≡ map (λ (r : GenericRow). r.name) (globals_in p).rows → None ≡ place_of names x → place_named (globals_in p).rows x ≡ None
-no_row p names x e h = ap (λ l. place_of l x) (sym e) ∙ sym h
+    (record {
+      stays = scene_stays s0 k read.keeps;
+      below = read.below.0;
+      forms = read.types ∙ ap₂ (λ l ws. map (formed (assign l ts)) (stack_of ws)) v w ∙ ap (λ o. row_forms o ts) at ∙ fields_of (globals_in p).rows (place_named (globals_in p).rows x) ts;
+    })
 
 -- variables in scope
 

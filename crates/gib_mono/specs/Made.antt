@@ -23,7 +23,6 @@ use Rattle.gib_syntax.specs.GenericTree.{GenericExpression, GenericArguments, Ge
 use Rattle.gib_syntax.specs.GenericTyping.{FormScope}
 use Rattle.gib_mono.specs.declared.copier.Copier.{Copier}
 use Rattle.gib_mono.specs.declared.copier.Copied.{Copied}
-use Rattle.gib_mono.specs.declared.source.RowPlace.{RowPlace}
 use Rattle.gib_mono.specs.Copying.{Naming, renamed, copy, copy_all, copy_variables, results_of, forms_of_all, forms_named, bind_forms}
 use Rattle.gib_mono.specs.Naming.{naming_of}
 use Rattle.gib_mono.specs.Reading.{listed}
@@ -166,11 +165,3 @@ pub record CopiesArms (g : GenericGlobals) (f : ℕ → GenericExpression) (old 
   pub more : List Arm
   pub whole : after ≡ before ++ more
   pub each : ArmsAre g f old new.exprs ts more from
-
--- The declared type and the constructor of a place, and what it says of the constructor of a name.
-pub record IsRowOf (parts : GenericParts) (q : RowPlace) (k : ℕ) : Type 0 where
-  pub decl : GenericData
-  pub there : slice_get parts.datas q.owner ≡ Some decl
-  pub con : GenericConstructor
-  pub at : slice_get decl.constructors.items q.constructor ≡ Some con
-  pub fields : (ts : Forms) → forms_named (globals_in parts).rows (place_named (globals_in parts).rows k) ts ≡ map (formed (assign decl.variables.items ts)) (stack_of (run_words parts.exprs.words con.fields))

@@ -356,11 +356,10 @@ impl Copier {
         let Some(row) = source.row(k) else {
             return Ok(Vec::new(self.alloc));
         };
-        let data = source.data_decl(row.owner);
-        let constructor = &data.constructors[row.constructor as usize];
-        let words = source.words(constructor.fields);
+        let variables = source.variables(row.declaration);
+        let words = source.words(row.fields);
         let alloc = self.alloc;
-        let reading = self.scene.read_at(alloc, &data.variables, types, words)?;
+        let reading = self.scene.read_at(alloc, variables, types, words)?;
         Ok(reading.types.into_vec())
     }
 

@@ -1,115 +1,39 @@
 //! A program with type parameters, and where its names are declared.
 
-ghost use Rattle.std.specs.Prelude.{◌≡◌, ◌+◌, ◌++◌, map, IfOk};
+ghost use Rattle.std.specs.Prelude.{◌≡◌, IfOk};
 ghost use Rattle.gib_syntax.specs.{GenericTyping.{IsTypedGeneric}, GenericParts.{generic_program_of}};
-ghost use Rattle.gib_mono.specs.Sources.{row_name, rows_in, numbered, all_places, globals_in};
+ghost use Rattle.gib_mono.specs.Sources.{globals_in};
 
 use gib_base::{Memory, Name};
-use gib_check::{NameList, function_names, type_names};
+use gib_check::{Named, RowDecl};
 use gib_syntax::{
-    ExprId, GenericConstructor, GenericData, GenericFunction, GenericNode, GenericProgram, Run,
-    Word,
+    ExprId, GenericData, GenericFunction, GenericNode, GenericProgram, Ident, Run, Word,
 };
 use std::alloc::{AllocError, Global};
 use std::marker::Model;
 
-/// Where a constructor is declared: the place of its type, and its own among the type's constructors.
-#[derive(Clone, Copy)]
-pub struct RowPlace {
-    pub owner: u32,
-    pub constructor: u32,
-}
-
 /// A typed program with type parameters, with the places of its declarations by their names.
 #[derive(Drop)]
 pub struct Source {
-    program: GenericProgram,
-    types: NameList,
-    constructors: NameList,
-    functions: NameList,
-    rows: Vec<RowPlace>,
+    named: Named,
 }
 
 impl Model for Source {
-    ghost use Rattle.gib_syntax.specs.GenericParts.{GenericParts};
-    ghost use Rattle.gib_mono.specs.Sources.{IsSource};
+    ghost use Rattle.gib_syntax.specs.{GenericParts.{GenericParts, generic_program_of}, GenericTyping.{IsTypedGeneric}};
 
     ghost Value = { GenericParts };
 
-    ghost view = { λ s. s.program };
+    ghost view = { λ s. s.named };
 
-    ghost invariant = { λ s. IsSource s.program s.types s.constructors s.functions s.rows.items };
-}
-
-/// Puts the places of a type's constructors behind others.
-fn push_places(
-    rows: &mut Vec<RowPlace>,
-    owner: u32,
-    constructors: &[GenericConstructor],
-) -> Result<(), Memory>
-    ensures { IfOk result (λ _. rows.new.items ≡ rows.old.items ++ numbered owner 0 constructors.now) }
-{
-    let mut constructor = 0_u32;
-    let mut rest = constructors;
-    'constructors: while let [_, after @ ..] = rest {
-        rows.push(RowPlace { owner, constructor })?;
-        let Some(next) = constructor.checked_add(1) else {
-            return Err(AllocError);
-        };
-        constructor = next;
-        rest = after;
-    }
-    Ok(())
-}
-
-/// Puts the names of a type's constructors behind others.
-fn push_names(names: &mut NameList, constructors: &[GenericConstructor]) -> Result<(), Memory>
-    ensures { IfOk result (λ _. names.new ≡ names.old ++ rows_in constructors.now) }
-{
-    let mut rest = constructors;
-    'constructors: while let [constructor, after @ ..] = rest {
-        names.push(constructor.name.name)?;
-        rest = after;
-    }
-    Ok(())
-}
-
-/// The places of all constructors, in the order of the text.
-fn list_places(alloc: Global, program: &GenericProgram) -> Result<Vec<RowPlace>, Memory>
-    ensures { IfOk result (λ rows. rows.items ≡ all_places 0 program.now.datas) }
-{
-    let mut rows = Vec::new(alloc);
-    let mut owner = 0_u32;
-    let mut rest = program.datas();
-    'datas: while let [declaration, after @ ..] = rest {
-        push_places(&mut rows, owner, &declaration.constructors)?;
-        let Some(next) = owner.checked_add(1) else {
-            return Err(AllocError);
-        };
-        owner = next;
-        rest = after;
-    }
-    Ok(rows)
-}
-
-/// The names of all constructors, in the order of the text.
-fn list_constructors(alloc: Global, program: &GenericProgram) -> Result<NameList, Memory>
-    ensures { IfOk result (λ names. names ≡ map row_name (globals_in program.now).rows) }
-{
-    let mut names = NameList::new(alloc);
-    let mut rest = program.datas();
-    'datas: while let [declaration, after @ ..] = rest {
-        push_names(&mut names, &declaration.constructors)?;
-        rest = after;
-    }
-    Ok(names)
+    ghost invariant = { λ s. IsTypedGeneric (generic_program_of s.named) };
 }
 
 impl Source {
     ghost use Rattle.std.specs.Prelude.{◌≤◌, ◌<◌, length, slice_get, Some, None, MatchOption};
     ghost use Rattle.gib_syntax.specs.{GenericTree.{GenericDataTree, GenericFunctionTree, data_named, generic_named, place_named}, GenericArena.{Opens}};
     ghost use Rattle.gib_syntax.specs.{GenericParts.{AreInside, IsFunctionInside}, Words.{run_words}};
-    ghost use Rattle.gib_mono.specs.{Copying.{owner_named}, Found.{AreDeclarations}, Made.{IsRowOf}};
+    ghost use Rattle.gib_check.specs.{NameViews.{row_option, variables_at}, Faults.{row_named}};
+    ghost use Rattle.gib_mono.specs.{Copying.{owner_named}, Found.{AreDeclarations}};
 
     /// A program with the places of its names.
     ///
@@ -120,17 +44,8 @@ impl Source {
         requires { IsTypedGeneric (generic_program_of program) }
         ensures { IfOk result (λ source. source ≡ program) }
     {
-        let types = type_names(alloc, &program)?;
-        let constructors = list_constructors(alloc, &program)?;
-        let functions = function_names(alloc, &program)?;
-        let rows = list_places(alloc, &program)?;
-        Ok(Source {
-            program,
-            types,
-            constructors,
-            functions,
-            rows,
-        })
+        let named = Named::make(alloc, program)?;
+        Ok(Source { named })
     }
 
     /// The program, which is typed.
@@ -139,8 +54,9 @@ impl Source {
         ensures typed { IsTypedGeneric (generic_program_of self.now) }
         ensures inside { AreInside self.now }
     {
-        let _main = self.program.main();
-        &self.program
+        let program = self.named.program();
+        let _main = program.main();
+        program
     }
 
     /// The expression of a number.
@@ -148,14 +64,14 @@ impl Source {
         requires { id.0 < length self.now.exprs.nodes }
         ensures { Opens self.now.exprs id.0 result.now }
     {
-        self.program.exprs().node(id)
+        self.named.node(id)
     }
 
     /// The words of a run.
     pub fn words(&self, run: Run) -> &[Word]
         ensures { result.now ≡ run_words self.now.exprs.words run }
     {
-        self.program.exprs().words(run)
+        self.named.words(run)
     }
 
     /// The place of the declared type of a name.
@@ -164,7 +80,7 @@ impl Source {
             (λ place. (d : GenericDataTree) × (slice_get (globals_in self.now).datas place ≡ Some d) × (data_named (globals_in self.now).datas name.0 ≡ Some d)) }
         ensures declared { AreDeclarations (globals_in self.now) }
     {
-        self.types.place(name)
+        self.named.type_place(name)
     }
 
     /// The place of the function of a name.
@@ -173,7 +89,7 @@ impl Source {
             (λ place. (f : GenericFunctionTree) × (slice_get (globals_in self.now).functions place ≡ Some f) × (generic_named (globals_in self.now).functions name.0 ≡ Some f)) }
         ensures declared { AreDeclarations (globals_in self.now) }
     {
-        self.functions.place(name)
+        self.named.function_place(name)
     }
 
     /// How many types are declared.
@@ -184,7 +100,7 @@ impl Source {
     pub fn type_count(&self) -> Result<u32, Memory>
         ensures { IfOk result (λ count. count ≡ length (globals_in self.now).datas) }
     {
-        let Ok(count) = u32::try_from(self.program.datas().len()) else {
+        let Ok(count) = u32::try_from(self.program().datas().len()) else {
             return Err(AllocError);
         };
         Ok(count)
@@ -198,7 +114,7 @@ impl Source {
     pub fn function_count(&self) -> Result<u32, Memory>
         ensures { IfOk result (λ count. count ≡ length (globals_in self.now).functions) }
     {
-        let Ok(count) = u32::try_from(self.program.functions().len()) else {
+        let Ok(count) = u32::try_from(self.program().functions().len()) else {
             return Err(AllocError);
         };
         Ok(count)
@@ -209,7 +125,7 @@ impl Source {
         requires { place < length (globals_in self.now).datas }
         ensures { slice_get self.now.datas place ≡ Some result.now }
     {
-        &self.program.datas()[place as usize]
+        &self.program().datas()[place as usize]
     }
 
     /// The function of a place.
@@ -218,7 +134,7 @@ impl Source {
         ensures at { slice_get self.now.functions place ≡ Some result.now }
         ensures inside { IsFunctionInside self.now.exprs result.now }
     {
-        &self.program.functions()[place as usize]
+        &self.program().functions()[place as usize]
     }
 
     /// How many constructors the declared type of a place has.
@@ -235,22 +151,23 @@ impl Source {
     pub fn owner(&self, name: Name) -> Name
         ensures { result.0 ≡ owner_named (globals_in self.now).rows (place_named (globals_in self.now).rows name.0) }
     {
-        match self.constructors.place(name) {
+        match self.row(name) {
             None => Name(0),
-            Some(place) => {
-                let row = self.rows[place as usize];
-                self.program.datas()[row.owner as usize].name.name
-            }
+            Some(row) => row.owner,
         }
     }
 
-    /// Where the constructor of a name is declared.
-    pub fn row(&self, name: Name) -> Option<RowPlace>
-        ensures { MatchOption result (place_named (globals_in self.now).rows name.0 ≡ None) (λ row. IsRowOf self.now row name.0) }
+    /// The constructor of a name.
+    pub fn row(&self, name: Name) -> Option<RowDecl>
+        ensures { row_option self.now result ≡ row_named (globals_in self.now).rows name.0 }
     {
-        match self.constructors.place(name) {
-            None => None,
-            Some(place) => Some(self.rows[place as usize]),
-        }
+        self.named.row(name)
+    }
+
+    /// The type variables of the declaration of a place.
+    pub fn variables(&self, place: u32) -> &[Ident]
+        ensures { result.now ≡ variables_at self.now.datas place }
+    {
+        self.named.variables(place)
     }
 }

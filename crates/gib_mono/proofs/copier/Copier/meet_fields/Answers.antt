@@ -5,5 +5,5 @@ use Rattle.gib_mono.proofs.copier.Copier.meet_fields.Goals as goal
 
 pub returns : goal.returns
 returns c =
-    row_met c.args.source.now c.args.self.now c.read_at.new.self c.in-Some.row c.args.k.0 c.data_decl-data.result.now c.index-constructor.result.now c.deref.result.now (forms_at (forms c.args.self.now.scene) c.args.types.now) c.words-words.result.now c.in_ok-reading.reading
-    c.into_vec.result.items c.in-Some.ensures c.data_decl-data.ensures c.index-constructor.ensures c.deref.ensures.value c.words-words.ensures c.in_ok-reading.ensures c.into_vec.ensures
+    row_met c.args.source.now c.args.self.now c.read_at.new.self c.in-Some.row c.args.k.0 c.variables.result.now (forms_at (forms c.args.self.now.scene) c.args.types.now) c.words-words.result.now c.in_ok-reading.reading
+    c.into_vec.result.items c.in-Some.ensures c.variables.ensures c.words-words.ensures c.in_ok-reading.ensures c.into_vec.ensures

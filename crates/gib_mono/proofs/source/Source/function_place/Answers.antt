@@ -8,8 +8,8 @@ use Rattle.gib_mono.proofs.source.Source.function_place.Goals as goal
 
 pub returns-clause-place : goal.returns-clause-place
 returns-clause-place c =
-    function_place (globals_in c.args.self.now).functions c.args.name.0 c.place.result
-    (c.place.ensures.place ∙ ap (λ ns. place_of ns c.args.name.0) (c.self.invariant.functions_are ∙ ap (λ p. map function_number (globals_in p).functions) c.self.view_is))
+    function_place (globals_in c.args.self.now).functions c.args.name.0 c.function_place.result
+    (c.function_place.ensures ∙ ap (λ p. place_of (map function_number (globals_in p).functions) c.args.name.0) c.self.view_is)
 
 pub returns-clause-declared : goal.returns-clause-declared
-returns-clause-declared c = subst (λ p. AreDeclarations (globals_in p)) c.self.view_is (declarations (generic_program_of c.self.inside.program) c.self.invariant.typed)
+returns-clause-declared c = subst (λ p. AreDeclarations (globals_in p)) c.self.view_is (declarations (generic_program_of c.self.inside.named) c.self.invariant)
