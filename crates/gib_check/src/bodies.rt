@@ -17,7 +17,6 @@ use crate::uses::result_types;
 use crate::walk::infer;
 use gib_base::Memory;
 use gib_syntax::{ExprId, GenericFunction, GenericParameter, Ident, ResultRuns};
-use std::alloc::Global;
 
 /// Puts parameters into the scope.
 fn push_parameters(
@@ -39,7 +38,6 @@ fn push_parameters(
 
 /// A body, in the scope of its parameters.
 pub fn check_body(
-    alloc: Global,
     around: &Around,
     parameters: &[GenericParameter],
     gives: &ResultRuns,
@@ -51,7 +49,7 @@ pub fn check_body(
     let Ok(count) = u32::try_from(parameters.len()) else {
         return Err(TypeFault::Memory);
     };
-    let mut state = State::new(alloc, count);
+    let mut state = State::new(around.named.alloc(), count);
     state.meet_plain()?;
     push_parameters(around.named, &mut state, parameters)?;
     let given = infer(around, &mut state, standing_of(gives), body)?;
@@ -60,11 +58,7 @@ pub fn check_body(
 }
 
 /// The bodies of functions, in the order of the text.
-pub fn check_bodies(
-    alloc: Global,
-    named: &Named,
-    functions: &[GenericFunction],
-) -> Result<(), TypeFault>
+pub fn check_bodies(named: &Named, functions: &[GenericFunction]) -> Result<(), TypeFault>
     requires { AllByRecursion (IsFunctionInside named.now.exprs) functions.now }
     ensures { Gives (λ _. tt {0}) result (rule.check_bodies (generic_globals named.now) (map (function_in named.now.exprs) functions.now)) }
 {
@@ -75,7 +69,6 @@ pub fn check_bodies(
             variables: &function.variables,
         };
         check_body(
-            alloc,
             &around,
             &function.parameters,
             &function.result,

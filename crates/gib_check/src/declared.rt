@@ -4,8 +4,8 @@ ghost use Rattle.std.specs.Prelude.{◌≡◌, ◌<◌, length, slice_get, Some,
 ghost use Rattle.gib_syntax.specs.{Declarations.{type_written, type_of_name, constructor_named, function_named}, Tree.{FunctionTree}};
 ghost use Rattle.gib_check.specs.{Functions.{IsNumberOf, IsHeadOf}, Origins.{made_type, result_if, fields_named}, Views.{table_in, types_in, functions_in}};
 
-use crate::functions::{FunctionHead, FunctionId, list_functions, list_heads};
-use crate::names::NameList;
+use crate::functions::{FunctionHead, FunctionId, list_heads};
+use crate::names::{NameList, list_names};
 use crate::tables::make_table;
 use gib_base::{Memory, Name};
 use gib_syntax::{ExprId, FunctionDecl, Ident, MainDecl, Node, Program, TypeName};
@@ -46,7 +46,7 @@ impl Declared {
         requires table { IsTable (table_in program) }
         ensures { IfOk result (λ declared. declared ≡ program) }
     {
-        let functions = list_functions(alloc, program.functions())?;
+        let functions = list_names(alloc, program.functions())?;
         let heads = list_heads(alloc, &types, program.functions())?;
         let (table, constructors) = make_table(alloc, &types, program.data_decls())?;
         Ok(Declared {

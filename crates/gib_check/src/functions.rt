@@ -2,10 +2,10 @@
 
 ghost use Rattle.std.specs.Prelude.{◌≡◌, map, IfOk};
 ghost use Rattle.gib_syntax.specs.{Declarations.{type_of_name}, Parts.{results_tree}, Results.{map_results}, Typing.{one_type}};
-ghost use Rattle.gib_check.specs.{Functions.{parameter_type, head_of, head_in}, Views.{function_name}};
+ghost use Rattle.gib_check.specs.Functions.{parameter_type, head_of, head_in};
 
 use crate::declared::type_of_name;
-use crate::names::{Called, NameList, list_names};
+use crate::names::{Called, NameList};
 use gib_base::{Memory, Name};
 use gib_syntax::{FunctionDecl, Parameter, ResultTypes};
 use gib_types::Ty;
@@ -83,11 +83,4 @@ impl Called for FunctionDecl {
     fn name(&self) -> Name {
         self.name.name
     }
-}
-
-/// The names of the functions, in the order of the text.
-pub fn list_functions(alloc: Global, functions: &[FunctionDecl]) -> Result<NameList, Memory>
-    ensures { IfOk result (λ names. names ≡ map function_name functions.now) }
-{
-    list_names(alloc, functions)
 }

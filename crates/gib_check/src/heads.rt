@@ -16,11 +16,9 @@ use crate::reading::type_place;
 use crate::rules::broken;
 use gib_base::limits::{FUNCTIONS, PARTS, VARIABLES};
 use gib_syntax::{GenericFunction, GenericParameter, Ident, ResultRuns, Run};
-use std::alloc::Global;
 
 /// Parameters: the name of each, then its type.
 fn check_parameters(
-    alloc: Global,
     named: &Named,
     variables: &[Ident],
     parameters: &[GenericParameter],
@@ -28,7 +26,7 @@ fn check_parameters(
     requires { AllByRecursion (IsParameterInside named.now.exprs.words) parameters.now }
     ensures { Gives (λ _. tt {0}) result (rule.check_parameters (generic_globals named.now).datas (variable_numbers variables.now) [] (map (parameter_in named.now.exprs.words) parameters.now)) }
 {
-    let mut names = NameList::new(alloc);
+    let mut names = NameList::new(named.alloc());
     let mut rest = parameters;
     'parameters: while let [parameter, after @ ..] = rest {
         new_name(&names, parameter.name)?;
@@ -41,12 +39,7 @@ fn check_parameters(
 }
 
 /// The types of parts: each is none past the eighth, then known.
-fn check_parts(
-    alloc: Global,
-    named: &Named,
-    variables: &[Ident],
-    runs: &[Run],
-) -> Result<(), TypeFault>
+fn check_parts(named: &Named, variables: &[Ident], runs: &[Run]) -> Result<(), TypeFault>
     requires { AllByRecursion (IsTypeRun named.now.exprs.words) runs.now }
     ensures { Gives (λ _. tt {0}) result (rule.check_parts (generic_globals named.now).datas (variable_numbers variables.now) 0 (map (type_in named.now.exprs.words) runs.now)) }
 {
@@ -54,7 +47,7 @@ fn check_parts(
     let mut rest = runs;
     'parts: while let [run, after @ ..] = rest {
         if behind >= PARTS {
-            let place = type_place(alloc, named.words(*run))?;
+            let place = type_place(named.alloc(), named.words(*run))?;
             return Err(broken(Kind::Limit, place));
         }
         known(named, variables, *run)?;
@@ -65,24 +58,18 @@ fn check_parts(
 }
 
 /// What a function gives: its type, or those of the parts.
-fn check_results(
-    alloc: Global,
-    named: &Named,
-    variables: &[Ident],
-    gives: &ResultRuns,
-) -> Result<(), TypeFault>
+fn check_results(named: &Named, variables: &[Ident], gives: &ResultRuns) -> Result<(), TypeFault>
     requires { AreResultsInside named.now.exprs.words gives.now }
     ensures { Gives (λ _. tt {0}) result (rule.check_results (generic_globals named.now).datas (variable_numbers variables.now) (results_in named.now.exprs.words gives.now)) }
 {
     match gives {
         ResultRuns::One(run) => known(named, variables, *run),
-        ResultRuns::Several(runs) => check_parts(alloc, named, variables, runs),
+        ResultRuns::Several(runs) => check_parts(named, variables, runs),
     }
 }
 
 /// The type variables and the parameters of a function, or of main, and what it gives.
 pub fn check_head(
-    alloc: Global,
     named: &Named,
     variables: &[Ident],
     parameters: &[GenericParameter],
@@ -92,27 +79,22 @@ pub fn check_head(
     requires result { AreResultsInside named.now.exprs.words gives.now }
     ensures { Gives (λ _. tt {0}) result (rule.check_head (generic_globals named.now).datas variables.now (map (parameter_in named.now.exprs.words) parameters.now) (results_in named.now.exprs.words gives.now)) }
 {
-    check_variables(alloc, variables)?;
-    check_parameters(alloc, named, variables, parameters)?;
-    check_results(alloc, named, variables, gives)
+    check_variables(named.alloc(), variables)?;
+    check_parameters(named, variables, parameters)?;
+    check_results(named, variables, gives)
 }
 
 /// Heads of functions, in the order of the text.
-pub fn check_heads(
-    alloc: Global,
-    named: &Named,
-    functions: &[GenericFunction],
-) -> Result<(), TypeFault>
+pub fn check_heads(named: &Named, functions: &[GenericFunction]) -> Result<(), TypeFault>
     requires { AllByRecursion (IsFunctionInside named.now.exprs) functions.now }
     ensures { Gives (λ _. tt {0}) result (rule.check_heads (generic_globals named.now).datas [] (map (function_in named.now.exprs) functions.now)) }
 {
-    let mut names = NameList::new(alloc);
+    let mut names = NameList::new(named.alloc());
     let mut rest = functions;
     'functions: while let [function, after @ ..] = rest {
         fewer(FUNCTIONS, &names, function.name)?;
         new_name(&names, function.name)?;
         check_head(
-            alloc,
             named,
             &function.variables,
             &function.parameters,

@@ -60,34 +60,34 @@ pub use typed::Typed;
 
 /// Types and constructors, field types, and heads of functions.
 #[tactic(auto, unfolding(crate::specs::FirstFault::check_declarations))]
-fn check_declarations(alloc: Global, named: &Named) -> Result<(), TypeFault>
+fn check_declarations(named: &Named) -> Result<(), TypeFault>
     ensures { Gives (λ _. tt {0}) result (rule.check_declarations (generic_program_of named.now)) }
 {
     let program = named.program();
     let datas = program.datas();
-    check_datas(alloc, program.exprs(), datas)?;
+    check_datas(named.alloc(), program.exprs(), datas)?;
     check_fields(named, datas)?;
-    check_heads(alloc, named, program.functions())?;
+    check_heads(named, program.functions())?;
     let main = program.main();
     let gives = ResultRuns::One(main.result);
-    check_head(alloc, named, &[], &[main.parameter], &gives)
+    check_head(named, &[], &[main.parameter], &gives)
 }
 
 /// All rules, in their order.
 #[tactic(auto, unfolding(crate::specs::FirstFault::check_program))]
-fn check_rules(alloc: Global, named: &Named) -> Result<(), TypeFault>
+fn check_rules(named: &Named) -> Result<(), TypeFault>
     ensures { Gives (λ _. tt {0}) result (rule.check_program (generic_program_of named.now)) }
 {
-    check_declarations(alloc, named)?;
+    check_declarations(named)?;
     let program = named.program();
-    check_bodies(alloc, named, program.functions())?;
+    check_bodies(named, program.functions())?;
     let main = program.main();
     let gives = ResultRuns::One(main.result);
     let around = Around {
         named,
         variables: &[],
     };
-    check_body(alloc, &around, &[main.parameter], &gives, main.body)
+    check_body(&around, &[main.parameter], &gives, main.body)
 }
 
 /// Checks a program: which rule it breaks first, or none.
@@ -108,7 +108,7 @@ pub fn check(alloc: Global, program: GenericProgram) -> Result<Generic, TypeFaul
     let Ok(named) = Named::make(alloc, program) else {
         return Err(TypeFault::Memory);
     };
-    match check_rules(alloc, &named) {
+    match check_rules(&named) {
         Ok(()) => Ok(Generic::new(named.into_program())),
         Err(fault) => Err(fault),
     }

@@ -32,6 +32,7 @@ pub struct RowDecl {
 /// A program with type parameters, with the places of its names.
 #[derive(Drop)]
 pub struct Named {
+    alloc: Global,
     program: GenericProgram,
     types: NameList,
     constructors: NameList,
@@ -173,12 +174,18 @@ impl Named {
         let rows = list_rows(alloc, &program)?;
         let constructors = list_names(alloc, &rows)?;
         Ok(Named {
+            alloc,
             program,
             types,
             constructors,
             functions,
             rows,
         })
+    }
+
+    /// The allocator of the names.
+    pub fn alloc(&self) -> Global {
+        self.alloc
     }
 
     /// The program.
