@@ -1,19 +1,20 @@
 //! The trees of programs: their spelling as tokens, their types and their meaning.
 #![tactic(auto)]
 
-pub mod examples;
-pub mod exprs;
-pub mod generic;
+mod examples;
+mod exprs;
+mod generic;
 pub mod law;
 mod names;
-pub mod print;
-pub mod program;
+mod print;
+mod program;
 mod spelled;
 mod text;
 pub mod tree;
 mod type_tokens;
-pub mod written;
+mod written;
 
+pub use examples::{divisions, examples, parts};
 pub use exprs::{Arm, Bound, ExprId, Exprs, Node};
 pub use generic::{GenericExprs, GenericNode, Side};
 pub use names::Names;
