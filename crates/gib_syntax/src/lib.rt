@@ -14,7 +14,6 @@ pub mod tree;
 mod type_tokens;
 mod written;
 
-pub use examples::{divisions, examples, parts};
 pub use exprs::{Arm, Bound, ExprId, Exprs, Node};
 pub use generic::{GenericExprs, GenericNode, Side};
 pub use names::Names;
