@@ -39,28 +39,22 @@ pub(crate) fn slots_of(code: &Code, function: u32) -> u32
     }
 }
 
-/// Where a function starts, and how many slots a frame of it has.
+/// How a function begins: with a switch by its first slot, or in another way.
 #[derive(Clone, Copy)]
-pub(crate) struct Callee {
-    pub start: u32,
-    pub slots: u32,
+pub enum Entrance {
+    Other,
+    /// To `one` for the constructor `first`, to `other` for the one behind it.
+    Switch { first: u8, one: u32, other: u32 },
+    /// For the one constructor of a type.
+    SwitchOne { constructor: u8, label: u32 },
 }
 
-/// What a call of a function goes to; none for no function.
-#[tactic(auto, using(crate::proofs::Steps::start_here, crate::proofs::Steps::slots_here))]
-pub(crate) fn callee_of(code: &Code, function: u32) -> Option<Callee>
-    ensures { IfSome result (λ callee. (callee.start ≡ m.start_at code.now.functions function) × (callee.slots ≡ slots_at code.now.functions function)) }
-{
-    let functions = code.functions();
-    let place = function as usize;
-    if place < functions.len() {
-        Some(Callee {
-            start: functions[place].start,
-            slots: functions[place].slots,
-        })
-    } else {
-        None
-    }
+/// Where a function starts, how many slots a frame of it has, and how it begins.
+#[derive(Clone, Copy)]
+pub struct Callee {
+    pub start: u32,
+    pub slots: u32,
+    pub entrance: Entrance,
 }
 
 impl Machine {
