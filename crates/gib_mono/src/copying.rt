@@ -24,13 +24,6 @@ pub struct CopiedArm {
     pub given: ResultIds,
 }
 
-/// The copied parts of a tuple, with their types.
-#[derive(Drop)]
-pub struct CopiedTuple {
-    pub exprs: Vec<ExprId>,
-    pub types: Vec<TypeId>,
-}
-
 /// The copy of an expression, with what it gives.
 ///
 /// # Errors
@@ -304,17 +297,17 @@ fn copy_arguments(
     Ok(copied)
 }
 
-/// The parts of a tuple, from left to right.
+/// The parts of a tuple, from left to right, with their types.
 #[cycle(copy)]
 fn copy_tuple_parts(
     copier: &mut Copier,
     source: &Source,
     id: ExprId,
     ids: &[ExprId],
-) -> Result<CopiedTuple, Memory>
+) -> Result<(Vec<ExprId>, Vec<TypeId>), Memory>
     requires inside { id.0 < length source.now.exprs.nodes }
     requires below { AllByRecursion (λ a. a.0 < id.0) ids.now }
-    ensures { IfOk result (λ copied. CopiesTuple (globals_in source.now) copier.old copier.new copied.exprs.items copied.types.items (arguments_from (tree_of source.now.exprs) ids.now)) }
+    ensures { IfOk result (λ copied. CopiesTuple (globals_in source.now) copier.old copier.new copied.0.items copied.1.items (arguments_from (tree_of source.now.exprs) ids.now)) }
 {
     let mut exprs = Vec::new(copier.alloc);
     let mut types = Vec::new(copier.alloc);
@@ -326,7 +319,7 @@ fn copy_tuple_parts(
         types.push(ty)?;
         rest = after;
     }
-    Ok(CopiedTuple { exprs, types })
+    Ok((exprs, types))
 }
 
 /// A tuple, which carries the types of its parts.
@@ -342,14 +335,10 @@ fn copy_tuple(
     requires below { AllByRecursion (λ a. a.0 < id.0) ids.now }
     ensures { IfOk result (λ c. Copies (globals_in source.now) copier.old copier.new c (GenericTuple span (arguments_from (tree_of source.now.exprs) ids.now))) }
 {
-    let copied = copy_tuple_parts(copier, source, id, ids)?;
-    let types = copier.type_names(span, &copied.types)?;
-    let given = copier.put_parts(&copied.types)?;
-    let expr = copier.put(Node::Tuple {
-        span,
-        types,
-        parts: copied.exprs,
-    })?;
+    let (parts, forms) = copy_tuple_parts(copier, source, id, ids)?;
+    let types = copier.type_names(span, &forms)?;
+    let given = copier.put_parts(&forms)?;
+    let expr = copier.put(Node::Tuple { span, types, parts })?;
     Ok(Copied { expr, given })
 }
 

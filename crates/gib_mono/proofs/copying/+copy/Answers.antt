@@ -105,8 +105,8 @@ copy_tuple_parts-parts-preserved t c =
 
 pub copy_tuple-returns : goal.copy_tuple-returns
 copy_tuple-returns t c =
-    tuple_made (globals_in c.args.source.now) c.args.copier.now c.copy_tuple_parts.new.copier c.put_parts.new.self c.put.new.self c.in_ok-expr.expr c.in_ok-given.given c.in_ok-copied.copied.exprs c.in_ok-copied.copied.types.items c.deref.result.now c.deref-2.result.now c.in_ok-types.types c.args.span
-    (arguments_from (tree_of c.args.source.now.exprs) c.args.ids.now) c.in_ok-copied.ensures c.deref.ensures.value c.in_ok-types.ensures c.deref-2.ensures.value c.in_ok-given.ensures c.in_ok-expr.ensures
+    tuple_made (globals_in c.args.source.now) c.args.copier.now c.copy_tuple_parts.new.copier c.put_parts.new.self c.put.new.self c.in_ok-expr.expr c.in_ok-given.given c.in_ok-parts.parts c.in_ok-parts.forms.items c.deref.result.now c.deref-2.result.now c.in_ok-types.types c.args.span
+    (arguments_from (tree_of c.args.source.now.exprs) c.args.ids.now) c.in_ok-parts.ensures c.deref.ensures.value c.in_ok-types.ensures c.deref-2.ensures.value c.in_ok-given.ensures c.in_ok-expr.ensures
 
 pub copy_expression-returns-in-Variable : goal.copy_expression-returns-in-Variable
 copy_expression-returns-in-Variable t c =
