@@ -119,3 +119,9 @@ cut_scope s types parts scope new counts len e h =
 
 pub size_is : (s : Judging) (types : List TypeNode) (parts : List TypeId) (scope : IdScope) (counts : Counts) → judging types parts scope counts ≡ s → length s.types ≡ length types
 size_is s types parts scope counts e = sym (ap (λ (z : Judging). length z.types) e)
+
+-- What is left of a scope is below what the scope was.
+pub below_drop : (n k : ℕ) (scope : IdScope) → IsScopeBelow n scope → IsScopeBelow n (drop k scope)
+below_drop n zero scope h = h
+below_drop n (suc k) [] h = tt
+below_drop n (suc k) (b ∷ scope) h = below_drop n k scope h.1

@@ -1,5 +1,5 @@
 -- What the check of a body keeps: the types that were met, the variables in scope, and counts.
-use Rattle.std.specs.Prelude.{◌≡◌, ℕ, ◌+◌, ◌<◌, ◌≤◌, ◌==◌, if◌then◌else◌, List, [], ◌∷◌, ◌++◌, map, length, take, drop, Option, Some, None, Ok}
+use Rattle.std.specs.Prelude.{◌≡◌, ℕ, ◌+◌, ◌<◌, ◌≤◌, List, [], ◌∷◌, ◌++◌, map, length, take, drop, Option, Ok}
 use Rattle.std.specs.List.{AllByRecursion}
 use Rattle.gib_types.specs.declared.types.TypeId.{TypeId}
 use Rattle.gib_types.specs.declared.types.TypeNode.{TypeNode}
@@ -23,15 +23,15 @@ use Rattle.gib_check.specs.declared.standing.Standing.{Standing}
 use Rattle.gib_check.specs.declared.reading.Meaning.{Meaning}
 use Rattle.gib_check.specs.declared.reading.Meaning.TheVariants as meaning
 use Rattle.gib_check.specs.Faults.{Checked, and_then, FormPart, place, ArmHead, infer, infer_arm}
+use Rattle.gib_check.specs.InScope.{ScopeOf, newest}
 
 -- Variables with the numbers of their types, the newest first.
 abbrev pub IdScope : Type 0
-IdScope = List (ℕ × TypeId)
+IdScope = ScopeOf TypeId
 
 -- The number of a variable's type.
 abbrev pub id_in : IdScope → ℕ → Option TypeId
-id_in [] x = None
-id_in (b ∷ scope) x = if b.0 == x then Some b.1 else id_in scope x
+id_in scope x = newest scope x
 
 -- All numbers are below a number.
 abbrev pub IsScopeBelow : ℕ → IdScope → Type 0

@@ -6,7 +6,7 @@ use crate::counts::Counts;
 use crate::fault::{Kind, TypeFault};
 use crate::reading::{Meaning, put_type, read, read_first};
 use crate::rules::{ResultIds, broken};
-use crate::variables::Variables;
+use crate::scope::Scope;
 use gib_base::limits::{EXPRESSIONS, PARTS, VARIABLES};
 use gib_base::{Memory, Span};
 use gib_syntax::{Ident, Word};
@@ -22,7 +22,7 @@ pub struct State {
     types: Types,
     /// A run for each result of several parts.
     parts: Vec<TypeId>,
-    scope: Variables,
+    scope: Scope<TypeId>,
     counts: Counts,
 }
 
@@ -53,7 +53,7 @@ impl State {
             alloc,
             types: Types::new(alloc),
             parts: Vec::new(alloc),
-            scope: Variables::new(alloc),
+            scope: Scope::new(alloc),
             counts: Counts {
                 variables,
                 expressions: 0,
@@ -162,7 +162,7 @@ impl State {
         ensures types { self.new.types ≡ self.old.types }
         ensures parts { self.new.parts ≡ self.old.parts }
     {
-        self.scope.push(x, ty)
+        self.scope.push(x.name, ty)
     }
 
     /// Binds a new variable.
