@@ -5,7 +5,7 @@ ghost use Rattle.gib_syntax.specs.{Declarations.{type_written, type_of_name, con
 ghost use Rattle.gib_check.specs.{Functions.{IsNumberOf, IsHeadOf}, Origins.{made_type, result_if, fields_named}, Views.{table_in, types_in, functions_in}};
 
 use crate::functions::{FunctionHead, FunctionId, list_heads};
-use crate::names::{NameList, list_names};
+use crate::names::{Called, NameList, list_names};
 use crate::tables::make_table;
 use gib_base::{Memory, Name};
 use gib_syntax::{ExprId, FunctionDecl, Ident, MainDecl, Node, Program, TypeName};
@@ -33,6 +33,15 @@ impl Model for Declared {
     ghost view = { λ d. d.program };
 
     ghost invariant = { λ d. IsDeclared d.program d.table d.types d.constructors d.functions d.heads.items };
+}
+
+impl Called for FunctionDecl {
+    ghost called = { λ d. d.name.name.0 };
+
+    /// The name of the function.
+    fn name(&self) -> Name {
+        self.name.name
+    }
 }
 
 impl Declared {

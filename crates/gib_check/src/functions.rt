@@ -5,8 +5,8 @@ ghost use Rattle.gib_syntax.specs.{Declarations.{type_of_name}, Parts.{results_t
 ghost use Rattle.gib_check.specs.Functions.{parameter_type, head_of, head_in};
 
 use crate::declared::type_of_name;
-use crate::names::{Called, NameList};
-use gib_base::{Memory, Name};
+use crate::names::NameList;
+use gib_base::Memory;
 use gib_syntax::{FunctionDecl, Parameter, ResultTypes};
 use gib_types::Ty;
 use std::alloc::Global;
@@ -74,13 +74,4 @@ pub fn list_heads(
         rest = after;
     }
     Ok(heads)
-}
-
-impl Called for FunctionDecl {
-    ghost called = { λ d. d.name.name.0 };
-
-    /// The name of the function.
-    fn name(&self) -> Name {
-        self.name.name
-    }
 }
