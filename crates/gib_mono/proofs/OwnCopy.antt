@@ -1,5 +1,5 @@
 -- A program without type parameters is its own copy.
-use Rattle.std.proofs.Common.{◌≡◌, ℕ, ◌+◌, Bool, true, false, ◌==◌, if◌then◌else◌, ap₂, List, [], ◌∷◌, ◌++◌, map, length, Option, Some, None, refl, sym, ap, ◌∙◌, subst}
+use Rattle.std.proofs.Common.{◌≡◌, ℕ, ◌+◌, Bool, true, false, ◌==◌, if◌then◌else◌, ap₂, List, [], ◌∷◌, ◌++◌, map, length, Option, Some, None, refl, sym, ap, ◌∙◌, subst, subst₂}
 use Rattle.std.specs.Prelude.{slice_get}
 use Rattle.std.specs.List.{AllByRecursion}
 use Rattle.std.proofs.lemmas.Option.{same_Some}
@@ -21,6 +21,7 @@ use Rattle.gib_syntax.specs.Typing.{names_of}
 use Rattle.gib_base.specs.declared.Span.{Span}
 use Rattle.gib_mono.specs.Bare.{bare, all_bare, arms_bare}
 use Rattle.gib_mono.specs.Bindings.{only_name, let_of, par_of}
+use Rattle.gib_mono.specs.Placed.{placed, all_placed, arms_placed, placed_variable, placed_function, placed_program}
 use Rattle.gib_mono.specs.Copying.{Naming, renamed, copy_variables, copy_written, copy_constructor, copy_data, copy_parameter, copy_function, copy_main, arguments_of, forms_at, forms_named, results_at, one_form, results_of, forms_of_all, results_of_arms, bind_forms, bound_forms, parameter_scope, copy, copy_all, copy_arms}
 use Rattle.gib_types.specs.Form.{form_or}
 use Rattle.gib_mono.specs.Walk.{DataCopy, FunctionCopy, datas_in, function_copies, plain_datas, plain_functions, plain_copies, copied_program}
@@ -198,7 +199,51 @@ mutual
       ∙ ap (λ (u : Expression). NextArm k xs u (copy_arms g nm m scope NoForm (arms_as_generic arms))) (copy_own g bared nm plain m e inner (bare_binds xs (forms_named g.rows (place_named g.rows (number_of k)) NoForm) scope h (bare_fields g bared (place_named g.rows (number_of k)) NoForm)) single.0)
       ∙ ap (NextArm k xs (bare (as_generic e))) (arms_copy_own g bared nm plain m arms scope h single.1)
 
--- A tree of the grammar that has no type arguments is one without them
+-- A tree that has no type arguments, without them: a binding of a list of one name is one of that name
+
+let_one : (p : Span) (xs : List Ident) (qs : List Parameter) (a b : Expression) → IsOne xs → let_of p (only_name xs) [] a b ≡ let_of p (only_name xs) qs a b
+let_one p xs qs a b one = subst (λ (us : List Ident). let_of p (only_name us) [] a b ≡ let_of p (only_name us) qs a b) (sym one.1) refl
+
+par_one : (p : Span) (xs : List Ident) (qs : List Parameter) (a : Expression) (ys : List Ident) (rs : List Parameter) (b c : Expression) → IsOne xs → IsOne ys
+    → par_of p (only_name xs) [] a (only_name ys) [] b c ≡ par_of p (only_name xs) qs a (only_name ys) rs b c
+par_one p xs qs a ys rs b c one other =
+    subst₂ (λ (us vs : List Ident). par_of p (only_name us) [] a (only_name vs) [] b c ≡ par_of p (only_name us) qs a (only_name vs) rs b c) (sym one.1) (sym other.1) refl
+
+mutual
+  bare_placed : (e : Expression) → IsSingle (as_generic e) → bare (as_generic e) ≡ placed e
+  bare_placed (Var x) single = refl
+  bare_placed (Num p n) single = refl
+  bare_placed (Bit p b) single = refl
+  bare_placed (Paren p e) single = ap (Paren p) (bare_placed e single)
+  bare_placed (Op p f a b) single = ap₂ (Op p f) (bare_placed a single.0) (bare_placed b single.1)
+  bare_placed (Call f NoArgument) single = refl
+  bare_placed (Call f (Argument a xs)) single = ap₂ (λ (u : Expression) (us : Arguments). Call f (Argument u us)) (bare_placed a single.0) (all_bare_placed xs single.1)
+  bare_placed (Make k xs) single = ap (Make k) (all_bare_placed xs single)
+  bare_placed (Let p x a b) single = ap₂ (Let p x) (bare_placed a single.1) (bare_placed b single.2)
+  bare_placed (Par p x a y b c) single =
+      ap (λ (u : Expression). Par p x u y (bare (as_generic b)) (bare (as_generic c))) (bare_placed a single.2) ∙ ap₂ (Par p x (placed a) y) (bare_placed b single.3) (bare_placed c single.4)
+  bare_placed (If p a b c) single =
+      ap (λ (u : Expression). If p u (bare (as_generic b)) (bare (as_generic c))) (bare_placed a single.0) ∙ ap₂ (If p (placed a)) (bare_placed b single.1) (bare_placed c single.2)
+  bare_placed (Case p x arms) single = ap (Case p x) (arms_bare_placed arms single)
+  bare_placed (Tuple p as' xs) single = absurd single
+  bare_placed (LetSeveral p qs a b) single =
+      let_one p (names_of qs) (map placed_variable qs) (bare (as_generic a)) (bare (as_generic b)) single.0
+      ∙ ap₂ (let_of p (only_name (names_of qs)) (map placed_variable qs)) (bare_placed a single.1) (bare_placed b single.2)
+  bare_placed (ParSeveral p qs a rs b c) single =
+      let par = par_of p (only_name (names_of qs)) (map placed_variable qs) in
+      par_one p (names_of qs) (map placed_variable qs) (bare (as_generic a)) (names_of rs) (map placed_variable rs) (bare (as_generic b)) (bare (as_generic c)) single.0 single.1
+      ∙ ap (λ (u : Expression). par u (only_name (names_of rs)) (map placed_variable rs) (bare (as_generic b)) (bare (as_generic c))) (bare_placed a single.2)
+      ∙ ap₂ (par (placed a) (only_name (names_of rs)) (map placed_variable rs)) (bare_placed b single.3) (bare_placed c single.4)
+
+  all_bare_placed : (xs : Arguments) → AreSingle (all_as_generic xs) → all_bare (all_as_generic xs) ≡ all_placed xs
+  all_bare_placed NoArgument single = refl
+  all_bare_placed (Argument a xs) single = ap₂ Argument (bare_placed a single.0) (all_bare_placed xs single.1)
+
+  arms_bare_placed : (arms : Arms) → HasSingle (arms_as_generic arms) → arms_bare (arms_as_generic arms) ≡ arms_placed arms
+  arms_bare_placed (LastArm k xs e) single = ap (LastArm k xs) (bare_placed e single)
+  arms_bare_placed (NextArm k xs e arms) single = ap₂ (NextArm k xs) (bare_placed e single.0) (arms_bare_placed arms single.1)
+
+-- A tree of the grammar in which nothing gives several parts has no such binding
 
 several_none : (qs : List Parameter) → AreSeveral qs → IsOne (names_of qs) → ⊥
 several_none [] h one = h
@@ -213,32 +258,32 @@ sides_none (q ∷ []) (r ∷ s ∷ rs) h one other = let e = other.1 in cc
 sides_none (q ∷ o ∷ qs) (r ∷ rs) h one other = let e = one.1 in cc
 
 mutual
-  bare_own : (e : Expression) → IsFine e → IsSingle (as_generic e) → bare (as_generic e) ≡ e
-  bare_own (Var x) fine single = refl
-  bare_own (Num p n) fine single = refl
-  bare_own (Bit p b) fine single = refl
-  bare_own (Paren p e) fine single = ap (Paren p) (bare_own e fine single)
-  bare_own (Op p f a b) fine single = ap₂ (Op p f) (bare_own a fine.0 single.0) (bare_own b fine.1 single.1)
-  bare_own (Call f NoArgument) fine single = refl
-  bare_own (Call f (Argument a xs)) fine single = ap₂ (λ (u : Expression) (us : Arguments). Call f (Argument u us)) (bare_own a fine.0 single.0) (all_bare_own xs fine.2 single.1)
-  bare_own (Make k xs) fine single = ap (Make k) (all_bare_own xs fine single)
-  bare_own (Let p x a b) fine single = ap₂ (Let p x) (bare_own a fine.0 single.1) (bare_own b fine.1 single.2)
-  bare_own (Par p x a y b c) fine single =
-      ap (λ (u : Expression). Par p x u y (bare (as_generic b)) (bare (as_generic c))) (bare_own a fine.0 single.2) ∙ ap₂ (Par p x a y) (bare_own b fine.1 single.3) (bare_own c fine.2 single.4)
-  bare_own (If p a b c) fine single =
-      ap (λ (u : Expression). If p u (bare (as_generic b)) (bare (as_generic c))) (bare_own a fine.0 single.0) ∙ ap₂ (If p a) (bare_own b fine.1 single.1) (bare_own c fine.2 single.2)
-  bare_own (Case p x arms) fine single = ap (Case p x) (arms_bare_own arms fine single)
-  bare_own (Tuple p as' xs) fine single = absurd single
-  bare_own (LetSeveral p qs a b) fine single = absurd (several_none qs fine.0 single.0)
-  bare_own (ParSeveral p qs a rs b c) fine single = absurd (sides_none qs rs fine.0 single.0 single.1)
+  placed_own : (e : Expression) → IsFine e → IsSingle (as_generic e) → placed e ≡ e
+  placed_own (Var x) fine single = refl
+  placed_own (Num p n) fine single = refl
+  placed_own (Bit p b) fine single = refl
+  placed_own (Paren p e) fine single = ap (Paren p) (placed_own e fine single)
+  placed_own (Op p f a b) fine single = ap₂ (Op p f) (placed_own a fine.0 single.0) (placed_own b fine.1 single.1)
+  placed_own (Call f NoArgument) fine single = refl
+  placed_own (Call f (Argument a xs)) fine single = ap₂ (λ (u : Expression) (us : Arguments). Call f (Argument u us)) (placed_own a fine.0 single.0) (all_placed_own xs fine.2 single.1)
+  placed_own (Make k xs) fine single = ap (Make k) (all_placed_own xs fine single)
+  placed_own (Let p x a b) fine single = ap₂ (Let p x) (placed_own a fine.0 single.1) (placed_own b fine.1 single.2)
+  placed_own (Par p x a y b c) fine single =
+      ap (λ (u : Expression). Par p x u y (placed b) (placed c)) (placed_own a fine.0 single.2) ∙ ap₂ (Par p x a y) (placed_own b fine.1 single.3) (placed_own c fine.2 single.4)
+  placed_own (If p a b c) fine single =
+      ap (λ (u : Expression). If p u (placed b) (placed c)) (placed_own a fine.0 single.0) ∙ ap₂ (If p a) (placed_own b fine.1 single.1) (placed_own c fine.2 single.2)
+  placed_own (Case p x arms) fine single = ap (Case p x) (arms_placed_own arms fine single)
+  placed_own (Tuple p as' xs) fine single = absurd single
+  placed_own (LetSeveral p qs a b) fine single = absurd (several_none qs fine.0 single.0)
+  placed_own (ParSeveral p qs a rs b c) fine single = absurd (sides_none qs rs fine.0 single.0 single.1)
 
-  all_bare_own : (xs : Arguments) → AreFine xs → AreSingle (all_as_generic xs) → all_bare (all_as_generic xs) ≡ xs
-  all_bare_own NoArgument fine single = refl
-  all_bare_own (Argument a xs) fine single = ap₂ Argument (bare_own a fine.0 single.0) (all_bare_own xs fine.2 single.1)
+  all_placed_own : (xs : Arguments) → AreFine xs → AreSingle (all_as_generic xs) → all_placed xs ≡ xs
+  all_placed_own NoArgument fine single = refl
+  all_placed_own (Argument a xs) fine single = ap₂ Argument (placed_own a fine.0 single.0) (all_placed_own xs fine.2 single.1)
 
-  arms_bare_own : (arms : Arms) → HasFine arms → HasSingle (arms_as_generic arms) → arms_bare (arms_as_generic arms) ≡ arms
-  arms_bare_own (LastArm k xs e) fine single = ap (LastArm k xs) (bare_own e fine single)
-  arms_bare_own (NextArm k xs e arms) fine single = ap₂ (NextArm k xs) (bare_own e fine.0 single.0) (arms_bare_own arms fine.1 single.1)
+  arms_placed_own : (arms : Arms) → HasFine arms → HasSingle (arms_as_generic arms) → arms_placed arms ≡ arms
+  arms_placed_own (LastArm k xs e) fine single = ap (LastArm k xs) (placed_own e fine single)
+  arms_placed_own (NextArm k xs e arms) fine single = ap₂ (NextArm k xs) (placed_own e fine.0 single.0) (arms_placed_own arms fine.1 single.1)
 
 -- Declarations
 
@@ -279,23 +324,23 @@ pub results_own : (nm : Naming) → IsPlainNaming nm → (m : Meant) (r : Result
 results_own nm plain m (One a) = ap One (written_own nm plain m a)
 results_own nm plain m (Several as') = ap Several (map_own TypeName WrittenType written_of (copy_written nm m) (written_own nm plain m) as')
 
-function_own_copy : (g : GenericGlobals) → BareGlobals g → (nm : Naming) → IsPlainNaming nm → (f : FunctionTree) → IsFine f.body → IsSingle (as_generic f.body) → copy_function g nm (generic_function f) NoForm ≡ f
-function_own_copy g bared nm plain f fine single =
+function_own_copy : (g : GenericGlobals) → BareGlobals g → (nm : Naming) → IsPlainNaming nm → (f : FunctionTree) → IsSingle (as_generic f.body) → copy_function g nm (generic_function f) NoForm ≡ placed_function f
+function_own_copy g bared nm plain f single =
     let m = assign [] NoForm in
     let scope = parameter_scope m (map generic_parameter f.parameters) in
     ap (λ (n : ℕ). let t : FunctionTree = record { name = renamed f.name n; parameters = map (copy_parameter nm m) (map generic_parameter f.parameters); result = map_results (copy_written nm m) (map_results written_of f.result); body = copy g nm m scope (as_generic f.body) } in t) (plain.functions (number_of f.name))
     ∙ ap (λ (qs : List Parameter). let t : FunctionTree = record { name = f.name; parameters = qs; result = map_results (copy_written nm m) (map_results written_of f.result); body = copy g nm m scope (as_generic f.body) } in t)
     (map_own Parameter GenericParameterTree generic_parameter (copy_parameter nm m) (parameter_own nm plain m) f.parameters)
     ∙ ap (λ (a : Results TypeName). let t : FunctionTree = record { name = f.name; parameters = f.parameters; result = a; body = copy g nm m scope (as_generic f.body) } in t) (results_own nm plain m f.result)
-    ∙ ap (λ (e : Expression). let t : FunctionTree = record { name = f.name; parameters = f.parameters; result = f.result; body = e } in t) (copy_own g bared nm plain m f.body scope (bare_scope m f.parameters) single ∙ bare_own f.body fine single)
+    ∙ ap (λ (e : Expression). let t : FunctionTree = record { name = f.name; parameters = f.parameters; result = f.result; body = e } in t) (copy_own g bared nm plain m f.body scope (bare_scope m f.parameters) single ∙ bare_placed f.body single)
 
-main_own_copy : (g : GenericGlobals) → BareGlobals g → (nm : Naming) → IsPlainNaming nm → (f : MainTree) → IsFine f.body → IsSingle (as_generic f.body) → copy_main g nm (generic_main f) ≡ f
-main_own_copy g bared nm plain f fine single =
+main_own_copy : (g : GenericGlobals) → BareGlobals g → (nm : Naming) → IsPlainNaming nm → (f : MainTree) → IsSingle (as_generic f.body) → copy_main g nm (generic_main f) ≡ record { parameter = f.parameter; result = f.result; body = placed f.body }
+main_own_copy g bared nm plain f single =
     let m = assign [] NoForm in
     let scope = parameter_scope m (generic_parameter f.parameter ∷ []) in
     ap (λ (q : Parameter). let t : MainTree = record { parameter = q; result = copy_written nm m (written_of f.result); body = copy g nm m scope (as_generic f.body) } in t) (parameter_own nm plain m f.parameter)
     ∙ ap (λ (a : TypeName). let t : MainTree = record { parameter = f.parameter; result = a; body = copy g nm m scope (as_generic f.body) } in t) (written_own nm plain m f.result)
-    ∙ ap (λ (e : Expression). let t : MainTree = record { parameter = f.parameter; result = f.result; body = e } in t) (copy_own g bared nm plain m f.body scope (bare_scope m (f.parameter ∷ [])) single ∙ bare_own f.body fine single)
+    ∙ ap (λ (e : Expression). let t : MainTree = record { parameter = f.parameter; result = f.result; body = e } in t) (copy_own g bared nm plain m f.body scope (bare_scope m (f.parameter ∷ [])) single ∙ bare_placed f.body single)
 
 -- Programs
 
@@ -334,18 +379,30 @@ datas_own nm plain (d ∷ ds) fs =
     ap (λ (u : DataTree). u ∷ map (λ (c : DataCopy). copy_data nm c.decl c.types) (datas_in (plain_datas (map generic_data ds) ++ plain_functions (map generic_function fs)))) (data_own_copy nm plain d)
     ∙ ap (λ (us : List DataTree). d ∷ us) (datas_own nm plain ds fs)
 
-functions_own : (g : GenericGlobals) → BareGlobals g → (nm : Naming) → IsPlainNaming nm → (ds : List DataTree) (fs : List FunctionTree) → AllByRecursion IsFineFunction fs → AllByRecursion IsSingleFunction (map generic_function fs) →
-    map (λ (c : FunctionCopy). copy_function g nm c.function c.types) (function_copies (plain_datas (map generic_data ds) ++ plain_functions (map generic_function fs))) ≡ fs
-functions_own g bared nm plain [] [] fine single = refl
-functions_own g bared nm plain [] (f ∷ fs) fine single =
-    ap (λ (u : FunctionTree). u ∷ map (λ (c : FunctionCopy). copy_function g nm c.function c.types) (function_copies (plain_functions (map generic_function fs)))) (function_own_copy g bared nm plain f fine.0.1 single.0.1)
-    ∙ ap (λ (us : List FunctionTree). f ∷ us) (functions_own g bared nm plain [] fs fine.1 single.1)
-functions_own g bared nm plain (d ∷ ds) fs fine single = functions_own g bared nm plain ds fs fine single
+functions_own : (g : GenericGlobals) → BareGlobals g → (nm : Naming) → IsPlainNaming nm → (ds : List DataTree) (fs : List FunctionTree) → AllByRecursion IsSingleFunction (map generic_function fs) →
+    map (λ (c : FunctionCopy). copy_function g nm c.function c.types) (function_copies (plain_datas (map generic_data ds) ++ plain_functions (map generic_function fs))) ≡ map placed_function fs
+functions_own g bared nm plain [] [] single = refl
+functions_own g bared nm plain [] (f ∷ fs) single =
+    ap (λ (u : FunctionTree). u ∷ map (λ (c : FunctionCopy). copy_function g nm c.function c.types) (function_copies (plain_functions (map generic_function fs)))) (function_own_copy g bared nm plain f single.0.1)
+    ∙ ap (λ (us : List FunctionTree). placed_function f ∷ us) (functions_own g bared nm plain [] fs single.1)
+functions_own g bared nm plain (d ∷ ds) fs single = functions_own g bared nm plain ds fs single
 
-pub own_copy : (p : ProgramTree) (nm : Naming) → IsPlainNaming nm → IsFineProgram p → IsSingleProgram (generic_of p) → copied_program (generic_of p) nm (plain_copies (generic_of p)) ≡ p
-own_copy p nm plain fine single =
+pub own_copy : (p : ProgramTree) (nm : Naming) → IsPlainNaming nm → IsSingleProgram (generic_of p) → copied_program (generic_of p) nm (plain_copies (generic_of p)) ≡ placed_program p
+own_copy p nm plain single =
     let g = globals_of_generic (generic_of p) in
     let found = plain_copies (generic_of p) in
     ap (λ (ds : List DataTree). let t : ProgramTree = record { datas = ds; functions = map (λ (c : FunctionCopy). copy_function g nm c.function c.types) (function_copies found); main = copy_main g nm (generic_main p.main) } in t) (datas_own nm plain p.datas p.functions)
-    ∙ ap (λ (fs : List FunctionTree). let t : ProgramTree = record { datas = p.datas; functions = fs; main = copy_main g nm (generic_main p.main) } in t) (functions_own g (bare_globals p) nm plain p.datas p.functions fine.functions single.functions)
-    ∙ ap (λ (f : MainTree). let t : ProgramTree = record { datas = p.datas; functions = p.functions; main = f } in t) (main_own_copy g (bare_globals p) nm plain p.main fine.main single.main)
+    ∙ ap (λ (fs : List FunctionTree). let t : ProgramTree = record { datas = p.datas; functions = fs; main = copy_main g nm (generic_main p.main) } in t) (functions_own g (bare_globals p) nm plain p.datas p.functions single.functions)
+    ∙ ap (λ (f : MainTree). let t : ProgramTree = record { datas = p.datas; functions = map placed_function p.functions; main = f } in t) (main_own_copy g (bare_globals p) nm plain p.main single.main)
+
+functions_placed : (fs : List FunctionTree) → AllByRecursion IsFineFunction fs → AllByRecursion IsSingleFunction (map generic_function fs) → map placed_function fs ≡ fs
+functions_placed [] fine single = refl
+functions_placed (f ∷ fs) fine single =
+    ap (λ (e : Expression). let t : FunctionTree = record { name = f.name; parameters = f.parameters; result = f.result; body = e } in t ∷ map placed_function fs) (placed_own f.body fine.0.1 single.0.1)
+    ∙ ap (λ (us : List FunctionTree). f ∷ us) (functions_placed fs fine.1 single.1)
+
+pub own_placed_program : (p : ProgramTree) → IsFineProgram p → IsSingleProgram (generic_of p) → placed_program p ≡ p
+own_placed_program p fine single =
+    ap (λ (fs : List FunctionTree). let t : ProgramTree = record { datas = p.datas; functions = fs; main = record { parameter = p.main.parameter; result = p.main.result; body = placed p.main.body } } in t)
+    (functions_placed p.functions fine.functions single.functions)
+    ∙ ap (λ (e : Expression). let t : ProgramTree = record { datas = p.datas; functions = p.functions; main = record { parameter = p.main.parameter; result = p.main.result; body = e } } in t) (placed_own p.main.body fine.main single.main)

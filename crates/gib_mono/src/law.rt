@@ -66,12 +66,14 @@ pub fn copies_are_shown()
         → slice_get (long_texts names (entries found)) (number_with (length names) (entries found) (number_of c.decl.name) c.types) ≡ Some (long_text names (number_of c.decl.name) c.types) }
 {}
 
-/// A program without type parameters asks for its own declarations alone, and one of the grammar is its own copy where nothing in
-/// it gives several parts. Where something does, a typed program is its own copy with the types of parts where these stand: as one
-/// that may have type parameters it has no types there.
+/// A program without type parameters asks for its own declarations alone. Where nothing in it gives several parts, it is its own copy
+/// but for a binding of a list of one name, which is one of that name; the grammar has no such binding. Where something gives several
+/// parts, a typed program is its own copy with the types of parts where these stand: as one that may have type parameters it has no
+/// types there.
 pub fn plain_programs_are_their_own()
     ensures walk { (p : ProgramTree) → copies_of (generic_of p) ≡ Ok (plain_copies (generic_of p)) }
-    ensures same { (p : ProgramTree) (base : ℕ) (names : List Item) → IsFineProgram p → IsSingleProgram (generic_of p) → copied_program (generic_of p) (naming_of base names) (plain_copies (generic_of p)) ≡ p }
+    ensures same { (p : ProgramTree) (base : ℕ) (names : List Item) → IsSingleProgram (generic_of p) → copied_program (generic_of p) (naming_of base names) (plain_copies (generic_of p)) ≡ placed_program p }
+    ensures own { (p : ProgramTree) → IsFineProgram p → IsSingleProgram (generic_of p) → placed_program p ≡ p }
     ensures parts { (p : ProgramTree) (base : ℕ) (names : List Item) → IsTypedProgram p → copied_program (generic_of p) (naming_of base names) (plain_copies (generic_of p)) ≡ placed_program p }
 {}
 
