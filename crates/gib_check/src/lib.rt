@@ -47,7 +47,6 @@ pub use functions::FunctionId;
 pub use generic::Generic;
 use gib_syntax::{GenericProgram, ResultRuns};
 use heads::{check_head, check_heads};
-pub use kinds::{arms, count, limit, shape, twice, unknown};
 use named::Around;
 pub use named::{Named, RowDecl, function_names, type_names};
 pub use names::{Called, NameList, list_names};
