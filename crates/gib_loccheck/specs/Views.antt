@@ -18,8 +18,8 @@ use Rattle.gib_core.specs.Rules.{Before, Judgement, rule_number, judged, any_oth
 use Rattle.gib_loccheck.specs.declared.state.Walk.{Walk}
 use Rattle.gib_loccheck.specs.declared.state.Told.{Told}
 use Rattle.gib_loccheck.specs.declared.target.Target.{Target}
-use Rattle.gib_loccheck.specs.declared.target.Destination.{Destination as Stored}
-use Rattle.gib_loccheck.specs.declared.target.Destination.TheVariants as d
+use Rattle.gib_loccheck.specs.declared.destination.Destination.{Destination as Stored}
+use Rattle.gib_loccheck.specs.declared.destination.Destination.TheVariants as d
 
 -- Where a value is put.
 abbrev pub destination_of : Stored → Destination

@@ -2,34 +2,23 @@
 
 ghost use Rattle.std.specs.Prelude.{◌≡◌, ◌<◌, [], ◌∷◌, length, None, IfOk, IfErr, OnOk};
 ghost use Rattle.std.specs.List.{AllByRecursion};
-ghost use Rattle.gib_core.specs.{Arena.{term_of}, Parts.{IsFunctionInside, core_of, results_of}, Met.{result_place as place_of}, Rules.{first_broken}};
+ghost use Rattle.gib_core.specs.{Arena.{term_of}, Parts.{IsFunctionInside, core_of, results_of}, Rules.{first_broken}};
 ghost use Rattle.gib_syntax.specs.Typing.{one_type as type_of_one};
-ghost use Rattle.gib_loccheck.specs.{Views.{destination_of}, Judging.{Says}, Bodies.{Pass, Blame, Opens, bodies_of}};
+ghost use Rattle.gib_loccheck.specs.{Judging.{Says}, Bodies.{Pass, Blame, Opens, bodies_of}};
 
+use crate::destination::Destination;
 use crate::fault::LocFault;
 use crate::index::bound::{BoundVariables, MarkedVariables};
 use crate::index::indexed::IndexedCore;
 use crate::index::scope::Scope;
 use crate::lines::enter;
 use crate::state::Walk;
-use crate::target::{Destination, Target};
+use crate::target::Target;
 use crate::walk::check_term;
 use gib_base::Memory;
 use gib_core::{Bound, CoreFunction, CoreResult, TermId, Variable};
 use gib_types::Ty;
 use std::alloc::{AllocError, Global};
-
-/// Where the result of a body is put.
-fn result_place(given: CoreResult) -> Destination
-    ensures { destination_of result ≡ place_of (results_of given) }
-{
-    match given {
-        CoreResult::One(Ty::Whole) => Destination::Nowhere,
-        CoreResult::One(Ty::Truth) => Destination::Nowhere,
-        CoreResult::One(Ty::Tree(_)) => Destination::Empty,
-        CoreResult::Several(types) => Destination::InParts(types),
-    }
-}
 
 /// The type of the one thing that a body gives; of several parts, `Int`, which nobody asks.
 fn one_type(given: CoreResult) -> Ty
@@ -78,7 +67,7 @@ fn check_body(
 {
     open_body(walk, parameters)?;
     let target = Target {
-        destination: result_place(given),
+        destination: Destination::of_result(given),
         due: one_type(given),
         whole: false,
     };

@@ -8,6 +8,7 @@ ghost use Rattle.gib_loccheck.specs.Answers.{IsMemory, IsMemoryOr, IsFirst};
 
 mod atoms;
 mod bodies;
+mod destination;
 mod examples;
 mod fault;
 mod index;
@@ -19,12 +20,14 @@ mod target;
 mod walk;
 
 use bodies::check_bodies;
+pub use destination::Destination;
 pub use fault::LocFault;
 use gib_core::law::{built_is_unbroken, reaching_makes_built};
 use gib_core::{Checked, Core};
 use index::indexed::IndexedCore;
 pub use law::first_rule_is_smallest;
 use std::alloc::Global;
+pub use table::packed_count;
 
 /// A core that breaks no build rule.
 fn unbroken(alloc: Global, core: Core) -> Result<Core, LocFault>

@@ -6,15 +6,13 @@ ghost use Rattle.gib_core.specs.Rules.{or_later, bind_fields};
 ghost use Rattle.gib_loccheck.specs.{Views.{numbered}, Judging.{Says, BindsToo, Stays, Enters, EntersAll}};
 
 pub(crate) mod arm;
+pub(crate) mod atom;
 pub(crate) mod bound;
 pub(crate) mod call;
 pub(crate) mod case;
-pub(crate) mod condition;
-pub(crate) mod give;
 pub(crate) mod par;
 pub(crate) mod part;
 pub(crate) mod past;
-pub(crate) mod point;
 pub(crate) mod prim;
 pub(crate) mod reach;
 pub(crate) mod several;

@@ -1,33 +1,16 @@
 //! What is due at a term.
 
-ghost use Rattle.std.specs.Prelude.{◌≡◌, ℕ, false, IfOk, OnOk};
+ghost use Rattle.std.specs.Prelude.{◌≡◌, ℕ, false, IfOk};
 ghost use Rattle.gib_core.specs.{PartTypes.{types_in}, Tree.{Term}, Arena.{side_from}};
-ghost use Rattle.gib_core.specs.Met.{field_due as due_at, stands_too, stands_behind, with_field, in_side, in_several, in_part};
-ghost use Rattle.gib_core.specs.Rules.{is_nowhere as nowhere, is_empty as empty, is_in_parts as in_parts, are_due as parts_due, has_room as room_in};
+ghost use Rattle.gib_core.specs.{Met.{field_due as due_at, in_side, in_several, in_part}, Rules.{are_due as parts_due, has_room as room_in}};
 ghost use Rattle.gib_loccheck.specs.{declared.state.Walk.{Walk as State}, Views.{destination_of, setting_of, at_line}, Judging.{past_side}};
 ghost use Rattle.gib_loccheck.specs.declared.target.Target.{Target as Goal};
 
+use crate::destination::Destination;
 use crate::table::{packed_at, packed_count, same_types};
 use gib_base::Memory;
-use gib_core::{BoundSide, Kind, PartTypes, Variable};
-use gib_types::{ConId, Ty, TypeTable};
-
-/// Where a value is put.
-#[derive(Drop)]
-pub enum Destination {
-    /// Nowhere, since it is a scalar.
-    Nowhere,
-    /// At an empty place.
-    Empty,
-    /// Behind the fields of an open head that stand.
-    Open {
-        head: Variable,
-        constructor: ConId,
-        standing: Vec<Variable>,
-    },
-    /// As several parts of these types, each packed one at a place of its own.
-    InParts(PartTypes),
-}
+use gib_core::{BoundSide, Kind, PartTypes};
+use gib_types::{Ty, TypeTable};
 
 /// What is due at a term: where its value is put, its type, and whether the term begins the right side of
 /// a `scalar`.
@@ -39,54 +22,16 @@ pub struct Target {
 }
 
 impl Target {
-    /// Whether a scalar is due.
-    pub fn is_nowhere(&self) -> bool
-        ensures { result ≡ nowhere (destination_of self.now.destination) }
-    {
-        match &self.destination {
-            Destination::Nowhere => true,
-            Destination::Empty => false,
-            Destination::Open { .. } => false,
-            Destination::InParts(_) => false,
-        }
-    }
-
-    /// Whether a packed value is due at an empty place.
-    pub fn is_empty(&self) -> bool
-        ensures { result ≡ empty (destination_of self.now.destination) }
-    {
-        match &self.destination {
-            Destination::Nowhere => false,
-            Destination::Empty => true,
-            Destination::Open { .. } => false,
-            Destination::InParts(_) => false,
-        }
-    }
-
-    /// Whether several parts are due.
-    pub fn is_in_parts(&self) -> bool
-        ensures { result ≡ in_parts (destination_of self.now.destination) }
-    {
-        match &self.destination {
-            Destination::Nowhere => false,
-            Destination::Empty => false,
-            Destination::Open { .. } => false,
-            Destination::InParts(_) => true,
-        }
-    }
-
     /// Whether these are the types of the parts that are due.
     pub fn are_due(&self, types: &[Ty]) -> bool
         ensures { result ≡ parts_due (destination_of self.now.destination) types.now }
     {
         match &self.destination {
-            Destination::Nowhere => false,
-            Destination::Empty => false,
-            Destination::Open { .. } => false,
             Destination::InParts(due) => {
                 let due = due.unpacked();
                 same_types(types, due.as_slice())
             }
+            _ => false,
         }
     }
 
@@ -95,14 +40,12 @@ impl Target {
         ensures { result ≡ room_in types.now (destination_of self.now.destination) }
     {
         match &self.destination {
-            Destination::Nowhere => false,
-            Destination::Empty => false,
             Destination::Open {
                 constructor,
                 standing,
                 ..
             } => standing.len() < packed_count(types.fields(*constructor)),
-            Destination::InParts(_) => false,
+            _ => false,
         }
     }
 
@@ -111,14 +54,12 @@ impl Target {
         ensures { result ≡ due_at types.now (destination_of self.now.destination) }
     {
         match &self.destination {
-            Destination::Nowhere => Ty::Whole,
-            Destination::Empty => Ty::Whole,
             Destination::Open {
                 constructor,
                 standing,
                 ..
             } => packed_at(types.fields(*constructor), standing.len()),
-            Destination::InParts(_) => Ty::Whole,
+            _ => Ty::Whole,
         }
     }
 
@@ -183,74 +124,11 @@ impl Target {
     pub fn without_call(&self) -> Result<Target, Memory>
         ensures { IfOk result (λ t. (w : State) → setting_of w t ≡ record (setting_of w self.now) { whole = false }) }
     {
-        let destination = self.destination.clone()?;
+        let destination = self.destination.copy()?;
         Ok(Target {
             destination,
             due: self.due,
             whole: false,
         })
-    }
-}
-
-impl Destination {
-    /// The destination behind a side.
-    pub fn behind_side(&self, side: BoundSide) -> Result<Destination, Memory>
-        ensures { (f : ℕ → Term) → IfOk result (λ d. destination_of d ≡ stands_behind (side_from f side) (destination_of self.now)) }
-    {
-        match side {
-            BoundSide::One(bound) => self.behind(bound.kind, bound.variable),
-            BoundSide::Several(_) => self.clone(),
-        }
-    }
-
-    /// The destination behind a bound term.
-    fn behind(&self, kind: Kind, variable: Variable) -> Result<Destination, Memory>
-        ensures { IfOk result (λ d. destination_of d ≡ stands_too kind variable (destination_of self.now)) }
-    {
-        match kind {
-            Kind::Here => {
-                let mut destination = self.clone()?;
-                destination.push(variable)?;
-                Ok(destination)
-            }
-            Kind::Region => self.clone(),
-            Kind::Scalar => self.clone(),
-        }
-    }
-
-    /// One more field of the open head stands, where one is open.
-    fn push(&mut self, field: Variable) -> Result<(), Memory>
-        ensures { OnOk result (destination_of self.new ≡ with_field field (destination_of self.old)) }
-    {
-        match self {
-            Destination::Nowhere => {}
-            Destination::Empty => {}
-            Destination::Open { standing, .. } => standing.push(field)?,
-            Destination::InParts(_) => {}
-        }
-        Ok(())
-    }
-
-    /// The same destination.
-    fn clone(&self) -> Result<Destination, Memory>
-        ensures { IfOk result (λ d. destination_of d ≡ destination_of self.now) }
-    {
-        match self {
-            Destination::Nowhere => Ok(Destination::Nowhere),
-            Destination::Empty => Ok(Destination::Empty),
-            Destination::Open {
-                head,
-                constructor,
-                standing,
-            } => {
-                let standing = standing.clone()?;
-                Ok(Destination::Open {
-                    head: *head,
-                    constructor: *constructor,
-                    standing,
-                })
-            }
-            Destination::InParts(types) => Ok(Destination::InParts(*types)),
-        }
     }
 }

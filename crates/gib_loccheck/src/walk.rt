@@ -11,15 +11,13 @@ ghost use Rattle.gib_loccheck.specs.{Views.{setting_of, at_line}, Judging.{Check
 use crate::fault::LocFault;
 use crate::index::indexed::IndexedCore;
 use crate::lines::arm::open_arm;
+use crate::lines::atom::{AtomLine, judge_atom};
 use crate::lines::bound::{enter_side, open_side, tell_side};
 use crate::lines::call::judge_call;
 use crate::lines::case::judge_case;
-use crate::lines::condition::judge_if;
-use crate::lines::give::judge_give;
 use crate::lines::par::{add_others, enter_sides, judge_par};
 use crate::lines::part::judge_part;
 use crate::lines::past::open_head;
-use crate::lines::point::judge_point;
 use crate::lines::prim::behind_operation;
 use crate::lines::reach::reach_field;
 use crate::lines::tuple::{Tuple, judge_tuple};
@@ -95,9 +93,9 @@ fn check_end(
             };
             judge_write(core, walk, target, &head)
         }
-        Node::Point(atom) => judge_point(core, walk, target, *atom),
+        Node::Point(atom) => judge_atom(core, walk, target, AtomLine::Point, *atom),
         Node::Call(name, arguments) => judge_call(core, walk, target, *name, arguments),
-        Node::Give(atom) => judge_give(core, walk, target, *atom),
+        Node::Give(atom) => judge_atom(core, walk, target, AtomLine::Give, *atom),
         Node::Case { subject, branches } => {
             check_case(core, walk, target, id, *subject, branches)
         }
@@ -378,7 +376,7 @@ fn check_if(
     requires second { else_part.0 < length core.now.terms }
     ensures { Checks (core_of core.now) walk.old walk.new (met core.now.table (setting_of walk.old target.now) (IfTerm atom (term_of core.now.terms then_part.0) (term_of core.now.terms else_part.0))) result }
 {
-    judge_if(core, walk, target, atom)?;
+    judge_atom(core, walk, target, AtomLine::Condition, atom)?;
     let first = target.without_call()?;
     check_term(core, walk, first, then_part)?;
     let second = target.without_call()?;

@@ -66,7 +66,7 @@ fn known_call_rule(
     if any_other(walk, arguments) {
         return Some(Rule::Sides);
     }
-    if is_packed(function.result) && !target.is_empty() {
+    if is_packed(function.result) && !target.destination.is_empty() {
         return Some(Rule::Place);
     }
     if !all_usable(walk, arguments) {

@@ -4,12 +4,13 @@ ghost use Rattle.std.specs.Prelude.{◌≡◌};
 ghost use Rattle.gib_core.specs.{Parts.{core_of}, Met.{PastLine}, Rules.{least, rules}, Tree.{Past}};
 ghost use Rattle.gib_loccheck.specs.{Views.{setting_of, before_of, numbered}, Judging.{one, Checks, ChecksBinding}};
 
+use crate::destination::Destination;
 use crate::fault::LocFault;
 use crate::index::indexed::IndexedCore;
 use crate::lines::{bind, judge};
 use crate::state::Walk;
 use crate::table::is_of_type;
-use crate::target::{Destination, Target};
+use crate::target::Target;
 use gib_core::{Rule, Variable};
 use gib_types::ConId;
 
@@ -23,7 +24,7 @@ fn past_rule(
 ) -> Option<Rule>
     ensures { numbered result ≡ least (rules (core_of core.now) (before_of walk.now) (setting_of walk.now target.now) (PastLine head constructor)) }
 {
-    if !(target.is_empty() && is_of_type(core.types(), constructor, target.due)) {
+    if !(target.destination.is_empty() && is_of_type(core.types(), constructor, target.due)) {
         return Some(Rule::Head);
     }
     if walk.bound.has(head) {

@@ -5,12 +5,13 @@ ghost use Rattle.gib_core.specs.{Parts.{core_of}, PartTypes.{types_in}, Met.{Tup
 ghost use Rattle.gib_loccheck.specs.{Views.{destination_of, setting_of, before_of, is_whole as whole_is, numbered}, Judging.{one, Checks}};
 
 use crate::atoms::{all_usable, any_other, have_scalar_types};
+use crate::destination::Destination;
 use crate::fault::LocFault;
 use crate::index::indexed::IndexedCore;
 use crate::lines::judge;
 use crate::state::Walk;
 use crate::table::{are_declared, packed_count, same_types};
-use crate::target::{Destination, Target};
+use crate::target::Target;
 use gib_core::{Atom, PartTypes, Rule, TermId};
 use gib_types::TypeTable;
 
@@ -38,14 +39,12 @@ fn are_parts(types: &TypeTable, walk: &Walk, target: &Target, tuple: &Tuple<'_>)
     ensures { result ≡ parts_are types.now (before_of walk.now) (destination_of target.now.destination) (types_in tuple.now.types) tuple.now.scalars.now (length tuple.now.parts.now) }
 {
     match &target.destination {
-        Destination::Nowhere => true,
-        Destination::Empty => true,
-        Destination::Open { .. } => true,
         Destination::InParts(due) => {
             let due = due.unpacked();
             let given = tuple.types.unpacked();
             same_types(given.as_slice(), due.as_slice()) && is_whole(types, walk, tuple)
         }
+        _ => true,
     }
 }
 
@@ -63,7 +62,7 @@ fn tuple_rule(core: &IndexedCore, walk: &Walk, target: &Target, tuple: &Tuple<'_
     if !are_parts(core.types(), walk, target, tuple) {
         return Some(Rule::Types);
     }
-    if !target.is_in_parts() {
+    if !target.destination.is_in_parts() {
         return Some(Rule::Tuple);
     }
     None

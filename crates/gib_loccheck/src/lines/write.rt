@@ -6,12 +6,13 @@ ghost use Rattle.gib_core.specs.Rules.{least, rules, may_write as writes, are_sc
 ghost use Rattle.gib_loccheck.specs.{Views.{destination_of, setting_of, before_of, numbered}, Judging.{one, Checks}};
 
 use crate::atoms::{all_usable, any_cased, any_other, are_variables, further, have_scalar_types};
+use crate::destination::Destination;
 use crate::fault::LocFault;
 use crate::index::indexed::IndexedCore;
 use crate::lines::judge;
 use crate::state::Walk;
 use crate::table::packed_count;
-use crate::target::{Destination, Target};
+use crate::target::Target;
 use gib_core::{Atom, Rule, Variable};
 use gib_types::{ConId, TypeTable};
 
@@ -36,8 +37,6 @@ fn may_write(types: &TypeTable, walk: &Walk, target: &Target, head: &Head<'_>) -
     ensures { result ≡ writes types.now (before_of walk.now) (destination_of target.now.destination) head.now.variable head.now.constructor head.now.packed.now }
 {
     match &target.destination {
-        Destination::Nowhere => false,
-        Destination::Empty => false,
         Destination::Open {
             head: open,
             constructor,
@@ -54,7 +53,7 @@ fn may_write(types: &TypeTable, walk: &Walk, target: &Target, head: &Head<'_>) -
             }
             !any_cased(walk, further(standing))
         }
-        Destination::InParts(_) => false,
+        _ => false,
     }
 }
 
@@ -63,12 +62,10 @@ fn are_scalars(types: &TypeTable, walk: &Walk, target: &Target, scalars: &[Atom]
     ensures { result ≡ scalars_are types.now (before_of walk.now) (destination_of target.now.destination) scalars.now }
 {
     match &target.destination {
-        Destination::Nowhere => true,
-        Destination::Empty => true,
         Destination::Open { constructor, .. } => {
             have_scalar_types(walk, scalars, types.fields(*constructor))
         }
-        Destination::InParts(_) => true,
+        _ => true,
     }
 }
 

@@ -41,11 +41,11 @@ check_case-returns t c =
 
 pub check_if-returns-in_err-check_term : goal.check_if-returns-in_err-check_term
 check_if-returns-in_err-check_term t c =
-    let h = if_else_blames_first (core_of c.args.core.now) c.in_err-check_term.field-0.0 c.args.walk.now c.judge_if.new.walk c.args.target.now c.in_ok-first.first c.args.atom (term_of c.args.core.now.terms c.args.then_part.0) (term_of c.args.core.now.terms c.args.else_part.0) c.in_ok-judge_if.ensures.0 c.in_ok-judge_if.ensures.1 c.in_ok-first.ensures c.in_err-check_term.ensures in search rules
+    let h = if_else_blames_first (core_of c.args.core.now) c.in_err-check_term.field-0.0 c.args.walk.now c.judge_atom.new.walk c.args.target.now c.in_ok-first.first c.args.atom (term_of c.args.core.now.terms c.args.then_part.0) (term_of c.args.core.now.terms c.args.else_part.0) c.in_ok-judge_atom.ensures.0 c.in_ok-judge_atom.ensures.1 c.in_ok-first.ensures c.in_err-check_term.ensures in search rules
 
 pub check_if-returns : goal.check_if-returns
 check_if-returns t c =
-    if_else_checks (core_of c.args.core.now) c.args.walk.now c.judge_if.new.walk c.check_term.new.walk c.check_term-2.new.walk c.args.target.now c.in_ok-first.first c.in_ok-second.second c.args.atom (term_of c.args.core.now.terms c.args.then_part.0) (term_of c.args.core.now.terms c.args.else_part.0) c.check_term-2.result c.in_ok-judge_if.ensures.0 c.in_ok-judge_if.ensures.1 c.in_ok-first.ensures c.in_ok-check_term.ensures.0 c.in_ok-check_term.ensures.1 c.in_ok-second.ensures c.check_term-2.ensures
+    if_else_checks (core_of c.args.core.now) c.args.walk.now c.judge_atom.new.walk c.check_term.new.walk c.check_term-2.new.walk c.args.target.now c.in_ok-first.first c.in_ok-second.second c.args.atom (term_of c.args.core.now.terms c.args.then_part.0) (term_of c.args.core.now.terms c.args.else_part.0) c.check_term-2.result c.in_ok-judge_atom.ensures.0 c.in_ok-judge_atom.ensures.1 c.in_ok-first.ensures c.in_ok-check_term.ensures.0 c.in_ok-check_term.ensures.1 c.in_ok-second.ensures c.check_term-2.ensures
 
 pub check_sides-returns-in_err-judge_par : goal.check_sides-returns-in_err-judge_par
 check_sides-returns-in_err-judge_par t c =
