@@ -1,15 +1,15 @@
 //! An example of what a core becomes.
 
 ghost use Rattle.gib_syntax.specs.Results as results;
-ghost use Rattle.std.specs.Prelude.{◌≡◌, ◌∷◌, [], ℕ, pos, true, false, Some, None};
-ghost use Rattle.gib_types.specs.{declared.table.Ty.{Ty as FieldType}, declared.table.ConId.{ConId as Con}, Row.{Table}};
+ghost use Rattle.std.specs.Prelude.{◌≡◌, ◌∷◌, [], pos, true, false, Some, None};
+ghost use Rattle.gib_types.specs.{declared.table.ConId.{ConId as Con}, Row.{Table}};
 ghost use Rattle.gib_types.specs.declared.table.Ty.TheVariants as ty;
 ghost use Rattle.gib_base.specs.declared.name.Name.{Name as FunctionName};
 ghost use Rattle.gib_types.specs.declared.operator.Operator.TheVariants as o;
 ghost use Rattle.gib_core.specs.declared.atom.Atom.TheVariants as a;
 ghost use Rattle.gib_core.specs.declared.atom.Access.TheVariants as by;
 ghost use Rattle.gib_core.specs.declared.atom.Kind.TheVariants as kind;
-ghost use Rattle.gib_core.specs.declared.atom.Variable.{Variable as X};
+ghost use Rattle.gib_core.specs.SampleCores.{tree, leaf, node, v as x};
 ghost use Rattle.gib_core.specs.Tree.{Term, Then, Write, Point, CallTerm, Give, CaseTerm, Tuple, NoPart, PartThen, Past, One, Both, Prim, Reach, On, Several, NoBranch, BranchThen, var, CoreTree};
 ghost use Rattle.gib_code.specs.declared.instruction.Operand.TheVariants.{Slot, Number};
 ghost use Rattle.gib_code.specs.declared.instruction.AnswerType.TheVariants as of;
@@ -25,11 +25,7 @@ ghost use Rattle.gib_lower.specs.Lowering.{lower_program};
 ///
 /// over `data Tree = Leaf Int | Node Tree Tree`, with its sides at their places and marked.
 pub fn examples()
-    ensures { let leaf : Con = record { 0 = 0 } in
-        let node : Con = record { 0 = 1 } in
-        let add1 : FunctionName = record { 0 = 3 } in
-        let tree : FieldType = ty.Tree (record { 0 = 0 }) in
-        let x : ℕ → X = λ n. record { 0 = n } in
+    ensures { let add1 : FunctionName = record { 0 = 3 } in
         let table : Table = record { types = 0 ∷ []; rows = record { name = 1; owner = 0; fields = ty.Whole ∷ [] } ∷ record { name = 2; owner = 0; fields = tree ∷ tree ∷ [] } ∷ [] } in
         let first : Term = Then (Prim (x 2) o.Add (var 1) (a.Whole (pos 1))) (Then (Past (x 3) leaf) (Write (x 3) leaf (var 2 ∷ []) [])) in
         let second : Term = Then (Reach (x 5) by.Offset) (Then (Past (x 6) node) (Then (Both true (On kind.Here (x 7) tree (CallTerm add1 (var 4 ∷ []))) (On kind.Here (x 8) tree (CallTerm add1 (var 5 ∷ [])))) (Write (x 6) node [] (var 7 ∷ var 8 ∷ [])))) in
@@ -77,11 +73,7 @@ pub fn examples()
 ///
 /// over the same type, by ends: each call tells where its argument ends, where the second tree begins.
 pub fn examples_by_ends()
-    ensures { let leaf : Con = record { 0 = 0 } in
-        let node : Con = record { 0 = 1 } in
-        let sum : FunctionName = record { 0 = 3 } in
-        let tree : FieldType = ty.Tree (record { 0 = 0 }) in
-        let x : ℕ → X = λ n. record { 0 = n } in
+    ensures { let sum : FunctionName = record { 0 = 3 } in
         let table : Table = record { types = 0 ∷ []; rows = record { name = 1; owner = 0; fields = ty.Whole ∷ [] } ∷ record { name = 2; owner = 0; fields = tree ∷ tree ∷ [] } ∷ [] } in
         let second : Term = Then (One (On kind.Scalar (x 4) ty.Whole (CallTerm sum (var 2 ∷ [])))) (Then (Reach (x 3) (by.End (x 2))) (Then (One (On kind.Scalar (x 5) ty.Whole (CallTerm sum (var 3 ∷ [])))) (Then (Prim (x 6) o.Add (var 4) (var 5)) (Give (var 6))))) in
         let core : CoreTree = record {
@@ -123,7 +115,6 @@ pub fn examples_by_ends()
 /// by ends: main's parameter is ended, though nothing calls main.
 pub fn example_of_main()
     ensures { let only : Con = record { 0 = 0 } in
-        let tree : FieldType = ty.Tree (record { 0 = 0 }) in
         let table : Table = record { types = 0 ∷ []; rows = record { name = 1; owner = 0; fields = [] } ∷ [] } in
         let core : CoreTree = record {
           table = table;
@@ -147,8 +138,6 @@ pub fn example_of_main()
 /// over the same type as above: a call gives its scalar part, a part list sets it.
 pub fn example_of_parts()
     ensures { let one : FunctionName = record { 0 = 3 } in
-        let tree : FieldType = ty.Tree (record { 0 = 0 }) in
-        let x : ℕ → X = λ n. record { 0 = n } in
         let table : Table = record { types = 0 ∷ []; rows = record { name = 1; owner = 0; fields = ty.Whole ∷ [] } ∷ record { name = 2; owner = 0; fields = tree ∷ tree ∷ [] } ∷ [] } in
         let rest : Term = Then (One (Several (x 3 ∷ x 4 ∷ []) (tree ∷ ty.Whole ∷ []) (Tuple (tree ∷ ty.Whole ∷ []) (var 2 ∷ []) (PartThen (Point (var 1)) NoPart)))) (Point (var 3)) in
         let core : CoreTree = record {

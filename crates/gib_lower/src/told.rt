@@ -10,7 +10,7 @@ ghost use Rattle.gib_lower.specs.{Ends.{over_of, end_of, within_of}, Lowering.{l
 use crate::atoms::operands;
 use crate::counts::plus;
 use crate::emitted::Emitted;
-use crate::ending::{Around, At, Ending, LastField, Overs};
+use crate::ending::{Around, At, Ending, LastField, Overs, put_told};
 use crate::parts::{moves, slots_at, takes_parts};
 use crate::source::Source;
 use gib_base::{Memory, Name};
@@ -85,20 +85,13 @@ pub(crate) fn gots(
 
 /// Puts what ends a packed term.
 #[tactic(auto, using(crate::proofs::Tellings::before_end))]
-pub(crate) fn put_ending(
-    alloc: Global,
-    overs: &Overs,
-    ending: Ending,
-    code: &mut Emitted,
-) -> Result<(), Memory>
+pub(crate) fn put_ending(overs: &Overs, ending: Ending, code: &mut Emitted) -> Result<(), Memory>
     ensures { OnOk result (code.new ≡ ending_spec (end_of ending overs.now) ++ code.old) }
 {
     match ending {
         Ending::Returns => {
             code.put(Instr::Return)?;
-            let told = overs.told(alloc)?;
-            code.put_all(told)?;
-            Ok(())
+            put_told(overs, code)
         }
         Ending::To { label, .. } => code.put(Instr::Jump(label)),
         Ending::ToParts { label, .. } => code.put(Instr::Jump(label)),
@@ -116,8 +109,8 @@ pub(crate) fn put_call_ending(
     ensures { OnOk result (code.new ≡ call_ending (end_of ending overs.now) ++ code.old) }
 {
     match ending {
-        Ending::Returns => put_ending(alloc, overs, ending, code),
-        Ending::To { .. } => put_ending(alloc, overs, ending, code),
+        Ending::Returns => put_ending(overs, ending, code),
+        Ending::To { .. } => put_ending(overs, ending, code),
         Ending::ToParts {
             label,
             first,
@@ -145,8 +138,7 @@ pub(crate) fn give_parts(
         Ending::Returns => {
             let values = operands(alloc, scalars)?;
             code.put(Instr::GiveParts(values))?;
-            let told = overs.told(alloc)?;
-            code.put_all(told)
+            put_told(overs, code)
         }
         Ending::To { label, .. } => code.put(Instr::Jump(label)),
         Ending::ToParts {
@@ -164,7 +156,6 @@ pub(crate) fn give_parts(
 /// Puts what gives a scalar.
 #[tactic(auto, using(crate::proofs::Tellings::before_end))]
 pub(crate) fn give(
-    alloc: Global,
     overs: &Overs,
     ending: Ending,
     value: Operand,
@@ -175,9 +166,7 @@ pub(crate) fn give(
     match ending {
         Ending::Returns => {
             code.put(Instr::Give(value))?;
-            let told = overs.told(alloc)?;
-            code.put_all(told)?;
-            Ok(())
+            put_told(overs, code)
         }
         Ending::To { label, slot } => {
             code.put(Instr::Jump(label))?;
