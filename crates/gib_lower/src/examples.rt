@@ -9,7 +9,7 @@ ghost use Rattle.gib_types.specs.declared.operator.Operator.TheVariants as o;
 ghost use Rattle.gib_core.specs.declared.atom.Atom.TheVariants as a;
 ghost use Rattle.gib_core.specs.declared.atom.Access.TheVariants as by;
 ghost use Rattle.gib_core.specs.declared.atom.Kind.TheVariants as kind;
-ghost use Rattle.gib_core.specs.SampleCores.{tree, leaf, node, v as x};
+ghost use Rattle.gib_core.specs.SampleCores.{tree, leaf, node, v as x, sample_table};
 ghost use Rattle.gib_core.specs.Tree.{Term, Then, Write, Point, CallTerm, Give, CaseTerm, Tuple, NoPart, PartThen, Past, One, Both, Prim, Reach, On, Several, NoBranch, BranchThen, var, CoreTree};
 ghost use Rattle.gib_code.specs.declared.instruction.Operand.TheVariants.{Slot, Number};
 ghost use Rattle.gib_code.specs.declared.instruction.AnswerType.TheVariants as of;
@@ -26,18 +26,17 @@ ghost use Rattle.gib_lower.specs.Lowering.{lower_program};
 /// over `data Tree = Leaf Int | Node Tree Tree`, with its sides at their places and marked.
 pub fn examples()
     ensures { let add1 : FunctionName = record { 0 = 3 } in
-        let table : Table = record { types = 0 ∷ []; rows = record { name = 1; owner = 0; fields = ty.Whole ∷ [] } ∷ record { name = 2; owner = 0; fields = tree ∷ tree ∷ [] } ∷ [] } in
         let first : Term = Then (Prim (x 2) o.Add (var 1) (a.Whole (pos 1))) (Then (Past (x 3) leaf) (Write (x 3) leaf (var 2 ∷ []) [])) in
         let second : Term = Then (Reach (x 5) by.Offset) (Then (Past (x 6) node) (Then (Both true (On kind.Here (x 7) tree (CallTerm add1 (var 4 ∷ []))) (On kind.Here (x 8) tree (CallTerm add1 (var 5 ∷ [])))) (Write (x 6) node [] (var 7 ∷ var 8 ∷ [])))) in
         let core : CoreTree = record {
-          table = table;
+          table = sample_table;
           functions = record { name = add1; parameters = tree ∷ []; result = results.One tree; body = CaseTerm (var 0) (BranchThen leaf (x 1 ∷ []) first (BranchThen node (x 4 ∷ x 5 ∷ []) second NoBranch)) } ∷ [];
           main = record { parameter = tree; result = tree; body = CallTerm add1 (var 0 ∷ []) };
           offsets = node ∷ [];
           marked = false;
         } in
         lower_program core ≡ record {
-          laid = record { table = table; with_offsets = 1 ∷ [] };
+          laid = record { table = sample_table; with_offsets = 1 ∷ [] };
           instructions =
               i.Switch 0 (record { constructor = 0; label = 1 } ∷ record { constructor = 1; label = 6 } ∷ [])
               ∷ i.Whole 1 0 1
@@ -74,17 +73,16 @@ pub fn examples()
 /// over the same type, by ends: each call tells where its argument ends, where the second tree begins.
 pub fn examples_by_ends()
     ensures { let sum : FunctionName = record { 0 = 3 } in
-        let table : Table = record { types = 0 ∷ []; rows = record { name = 1; owner = 0; fields = ty.Whole ∷ [] } ∷ record { name = 2; owner = 0; fields = tree ∷ tree ∷ [] } ∷ [] } in
         let second : Term = Then (One (On kind.Scalar (x 4) ty.Whole (CallTerm sum (var 2 ∷ [])))) (Then (Reach (x 3) (by.End (x 2))) (Then (One (On kind.Scalar (x 5) ty.Whole (CallTerm sum (var 3 ∷ [])))) (Then (Prim (x 6) o.Add (var 4) (var 5)) (Give (var 6))))) in
         let core : CoreTree = record {
-          table = table;
+          table = sample_table;
           functions = record { name = sum; parameters = tree ∷ []; result = results.One ty.Whole; body = CaseTerm (var 0) (BranchThen leaf (x 1 ∷ []) (Give (var 1)) (BranchThen node (x 2 ∷ x 3 ∷ []) second NoBranch)) } ∷ [];
           main = record { parameter = tree; result = ty.Whole; body = Then (One (On kind.Scalar (x 1) ty.Whole (CallTerm sum (var 0 ∷ [])))) (Give (var 1)) };
           offsets = [];
           marked = true;
         } in
         lower_program core ≡ record {
-          laid = record { table = table; with_offsets = [] };
+          laid = record { table = sample_table; with_offsets = [] };
           instructions =
               i.Switch 0 (record { constructor = 0; label = 1 } ∷ record { constructor = 1; label = 4 } ∷ [])
               ∷ i.Whole 1 0 1
@@ -138,17 +136,16 @@ pub fn example_of_main()
 /// over the same type as above: a call gives its scalar part, a part list sets it.
 pub fn example_of_parts()
     ensures { let one : FunctionName = record { 0 = 3 } in
-        let table : Table = record { types = 0 ∷ []; rows = record { name = 1; owner = 0; fields = ty.Whole ∷ [] } ∷ record { name = 2; owner = 0; fields = tree ∷ tree ∷ [] } ∷ [] } in
         let rest : Term = Then (One (Several (x 3 ∷ x 4 ∷ []) (tree ∷ ty.Whole ∷ []) (Tuple (tree ∷ ty.Whole ∷ []) (var 2 ∷ []) (PartThen (Point (var 1)) NoPart)))) (Point (var 3)) in
         let core : CoreTree = record {
-          table = table;
+          table = sample_table;
           functions = record { name = one; parameters = tree ∷ []; result = results.Several (tree ∷ ty.Whole ∷ []); body = Tuple (tree ∷ ty.Whole ∷ []) (a.Whole (pos 1) ∷ []) (PartThen (Point (var 0)) NoPart) } ∷ [];
           main = record { parameter = tree; result = tree; body = Then (One (Several (x 1 ∷ x 2 ∷ []) (tree ∷ ty.Whole ∷ []) (CallTerm one (var 0 ∷ [])))) rest };
           offsets = [];
           marked = false;
         } in
         lower_program core ≡ record {
-          laid = record { table = table; with_offsets = [] };
+          laid = record { table = sample_table; with_offsets = [] };
           instructions =
               i.Into 0 1
               ∷ i.Point 0

@@ -94,18 +94,13 @@ pub(crate) fn first_packed<'a>(
 }
 
 /// The packed fields behind the first one come into scope.
-fn add_further(
-    fields: &mut Fields,
-    tree: u32,
-    types: &[Ty],
-    variables: &[Variable],
-) -> Result<(), Memory>
-    requires { length types.now ≤ 8 }
-    ensures { OnOk result (fields.new ≡ further_fields tree 1 types.now variables.now fields.old) }
+fn add_further(fields: &mut Fields, tree: u32, first: &FirstPacked<'_>) -> Result<(), Memory>
+    requires { length first.now.types.now ≤ 8 }
+    ensures { OnOk result (fields.new ≡ further_fields tree 1 first.now.types.now first.now.variables.now fields.old) }
 {
     let mut place = 1u8;
-    let mut types_left = types;
-    let mut left = variables;
+    let mut types_left = first.types;
+    let mut left = first.variables;
     'fields: while let Some(field) = first_packed(types_left, left) {
         fields.add(StoredField {
             variable: field.variable.0,
@@ -131,6 +126,6 @@ pub(crate) fn enter(
 {
     match first_packed(types, variables) {
         None => Ok(()),
-        Some(first) => add_further(fields, tree, first.types, first.variables),
+        Some(first) => add_further(fields, tree, &first),
     }
 }
