@@ -1,5 +1,8 @@
 //! A core with what lowering asks of it.
 
+ghost use Rattle.std.specs.Prelude.{IfOk};
+ghost use Rattle.gib_lower.specs.Sources.{IsSource};
+
 use crate::counts::count_of;
 use crate::functions::{list_numbers, number_at};
 use gib_base::{ByNumber, Memory, Name};
@@ -7,6 +10,17 @@ use gib_core::{Core, CoreFunction, CoreMain, EndedSet, Terms, ended_parameters};
 use gib_types::{Layouts, TypeTable};
 use std::alloc::Global;
 use std::marker::Model;
+
+/// How the heads of a core lie in memory, the numbers of its functions, its ended parameters, and how many functions there are.
+fn asked_of(alloc: Global, core: &Core) -> Result<(Layouts, ByNumber<u32>, EndedSet, u32), Memory>
+    ensures { IfOk result (λ made. IsSource core.now made.0 made.1 made.2 made.3) }
+{
+    let count = count_of(core.functions())?;
+    let numbers = list_numbers(alloc, core.functions(), count)?;
+    let ended = ended_parameters(alloc, core, core.marked())?;
+    let layouts = Layouts::make(alloc, core.types(), core.offsets())?;
+    Ok((layouts, numbers, ended, count))
+}
 
 /// A core, how its heads lie in memory, the numbers of its functions by their names, and its ended parameters.
 #[derive(Drop)]
@@ -38,10 +52,7 @@ impl Source {
     pub(crate) fn make(alloc: Global, core: Core) -> Result<Source, Memory>
         ensures { IfOk result (λ source. source ≡ core) }
     {
-        let layouts = Layouts::make(alloc, core.types(), core.offsets())?;
-        let count = count_of(core.functions())?;
-        let numbers = list_numbers(alloc, core.functions(), count)?;
-        let ended = ended_parameters(alloc, &core, core.marked())?;
+        let (layouts, numbers, ended, count) = asked_of(alloc, &core)?;
         Ok(Source {
             core,
             layouts,
