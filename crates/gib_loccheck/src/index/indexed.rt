@@ -1,6 +1,10 @@
 //! Cores whose functions are found by their names, and whose constructors with offsets by their numbers, in
 //! constant time.
 
+ghost use Rattle.std.specs.Prelude.{◌≡◌, IfOk};
+ghost use Rattle.gib_core.specs.{Parts.{core_of}, Ending.{ended}, NamedFunctions.{IsIndex}};
+ghost use Rattle.gib_loccheck.specs.Indexing.{AreFlagged};
+
 use crate::index::flagging::list_flags;
 use gib_base::{ByNumber, Memory, Name};
 use gib_core::ended::EndedSet;
@@ -10,6 +14,19 @@ use gib_core::{Core, CoreFunction, CoreMain, Terms};
 use gib_types::{ConId, TypeTable};
 use std::alloc::Global;
 use std::marker::Model;
+
+/// The places of a core's functions by the numbers of their names, the flags of its constructors, and its ended parameters.
+fn index_of(
+    alloc: Global,
+    core: &Core,
+) -> Result<(ByNumber<usize>, ByNumber<bool>, EndedSet), Memory>
+    ensures { IfOk result (λ made. IsIndex core.now.functions made.0 × (AreFlagged core.now.offsets made.1 × (made.2 ≡ ended (core_of core.now)))) }
+{
+    let places = list_places(alloc, core.functions())?;
+    let flags = list_flags(alloc, core.offsets())?;
+    let ended = ended_parameters(alloc, core, core.marked())?;
+    Ok((places, flags, ended))
+}
 
 /// A core, with the places of its functions by the numbers of their names, and with flags of the constructors
 /// whose heads store offsets.
@@ -42,9 +59,7 @@ impl IndexedCore {
     pub fn make(alloc: Global, core: Core) -> Result<IndexedCore, Memory>
         ensures { IfOk result (λ indexed. indexed ≡ core) }
     {
-        let places = list_places(alloc, core.functions())?;
-        let flags = list_flags(alloc, core.offsets())?;
-        let ended = ended_parameters(alloc, &core, core.marked())?;
+        let (places, flags, ended) = index_of(alloc, &core)?;
         Ok(IndexedCore {
             core,
             places,
