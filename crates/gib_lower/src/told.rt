@@ -5,7 +5,7 @@ ghost use Rattle.gib_types.specs.Layout.{head_size, packed_at};
 ghost use Rattle.gib_code.specs.Instruction.{instruction_of};
 ghost use Rattle.gib_core.specs.{Arena.{term_of}, Parts.{core_of}};
 ghost use Rattle.gib_core.specs.Low.{Over, giving, got_from as gots_from, gots as all_gots, operands as operands_spec, ending as ending_spec, call_ending, giving_parts, arm_overs, arm_end};
-ghost use Rattle.gib_lower.specs.{Ends.{over_of, end_of, within_of}, Lowering.{leaf_end, got_one}};
+ghost use Rattle.gib_lower.specs.{Ends.{over_of, end_of, part_slots, within_of}, Lowering.{leaf_end, got_one}};
 
 use crate::atoms::operands;
 use crate::counts::plus;
@@ -98,6 +98,17 @@ pub(crate) fn put_ending(overs: &Overs, ending: Ending, code: &mut Emitted) -> R
     }
 }
 
+/// The slots that the scalar ones of several parts go to.
+fn part_slots(alloc: Global, ending: Ending) -> Result<Vec<u32>, Memory>
+    ensures { IfOk result (λ slots. slots.items ≡ part_slots ending) }
+{
+    match ending {
+        Ending::Returns => Ok(Vec::new(alloc)),
+        Ending::To { .. } => Ok(Vec::new(alloc)),
+        Ending::ToParts { first, types, .. } => slots_at(alloc, true, first, types),
+    }
+}
+
 /// Puts what stands behind a call: the scalar parts that it gave go to their slots.
 #[tactic(auto, using(crate::proofs::PartMoves::taken_before))]
 pub(crate) fn put_call_ending(
@@ -108,19 +119,10 @@ pub(crate) fn put_call_ending(
 ) -> Result<(), Memory>
     ensures { OnOk result (code.new ≡ call_ending (end_of ending overs.now) ++ code.old) }
 {
-    match ending {
-        Ending::Returns => put_ending(overs, ending, code),
-        Ending::To { .. } => put_ending(overs, ending, code),
-        Ending::ToParts {
-            label,
-            first,
-            types,
-        } => {
-            code.put(Instr::Jump(label))?;
-            let slots = slots_at(alloc, true, first, types)?;
-            code.put_all(takes_parts(alloc, &slots)?)
-        }
-    }
+    put_ending(overs, ending, code)?;
+    let slots = part_slots(alloc, ending)?;
+    let taken = takes_parts(alloc, &slots)?;
+    code.put_all(taken)
 }
 
 /// Puts what gives several parts, behind the packed ones.

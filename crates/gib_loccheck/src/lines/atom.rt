@@ -3,7 +3,7 @@
 ghost use Rattle.std.specs.Prelude.{◌≡◌};
 ghost use Rattle.gib_core.specs.{Parts.{core_of}, Rules.{least}};
 ghost use Rattle.gib_loccheck.specs.{AtomLines.{atom_line, atom_fits, atom_rules, is_misplaced as misplaced}, Views.{setting_of, before_of, numbered}};
-ghost use Rattle.gib_loccheck.specs.Judging.{one, Checks};
+ghost use Rattle.gib_loccheck.specs.{declared.state.Walk.{Walk as State}, Judging.{one, Checks}};
 
 use crate::fault::LocFault;
 use crate::index::indexed::IndexedCore;
