@@ -10,7 +10,6 @@ use crate::leaves::{Typed, behind_open, call, give, make, operation, point, too_
 use crate::lines::{BindingNode, LineArm, LineId, LineNode, Lines, Side};
 use crate::phrases::{between, location, operand, optional_mark, type_name, way};
 use crate::source::{Depth, Read};
-use gib_base::Span;
 use gib_base::token::{Sign, Token};
 use gib_reads::phrases::{begins, constructor, named, span_at, variable, variables, want};
 use gib_reads::stop::Stop;
