@@ -1,6 +1,6 @@
 //! Buffers that are put together.
 
-ghost use Rattle.std.specs.Prelude.{◌≡◌, ◌++◌, [], ℕ, List, IfOk};
+ghost use Rattle.std.specs.Prelude.{◌≡◌, ◌++◌, [], ℕ, List, IfOk, OnOk};
 ghost use Rattle.gib_compact.specs.Gathered.{gathered};
 
 use gib_base::Memory;
@@ -29,7 +29,17 @@ pub fn alone(alloc: Global, part: Result<Vec<u8>, Memory>) -> Result<Vec<Vec<u8>
     Ok(parts)
 }
 
-/// The bytes of buffers, of which the last one comes first, one after another. Each is given back once it was copied.
+/// Adds the bytes of buffers, of which the last one comes first, one after another. Each is given back once it was copied.
+fn add_all(out: &mut Vec<u8>, parts: &mut Vec<Vec<u8>>) -> Result<(), Memory>
+    ensures { OnOk result (out.new.items ≡ out.old.items ++ gathered parts.old.items) }
+{
+    'parts: while let Some(part) = parts.pop() {
+        out.extend_from_slice(&part)?;
+    }
+    Ok(())
+}
+
+/// The bytes of buffers, of which the last one comes first, one after another.
 pub fn gather(alloc: Global, parts: Vec<Vec<u8>>) -> Result<Vec<u8>, Memory>
     ensures { IfOk result (λ out. out.items ≡ gathered parts.items) }
 {
@@ -37,8 +47,6 @@ pub fn gather(alloc: Global, parts: Vec<Vec<u8>>) -> Result<Vec<u8>, Memory>
     let Some(mut out) = parts.pop() else {
         return Ok(Vec::new(alloc));
     };
-    'parts: while let Some(part) = parts.pop() {
-        out.extend_from_slice(&part)?;
-    }
+    add_all(&mut out, &mut parts)?;
     Ok(out)
 }

@@ -5,7 +5,7 @@ ghost use Rattle.gib_types.specs.{declared.table.Ty.{Ty as Type_of}, Tree.{Datum
 ghost use Rattle.gib_file.specs.Packed.{tree, packed, number, bit};
 ghost use Rattle.gib_arena.specs.Passes.{view, cells, IsOf};
 ghost use Rattle.gib_packed.specs.{Decoding.{Dec, Decodes}, Stands.{Stands}};
-ghost use Rattle.gib_compact.specs.{Cut.{Cut, IsFew}, Back.{IsBack}, Gathered.{gathered, with_head}, declared.fault.CompactFault.TheVariants.{Long}};
+ghost use Rattle.gib_compact.specs.{Cut.{Cut}, Back.{IsBack}, Gathered.{gathered, with_head}, declared.fault.CompactFault.TheVariants.{Long}};
 
 use crate::cut::cut;
 use crate::fault::CompactFault;
@@ -31,7 +31,8 @@ fn cut_alone(
 ) -> (Result<Vec<Piece>, Memory>, Pass)
     requires own { IsOf packing.arena.now pass }
     requires value { Decodes packing.layouts.now (cells pass) at }
-    ensures cut { (t : ℕ) (v : Datum) (z : ℕ) → Dec packing.entry.layouts.now (cells pass) at t v z → IfOk result.0 (λ pieces. Cut packing.entry.layouts.now (cells result.1) pieces.items (tree v)) }
+    ensures cut { (t : ℕ) (v : Datum) (z : ℕ) → Dec packing.entry.layouts.now (cells pass) at t v z
+        → IfOk result.0 (λ pieces. Cut packing.entry.layouts.now (cells result.1) pieces.items (tree v)) }
     ensures back { IsBack packing.entry.arena.now pass result.1 }
 {
     let mut mem = ArenaMem::make(packing.arena, pass);
@@ -41,27 +42,12 @@ fn cut_alone(
     (pieces, pass)
 }
 
-/// The bytes of pieces behind what is written, by so many workers.
-fn written_by<R: Threads + Sync>(
-    rt: &R,
-    packing: Packing<'_>,
-    pass: Pass,
-    pieces: &[Piece],
-    out: Vec<u8>,
-    workers: u32,
-) -> (Result<Vec<Vec<u8>>, CompactFault>, Pass)
-    requires own { IsOf packing.arena.now pass }
-    requires none_out { (view pass).branch.out ≡ [] }
-    requires few { IsFew packing.layouts.now (cells pass) pieces.now packing.most }
-    ensures out { (bytes : List ℕ) → Cut packing.entry.layouts.now (cells pass) pieces.entry.now bytes → IfOk result.0 (λ parts. gathered parts.items ≡ out.items ++ bytes) }
-    ensures never { IsErrOf result.0 Long → ⊥ }
-    ensures back { IsBack packing.entry.arena.now pass result.1 }
+/// The buffers that were made, where there was memory for them.
+fn made(parts: Result<Vec<Vec<u8>>, Memory>) -> Result<Vec<Vec<u8>>, CompactFault>
+    ensures parts { (bytes : List ℕ) → IfOk parts (λ parts. gathered parts.items ≡ bytes) → IfOk result (λ parts. gathered parts.items ≡ bytes) }
+    ensures never { IsErrOf result Long → ⊥ }
 {
-    let (parts, pass) = write_by(rt, packing, pass, pieces, out, workers);
-    match parts {
-        Err(_) => (Err(CompactFault::Memory), pass),
-        Ok(parts) => (Ok(parts), pass),
-    }
+    Ok(parts?)
 }
 
 /// The file of a payload whose bytes are those of pieces, by so many workers, where they are no more than there may be.
@@ -77,8 +63,10 @@ fn pieces_by<R: Threads + Sync>(
     requires none_out { (view pass).branch.out ≡ [] }
     requires room { length description.now + packing.most ≤ 16777192 }
     requires cut { (bytes : List ℕ) × Cut packing.layouts.now (cells pass) pieces.now bytes }
-    ensures out { (bytes : List ℕ) → Cut packing.entry.layouts.now (cells pass) pieces.entry.now bytes → IfOk result.0 (λ parts. (gathered parts.items ≡ with_head description.entry.now (length bytes) bytes) × (length bytes ≤ packing.entry.most)) }
-    ensures long { (bytes : List ℕ) → Cut packing.entry.layouts.now (cells pass) pieces.entry.now bytes → IsErrOf result.0 Long → packing.entry.most < length bytes }
+    ensures out { (bytes : List ℕ) → Cut packing.entry.layouts.now (cells pass) pieces.entry.now bytes
+        → IfOk result.0 (λ parts. (gathered parts.items ≡ with_head description.entry.now (length bytes) bytes) × (length bytes ≤ packing.entry.most)) }
+    ensures long { (bytes : List ℕ) → Cut packing.entry.layouts.now (cells pass) pieces.entry.now bytes
+        → IsErrOf result.0 Long → packing.entry.most < length bytes }
     ensures back { IsBack packing.entry.arena.now pass result.1 }
 {
     let (count, pass) = count_by(rt, packing, pass, pieces, workers);
@@ -88,7 +76,10 @@ fn pieces_by<R: Threads + Sync>(
             None => (Err(CompactFault::Long), pass),
             Some(payload) => match head(packing.alloc, description, payload) {
                 Err(_) => (Err(CompactFault::Memory), pass),
-                Ok(out) => written_by(rt, packing, pass, pieces, out, workers),
+                Ok(out) => {
+                    let (parts, pass) = write_by(rt, packing, pass, pieces, out, workers);
+                    (made(parts), pass)
+                }
             },
         },
     }
@@ -106,14 +97,7 @@ fn write_tree(packing: Packing<'_>, pass: Pass, at: u64) -> (Result<Vec<u8>, Com
 {
     let mut mem = ArenaMem::make(packing.arena, pass);
     let mut payload = Vec::new(packing.alloc);
-    let wrote = write_at(
-        packing.alloc,
-        &mut mem,
-        packing.layouts,
-        at,
-        packing.most,
-        &mut payload,
-    );
+    let wrote = write_at(packing, &mut mem, at, &mut payload);
     let (_arena, pass) = mem.into_pass();
     names_tell();
     match wrote {
@@ -154,10 +138,7 @@ fn tree_alone(
     let (payload, pass) = write_tree(packing, pass, at);
     match payload {
         Err(fault) => (Err(fault), pass),
-        Ok(payload) => match framed(packing, description, payload) {
-            Err(_) => (Err(CompactFault::Memory), pass),
-            Ok(parts) => (Ok(parts), pass),
-        },
+        Ok(payload) => (made(framed(packing, description, payload)), pass),
     }
 }
 
@@ -252,7 +233,8 @@ pub(crate) fn parts_by<R: Threads + Sync>(
     requires room { length description.now + packing.most ≤ 16777192 }
     requires stands { (ty : Type_of) × (v : Datum) × Stands packing.layouts.now (cells pass) root ty v }
     ensures out { (ty : Type_of) (v : Datum) → Stands packing.entry.layouts.now (cells pass) root ty v → IfOk result.0 (λ parts. (gathered parts.items ≡ with_head description.entry.now (length (packed v)) (packed v)) × (length (packed v) ≤ packing.entry.most)) }
-    ensures long { (ty : Type_of) (v : Datum) → Stands packing.entry.layouts.now (cells pass) root ty v → IsErrOf result.0 Long → packing.entry.most < length (packed v) }
+    ensures long { (ty : Type_of) (v : Datum) → Stands packing.entry.layouts.now (cells pass) root ty v
+        → IsErrOf result.0 Long → packing.entry.most < length (packed v) }
     ensures back { IsBack packing.entry.arena.now pass result.1 }
 {
     match root {

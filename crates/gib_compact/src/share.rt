@@ -27,14 +27,7 @@ fn write_alone(
 {
     let mut mem = ArenaMem::make(packing.arena, pass);
     let mut all = out;
-    let wrote = write_pieces(
-        packing.alloc,
-        &mut mem,
-        packing.layouts,
-        pieces,
-        packing.most,
-        &mut all,
-    );
+    let wrote = write_pieces(packing, &mut mem, pieces, &mut all);
     let (_arena, pass) = mem.into_pass();
     names_tell();
     match wrote {
@@ -80,13 +73,7 @@ fn count_alone(
     ensures back { IsBack packing.entry.arena.now pass result.1 }
 {
     let mut mem = ArenaMem::make(packing.arena, pass);
-    let count = count_pieces(
-        packing.alloc,
-        &mut mem,
-        packing.layouts,
-        pieces,
-        packing.most,
-    );
+    let count = count_pieces(packing, &mut mem, pieces);
     let (_arena, pass) = mem.into_pass();
     names_tell();
     (count, pass)

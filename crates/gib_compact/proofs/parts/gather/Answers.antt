@@ -1,18 +1,8 @@
-use Rattle.std.proofs.Common.{List, ℕ, ◌++◌, sym, ap, ◌∙◌, append_assoc}
+use Rattle.std.proofs.Common.{sym, ap, ◌∙◌}
 use Rattle.gib_compact.specs.Gathered.{gathered}
 use Rattle.gib_compact.proofs.GatheredLemmas.{gathered_last}
 use Rattle.gib_compact.proofs.parts.gather.Goals as goal
 
-pub parts-init : goal.parts-init
-parts-init c = record { whole = sym (gathered_last c.pop.new.self.items c.in-Some.out) ∙ ap gathered (sym c.in-Some.ensures.items) }
-
-pub parts-preserved : goal.parts-preserved
-parts-preserved c =
-    let left = gathered c.pop-in-parts.new.self.items in
-    let part = c.in-Some-pop.part in
-    record {
-      whole = ap (λ (q : List ℕ). q ++ left) (c.in_ok-extend_from_slice.ensures.items ∙ ap (λ (q : List ℕ). c.parts.out.items ++ q) c.deref.ensures.value)
-          ∙ append_assoc c.parts.out.items part.items left
-          ∙ ap (λ (q : List ℕ). c.parts.out.items ++ q) (sym (gathered_last c.pop-in-parts.new.self.items part) ∙ ap gathered (sym c.in-Some-pop.ensures.items))
-          ∙ c.parts.invariant.whole;
-    }
+pub returns : goal.returns
+returns c =
+    c.in_ok-add_all.ensures ∙ sym (gathered_last c.pop.new.self.items c.in-Some.out) ∙ ap gathered (sym c.in-Some.ensures.items)

@@ -15,14 +15,14 @@ write_one-requires g c =
     let r = c.requires.few in
     let q = c.pieces.invariant.passed r.bytes r.cut in
     let o = passes_one c.args.pieces.now c.pieces.i nothing q.front r.bytes c.pieces-test.true q.passed in
-    record { few = (o.bytes, subst (λ (m : Memory). IsPiece c.args.layouts.now m.cells (get_or c.args.pieces.now c.pieces.i nothing) o.bytes) (sym c.pieces.invariant.same) o.is, omega (arith, o.few, r.few)) }
+    record { few = (o.bytes, subst (λ (m : Memory). IsPiece c.args.packing.layouts.now m.cells (get_or c.args.pieces.now c.pieces.i nothing) o.bytes) (sym c.pieces.invariant.same) o.is, omega (arith, o.few, r.few)) }
 
 pub pieces-preserved : goal.pieces-preserved
 pieces-preserved g c = record {
   same = c.write_one.ensures.same ∙ c.pieces.invariant.same;
   within = omega (arith, c.pieces-test.true);
   passed = λ bytes l.
-      let laid = c.args.layouts.now in
+      let laid = c.args.packing.layouts.now in
       let q = c.pieces.invariant.passed bytes l in
       let o = passes_one c.args.pieces.now c.pieces.i nothing q.front bytes c.pieces-test.true q.passed in
       let e = c.in_ok-write_one.ensures.out o.bytes (subst (λ (m : Memory). IsPiece laid m.cells (get_or c.args.pieces.now c.pieces.i nothing) o.bytes) (sym c.pieces.invariant.same) o.is) in

@@ -7,7 +7,7 @@ abbrev pub invariant-pieces : goal.invariant-pieces
 invariant-pieces g l = record {
   same : g.M.Mem.view l.mem ≡ g.M.Mem.view l.fn.mem;
   within : l.i ≤ length l.pieces;
-  passed : (bytes : List ℕ) → Cut l.layouts (g.M.Mem.view l.fn.mem).cells l.pieces bytes → Wrote l.layouts (g.M.Mem.view l.fn.mem).cells l.pieces l.i l.fn.out.items l.out.items bytes;
+  passed : (bytes : List ℕ) → Cut l.packing.layouts.now (g.M.Mem.view l.fn.mem).cells l.pieces bytes → Wrote l.packing.layouts.now (g.M.Mem.view l.fn.mem).cells l.pieces l.i l.fn.out.items l.out.items bytes;
 }
 
 abbrev pub decreases-pieces : goal.decreases-pieces

@@ -8,7 +8,7 @@ use Rattle.gib_compact.proofs.write.write_at.Given as goal
 abbrev pub invariant-runs : goal.invariant-runs
 invariant-runs g l = record {
   same : g.M.Mem.view l.mem ≡ g.M.Mem.view l.fn.mem;
-  written : (t : ℕ) (v : Datum) (z : ℕ) → Dec l.layouts (g.M.Mem.view l.fn.mem).cells l.at t v z → Written l.layouts (g.M.Mem.view l.fn.mem).cells l.walk l.most l.left l.fn.out.items l.out.items (tree v);
+  written : (t : ℕ) (v : Datum) (z : ℕ) → Dec l.packing.layouts.now (g.M.Mem.view l.fn.mem).cells l.at t v z → Written l.packing.layouts.now (g.M.Mem.view l.fn.mem).cells l.walk l.packing.most l.left l.fn.out.items l.out.items (tree v);
 }
 
 abbrev pub decreases-runs : goal.decreases-runs
