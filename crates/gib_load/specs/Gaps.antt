@@ -1,7 +1,8 @@
 -- Gaps in heads: addresses at which it is noted where a packed field starts, once it begins.
-use Rattle.std.specs.Prelude.{ℕ, zero, suc, ◌+◌, ◌-◌, ◌*◌, List, [], ◌∷◌, ◌++◌, Bool, true, false, Option, Some, None}
+use Rattle.std.specs.Prelude.{◌≡◌, ◌<◌, ◌^◌, ℕ, zero, suc, ◌+◌, ◌-◌, ◌*◌, length, List, [], ◌∷◌, ◌++◌, Bool, true, false, Option, Some, None}
 use Rattle.gib_mem.specs.Memory.{Memory, after_puts}
 use Rattle.gib_packed.specs.Head.{address}
+use Rattle.gib_types.specs.Layout.{LaidOut, has_offsets}
 
 -- The gaps that are due: whether gaps are kept, those of the values that are due, the next one first, and how many there is room for. A
 -- value whose start no head stores has none.
@@ -14,6 +15,12 @@ pub record Dues : Type 0 where
 abbrev pub first_gaps : Bool → List (Option ℕ)
 first_gaps false = []
 first_gaps true = None ∷ []
+
+-- So much is due of a payload before its first head: a gap is kept where a constructor has offsets, and then its addresses fit 32 bits.
+pub record Begins (laid : LaidOut) (payload : List ℕ) (due : Dues) : Type 0 where
+  pub small : due.noting ≡ true → length payload < 2 ^ 32
+  pub first : due.gaps ≡ first_gaps due.noting
+  pub plain : due.noting ≡ false → (k : ℕ) → k < length laid.table.rows → has_offsets laid k ≡ false
 
 -- The gap of the next value.
 abbrev pub next_gap : List (Option ℕ) → Option ℕ

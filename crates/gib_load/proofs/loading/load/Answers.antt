@@ -19,3 +19,6 @@ pub returns-clause-spent : goal.returns-clause-spent
 returns-clause-spent g c = λ full v p.
     let sizes : Sizes c.args.layouts.now = record { rules = c.rules.ensures.table; heads = c.rules.ensures.long } in
     refused_spent c.args.layouts.now sizes (g.M.Mem.view c.args.mem.now) v (g.M.Mem.view c.place_value.new.mem) c.requires.undrawn (c.in-Err-place_value.ensures.full v (subst₂ (λ (t : Ty) (b : List ℕ). Packed c.args.layouts.now.table t v b) (sym c.ty.ensures) (sym c.payload-payload.ensures.bytes) p))
+
+pub place_value-requires-clause-begins : goal.place_value-requires-clause-begins
+place_value-requires-clause-begins g c = record { small = c.in-Ok.ensures.small; first = c.in-Ok.ensures.first; plain = c.in-Ok.ensures.plain }
