@@ -40,8 +40,11 @@ turn_is {laid = laid} {names = names} {s = s} {printed = printed} {bytes = bytes
     go : {ys : List ℕ} → IsItem laid names s (i.Turn printed) ys → IsPrintable laid.table printed × (ys ≡ printed_text laid.table names printed)
     go (a_turn known) = (known, refl)
 
-pub part_is : {laid : LaidOut} {names : List (List ℕ)} {s : Store} {a : ℕ} {bytes : List ℕ} → IsItem laid names s (i.Part a) bytes → (t : ℕ) × (v : Datum) × (z : ℕ) × Dec laid s a t v z × (bytes ≡ 32 ∷ text laid.table names v)
-part_is (a_part {t = t} {z = z} {v = v} d) = (t, v, z, d, refl)
+pub part_is : {laid : LaidOut} {names : List (List ℕ)} {s : Store} {item : Item} {a : ℕ} {bytes : List ℕ} → item ≡ i.Part a → IsItem laid names s item bytes → (t : ℕ) × (v : Datum) × (z : ℕ) × Dec laid s a t v z × (bytes ≡ 32 ∷ text laid.table names v)
+part_is {laid = laid} {names = names} {s = s} {a = a} {bytes = bytes} e is = go (subst (λ (x : Item). IsItem laid names s x bytes) e is)
+  where
+    go : {ys : List ℕ} → IsItem laid names s (i.Part a) ys → (t : ℕ) × (v : Datum) × (z : ℕ) × Dec laid s a t v z × (ys ≡ 32 ∷ text laid.table names v)
+    go (a_part {t = t} {z = z} {v = v} d) = (t, v, z, d, refl)
 
 pub line_is : {laid : LaidOut} {names : List (List ℕ)} {s : Store} {item : Item} {bytes : List ℕ} → item ≡ i.Line → IsItem laid names s item bytes → bytes ≡ 10 ∷ []
 line_is {laid = laid} {names = names} {s = s} {bytes = bytes} e is = go (subst (λ (x : Item). IsItem laid names s x bytes) e is)

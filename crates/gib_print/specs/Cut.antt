@@ -33,6 +33,10 @@ pub data Cut (laid : LaidOut) (names : List (List ℕ)) (s : Store) : List Item 
 abbrev pub IsLeft : LaidOut → List (List ℕ) → Store → Progress → List ℕ → Type 0
 IsLeft laid names s progress rest = Left laid names s (works laid.table (reverse progress.frames.items)) progress.end rest
 
+-- Something is left that the frames of a walk print.
+abbrev pub HasNext : LaidOut → Store → Progress → Type 0
+HasNext laid s progress = (names : List (List ℕ)) × (rest : List ℕ) × IsLeft laid names s progress rest
+
 -- What is left begins with the bytes of the item, and what is behind them is left to these frames, where the last value ended at b.
 pub record Comes (laid : LaidOut) (names : List (List ℕ)) (s : Store) (item : Item) (frames : List Frame) (b : ℕ) (rest : List ℕ) : Type 0 where
   pub bytes : List ℕ
@@ -40,3 +44,8 @@ pub record Comes (laid : LaidOut) (names : List (List ℕ)) (s : Store) (item : 
   pub is : IsItem laid names s item bytes
   pub left : Left laid names s (works laid.table frames) b later
   pub whole : bytes ++ later ≡ rest
+
+-- Between these two the walk came to the item, whatever was left.
+abbrev pub ComesNext : LaidOut → Store → Progress → Progress → Item → Type 0
+ComesNext laid s before after item =
+    (names : List (List ℕ)) (rest : List ℕ) → IsLeft laid names s before rest → Comes laid names s item (reverse after.frames.items) after.end rest

@@ -1,10 +1,10 @@
 //! Cuts the text of a value into items.
 
-ghost use Rattle.std.specs.Prelude.{◌≡◌, ◌<◌, ◌≤◌, ◌++◌, ◌∷◌, [], ℕ, List, reverse, vec_len, IfOk};
+ghost use Rattle.std.specs.Prelude.{◌≡◌, ◌<◌, ◌≤◌, ◌++◌, ◌∷◌, [], ℕ, vec_len, IfOk};
 ghost use Rattle.gib_types.specs.Tree.{Datum};
 ghost use Rattle.gib_value.specs.Text.{text};
 ghost use Rattle.gib_packed.specs.Decoding.{Dec, Decodes};
-ghost use Rattle.gib_print.specs.Cut.{Cut, Comes, IsLeft};
+ghost use Rattle.gib_print.specs.Cut.{Cut, HasNext, ComesNext};
 
 use crate::end::pass_part;
 use crate::item::{Item, Printing};
@@ -63,10 +63,8 @@ fn next_turn<M: Mem>(
     layouts: &Layouts,
 ) -> Result<Item, Memory>
     requires some { 0 < vec_len progress.old.frames }
-    requires left { (names : List (List ℕ)) × (rest : List ℕ) × IsLeft layouts.now names (M.view mem.old).cells progress.old rest }
-    ensures comes { IfOk result (λ item. (names : List (List ℕ)) (rest : List ℕ)
-        → IsLeft layouts.now names (M.view mem.old).cells progress.old rest
-        → Comes layouts.now names (M.view mem.old).cells item (reverse progress.new.frames.items) progress.new.end rest) }
+    requires left { HasNext layouts.now (M.view mem.old).cells progress.old }
+    ensures comes { IfOk result (ComesNext layouts.now (M.view mem.old).cells progress.old progress.new) }
     ensures same { M.view mem.new ≡ M.view mem.old }
 {
     progress.frames.reserve(1)?;
@@ -82,10 +80,8 @@ fn next_item<M: Mem>(
     part: bool,
 ) -> Result<Item, Memory>
     requires some { 0 < vec_len progress.old.frames }
-    requires left { (names : List (List ℕ)) × (rest : List ℕ) × IsLeft layouts.now names (M.view mem.old).cells progress.old rest }
-    ensures comes { IfOk result (λ item. (names : List (List ℕ)) (rest : List ℕ)
-        → IsLeft layouts.now names (M.view mem.old).cells progress.old rest
-        → Comes layouts.now names (M.view mem.old).cells item (reverse progress.new.frames.items) progress.new.end rest) }
+    requires left { HasNext layouts.now (M.view mem.old).cells progress.old }
+    ensures comes { IfOk result (ComesNext layouts.now (M.view mem.old).cells progress.old progress.new) }
     ensures same { M.view mem.new ≡ M.view mem.old }
 {
     if !part {

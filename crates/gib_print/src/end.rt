@@ -1,9 +1,9 @@
 //! Passes a value whose text becomes an item.
 
-ghost use Rattle.std.specs.Prelude.{◌≡◌, ◌<◌, ◌≤◌, ◌+◌, ◌∷◌, ℕ, List, length, drop, reverse, vec_len, vec_capacity, IsTrue, IsFalse, IfSome, IfNone, suc};
+ghost use Rattle.std.specs.Prelude.{◌≡◌, ◌<◌, ◌≤◌, ◌+◌, ◌∷◌, ℕ, length, drop, vec_len, vec_capacity, IsTrue, IsFalse, IfSome, IfNone, suc};
 ghost use Rattle.gib_types.specs.{Tree.{Datum}, declared.table.TyId.{TyId}};
 ghost use Rattle.gib_packed.specs.Decoding.{Dec, Decodes};
-ghost use Rattle.gib_print.specs.Cut.{Comes, IsLeft};
+ghost use Rattle.gib_print.specs.Cut.{HasNext, ComesNext};
 
 use crate::frame::passed;
 use crate::item::Item;
@@ -54,11 +54,9 @@ pub(crate) fn pass_part<M: Mem>(
     mem: &mut M,
     layouts: &Layouts,
 ) -> Option<u64>
-    requires left { (names : List (List ℕ)) × (rest : List ℕ) × IsLeft layouts.now names (M.view mem.old).cells progress.old rest }
+    requires left { HasNext layouts.now (M.view mem.old).cells progress.old }
     ensures none { IfNone result ((progress.new.frames.items ≡ progress.old.frames.items) × (progress.new.end ≡ progress.old.end)) }
-    ensures some { IfSome result (λ at. (names : List (List ℕ)) (rest : List ℕ)
-        → IsLeft layouts.now names (M.view mem.old).cells progress.old rest
-        → Comes layouts.now names (M.view mem.old).cells (Item.Part at) (reverse progress.new.frames.items) progress.new.end rest) }
+    ensures some { IfSome result (λ at. ComesNext layouts.now (M.view mem.old).cells progress.old progress.new (Item.Part at)) }
     ensures same { M.view mem.new ≡ M.view mem.old }
 {
     let frame = match progress.frames.pop() {

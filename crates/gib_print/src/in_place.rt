@@ -6,6 +6,7 @@ ghost use Rattle.gib_print.specs.InPlace.{cells_of, packed_layout};
 ghost use Rattle.gib_types.specs.Tree.{Datum};
 ghost use Rattle.gib_value.specs.Text.{text, AreHeld};
 
+use crate::item::Printing;
 use crate::kept::Kept;
 use crate::packed_mem::PackedMem;
 use crate::print::{keep_text, truth_word};
@@ -45,10 +46,17 @@ fn text_in<M: Mem>(
     match survey.ty() {
         Ty::Whole => line_of(alloc, Buffer::new().format(whole_at(mem, 0)).as_bytes()),
         Ty::Truth => line_of(alloc, truth_word(truth_at(mem, 0))),
-        Ty::Tree(_) => match keep_text(mem, names, layouts, 0, Kept::all(alloc)) {
-            Some(text) => Ok(text),
-            None => Err(AllocError),
-        },
+        Ty::Tree(_) => {
+            let printing = Printing {
+                alloc,
+                layouts,
+                names,
+            };
+            match keep_text(mem, printing, 0, Kept::all(alloc)) {
+                Some(text) => Ok(text),
+                None => Err(AllocError),
+            }
+        }
     }
 }
 

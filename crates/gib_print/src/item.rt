@@ -13,7 +13,7 @@ use crate::walk::walk_once;
 use gib_base::Texts;
 use gib_edge::outside::{Failed, Sink};
 use gib_mem::Mem;
-use gib_types::{ConId, Layouts, TypeTable};
+use gib_types::{ConId, Layouts};
 use std::alloc::Global;
 
 /// What all items of a text share.
@@ -38,41 +38,26 @@ pub enum Item {
 fn put_turn<O: Sink>(
     waiting: &mut Waiting,
     sink: &mut O,
-    types: &TypeTable,
-    names: &Texts,
+    printing: Printing<'_>,
     printed: Printed,
 ) -> Result<(), Failed>
-    requires known { IsPrintable types.now printed }
-    requires names { AreHeld types.now names.now.short }
-    ensures { OnOk result (Sent (O.view sink.old) (O.view sink.new) waiting.old waiting.new (printed_text types.now names.now.short printed)) }
+    requires known { IsPrintable printing.layouts.now.table printed }
+    requires names { AreHeld printing.layouts.now.table printing.names.now.short }
+    ensures { OnOk result (Sent (O.view sink.old) (O.view sink.new) waiting.old waiting.new
+        (printed_text printing.entry.layouts.now.table printing.entry.names.now.short printed)) }
 {
     match printed {
         Printed::Whole(z) => put_whole(waiting, sink, z),
         Printed::Truth(b) => put_truth(waiting, sink, b),
-        Printed::Front(con) => put_piece(waiting, sink, types, names, Piece::Field(con)),
+        Printed::Front(con) => {
+            let types = printing.layouts.types();
+            put_piece(waiting, sink, types, printing.names, Piece::Field(con))
+        }
         Printed::Closes(count) => put_closes(waiting, sink, count),
     }
 }
 
-/// Puts a space, and the text of the value at an address.
-fn put_part<M: Mem, O: Sink>(
-    mem: &mut M,
-    printing: Printing<'_>,
-    at: u64,
-    waiting: &mut Waiting,
-    sink: &mut O,
-) -> Result<(), PrintFault>
-    requires names { AreHeld printing.layouts.now.table printing.names.now.short }
-    requires is { (bytes : List ℕ) × IsItem printing.layouts.now printing.names.now.short (M.view mem.old).cells (Item.Part at) bytes }
-    ensures done { (bytes : List ℕ) → IsItem printing.entry.layouts.now printing.entry.names.now.short (M.view mem.old).cells (Item.Part at) bytes
-        → OnOk result (Sent (O.view sink.old) (O.view sink.new) waiting.old waiting.new bytes) }
-    ensures same { M.view mem.new ≡ M.view mem.old }
-{
-    waiting.put_byte(sink, b' ')?;
-    walk_once(mem, printing, at, waiting, sink)
-}
-
-/// Puts an item.
+/// Puts an item; before the text of a part a space.
 pub(crate) fn put_item<M: Mem, O: Sink>(
     mem: &mut M,
     printing: Printing<'_>,
@@ -86,17 +71,20 @@ pub(crate) fn put_item<M: Mem, O: Sink>(
         → OnOk result (Sent (O.view sink.old) (O.view sink.new) waiting.old waiting.new bytes) }
     ensures same { M.view mem.new ≡ M.view mem.old }
 {
-    let types = printing.layouts.types();
     match item {
         Item::First(con) => {
+            let types = printing.layouts.types();
             put_piece(waiting, sink, types, printing.names, Piece::First(con))?;
             Ok(())
         }
         Item::Turn(printed) => {
-            put_turn(waiting, sink, types, printing.names, printed)?;
+            put_turn(waiting, sink, printing, printed)?;
             Ok(())
         }
-        Item::Part(at) => put_part(mem, printing, at, waiting, sink),
+        Item::Part(at) => {
+            waiting.put_byte(sink, b' ')?;
+            walk_once(mem, printing, at, waiting, sink)
+        }
         Item::Line => {
             waiting.put_byte(sink, b'\n')?;
             Ok(())
