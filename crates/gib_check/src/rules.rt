@@ -151,10 +151,15 @@ pub fn all_wanted(state: &State, parts: &[Part], due: &[TypeId]) -> Result<(), T
 {
     let mut ids = due;
     let mut rest = parts;
-    'parts: while let ([part, after @ ..], [ty, later @ ..]) = (rest, ids) {
-        wanted(state, ResultIds::One(*ty), *part)?;
-        ids = later;
-        rest = after;
+    'parts: while let [part, after @ ..] = rest {
+        match ids {
+            [] => return Ok(()),
+            [ty, later @ ..] => {
+                wanted(state, ResultIds::One(*ty), *part)?;
+                ids = later;
+                rest = after;
+            }
+        }
     }
     Ok(())
 }

@@ -217,11 +217,16 @@ impl State {
         let mut behind = 0_usize;
         let mut rest = names;
         let mut ids = types;
-        'variables: while let ([name, after @ ..], [ty, ids_after @ ..]) = (rest, ids) {
-            self.bind_part(behind, *name, *ty)?;
-            rest = after;
-            ids = ids_after;
-            behind += 1;
+        'variables: while let [name, after @ ..] = rest {
+            match ids {
+                [] => return Ok(()),
+                [ty, ids_after @ ..] => {
+                    self.bind_part(behind, *name, *ty)?;
+                    rest = after;
+                    ids = ids_after;
+                    behind += 1;
+                }
+            }
         }
         Ok(())
     }
@@ -253,10 +258,15 @@ impl State {
     {
         let mut names = variables;
         let mut ids = fields;
-        'variables: while let ([name, names_after @ ..], [ty, ids_after @ ..]) = (names, ids) {
-            self.bind(*name, *ty)?;
-            names = names_after;
-            ids = ids_after;
+        'variables: while let [name, names_after @ ..] = names {
+            match ids {
+                [] => return Ok(()),
+                [ty, ids_after @ ..] => {
+                    self.bind(*name, *ty)?;
+                    names = names_after;
+                    ids = ids_after;
+                }
+            }
         }
         Ok(())
     }
