@@ -173,8 +173,8 @@ module _ (core : CoreTree) (code : CodeTree) (owed : Owed) (own : Owned) (sh : S
   -- what is known of the frame once the scalar has come
   came : {s : Store} {sl : Slots} {fs : List Frame} {rs : List OpenRegion} {at x : ℕ} {xt : Ty} {u : Rest} {c : Ctx} {k : Kont} (w : ℕ) (v : Datum) → Waits core code s sl at x (Scalar xt) u c c.dest (cursor rs) k → Stack core code s k sl fs c.front rs → IsScalar xt w v → Led core code s (set sl x w) fs rs (with_var c x (Scalar xt) v 0) k c.front c.line.told
   came {s} {sl} {fs} {rs} {x = x} {xt = xt} {c = c} {k = k} w v wt st sc =
-      let h = HasAll-bind code.laid s sl c x (Scalar xt) v w 0 wt.new sc tt wt.matches.vars in
-      record { vars = h; stack = Stack-moved core code s k sl (set sl x w) fs c.front rs (all_moved_set code.laid s sl c.scope c.env k x w wt.under (not_there c.scope x wt.new)) st; knows = h.told }
+      let h = HasAll-bind code.laid s sl c x (Scalar xt) v w 0 wt.new sc tt wt.line.matches.vars in
+      record { vars = h; stack = Stack-moved core code s k sl (set sl x w) fs c.front rs (all_moved_set code.laid s sl c.scope c.env k x w wt.line.under (not_there c.scope x wt.new)) st; knows = h.told }
 
   -- the scalar of a line that waits has come
   scalar_comes : {s : Store} {m : State} {sl : Slots} {x : ℕ} {xt : Ty} {u : Rest} {c : Ctx} {k : Kont} (w : ℕ) (v : Datum) → Waits core code s sl m.ip x (Scalar xt) u c c.dest (cursor m.regions) k → m.words.vars ≡ (set sl x w).vars
@@ -182,7 +182,7 @@ module _ (core : CoreTree) (code : CodeTree) (owed : Owed) (own : Owned) (sh : S
       → AtRest core code owed own sh s m u (with_line (with_var c x (Scalar xt) v 0) (tell_line c.line.pending c.line)) k
   scalar_comes {s} {m} {sl} {x} {xt} {u} {c} {k} w v wt sv led g = comes core code owed own sh v 0 refl refl wt g (record {
     vars = HasAll-line (tell_line c.line.pending c.line) led.knows led.vars.closes led.vars;
-    dest = IsDest-line code.laid s m.words (with_var c x (Scalar xt) v 0) (cursor m.regions) c.dest (tell_line c.line.pending c.line) (IsDest-vars code.laid s (set sl x w) m.words (with_var c x (Scalar xt) v 0) (cursor m.regions) c.dest sv (IsDest-bind code.laid s (set sl x w) c (cursor m.regions) x (Scalar xt) v 0 c.dest wt.new (IsDest-moved code.laid s sl (set sl x w) c (cursor m.regions) c.dest (moved_set x w (not_there c.scope x wt.new)) wt.matches.dest)));
+    dest = IsDest-line code.laid s m.words (with_var c x (Scalar xt) v 0) (cursor m.regions) c.dest (tell_line c.line.pending c.line) (IsDest-vars code.laid s (set sl x w) m.words (with_var c x (Scalar xt) v 0) (cursor m.regions) c.dest sv (IsDest-bind code.laid s (set sl x w) c (cursor m.regions) x (Scalar xt) v 0 c.dest wt.new (IsDest-moved code.laid s sl (set sl x w) c (cursor m.regions) c.dest (moved_set x w (not_there c.scope x wt.new)) wt.line.matches.dest)));
   })
 
 tells_none : (wi : Within) (core : CoreTree) (t : Term) (q : ℕ) → IsNoCall t → side_tells wi core t q ≡ false
@@ -253,7 +253,7 @@ module _ (core : CoreTree) (code : CodeTree) (owed : Owed) (own : Owned) (sh : S
       let wt = st.5 in
       let back = record m { ip = f.back; words = set f.words y w; frames = fs; gave = sl.ends; depth = suc m.depth; doing = Ready } in
       silent (step_is code (at_rest here l sl) (i.Give (operand x)) refl (first_at e') ∙ ap (λ (q : Option ℕ). Silent (record back { words = set_answer f.words q w })) st.1)
-      (gots_all core code owed own sh s back (with_var o y (Scalar yt) v 0) k o.front st.2 (all_under_bind o.scope o.env k y (Scalar yt) v wt.new wt.under) o f.words st.3.within st.3.name st.3.arguments st.3.parameters o.line.told refl st.3.gots st.3.fits
+      (gots_all core code owed own sh s back (with_var o y (Scalar yt) v 0) k o.front st.2 (all_under_bind o.scope o.env k y (Scalar yt) v wt.new wt.line.under) o f.words st.3.within st.3.name st.3.arguments st.3.parameters o.line.told refl st.3.gots st.3.fits
       (record { still = λ q g. let ne = other o.scope q y (settled_there (o.scope q) g) wt.new in (put-other o.scope y q (Scalar yt) ne, set-other f.words y q w ne, bound-other o.env y v q ne) })
       (subst (λ (r : List (Option Given)). Gave code.laid s sl.ends 0 r) st.3.given (gives_back code.laid s sl c 0 gs hl.vars at.line.given))
       (λ q g. (hl.knows q (at.fits.4.1 q (st.3.asked q g))).some)

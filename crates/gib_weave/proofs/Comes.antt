@@ -112,21 +112,24 @@ module _ (core : CoreTree) (code : CodeTree) (owed : Owed) (own : Owned) (sh : S
       → IsDest code.laid s sl' c c.dest (cursor m.regions) → Stack core code s k sl' m.frames c.front m.regions → Coming sl' tys xs (with_var c x.0 (param_sort ty) v pl) vs
   one_comes sl sl' x xs ty tys c v vs pl g has dest stack =
       let w = g.waits in
+      let l = w.line in
       let few = w.few in
       let so = param_sort ty in record {
         waits = record {
-          low = rest_code_put core code c.line.within c.scope ip u (end_of c.line.overs k) x.0 so (no_field ty) w.low;
+          line = record {
+            low = rest_code_put core code c.line.within c.scope ip u (end_of c.line.overs k) x.0 so (no_field ty) l.low;
+            matches = record { vars = has; dest = IsDest-bind code.laid s sl' c (cursor m.regions) x.0 so v pl c.dest w.new.0 dest };
+            under = all_under_bind c.scope c.env k x.0 so v w.new.0 l.under;
+            given = given_bind c x.0 so v pl (given_of k) w.new.0 l.given;
+            calm = l.calm;
+            kind = l.kind;
+            narrow = l.narrow;
+          };
           fits = w.fits;
           few = omega (arith, few);
           new = new_less (put c.scope x.0 Held) (put c.scope x.0 so) tys xs (new_but c.scope x.0 so) w.new.1;
-          matches = record { vars = has; dest = IsDest-bind code.laid s sl' c (cursor m.regions) x.0 so v pl c.dest w.new.0 dest };
-          under = all_under_bind c.scope c.env k x.0 so v w.new.0 w.under;
-          given = given_bind c x.0 so v pl (given_of k) w.new.0 w.given;
-          calm = w.calm;
-          kind = w.kind;
           free = w.free.1;
           next = w.next;
-          narrow = w.narrow;
         };
         stack = stack;
         group = g.group;
@@ -142,30 +145,30 @@ module _ (core : CoreTree) (code : CodeTree) (owed : Owed) (own : Owned) (sh : S
       → Coming sl (ty ∷ tys) (x ∷ xs) c (v ∷ vs) → Coming (set sl x.0 w) tys xs (with_var c x.0 (param_sort ty) v pl) vs
   word_comes sl x xs ty tys c w v vs pl has end g =
       let new = g.waits.new.0 in
-      one_comes sl (set sl x.0 w) x xs ty tys c v vs pl g (HasAll-bind code.laid s sl c x.0 (param_sort ty) v w pl new has end g.waits.matches.vars)
-      (IsDest-moved code.laid s sl (set sl x.0 w) c (cursor m.regions) c.dest (moved_set x.0 w (not_there c.scope x.0 new)) g.waits.matches.dest)
-      (Stack-moved core code s k sl (set sl x.0 w) m.frames c.front m.regions (all_moved_set code.laid s sl c.scope c.env k x.0 w g.waits.under (not_there c.scope x.0 new)) g.stack)
+      one_comes sl (set sl x.0 w) x xs ty tys c v vs pl g (HasAll-bind code.laid s sl c x.0 (param_sort ty) v w pl new has end g.waits.line.matches.vars)
+      (IsDest-moved code.laid s sl (set sl x.0 w) c (cursor m.regions) c.dest (moved_set x.0 w (not_there c.scope x.0 new)) g.waits.line.matches.dest)
+      (Stack-moved core code s k sl (set sl x.0 w) m.frames c.front m.regions (all_moved_set code.laid s sl c.scope c.env k x.0 w g.waits.line.under (not_there c.scope x.0 new)) g.stack)
 
   -- none is left, and the line goes on
   none_left : (sl : Slots) (c : Ctx) (vs : List Datum) → Coming sl [] [] c vs → Safe core code owed own sh s (at_rest m ip sl)
   none_left sl c vs g = rests (at_term {u = u} {c = with_line c (tell_line none_of c.line)} {k = k} record {
     ready = refl;
-    low = g.waits.low;
+    low = g.waits.line.low;
     fits = g.waits.fits;
     line = record {
-      kind = g.waits.kind;
-      matches = Matches-line (tell_line none_of c.line) (λ q e. g.waits.matches.vars.told q (or_none (c.line.told q) e)) g.waits.matches.vars.closes g.waits.matches;
+      kind = g.waits.line.kind;
+      matches = Matches-line (tell_line none_of c.line) (λ q e. g.waits.line.matches.vars.told q (or_none (c.line.told q) e)) g.waits.line.matches.vars.closes g.waits.line.matches;
       stack = g.stack;
-      under = g.waits.under;
-      given = g.waits.given;
-      calm = g.waits.calm;
+      under = g.waits.line.under;
+      given = g.waits.line.given;
+      calm = g.waits.line.calm;
     };
     group = g.group;
     memory = g.memory;
     ties = g.ties;
     owes = g.owes;
     counted = g.counted;
-    room = record { free = g.waits.next; narrow = g.waits.narrow; nests = g.room.0; all_room = g.room.1 };
+    room = record { free = g.waits.next; narrow = g.waits.line.narrow; nests = g.room.0; all_room = g.room.1 };
   })
 
   -- All come: the scalar ones as words for their slots, the packed ones where their slots were set.
@@ -189,7 +192,7 @@ module _ (core : CoreTree) (code : CodeTree) (owed : Owed) (own : Owned) (sh : S
       let a = ps.0.0 in
       let e = ps.0.1 in
       all_come sl tys xs (with_var c x.0 (Placed t.0) v a) ws svs pvs
-      (one_comes sl sl x xs (Tree t) tys c v (merge tys svs pvs) a g (HasAll-set code.laid s sl c x.0 (Placed t.0) v a g.waits.new.0 (record { same = ap (λ (z : WithEnd). z.word) e; stands = ps.0.2 }) (held_end sl x.0 e) g.waits.matches.vars) g.waits.matches.dest g.stack)
+      (one_comes sl sl x xs (Tree t) tys c v (merge tys svs pvs) a g (HasAll-set code.laid s sl c x.0 (Placed t.0) v a g.waits.new.0 (record { same = ap (λ (z : WithEnd). z.word) e; stands = ps.0.2 }) (held_end sl x.0 e) g.waits.line.matches.vars) g.waits.line.matches.dest g.stack)
       ns ps.1
 
   -- An answer has come: each slot is set to its word.

@@ -287,17 +287,17 @@ module _ (core : CoreTree) (code : CodeTree) (owed : Owed) (own : Owned) (sh : S
   pub comes : {s : Store} {m : State} {sl : Slots} {x : ℕ} {so : Sort} {u : Rest} {c : Ctx} {after : Dest} {cur : ℕ} {k : Kont} (v : Datum) (pl : ℕ) → is_field so ≡ false → dest_type after ≡ dest_type c.dest → Waits core code s sl m.ip x so u c after cur k
       → Resumes s m x v u c after k → Matches code.laid s m.words (with_dest (with_line (with_var c x so v pl) (tell_line c.line.pending c.line)) after) (cursor m.regions)
       → AtRest core code owed own sh s m u (with_dest (with_line (with_var c x so v pl) (tell_line c.line.pending c.line)) after) k
-  comes {m = m} {x = x} {so = so} {u = u} {c = c} {k = k} v pl nf kd w g ma = record {
+  comes {m = m} {x = x} {so = so} {u = u} {c = c} {k = k} v pl nf kd w g ma = let l = w.line in record {
     ready = g.ready;
     group = g.group;
-    low = rest_code_put core code c.line.within c.scope m.ip u (end_of c.line.overs k) x so nf w.low;
+    low = rest_code_put core code c.line.within c.scope m.ip u (end_of c.line.overs k) x so nf l.low;
     fits = w.fits;
-    line = record { kind = kd ∙ w.kind; matches = ma; stack = g.stack; under = all_under_bind c.scope c.env k x so v w.new w.under; given = given_bind c x so v pl (given_of k) w.new w.given; calm = w.calm };
+    line = record { kind = kd ∙ l.kind; matches = ma; stack = g.stack; under = all_under_bind c.scope c.env k x so v w.new l.under; given = given_bind c x so v pl (given_of k) w.new l.given; calm = l.calm };
     memory = g.memory;
     ties = record { sides = sides_bound core m.depth m.level x v u c.env k (sides_of core m.depth (level_after m.level u) k) w.free ∙ g.ties.sides; pars = g.ties.pars; side = g.ties.side; result = g.ties.result; type = g.ties.type };
     owes = g.owes;
     counted = g.counted;
-    room = record { free = follows x u k w.free; narrow = w.narrow; nests = g.room.0; all_room = g.room.1 };
+    room = record { free = follows x u k w.free; narrow = l.narrow; nests = g.room.0; all_room = g.room.1 };
   }
 
   -- the tree v of the type t stands at a, and the code of what follows a term is next
@@ -366,13 +366,13 @@ module _ (core : CoreTree) (code : CodeTree) (owed : Owed) (own : Owned) (sh : S
       let c1 = with_var c x (Placed s') v a in
       let c1' = with_line c1 ln in
       let c2 = with_dest c1' (more c.dest x) in
-      let hs = HasAll-set code.laid s m.words c x (Placed s') v a w.new place (held_end m.words x h.led.stack.0) w.matches.vars in
+      let hs = HasAll-set code.laid s m.words c x (Placed s') v a w.new place (held_end m.words x h.led.stack.0) w.line.matches.vars in
       let hl = HasAll-line {c = c1} ln (told_side m.words c ic x (Placed s') v a w.new w.asked (λ q e. h.led.knows q (h.meets q e)) hs.told) hs.closes hs in
       silently h.ready (first_at h.ends) refl (rests (at_term (comes core code owed own sh v a refl (dest_more c.dest x) w
       (record { ready = refl; stack = h.led.stack.3; group = group_more code.laid s c.dest x s' (made u) rs h.led.stack.1; memory = heads_less (λ q. let e = covers_more code.laid c.head c.dest x k q in omega (arith, e)) h.memory; ties = h.ties; owes = h.owes; counted = h.counted; room = h.all_room })
       (record {
         vars = HasAll-dest {c = c1'} {c' = c2} refl (keeps_dest c1' (more c.dest x)) hl (λ y. refl) (λ y. refl) (λ y. refl) hl.told hl.closes;
-        dest = IsDest-line code.laid s m.words (with_dest c1 (more c.dest x)) (cursor rs) (more c.dest x) ln (IsDest-more code.laid s m.words c a (cursor rs) x s' v c.dest w.new h.led.stack.1 dec w.matches.dest);
+        dest = IsDest-line code.laid s m.words (with_dest c1 (more c.dest x)) (cursor rs) (more c.dest x) ln (IsDest-more code.laid s m.words c a (cursor rs) x s' v c.dest w.new h.led.stack.1 dec w.line.matches.dest);
       }))))
   ends_by (KRegion l x s' u c k) s m fs [] ic T t v a h = absurd h.led.stack
   ends_by (KRegion l x s' u c k) s m fs (r ∷ rs) ic T t v a h =
@@ -380,7 +380,7 @@ module _ (core : CoreTree) (code : CodeTree) (owed : Owed) (own : Owned) (sh : S
       let dec : Dec code.laid s a s' v r.cur = subst (λ (z : ℕ). Dec code.laid s a z v r.cur) (sym (same_tree s' t (ap one_type h.tree))) h.dec in
       let place : IsPlaced code.laid s s' (slot m.words x) a v = record { same = ap (λ (b : WithEnd). b.word) h.led.stack.0; stands = record { end = r.cur; dec = dec } } in
       let paid : Paid rs (left_costs core m.depth m.level u ((x, v) ∷ c.env) k) sh 0 = finish_counted r rs (later_costs core m.depth m.level (KRegion l x s' u c k) (Gives v)) (left_costs core m.depth m.level u ((x, v) ∷ c.env) k) sh (record { regions = omega arith; items = omega arith }) h.counted in
-      let hs = HasAll-set code.laid s m.words c x (Placed s') v a w.new place (held_end m.words x h.led.stack.0) w.matches.vars in
+      let hs = HasAll-set code.laid s m.words c x (Placed s') v a w.new place (held_end m.words x h.led.stack.0) w.line.matches.vars in
       silently h.ready (first_at h.ends) refl (silently refl h.led.stack.2 refl (counts paid.spends (rests (at_term (comes core code owed own paid.share v a refl refl w
       (record {
         ready = refl;
@@ -392,7 +392,7 @@ module _ (core : CoreTree) (code : CodeTree) (owed : Owed) (own : Owned) (sh : S
         counted = paid.counted;
         room = h.all_room;
       })
-      (Matches-line (tell_line c.line.pending c.line) (told_side m.words c ic x (Placed s') v a w.new w.asked (λ q e. h.led.knows q (h.meets q e)) hs.told) hs.closes (record { vars = hs; dest = IsDest-bind code.laid s m.words c (cursor rs) x (Placed s') v a c.dest w.new w.matches.dest })))))))
+      (Matches-line (tell_line c.line.pending c.line) (told_side m.words c ic x (Placed s') v a w.new w.asked (λ q e. h.led.knows q (h.meets q e)) hs.told) hs.closes (record { vars = hs; dest = IsDest-bind code.laid s m.words c (cursor rs) x (Placed s') v a c.dest w.new w.line.matches.dest })))))))
   ends_by (KScalar l x u' u c k) s m fs rs ic T t v a h = absurd (true≢false (sym h.led.stack.0 ∙ ap no_tree h.tree))
   ends_by (KCall gs wc k) s m [] rs ic T t v a h = absurd h.led.stack
   ends_by (KCall gs wc k) s m (f ∷ fs) rs ic T t v a h =

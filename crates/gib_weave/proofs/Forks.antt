@@ -396,7 +396,7 @@ module _ (core : CoreTree) (code : CodeTree) (owed : Owed) (own : Owned) (sh : S
       → Has code.laid s (with_var c x so v pl) so w v pl (c.hd x) → HasEnd code.laid s so w 0 v pl → Resumes core code owed own sh s m x v u c c.dest k
       → AtRest core code owed own sh s m u (with_line (with_var c x so v pl) (tell_line c.line.pending c.line)) k
   bound_comes {s} {m} {sl} {x} {so} {u} {c} {k} w pl v e np nf wt has he g =
-      let hb = Matches-bind x so v w pl wt.new has he wt.matches in
+      let hb = Matches-bind x so v w pl wt.new has he wt.line.matches in
       comes core code owed own sh v pl nf refl wt g (subst (λ (q : Slots). Matches code.laid s q (with_line (with_var c x so v pl) (tell_line c.line.pending c.line)) (cursor m.regions)) (sym e)
       (Matches-line (tell_line c.line.pending c.line) (λ q e. hb.vars.told q (or_not (c.line.told q) (c.line.pending q) (np q) e)) hb.vars.closes hb))
 
@@ -410,9 +410,9 @@ module _ (core : CoreTree) (code : CodeTree) (owed : Owed) (own : Owned) (sh : S
       let c1' = with_line c1 ln in
       let c2 = with_dest c1' (more c.dest x) in
       let place : IsPlaced code.laid s t (slot m.words x) a v = record { same = ap (λ (b : WithEnd). b.word) sl_x; stands = record { end = cursor m.regions; dec = dec } } in
-      let hs = HasAll-set code.laid s m.words c x (Placed t) v a w.new place (held_end m.words x sl_x) w.matches.vars in
+      let hs = HasAll-set code.laid s m.words c x (Placed t) v a w.new place (held_end m.words x sl_x) w.line.matches.vars in
       let hl = HasAll-line {c = c1} ln (λ q e. hs.told q (or_not (c.line.told q) (c.line.pending q) (np q) e)) hs.closes hs in
       comes core code owed own sh v a refl (dest_more c.dest x) w g (record {
         vars = HasAll-dest {c = c1'} {c' = c2} refl (keeps_dest c1' (more c.dest x)) hl (λ y. refl) (λ y. refl) (λ y. refl) hl.told hl.closes;
-        dest = IsDest-line code.laid s m.words (with_dest c1 (more c.dest x)) (cursor m.regions) (more c.dest x) ln (IsDest-more code.laid s m.words c a (cursor m.regions) x t v c.dest w.new due dec w.matches.dest);
+        dest = IsDest-line code.laid s m.words (with_dest c1 (more c.dest x)) (cursor m.regions) (more c.dest x) ln (IsDest-more code.laid s m.words c a (cursor m.regions) x t v c.dest w.new due dec w.line.matches.dest);
       })

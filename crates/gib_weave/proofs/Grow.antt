@@ -21,7 +21,7 @@ use Rattle.gib_weave.specs.Groups.{unused}
 use Rattle.gib_weave.proofs.Groups.{Group-grows}
 use Rattle.gib_weave.specs.Owing.{Debt}
 use Rattle.gib_weave.specs.Sound.{SideSafe}
-use Rattle.gib_weave.specs.Stacks.{Waits, Stack}
+use Rattle.gib_weave.specs.Stacks.{Paused, Waits, Stack}
 
 -- Stores that grow.
 
@@ -81,8 +81,11 @@ HasAll-grows {laid = laid} {s = s} {r = r} {sl = sl} {c = c} g h = record { has 
 pub Matches-grows : {laid : LaidOut} {s r : Store} {sl : Slots} {c : Ctx} {cur : ℕ} → Grows s r → Matches laid s sl c cur → Matches laid r sl c cur
 Matches-grows {laid = laid} {s = s} {r = r} {sl = sl} {c = c} {cur = cur} g m = record { vars = HasAll-grows g m.vars; dest = IsDest-grows laid s r sl c cur c.dest g m.dest }
 
+pub Paused-grows : {core : CoreTree} {code : CodeTree} {s r : Store} {sl : Slots} {at : ℕ} {u : Rest} {c : Ctx} {cur : ℕ} {k : Kont} → Grows s r → Paused core code s sl at u c cur k → Paused core code r sl at u c cur k
+Paused-grows g l = record { low = l.low; matches = Matches-grows g l.matches; under = l.under; given = l.given; calm = l.calm; kind = l.kind; narrow = l.narrow }
+
 pub Waits-grows : {core : CoreTree} {code : CodeTree} {s r : Store} {sl : Slots} {at x : ℕ} {so : Sort} {u : Rest} {c : Ctx} {after : Dest} {cur : ℕ} {k : Kont} → Grows s r → Waits core code s sl at x so u c after cur k → Waits core code r sl at x so u c after cur k
-Waits-grows g w = record { free = w.free; narrow = w.narrow; low = w.low; fits = w.fits; asked = w.asked; new = w.new; matches = Matches-grows g w.matches; given = w.given; under = w.under; calm = w.calm; kind = w.kind }
+Waits-grows g w = record { line = Paused-grows g w.line; fits = w.fits; asked = w.asked; new = w.new; free = w.free }
 
 pub Stack-grows : (core : CoreTree) (code : CodeTree) {s r : Store} (k : Kont) (sl : Slots) (fs : List Frame) (a : ℕ) (rs : List OpenRegion) → Grows s r → Stack core code s k sl fs a rs → Stack core code r k sl fs a rs
 Stack-grows core code (KEnd ty) sl [] a rs g h = h
@@ -116,7 +119,7 @@ Stack-grows core code (KSeveral l xs tys u c k) sl fs a rs g h =
       h.0,
       h.1,
       h.2,
-      record { low = w.low; fits = w.fits; few = w.few; new = w.new; matches = Matches-grows g w.matches; under = w.under; given = w.given; calm = w.calm; kind = w.kind; free = w.free; next = w.next; narrow = w.narrow },
+      record { line = Paused-grows g w.line; fits = w.fits; few = w.few; new = w.new; free = w.free; next = w.next },
       Stack-grows core code k sl fs c.front (drop (length (packed_slots tys xs)) rs) g h.4,
       Group-grows code.laid c.dest (made u) (drop (length (packed_slots tys xs)) rs) g h.5,
     )

@@ -31,7 +31,7 @@ use Rattle.gib_core.specs.Ending.{within_par}
 use Rattle.gib_weave.proofs.Lines.{pend, loosened, resume-stop, waiting, several_waits, all_follow, line_grows, line_set}
 use Rattle.gib_weave.proofs.Indirects.{pointed}
 use Rattle.gib_weave.proofs.Forks.{par_tells, own_most, right_costs, right_at, bound_comes, field_comes}
-use Rattle.gib_weave.proofs.Move.{with_var, moved_set, Matches-moved, not_there, absent_slot, covers_more, with_dest, with_line}
+use Rattle.gib_weave.proofs.Move.{with_var, moved_set, Paused-moved, not_there, absent_slot, covers_more, with_dest, with_line}
 use Rattle.gib_weave.proofs.Sorts.{is_field}
 use Rattle.gib_core.specs.Fits.{none_of, tell_line, side_tells, put, Sort, Absent, Scalar, Placed, Dest, more, cased, loosen, Fits}
 use Rattle.gib_packed.specs.Reaching.{there}
@@ -159,7 +159,7 @@ module _ (core : CoreTree) (code : CodeTree) (owed : Owed) (own : Owned) (sh : S
       let here = record (after_join m p k z) { words = set m.words y.0 r.cur; regions = r ∷ rs; doing = Joining y.0 b } in
       let packed : no_tree (due k) ≡ false = sym (ap no_tree at.line.kind) ∙ due-packed c.dest x at.fits.2 in
       let w0 = waits_at core code owed own sh s open_m p c k at {so = Placed x} {after = more c.dest y.0} {z = z + 1} new at.fits.5 low in
-      let w1 : Waits core code s (set m.words y.0 r.cur) (z + 1) y.0 (Placed x) (Plain u) (behind_par core t c) (more c.dest y.0) r.cur k = record { free = w0.free; narrow = w0.narrow; low = w0.low; fits = w0.fits; asked = w0.asked; new = w0.new; matches = Matches-moved (moved_set y.0 r.cur (not_there (behind_par core t c).scope y.0 w0.new)) w0.matches; given = w0.given; under = w0.under; calm = w0.calm; kind = w0.kind } in
+      let w1 : Waits core code s (set m.words y.0 r.cur) (z + 1) y.0 (Placed x) (Plain u) (behind_par core t c) (more c.dest y.0) r.cur k = record { line = Paused-moved (moved_set y.0 r.cur (not_there (behind_par core t c).scope y.0 w0.new)) w0.line; fits = w0.fits; asked = w0.asked; new = w0.new; free = w0.free } in
       moves (pointed core code left own sh' s r rs b (heads code.laid c.head c.dest k) left_cost (doing (after_join (record m { regions = r ∷ rs }) p k z) (Joining y.0 b)) here (plus one_item left_cost) (record { regions = omega arith; items = omega arith }) count refl (dec_small at.memory.small st.dec) at.memory
       (λ own' sh2 s' r' a q. rests (at_term {u = Plain u} {c = with_dest (with_line (with_var (behind_par core t c) y.0 (Placed x) v r.cur) (tell_line (behind_par core t c).line.pending (behind_par core t c).line)) (more c.dest y.0)} {k = k} (field_comes core code left own' sh2 {m = record here { ip = z + 1; regions = r' ∷ rs; doing = Ready }} {x = y.0} {t = x} {u = Plain u} {c = behind_par core t c} {k = k} {a = r.cur} v (λ q e. par_tells c.line.within core t q e) (Rattle.gib_weave.proofs.Grow.Waits-grows q.grows w1)
       (both-same m.words y.0 r.cur (at.line.matches.vars.wide y.0 (absent_slot c.scope y.0 new)) at.line.matches.vars.even) at.fits.2

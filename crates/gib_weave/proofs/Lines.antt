@@ -305,17 +305,19 @@ module _ {core : CoreTree} {code : CodeTree} {s : Store} {sl : Slots} {fs : List
       → Follows x u k → rest_nest u ≤ nesting code → c.scope x ≡ Absent → RestCode core code c.line.within c.scope at u (end_of c.line.overs k) → RestFits core (needs_of k) u (put (loosen (cased t) c.scope) x so) after (tell_line f c.line) → ((q : ℕ) → f q ≡ true → is_settled (c.scope q) ≡ true)
       → Waits core code s sl at x so u (loosened (cased t) (pend f g c)) after (cursor rs) k
   waiting {at} {x} {so} t {f} g {u} l less free nar new low fits asked = record {
-    free = free;
-    narrow = nar;
-    low = rest_code_loosen core code c.line.within c.scope at u (end_of c.line.overs k) (cased t) low;
+    line = record {
+      low = rest_code_loosen core code c.line.within c.scope at u (end_of c.line.overs k) (cased t) low;
+      matches = Matches-loosen (cased t) (Matches-pend f g l.matches);
+      under = all_under_loosen c.scope c.env k (cased t) l.under;
+      given = given_keeps c (loosened (cased t) (pend f g c)) 0 (given_of k) (record { there = λ y h. loosen-there (cased t y) (c.scope y) ∙ h; places = λ y h. refl; values = λ y h. refl; at_head = λ y o e. loosen-head (cased t y) (c.scope y) o e; heads = λ y o e. refl }) (λ y. goes_loosen (cased t y) (c.scope y)) l.given;
+      calm = all_calm_less m (rest_cased u) k less l.calm;
+      kind = l.kind;
+      narrow = nar;
+    };
     fits = fits;
     asked = λ q e. loosen-settled (cased t q) (c.scope q) ∙ asked q e;
     new = loosen-absent (cased t x) (c.scope x) new;
-    matches = Matches-loosen (cased t) (Matches-pend f g l.matches);
-    under = all_under_loosen c.scope c.env k (cased t) l.under;
-    given = given_keeps c (loosened (cased t) (pend f g c)) 0 (given_of k) (record { there = λ y h. loosen-there (cased t y) (c.scope y) ∙ h; places = λ y h. refl; values = λ y h. refl; at_head = λ y o e. loosen-head (cased t y) (c.scope y) o e; heads = λ y o e. refl }) (λ y. goes_loosen (cased t y) (c.scope y)) l.given;
-    calm = all_calm_less m (rest_cased u) k less l.calm;
-    kind = l.kind;
+    free = free;
   }
 
   -- it waits for the parts of several variables, which a term with such cases makes
@@ -323,18 +325,20 @@ module _ {core : CoreTree} {code : CodeTree} {s : Store} {sl : Slots} {fs : List
       → length tys ≤ 8 → AreNew c.scope tys xs → RestCode core code c.line.within c.scope at u (end_of c.line.overs k) → RestFits core (needs_of k) u (bound_scope tys xs (loosen (cased t) c.scope)) c.dest (tell_line none_of c.line)
       → SeveralWaits core code s sl at xs tys u (loosened (cased t) c) (cursor rs) k
   several_waits {at} {xs} {tys} t {u} l less free next nar few new low fits = record {
-    low = rest_code_loosen core code c.line.within c.scope at u (end_of c.line.overs k) (cased t) low;
+    line = record {
+      low = rest_code_loosen core code c.line.within c.scope at u (end_of c.line.overs k) (cased t) low;
+      matches = Matches-loosen (cased t) l.matches;
+      under = all_under_loosen c.scope c.env k (cased t) l.under;
+      given = given_keeps c (loosened (cased t) c) 0 (given_of k) (keeps_loosened (cased t) c) (λ y. goes_loosen (cased t y) (c.scope y)) l.given;
+      calm = all_calm_less m (rest_cased u) k less l.calm;
+      kind = l.kind;
+      narrow = nar;
+    };
     fits = fits;
     few = few;
     new = new_less c.scope (loosen (cased t) c.scope) tys xs (λ y e. loosen-absent (cased t y) (c.scope y) e) new;
-    matches = Matches-loosen (cased t) l.matches;
-    under = all_under_loosen c.scope c.env k (cased t) l.under;
-    given = given_keeps c (loosened (cased t) c) 0 (given_of k) (keeps_loosened (cased t) c) (λ y. goes_loosen (cased t y) (c.scope y)) l.given;
-    calm = all_calm_less m (rest_cased u) k less l.calm;
-    kind = l.kind;
     free = free;
     next = next;
-    narrow = nar;
   }
 
 -- a term that opens no more

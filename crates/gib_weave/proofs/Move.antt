@@ -16,7 +16,7 @@ use Rattle.gib_core.specs.Fits.{put, Sort, Outside, Absent, Scalar, Held, Placed
 use Rattle.gib_weave.specs.Environment.{AllClose, Ctx, IsScalar, StandsAt, Has, HasAll, Fields, none, field, IsDest, Matches}
 use Rattle.gib_weave.specs.Continuing.{Rest, KSide, KLast, Kont, KEnd, KHere, KRegion, KScalar, KCall, KCallScalar, KPart, KSeveral, Goes, Under, AllUnder}
 use Rattle.gib_weave.specs.Places.{kont_covers, heads}
-use Rattle.gib_weave.specs.Stacks.{Waits, Stack}
+use Rattle.gib_weave.specs.Stacks.{Paused, Waits, Stack}
 use Rattle.gib_weave.specs.Groups.{unused}
 use Rattle.gib_weave.proofs.Groups.{AreSame, same_held, starts_same}
 use Rattle.gib_weave.proofs.Basics.{by_test, put-same, put-other, set-same, set-other, set-length, end-same, end-other, ends-length, both-other}
@@ -114,8 +114,11 @@ HasAll-moved {laid} {s} {sl} {sl'} {c} m h = record {
 pub Matches-moved : {laid : LaidOut} {s : Store} {sl sl' : Slots} {c : Ctx} {cur : ℕ} → Moved laid s sl sl' c → Matches laid s sl c cur → Matches laid s sl' c cur
 Matches-moved {laid} {s} {sl} {sl'} {c} {cur} m h = record { vars = HasAll-moved m h.vars; dest = IsDest-moved laid s sl sl' c cur c.dest m h.dest }
 
+pub Paused-moved : {core : CoreTree} {code : CodeTree} {s : Store} {sl sl' : Slots} {at : ℕ} {u : Rest} {c : Ctx} {cur : ℕ} {k : Kont} → Moved code.laid s sl sl' c → Paused core code s sl at u c cur k → Paused core code s sl' at u c cur k
+Paused-moved m l = record { low = l.low; matches = Matches-moved m l.matches; under = l.under; given = l.given; calm = l.calm; kind = l.kind; narrow = l.narrow }
+
 Waits-moved : {core : CoreTree} {code : CodeTree} {s : Store} {sl sl' : Slots} {at x : ℕ} {so : Sort} {u : Rest} {c : Ctx} {after : Dest} {cur : ℕ} {k : Kont} → Moved code.laid s sl sl' c → Waits core code s sl at x so u c after cur k → Waits core code s sl' at x so u c after cur k
-Waits-moved m w = record { free = w.free; narrow = w.narrow; low = w.low; fits = w.fits; asked = w.asked; new = w.new; matches = Matches-moved m w.matches; given = w.given; under = w.under; calm = w.calm; kind = w.kind }
+Waits-moved m w = record { line = Paused-moved m w.line; fits = w.fits; asked = w.asked; new = w.new; free = w.free }
 
 -- the lines of this frame that wait rely on none of the changes
 abbrev pub AllMoved : LaidOut → Store → Slots → Slots → Kont → Type 0
@@ -162,7 +165,7 @@ Stack-moved core code s (KSeveral l xs tys u c k) sl sl' fs a rs m h =
       starts_same sl sl' (packed_slots tys xs) rs m.0 h.0,
       h.1,
       h.2,
-      record { low = w.low; fits = w.fits; few = w.few; new = w.new; matches = Matches-moved m.1 w.matches; under = w.under; given = w.given; calm = w.calm; kind = w.kind; free = w.free; next = w.next; narrow = w.narrow },
+      record { line = Paused-moved m.1 w.line; fits = w.fits; few = w.few; new = w.new; free = w.free; next = w.next },
       Stack-moved core code s k sl sl' fs c.front (drop (length (packed_slots tys xs)) rs) m.2 h.4,
       h.5,
     )

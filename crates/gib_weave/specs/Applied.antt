@@ -22,7 +22,7 @@ use Rattle.gib_weave.specs.declared.task.WeaveFault.{WeaveFault}
 use Rattle.gib_weave.specs.declared.task.WeaveFault.TheVariants as fault
 use Rattle.gib_machine.specs.declared.turn.Turn.{Turn}
 use Rattle.gib_machine.specs.declared.turn.Turn.TheVariants as turn
-use Rattle.gib_weave.specs.Weave.{Weave, Task, Event, Step, Fork, Steal, Take, Finish, Join, Next, Enabled, Status, Stolen, Waits, Stage, asks, has_waiting, is_running, task}
+use Rattle.gib_weave.specs.Weave.{Weave, Task, Event, Step, Fork, Steal, Take, Finish, Join, Next, Enabled, Status, Stolen, StepsBy, Waits, Stage, asks, has_waiting, is_running, task}
 use Rattle.gib_weave.specs.Weave as w
 
 -- A right side as the code keeps it.
@@ -146,12 +146,7 @@ IsDraw (Ended a) = ⊥
 
 -- Of an event.
 abbrev pub DrawsNow : CodeTree → Weave → Event → Type 0
-DrawsNow code v (Step i) = IsDraw (asks code v i)
-DrawsNow code v (Fork i) = ⊥
-DrawsNow code v (Steal i) = ⊥
-DrawsNow code v (Take i) = ⊥
-DrawsNow code v (Finish i) = ⊥
-DrawsNow code v (Join i) = ⊥
+DrawsNow code v e = StepsBy IsDraw code v e
 
 -- The event may take memory: at a fork a right side is kept, and by a steal a machine is made.
 abbrev pub TakesMemory : Event → Type 0

@@ -3,7 +3,7 @@ use Rattle.std.specs.Prelude.{◌≡◌, ◌≤◌, ◌<◌, ◌+◌, ℕ, suc, 
 use Rattle.gib_mem.specs.Memory.{Store, byte}
 use Rattle.gib_code.specs.Program.{CodeTree}
 use Rattle.gib_machine.specs.State.{Ask, Silent, Get, Put, Draw, AtFork, AtJoin, Ended}
-use Rattle.gib_weave.specs.Weave.{Weave, Event, Step, Fork, Steal, Take, Finish, Join, Next, asks}
+use Rattle.gib_weave.specs.Weave.{Weave, Event, Next, StepsBy}
 
 -- A byte stands at the address.
 abbrev pub HasByte : Store → ℕ → Type 0
@@ -31,21 +31,11 @@ PutsAt (Ended a) q = ⊥
 
 -- The event gets the byte at the address.
 abbrev pub Gets : CodeTree → Weave → Event → ℕ → Type 0
-Gets code w (Step i) q = GetsAt (asks code w i) q
-Gets code w (Fork i) q = ⊥
-Gets code w (Steal i) q = ⊥
-Gets code w (Take i) q = ⊥
-Gets code w (Finish i) q = ⊥
-Gets code w (Join i) q = ⊥
+Gets code w e q = StepsBy (λ (a : Ask). GetsAt a q) code w e
 
 -- The event puts a byte at the address.
 abbrev pub Puts : CodeTree → Weave → Event → ℕ → Type 0
-Puts code w (Step i) q = PutsAt (asks code w i) q
-Puts code w (Fork i) q = ⊥
-Puts code w (Steal i) q = ⊥
-Puts code w (Take i) q = ⊥
-Puts code w (Finish i) q = ⊥
-Puts code w (Join i) q = ⊥
+Puts code w e q = StepsBy (λ (a : Ask). PutsAt a q) code w e
 
 -- An event of the list puts a byte at the address.
 pub data ArePut (code : CodeTree) (q : ℕ) : Weave → List Event → Type 0 where

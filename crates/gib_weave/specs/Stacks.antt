@@ -25,19 +25,23 @@ use Rattle.gib_weave.specs.Groups.{Group, Starts, unused}
 use Rattle.gib_weave.specs.Continuing.{KCall, KCallScalar, KEnd, KHere, KLast, KPart, KRegion, KScalar, KSeveral, KSide, Kont, Rest}
 use Rattle.gib_weave.specs.Continuing.{AllCalm, AllFollow, AllUnder, Follows, IsInBody, Next, PartsCode, RestCode, RestFits, due, end_of, given_of, made, needs_of, parts_nest, rest_cased, rest_nest}
 
--- A line that waits for the value of x.
-pub record Waits (core : CoreTree) (code : CodeTree) (s : Store) (sl : Slots) (at x : ℕ) (sort : Sort) (u : Rest) (c : Ctx) (after : Dest) (cur : ℕ) (k : Kont) : Type 0 where
+-- A line that waits, whatever for: its code and its frame are as it says, and what is next in it has room.
+pub record Paused (core : CoreTree) (code : CodeTree) (s : Store) (sl : Slots) (at : ℕ) (u : Rest) (c : Ctx) (cur : ℕ) (k : Kont) : Type 0 where
   pub low : RestCode core code c.line.within c.scope at u (end_of c.line.overs k)
-  pub fits : RestFits core (needs_of k) u (put c.scope x sort) after (tell_line c.line.pending c.line)
-  pub asked : (q : ℕ) → c.line.pending q ≡ true → is_settled (c.scope q) ≡ true
-  pub new : c.scope x ≡ Absent
   pub matches : Matches code.laid s sl c cur
   pub under : AllUnder c.scope c.env k
   pub given : AreGiven c 0 (given_of k)
   pub calm : AllCalm (rest_cased u) k
   pub kind : dest_type c.dest ≡ due k
-  pub free : Follows x u k
   pub narrow : rest_nest u ≤ nesting code
+
+-- A line that waits for the value of x.
+pub record Waits (core : CoreTree) (code : CodeTree) (s : Store) (sl : Slots) (at x : ℕ) (sort : Sort) (u : Rest) (c : Ctx) (after : Dest) (cur : ℕ) (k : Kont) : Type 0 where
+  pub line : Paused core code s sl at u c cur k
+  pub fits : RestFits core (needs_of k) u (put c.scope x sort) after (tell_line c.line.pending c.line)
+  pub asked : (q : ℕ) → c.line.pending q ≡ true → is_settled (c.scope q) ≡ true
+  pub new : c.scope x ≡ Absent
+  pub free : Follows x u k
 
 -- A line that waits for its packed part i of these types.
 pub record PartWaits (core : CoreTree) (code : CodeTree) (s : Store) (sl : Slots) (at i : ℕ) (tys : List Ty) (ss : List Atom) (vs : List Datum) (ps : PartTerms) (c : Ctx) (k : Kont) : Type 0 where
@@ -56,18 +60,12 @@ pub record PartWaits (core : CoreTree) (code : CodeTree) (s : Store) (sl : Slots
 
 -- A line that waits for the parts of several variables.
 pub record SeveralWaits (core : CoreTree) (code : CodeTree) (s : Store) (sl : Slots) (at : ℕ) (xs : List Variable) (tys : List Ty) (u : Rest) (c : Ctx) (cur : ℕ) (k : Kont) : Type 0 where
-  pub low : RestCode core code c.line.within c.scope at u (end_of c.line.overs k)
+  pub line : Paused core code s sl at u c cur k
   pub fits : RestFits core (needs_of k) u (bound_scope tys xs c.scope) c.dest (tell_line none_of c.line)
   pub few : length tys ≤ 8
   pub new : AreNew c.scope tys xs
-  pub matches : Matches code.laid s sl c cur
-  pub under : AllUnder c.scope c.env k
-  pub given : AreGiven c 0 (given_of k)
-  pub calm : AllCalm (rest_cased u) k
-  pub kind : dest_type c.dest ≡ due k
   pub free : AllFollow xs u k
   pub next : Next u k
-  pub narrow : rest_nest u ≤ nesting code
 
 -- A caller's line: the ends that the call gives are told up to z, and what was given are the arguments.
 pub record AwaitsEnds (core : CoreTree) (code : CodeTree) (sl : Slots) (c : Ctx) (gs : List (Option Given)) (at z : ℕ) : Type 0 where

@@ -254,6 +254,15 @@ NewestFinished ts (Runs j ∷ sts) = IsFinished (task ts j).stage
 abbrev pub asks : CodeTree → Weave → ℕ → Ask
 asks code w i = next code (task w.tasks i).state
 
+-- The event is a step, and its action is so.
+abbrev pub StepsBy : (Ask → Type 0) → CodeTree → Weave → Event → Type 0
+StepsBy IsSo code w (Step i) = IsSo (asks code w i)
+StepsBy IsSo code w (Fork i) = ⊥
+StepsBy IsSo code w (Steal i) = ⊥
+StepsBy IsSo code w (Take i) = ⊥
+StepsBy IsSo code w (Finish i) = ⊥
+StepsBy IsSo code w (Join i) = ⊥
+
 -- The event may happen.
 abbrev pub Enabled : CodeTree → Weave → Event → Type 0
 Enabled code w (Step i) = IsOn w i × IsAction (asks code w i)
