@@ -51,7 +51,3 @@ module _ (l : LoweredParts) (d : Debt) where
   -- Who leaves the task has paid, with what was drawn for the newest side.
   pub pays_back : (s : Store) (n k drew : ℕ) (lent es : List (Option Due)) (e : Due) (m : State) → WorksBack l d s n lent m → lent ≡ Some e ∷ es → k ≡ n + drew → ArePaid e drew → Pays l d.most k es
   pays_back s n k drew lent es e m w are z t = subst (λ (j : ℕ). Pays l d.most j es) (sym z) (pays_joined l d.most n drew e es (subst (Pays l d.most n) are w.pays) t)
-
-  pub some_at : {A B : Type 0} (x : Option A) (P : B → A → Type 0) (b : B) → IfSome x (λ f. (y : B) → P y f) → IfSome x (P b)
-  some_at None P b h = tt
-  some_at (Some f) P b h = h b

@@ -10,6 +10,7 @@ pub mod Backs
 pub mod Frames
 pub mod Active
 pub mod Forking
+pub mod Offers
 -- From whom it steals.
 pub mod Victims
 -- All tasks at once, and the end of a run.

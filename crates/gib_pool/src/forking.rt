@@ -1,15 +1,14 @@
 //! A worker at a fork.
 
-ghost use Rattle.std.specs.Prelude.{◌≡◌, ◌<◌, ◌+◌, ◌^◌, ◌∷◌, ℕ, List, Option, IfNone, IfSome, slice_get};
+ghost use Rattle.std.specs.Prelude.{◌≡◌, ◌<◌, ◌+◌, ◌^◌, ◌∷◌, ℕ, List, Option, slice_get};
 ghost use Rattle.crossbeam_deque.specs.Handles.{worker_deque, worker_view};
-ghost use Rattle.gib_mem.specs.Memory.{fresh};
 ghost use Rattle.gib_core.specs.Parts.{core_of};
 ghost use Rattle.gib_machine.specs.{State.{widest}, Machine.{next}, Sides.{right_of}, Stepping.{with_tails}, declared.turn.Turn.TheVariants.{AtFork}};
 ghost use Rattle.gib_machine.specs.State as asks;
 ghost use Rattle.gib_weave.specs.{Owing.{Debt}, Sound.{SideSafe}};
 ghost use Rattle.gib_arena.specs.Passes.{cells, IsOf};
-ghost use Rattle.gib_frame.specs.{declared.due.Due.{Due}, Answers.{drawn_by}, Dues.{frame_due}};
-ghost use Rattle.gib_pool.specs.{Frames.{due_maybe, AreHere}, Active.{Holds, IsHere, IsOn, IsSamePass, StandsAt}, Lent.{Lends}, Mine.{IsMine}, Turn.{IsFor}};
+ghost use Rattle.gib_frame.specs.declared.due.Due.{Due};
+ghost use Rattle.gib_pool.specs.{Frames.{due_maybe, AreHere}, Active.{Holds, IsHere, IsOn, StandsAt}, Mine.{IsMine}, Offers.{Offers}};
 
 use crate::active::ActiveTask;
 use crate::forks::{Forks, are_enough};
@@ -22,6 +21,7 @@ use std::alloc::Global;
 
 /// Offers the right side of the fork at which the machine stands; none where enough sides wait to be stolen, or memory refuses this one or its
 /// frame.
+#[tactic(auto, using(crate::proofs::Offering::none_offered, crate::proofs::Offering::offered_on))]
 fn offer_here<'a>(
     alloc: Global,
     arena: &'a Arena,
@@ -37,14 +37,9 @@ fn offer_here<'a>(
     requires owes { (tails : List ℕ) × (e : Debt) × SideSafe (core_of lowered.now.core) lowered.now.code e (cells pass.old) (right_of (with_tails machine.now tails) (slice_get lowered.now.code.instructions machine.now.ip)) }
     requires mine { IsMine forks.old }
     requires few { here.old + 1 < 2 ^ 64 }
-    ensures own { IsOf arena.entry.now pass.new }
-    ensures same { IsSamePass pass.old pass.new }
-    ensures drawn { drawn_by pass.new ≡ drawn_by pass.old }
-    ensures free { (q : ℕ) → cells pass.old q ≡ fresh → cells pass.new q ≡ fresh }
-    ensures side { IfSome result (λ f. (tails : List ℕ) → IsFor lowered.entry.now (cells pass.old) (right_of (with_tails machine.entry.now tails) (slice_get lowered.entry.now.code.instructions machine.entry.now.ip)) (frame_due f)) }
-    ensures lends { (lent : List (Option Due)) → Lends pass.old lent → Lends pass.new (due_maybe result ∷ lent) }
-    ensures more { IfSome result (λ _. here.new ≡ here.old + 1) }
-    ensures no_more { IfNone result (here.new ≡ here.old) }
+    ensures offers { (tails : List ℕ)
+        → Offers arena.entry.now lowered.entry.now (right_of (with_tails machine.entry.now tails) (slice_get lowered.entry.now.code.instructions machine.entry.now.ip))
+        pass.old pass.new (worker_view forks.old).mine (worker_view forks.new).mine result }
     ensures here { (lent : List (Option Due)) → AreHere lent here.old (worker_view forks.old).mine → AreHere (due_maybe result ∷ lent) here.new (worker_view forks.new).mine }
     ensures mine { IsMine forks.new × (worker_deque forks.new ≡ worker_deque forks.old) }
 {

@@ -44,16 +44,58 @@ pub(crate) fn run_task<'a, R: Wait, G: Gate>(
     workspace
 }
 
-/// A fork of any other worker. They are asked in turn from the one at this place on.
-fn steal_any<'a, R: Wait>(rt: &R, stealers: &mut Vec<Stealer<'a>>, from: u32) -> Option<Task<'a>> {
-    let count = stealers.len();
-    'steps: for step in 0..count {
-        let found = stealers[(from as usize + step) % count].steal(rt);
-        if found.is_some() {
-            return found;
+/// A fork of any of these workers. They are asked in turn.
+fn steal_first<'a, R: Wait>(rt: &R, stealers: &mut [Stealer<'a>]) -> Option<Task<'a>> {
+    for stealer in stealers {
+        if let Some(task) = stealer.steal(rt) {
+            return Some(task);
         }
     }
     None
+}
+
+/// A fork of any other worker. They are asked in turn from the one at this place on.
+fn steal_any<'a, R: Wait>(rt: &R, stealers: &mut [Stealer<'a>], from: u32) -> Option<Task<'a>> {
+    let count = stealers.len();
+    if count == 0 {
+        return None;
+    }
+    let (before, after) = stealers.split_at_mut(from as usize % count);
+    if let Some(task) = steal_first(rt, after) {
+        return Some(task);
+    }
+    steal_first(rt, before)
+}
+
+/// What a look for a fork comes to.
+#[derive(Drop)]
+enum Look<'a> {
+    Stolen(Task<'a>),
+    /// The run is over.
+    Over,
+    /// There was none, and another worker woke this one.
+    Woken,
+}
+
+/// A fork of any other worker, found by one look, or by a second one after the worker said that it listens; else it sleeps.
+fn look_once<'a, R: Wait>(
+    rt: &R,
+    stealers: &mut [Stealer<'a>],
+    sleep: &Sleep,
+    place: u32,
+) -> Look<'a> {
+    if let Some(task) = steal_any(rt, stealers, place >> 8) {
+        return Look::Stolen(task);
+    }
+    let key = sleep.listen();
+    if sleep.is_over() {
+        return Look::Over;
+    }
+    if let Some(task) = steal_any(rt, stealers, place >> 8) {
+        return Look::Stolen(task);
+    }
+    key.wait(rt);
+    Look::Woken
 }
 
 /// The next of some numbers that look random: where a worker begins to look for a fork.
@@ -65,24 +107,16 @@ fn next_place(place: u32) -> u32 {
 /// said that it listens, so that it misses no fork, and who forks has nobody to wake while a look finds something.
 fn find_task<'a, R: Wait>(
     rt: &R,
-    stealers: &mut Vec<Stealer<'a>>,
+    stealers: &mut [Stealer<'a>],
     sleep: &Sleep,
     place: u32,
 ) -> Option<Task<'a>> {
     for _ in rt.forever() {
-        let first = steal_any(rt, stealers, place >> 8);
-        if first.is_some() {
-            return first;
+        match look_once(rt, stealers, sleep, place) {
+            Look::Stolen(task) => return Some(task),
+            Look::Over => return None,
+            Look::Woken => {}
         }
-        let key = sleep.listen();
-        if sleep.is_over() {
-            return None;
-        }
-        let again = steal_any(rt, stealers, place >> 8);
-        if again.is_some() {
-            return again;
-        }
-        key.wait(rt);
     }
     unreachable!()
 }

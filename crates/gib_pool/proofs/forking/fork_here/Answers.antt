@@ -1,4 +1,4 @@
-use Rattle.std.proofs.Common.{ℕ, ◌<◌, List, refl, sym, ap, subst, ◌∙◌, arith}
+use Rattle.std.proofs.Common.{◌<◌, List, refl, sym, ap, subst, ◌∙◌, arith}
 use Rattle.std.specs.Prelude.{Option, slice_get}
 use Rattle.std.specs.Box.{with_value}
 use Rattle.std.specs.Vec.{vec_capacity, vec_len}
@@ -14,19 +14,17 @@ use Rattle.gib_machine.proofs.Stands.{fork_has_level}
 use Rattle.gib_machine.proofs.Widths.{left_keeps_width}
 use Rattle.gib_arena.specs.Passes.{cells}
 use Rattle.gib_frame.specs.declared.due.Due.{Due}
-use Rattle.gib_frame.specs.declared.ends.Frame.{Frame}
 use Rattle.gib_frame.specs.Answers.{drawn_by}
-use Rattle.gib_frame.specs.Dues.{frame_due}
 use Rattle.gib_pool.specs.Frames.{AreHere}
 use Rattle.gib_pool.specs.declared.active.ActiveTask.{ActiveTask}
 use Rattle.gib_pool.specs.declared.workspace.Workspace.{Workspace}
 use Rattle.gib_pool.specs.Active.{IsHere, IsOn, StandsAt, active_state, active_lent}
 use Rattle.gib_pool.specs.Lent.{Lends}
-use Rattle.gib_pool.specs.Turn.{Works, IsFor}
+use Rattle.gib_pool.specs.Turn.{Works}
 use Rattle.gib_pool.proofs.Draining.{now_lent}
 use Rattle.gib_pool.proofs.Fitting.{frames_fit, is_placed, placed, placed_holds, within_then}
 use Rattle.gib_pool.proofs.Passing.{wider, here_few, lent_long}
-use Rattle.gib_pool.proofs.Standings.{goes_left, some_at}
+use Rattle.gib_pool.proofs.Standings.{goes_left}
 use Rattle.gib_pool.proofs.forking.fork_here.Goals as goal
 
 pub offer_here-frame-requires-clause-few : goal.offer_here-frame-requires-clause-few
@@ -55,7 +53,7 @@ returns-clause-on c =
     let d = c.requires.stands.0 in
     let stands = subst (λ (x : ActiveTask). StandsAt l d x AtFork) (sym is) c.requires.stands.1 in
     let here = subst (λ (x : ActiveTask). IsHere x (worker_view c.args.forks.now).mine) (sym is) c.requires.here in
-    let o = c.offer_here-frame.ensures in
+    let o = c.offer_here-frame.ensures.offers at.tails in
     let was = c.args.active.pass in
     let new = c.offer_here-frame.new.pass in
     let m = active_state old in
@@ -69,10 +67,9 @@ returns-clause-on c =
     subst (λ (x : ActiveTask). IsOn c.args.arena.now l (λ (d : Debt). StandsAt l d x AtFork) x (worker_view c.offer_here-frame.new.forks).mine next) is record {
       holds = record { own = o.own; lends = subst (Lends new) (sym are) (o.lends (active_lent old) holds.lends); made = width ∙ holds.made; within = within };
       owes = λ d w.
-          let side = some_at l d c.offer_here-frame.result (λ (ts : List ℕ) (f : Frame). IsFor l (cells was) (right_of (with_tails at.machine ts) (slice_get l.code.instructions m.ip)) (frame_due f)) at.tails o.side in
           subst (Works l d (cells new) (drawn_by new) (with_tails c.left.new.self at.tails)) (sym are)
-          (goes_left l d (cells was) (cells new) (drawn_by was) (drawn_by new) (active_lent old) m (left_starts m (slice_get l.code.instructions m.ip)) (with_tails c.left.new.self at.tails) right c.offer_here-frame.result w.1 side left o.drawn
+          (goes_left l d (cells was) (cells new) (drawn_by was) (drawn_by new) (active_lent old) m (left_starts m (slice_get l.code.instructions m.ip)) (with_tails c.left.new.self at.tails) right c.offer_here-frame.result w.1 o.side left o.drawn
           (wider c.args.arena.now was new o.own o.same.known o.free));
-      here = subst (λ (es : List (Option Due)). AreHere es c.offer_here-frame.new.here (worker_view c.offer_here-frame.new.forks).mine) (sym are) (o.here (active_lent old) here);
+      here = subst (λ (es : List (Option Due)). AreHere es c.offer_here-frame.new.here (worker_view c.offer_here-frame.new.forks).mine) (sym are) (c.offer_here-frame.ensures.here (active_lent old) here);
       same = o.same;
     }
