@@ -100,11 +100,11 @@ main (n : Int) : Int = let tree = grow 10 in copies n tree ;
 # What is counted in instructions: the program and its two numbers, what it gives for a number, of what there are so many more in the run on the
 # second number, and how many instructions each may take.
 COUNTED = (
-    ("a sum, a leaf", GROW + SUM_TREE + SUMS, 2, 20, lambda n: n * LEAVES, 18 * LEAVES, 670),
-    ("a sum in place, a leaf", GROW + SUM_PAR + SUMS, 2, 20, lambda n: n * LEAVES, 18 * LEAVES, 815),
-    ("add_one, a leaf", GROW + COPIES, 2, 20, lambda n: 0, 18 * LEAVES, 1_450),
-    ("fib, a call", FIB, 0, 20, fibonacci, 2 * fibonacci(21) - 2, 285),
-    ("a box", BOXES, 0, 20_000, lambda n: 2 * n * (n + 1), 20_000, 2_040),
+    ("a sum, a leaf", GROW + SUM_TREE + SUMS, 2, 20, lambda n: n * LEAVES, 18 * LEAVES, 450),
+    ("a sum in place, a leaf", GROW + SUM_PAR + SUMS, 2, 20, lambda n: n * LEAVES, 18 * LEAVES, 640),
+    ("add_one, a leaf", GROW + COPIES, 2, 20, lambda n: 0, 18 * LEAVES, 830),
+    ("fib, a call", FIB, 0, 20, fibonacci, 2 * fibonacci(21) - 2, 210),
+    ("a box", BOXES, 0, 20_000, lambda n: 2 * n * (n + 1), 20_000, 1_350),
 )
 
 # A machine is made for so many calls, and for frames of few words and of many.
