@@ -1,12 +1,14 @@
 -- What the code keeps of a plan.
 use Rattle.std.specs.Prelude.{List, [], ◌∷◌, Option, None, Some, option_map, option_to_list}
+use Rattle.gib_words.specs.declared.matches.Target.{Target as KeptTarget}
+use Rattle.gib_words.specs.declared.matches.Target.TheVariants as target
 use Rattle.gib_words.specs.declared.plan.Document.{Document as KeptDocument}
 use Rattle.gib_words.specs.declared.plan.Document.TheVariants as document
 use Rattle.gib_words.specs.declared.plan.MadeNames.{MadeNames}
 use Rattle.gib_words.specs.declared.plan.Options.{Options}
 use Rattle.gib_words.specs.declared.plan.Plan.{Plan as KeptPlan}
 use Rattle.gib_words.specs.Plan.{Document, BuiltIn, Named, Write, Plan}
-use Rattle.gib_words.specs.Words.{made_source, made_input, first_writes}
+use Rattle.gib_words.specs.Words.{Target, NoTarget, AtPlace, ByOption, made_source, made_input, first_writes}
 
 -- The document.
 abbrev pub document_of : KeptDocument → Document
@@ -24,6 +26,12 @@ first_of options (Some names) = first_writes options names.source.now names.inpu
 abbrev pub inputs_with : (second third : Option Document) → List Document
 inputs_with None third = []
 inputs_with (Some document) third = document ∷ option_to_list third
+
+-- What names the file that is written.
+abbrev pub target_of : KeptTarget → Target
+target_of target.Nothing = NoTarget
+target_of (target.AtPlace id) = AtPlace id.now
+target_of (target.ByOption id) = ByOption id.now
 
 -- The plan.
 abbrev pub plan_of : KeptPlan → Plan

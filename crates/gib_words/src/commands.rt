@@ -1,6 +1,7 @@
 //! The commands of the program with their arguments, as `clap` takes them.
 
-ghost use Rattle.std.specs.Prelude.{◌≡◌, [], ◌∷◌, IfOk, codes, false, true, fold};
+ghost use Rattle.std.specs.Prelude.{◌≡◌, [], ◌∷◌, IfOk, Some, codes, false, true, fold};
+ghost use Rattle.clap.specs.declared.builder.value_parser.ValueParser.TheVariants.{Unsigned};
 ghost use Rattle.clap.specs.{Walk.{rule_of}, Simple.{App, app_of, new_app, with_rule, with_subcommand}};
 ghost use Rattle.gib_words.specs.Words.{app_for, bare_program, chunks, command_set, depth, flag, fork, gen_app, number, numeral, positional, skips, word, workers};
 ghost use Rattle.gib_words.specs.Words.{check_form, code_form, core_form, local_form, pack_form, plain_form, replay_form, run_form, show_form, trace_form};
@@ -17,14 +18,6 @@ fn positional<'a>(alloc: Global, id: &'a str) -> Arg<'a>
     Arg::new(alloc, id).required(true)
 }
 
-/// A number from `least` to `most` by its place, which has to be there.
-fn numeral<'a>(alloc: Global, id: &'a str, least: u64, most: u64) -> Arg<'a>
-    ensures rule { rule_of result ≡ numeral id.entry.now least most }
-    ensures local { result.global ≡ false }
-{
-    positional(alloc, id).value_parser(ValueParser::unsigned(least, most))
-}
-
 /// `--name WORD`, which may be left out.
 fn word<'a>(alloc: Global, name: &'a str) -> Arg<'a>
     ensures rule { rule_of result ≡ word name.entry.now }
@@ -33,12 +26,20 @@ fn word<'a>(alloc: Global, name: &'a str) -> Arg<'a>
     Arg::new(alloc, name).long(name)
 }
 
+/// An argument whose word is a number from `least` to `most`.
+fn ranged<'a>(arg: Arg<'a>, least: u64, most: u64) -> Arg<'a>
+    ensures rule { rule_of result ≡ record (rule_of arg.entry) { parser = Some (Unsigned least most) } }
+    ensures local { result.global ≡ arg.entry.global }
+{
+    arg.value_parser(ValueParser::unsigned(least, most))
+}
+
 /// `--name N`, a number from `least` to `most`, which may be left out.
 fn number<'a>(alloc: Global, name: &'a str, least: u64, most: u64) -> Arg<'a>
     ensures rule { rule_of result ≡ number name.entry.now least most }
     ensures local { result.global ≡ false }
 {
-    word(alloc, name).value_parser(ValueParser::unsigned(least, most))
+    ranged(word(alloc, name), least, most)
 }
 
 /// `--name`, which may be left out.
@@ -169,6 +170,14 @@ fn local_command<'a>(alloc: Global) -> Result<Command<'a>, AllocError>
     ensures { IfOk result (λ command. app_of command ≡ app_for local_form) }
 {
     with_worker_options(alloc, on_both(alloc, "local", "input")?)
+}
+
+/// A number from `least` to `most` by its place, which has to be there.
+fn numeral<'a>(alloc: Global, id: &'a str, least: u64, most: u64) -> Arg<'a>
+    ensures rule { rule_of result ≡ numeral id.entry.now least most }
+    ensures local { result.global ≡ false }
+{
+    ranged(positional(alloc, id), least, most)
 }
 
 /// `gen` on what has to be there: a number, levels, and the names of a source and an input.

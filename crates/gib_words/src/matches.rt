@@ -3,7 +3,7 @@
 ghost use Rattle.std.specs.Prelude.{◌≡◌, None, Some, codes, is_some, option_map, option_and_then};
 ghost use Rattle.clap.specs.{Walk.{rows_of}, Simple.{subcommand_rows_of}, Matches.{found_of}};
 ghost use Rattle.gib_words.specs.Words.{access_of, file_of, flag_of, number_of, number_or as number_asked, byte_or as byte_asked, made_requested, options_of, planned, read_requested, requested, usual as usual_options, word_of};
-ghost use Rattle.gib_words.specs.{Words.{NoTarget, AtPlace, ByOption}, Kept.{document_of, plan_of}};
+ghost use Rattle.gib_words.specs.{Words.{NoTarget, file_in, pack_in, target_in}, Kept.{document_of, plan_of, target_of}};
 
 use crate::plan::{Document, Job, MadeNames, Options, Plan};
 use clap::ArgMatches;
@@ -140,71 +140,75 @@ fn on_source<'a>(matches: &ArgMatches<'a>, job: Job) -> Option<Plan<'a>>
     })
 }
 
-/// A job on a source and a second file.
-fn on_both<'a>(matches: &ArgMatches<'a>, job: Job, second: &str) -> Option<Plan<'a>>
-    ensures { option_map plan_of result ≡ planned job (Some second.now) None NoTarget None (rows_of (found_of matches.now)) }
-{
-    Some(Plan {
-        first: None,
-        source: file(matches, "source")?,
-        second: Some(file(matches, second)?),
-        third: None,
-        target: None,
-        pack: None,
-        job,
-        options: options(matches),
-    })
+/// What names the file that a command writes: nothing, since there is none; the word of a place; or an option, which may be left out.
+#[derive(Clone, Copy)]
+enum Target<'s> {
+    Nothing,
+    AtPlace(&'s str),
+    ByOption(&'s str),
 }
 
-/// A job on a source and a second file, that makes a file.
-fn to_target<'a>(matches: &ArgMatches<'a>, job: Job, second: &str, target: &str) -> Option<Plan<'a>>
-    ensures { option_map plan_of result ≡ planned job (Some second.now) None (AtPlace target.now) None (rows_of (found_of matches.now)) }
+/// The name of the file that is written, where there is one.
+fn target_in<'a>(matches: &ArgMatches<'a>, target: Target<'_>) -> Option<Option<&'a str>>
+    ensures { option_map (option_map (λ text. text.now)) result ≡ target_in (target_of target.entry) (rows_of (found_of matches.now)) }
 {
-    Some(Plan {
-        first: None,
-        source: file(matches, "source")?,
-        second: Some(file(matches, second)?),
-        third: None,
-        target: Some(word(matches, target)?),
-        pack: None,
-        job,
-        options: options(matches),
-    })
+    match target {
+        Target::Nothing => Some(None),
+        Target::AtPlace(id) => Some(Some(word(matches, id)?)),
+        Target::ByOption(id) => Some(word(matches, id)),
+    }
 }
 
-/// To run a program on an input: options name the image of its memory and the packed file of its result.
-fn to_run<'a>(matches: &ArgMatches<'a>) -> Option<Plan<'a>>
-    ensures { option_map plan_of result ≡ planned Job.Run (Some (codes "input")) None (ByOption (codes "image")) (Some (codes "pack")) (rows_of (found_of matches.now)) }
+/// The file at a place, where a command has one there.
+fn file_in<'a>(matches: &ArgMatches<'a>, id: Option<&str>) -> Option<Option<Document<'a>>>
+    ensures { option_map (option_map document_of) result ≡ file_in (option_map (λ text. text.now) id.entry) (rows_of (found_of matches.now)) }
 {
-    Some(Plan {
-        first: None,
-        source: file(matches, "source")?,
-        second: Some(file(matches, "input")?),
-        third: None,
-        target: word(matches, "image"),
-        pack: word(matches, "pack"),
-        job: Job::Run,
-        options: options(matches),
-    })
+    match id {
+        None => Some(None),
+        Some(id) => Some(Some(file(matches, id)?)),
+    }
 }
 
-/// A job on a source and two files, that makes a file where an option names one.
-fn on_three<'a>(
-    matches: &ArgMatches<'a>,
-    job: Job,
-    second: &str,
-    third: &str,
-    target: &str,
-) -> Option<Plan<'a>>
-    ensures { option_map plan_of result ≡ planned job (Some second.now) (Some third.now) (ByOption target.now) None (rows_of (found_of matches.now)) }
+/// The name under which the packed file of a result is written, where a command has an option for it.
+fn pack_in<'a>(matches: &ArgMatches<'a>, id: Option<&str>) -> Option<&'a str>
+    ensures { option_map (λ text. text.now) result ≡ pack_in (option_map (λ text. text.now) id.entry) (rows_of (found_of matches.now)) }
+{
+    word(matches, id?)
+}
+
+/// What names the files of a command behind its source.
+#[derive(Clone, Copy)]
+struct Form<'s> {
+    second: &'s str,
+    third: Option<&'s str>,
+    target: Target<'s>,
+    pack: Option<&'s str>,
+}
+
+/// A second file alone.
+fn second_alone(second: &str) -> Form<'_>
+    ensures { result ≡ record { second = second.entry; third = None; target = Target.Nothing; pack = None } }
+{
+    Form {
+        second,
+        third: None,
+        target: Target::Nothing,
+        pack: None,
+    }
+}
+
+/// A job on a source, a second file and what else a form names.
+fn on_form<'a>(matches: &ArgMatches<'a>, job: Job, form: Form<'_>) -> Option<Plan<'a>>
+    ensures { option_map plan_of result ≡ planned job (Some form.entry.second.now) (option_map (λ text. text.now) form.entry.third)
+        (target_of form.entry.target) (option_map (λ text. text.now) form.entry.pack) (rows_of (found_of matches.now)) }
 {
     Some(Plan {
         first: None,
         source: file(matches, "source")?,
-        second: Some(file(matches, second)?),
-        third: Some(file(matches, third)?),
-        target: word(matches, target),
-        pack: None,
+        second: Some(file(matches, form.second)?),
+        third: file_in(matches, form.third)?,
+        target: target_in(matches, form.target)?,
+        pack: pack_in(matches, form.pack),
         job,
         options: options(matches),
     })
@@ -230,21 +234,49 @@ fn to_make<'a>(matches: &ArgMatches<'a>) -> Option<Plan<'a>>
     })
 }
 
+const RUN: Form = Form {
+    second: "input",
+    third: None,
+    target: Target::ByOption("image"),
+    pack: Some("pack"),
+};
+
+const PACK: Form = Form {
+    second: "text",
+    third: None,
+    target: Target::AtPlace("target"),
+    pack: None,
+};
+
+const TRACE: Form = Form {
+    second: "input",
+    third: None,
+    target: Target::AtPlace("journal"),
+    pack: None,
+};
+
+const REPLAY: Form = Form {
+    second: "input",
+    third: Some("journal"),
+    target: Target::ByOption("image"),
+    pack: None,
+};
+
 /// What the matches of a command whose files are read ask for, by its name.
 fn read_plan<'a>(name: &str, matches: &ArgMatches<'a>) -> Option<Plan<'a>>
     ensures { option_map plan_of result ≡ read_requested name.now (rows_of (found_of matches.now)) }
 {
     match name {
-        "run" => to_run(matches),
-        "plain" => on_both(matches, Job::Plain, "input"),
+        "run" => on_form(matches, Job::Run, RUN),
+        "plain" => on_form(matches, Job::Plain, second_alone("input")),
         "check" => on_source(matches, Job::Check),
         "core" => on_source(matches, Job::Core),
         "code" => on_source(matches, Job::Code),
-        "pack" => to_target(matches, Job::Pack, "text", "target"),
-        "show" => on_both(matches, Job::Show, "file"),
-        "trace" => to_target(matches, Job::Trace, "input", "journal"),
-        "replay" => on_three(matches, Job::Replay, "input", "journal", "image"),
-        "local" => on_both(matches, Job::Local, "input"),
+        "pack" => on_form(matches, Job::Pack, PACK),
+        "show" => on_form(matches, Job::Show, second_alone("file")),
+        "trace" => on_form(matches, Job::Trace, TRACE),
+        "replay" => on_form(matches, Job::Replay, REPLAY),
+        "local" => on_form(matches, Job::Local, second_alone("input")),
         _ => None,
     }
 }
