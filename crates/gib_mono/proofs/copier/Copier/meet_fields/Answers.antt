@@ -9,5 +9,5 @@ returns-in_default c =
 
 pub returns : goal.returns
 returns c =
-    row_met c.args.source.now c.args.self.now c.read_at.new.self c.in-Some.row c.args.k.0 c.variables.result.now (forms_at (forms c.args.self.now.scene) c.args.types.now) c.words-words.result.now c.in_ok-reading.reading
-    c.into_vec.result.items c.in-Some.ensures c.variables.ensures c.words-words.ensures c.in_ok-reading.ensures c.into_vec.ensures
+    row_met c.args.source.now c.args.self.now c.read_at.new.self c.in-Some.row c.args.k.0 c.variables-variables.result.now (forms_at (forms c.args.self.now.scene) c.args.types.now) c.words-words.result.now c.in_ok-reading.reading
+    c.into_vec.result.items c.in-Some.ensures c.variables-variables.ensures c.words-words.ensures c.in_ok-reading.ensures c.into_vec.ensures
