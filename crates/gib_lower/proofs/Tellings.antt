@@ -1,6 +1,6 @@
 -- What tells ends.
-use Rattle.std.proofs.Common.{◌≡◌, ℕ, suc, ◌+◌, ◌-◌, ◌==◌, Bool, true, false, cond, not, ◌&&◌, List, [], ◌∷◌, ◌++◌, length, map, reverse, drop, refl, sym, ap, subst, ◌∙◌, arith}
-use Rattle.std.proofs.lemmas.List.{append_assoc, map-append, reverse-append}
+use Rattle.std.proofs.Common.{◌≡◌, ℕ, suc, ◌+◌, ◌-◌, ◌==◌, Bool, true, false, cond, not, ◌&&◌, List, [], ◌∷◌, ◌++◌, length, drop, refl, sym, ap, subst, ◌∙◌, arith}
+use Rattle.std.proofs.lemmas.List.{append_assoc}
 use Rattle.std.specs.Prelude.{Option, Some, None}
 use Rattle.std.proofs.Math.Nat.{sub_self}
 use Rattle.gib_types.specs.declared.table.ConId.{ConId}
@@ -13,10 +13,8 @@ use Rattle.gib_core.specs.declared.atom.Ended.{Ended}
 use Rattle.gib_core.specs.declared.atom.Atom.TheVariants as a
 use Rattle.gib_core.specs.Tree.{Term, CoreTree}
 use Rattle.gib_core.specs.Ending.{Within, has_ended, ended, last_packed, if_some, is_known}
-use Rattle.gib_core.specs.Low.{Over, over_all, got_from, with_over, arm_overs}
+use Rattle.gib_core.specs.Low.{Over, got_from, with_over, arm_overs}
 use Rattle.gib_lower.specs.Lowering.{leaf_end, got_one}
-use Rattle.gib_lower.specs.Ends.{over_of}
-use Rattle.gib_lower.specs.declared.ending.LastField.{LastField}
 
 -- One more argument of a call.
 got_split : (es : List Ended) (f k : ℕ) (x : Atom) (xs : List Atom) → got_from es f k (x ∷ xs) ≡ got_one es f k x ++ got_from es f (suc k) xs
@@ -34,23 +32,9 @@ got_next es f k next x xs old new all e g h =
     ap (λ l. l ++ got_from es f next xs) g ∙ ap (λ m. (old ++ got_one es f k x) ++ got_from es f m xs) n
     ∙ append_assoc old (got_one es f k x) (got_from es f (suc k) xs) ∙ ap (λ l. old ++ l) (sym (got_split es f k x xs)) ∙ e
 
--- Other instructions stand before the last one: ends are told.
-pub before_end : (xs : List Instruction) (x : Instruction) (old mid new : List Instruction) → mid ≡ x ∷ old → new ≡ xs ++ mid → new ≡ (xs ++ x ∷ []) ++ old
-before_end xs x old mid new e g = g ∙ ap (λ l. xs ++ l) e ∙ sym (append_assoc xs (x ∷ []) old)
-
--- One more end is told, before those of the trees around.
-over_append : (os ps : List Over) → over_all (os ++ ps) ≡ over_all os ++ over_all ps
-over_append [] ps = refl
-over_append (o ∷ os) ps = ap (λ l. i.OverEnd o.tree o.field ∷ l) (over_append os ps)
-
-pub over_next : (o : LastField) (after : List LastField) (now new all : List Instruction) → over_all (map over_of (reverse (o ∷ after))) ++ now ≡ all
-    → new ≡ i.OverEnd o.tree o.field ∷ now → over_all (map over_of (reverse after)) ++ new ≡ all
-over_next o after now new all h e =
-    let os = map over_of (reverse after) in
-    let split : map over_of (reverse (o ∷ after)) ≡ os ++ over_of o ∷ [] = ap (map over_of) (reverse-append (o ∷ []) after) ∙ map-append over_of (reverse after) (o ∷ []) in
-    ap (λ l. over_all os ++ l) e
-    ∙ sym (ap (λ l. over_all l ++ now) split ∙ ap (λ l. l ++ now) (over_append os (over_of o ∷ [])) ∙ append_assoc (over_all os) (over_all (over_of o ∷ [])) now)
-    ∙ h
+-- Other instructions stand before the last one: ends are told, parts are moved.
+pub before_end : (xs : List Instruction) (x : Instruction) (old mid new told : List Instruction) → mid ≡ x ∷ old → told ≡ xs → new ≡ told ++ mid → new ≡ (xs ++ x ∷ []) ++ old
+before_end xs x old mid new told e f g = g ∙ ap (λ l. l ++ mid) f ∙ ap (λ l. xs ++ l) e ∙ sym (append_assoc xs (x ∷ []) old)
 
 -- An arm without packed fields.
 pub leaf_unmarked : (must : Bool) (x size many : ℕ) (old : List Instruction) → must ≡ false → old ≡ leaf_end must x size many ++ old

@@ -1,5 +1,5 @@
 -- Ends as the code keeps them.
-use Rattle.std.specs.Prelude.{ℕ, List, []}
+use Rattle.std.specs.Prelude.{List}
 use Rattle.gib_core.specs.Ending.{Within}
 use Rattle.gib_core.specs.Low.{Over, End, Returns, To, ToParts, scalar_slots}
 use Rattle.gib_core.specs.PartTypes.{types_in}
@@ -18,12 +18,6 @@ abbrev pub end_of : Kept → List Over → End
 end_of k.Returns os = Returns os
 end_of (k.To l d) os = To l d
 end_of (k.ToParts l x tys) os = ToParts l (scalar_slots (types_in tys) (variables_from x.0 (types_in tys)))
-
--- The slots that the scalar ones of several parts go to.
-abbrev pub part_slots : Kept → List ℕ
-part_slots k.Returns = []
-part_slots (k.To l d) = []
-part_slots (k.ToParts l x tys) = scalar_slots (types_in tys) (variables_from x.0 (types_in tys))
 
 -- Where a term stands.
 abbrev pub within_of : Around → Within

@@ -1,14 +1,15 @@
 //! The packed fields of the arms around a term.
 
-ghost use Rattle.std.specs.Prelude.{◌≡◌, ◌<◌, ◌≤◌, ◌+◌, [], ◌∷◌, ℕ, List, length, MatchOption, OnOk};
+ghost use Rattle.std.specs.Prelude.{◌≡◌, ◌≤◌, [], ◌∷◌, ℕ, List, length, map, reverse, MatchOption};
 ghost use Rattle.gib_code.specs.Instruction.{First};
 ghost use Rattle.gib_core.specs.Low.{Field, field_of, first_reach, further_fields, with_fields};
 ghost use Rattle.gib_lower.specs.Stored.{stored};
 
-use crate::stack::{Stack, Stacked};
 use gib_base::Memory;
 use gib_core::Variable;
 use gib_types::Ty;
+use std::alloc::Global;
+use std::marker::Model;
 
 /// A packed field: its variable, the slot of the case, and where in the head its address is stored.
 #[derive(Clone, Copy)]
@@ -18,23 +19,26 @@ pub(crate) struct StoredField {
     pub place: u8,
 }
 
-impl Stacked for StoredField {
+/// Packed fields, the newest last.
+#[derive(Drop)]
+pub(crate) struct Fields {
+    items: Vec<StoredField>,
+}
+
+impl Model for Fields {
+    ghost use Rattle.std.specs.Prelude.{List, map, reverse};
     ghost use Rattle.gib_core.specs.Low.{Field};
     ghost use Rattle.gib_lower.specs.Stored.{stored};
 
-    ghost Seen = { Field };
+    ghost Value = { List Field };
 
-    ghost seen = { stored };
+    ghost view = { λ f. map stored (reverse f.items.items) };
 }
 
-/// The packed fields of the arms around a term, the newest last.
-pub(crate) type Fields = Stack<StoredField>;
-
-/// The newest field of this variable; of no field, the place 0 of the slot 0.
-pub(crate) fn field_of(fields: &Fields, variable: u32) -> StoredField
-    ensures { stored result ≡ field_of fields.now variable }
+/// A field of this variable; of no field, the place 0 of the slot 0.
+fn find(items: &[StoredField], variable: u32) -> StoredField
+    ensures { stored result ≡ field_of (map stored (reverse items.now)) variable }
 {
-    let items = fields.as_slice();
     let mut i = items.len();
     'items: while i > 0 {
         i -= 1;
@@ -64,9 +68,7 @@ pub(crate) fn first_packed<'a>(
 ) -> Option<FirstPacked<'a>>
     ensures reached { (x size : ℕ) → MatchOption result (first_reach x size types.now variables.now ≡ []) (λ f. first_reach x size types.now variables.now ≡ First f.variable.0 x size ∷ []) }
     ensures behind { (x : ℕ) (fs : List Field) → MatchOption result (with_fields x types.now variables.now fs ≡ fs) (λ f. with_fields x types.now variables.now fs ≡ further_fields x 1 f.types.now f.variables.now fs) }
-    ensures further { (x p : ℕ) (fs : List Field) → MatchOption result (further_fields x p types.now variables.now fs ≡ fs) (λ f.
-        further_fields x p types.now variables.now fs ≡ further_fields x (p + 8) f.types.now f.variables.now (record { variable = f.variable.0; tree = x; place = p } ∷ fs)) }
-    ensures fewer { MatchOption result (Unit {0}) (λ f. length f.types.now < length types.now) }
+    ensures fewer { MatchOption result (Unit {0}) (λ f. length f.types.now ≤ length types.now) }
 {
     let mut types_left = types;
     let mut left = variables;
@@ -93,39 +95,95 @@ pub(crate) fn first_packed<'a>(
     None
 }
 
-/// The packed fields behind the first one come into scope.
-fn add_further(fields: &mut Fields, tree: u32, first: &FirstPacked<'_>) -> Result<(), Memory>
-    requires { length first.now.types.now ≤ 8 }
-    ensures { OnOk result (fields.new ≡ further_fields tree 1 first.now.types.now first.now.variables.now fields.old) }
-{
-    let mut place = 1u8;
-    let mut types_left = first.types;
-    let mut left = first.variables;
-    'fields: while let Some(field) = first_packed(types_left, left) {
-        fields.add(StoredField {
-            variable: field.variable.0,
-            tree,
-            place,
-        })?;
-        place += 8;
-        types_left = field.types;
-        left = field.variables;
-    }
-    Ok(())
-}
+impl Fields {
+    ghost use Rattle.std.specs.Prelude.{◌≡◌, ◌≤◌, ◌+◌, ◌-◌, ◌*◌, [], ◌∷◌, ◌++◌, length, drop, map, reverse, IfOk, OnOk};
+    ghost use Rattle.gib_core.specs.Low.{field_of, further_fields, with_fields};
+    ghost use Rattle.gib_lower.specs.Stored.{stored};
 
-/// The packed fields of an arm come into scope.
-pub(crate) fn enter(
-    fields: &mut Fields,
-    tree: u32,
-    types: &[Ty],
-    variables: &[Variable],
-) -> Result<(), Memory>
-    requires { length types.now ≤ 8 }
-    ensures { OnOk result (fields.new ≡ with_fields tree types.now variables.now fields.old) }
-{
-    match first_packed(types, variables) {
-        None => Ok(()),
-        Some(first) => add_further(fields, tree, &first),
+    /// No fields.
+    pub(crate) fn new(alloc: Global) -> Fields
+        ensures { result ≡ [] }
+    {
+        Fields {
+            items: Vec::new(alloc),
+        }
+    }
+
+    /// How many there are.
+    pub(crate) fn len(&self) -> usize
+        ensures { result ≡ length self.now }
+    {
+        self.items.len()
+    }
+
+    /// The newest field of a variable.
+    pub(crate) fn field_of(&self, variable: Variable) -> StoredField
+        ensures { stored result ≡ field_of self.now variable.0 }
+    {
+        find(&self.items, variable.0)
+    }
+
+    /// One more field.
+    fn add(&mut self, field: StoredField) -> Result<(), Memory>
+        ensures { OnOk result (self.new ≡ stored field ∷ self.old) }
+    {
+        self.items.push(field)?;
+        Ok(())
+    }
+
+    /// The packed fields behind the first one.
+    fn add_further(&mut self, tree: u32, types: &[Ty], variables: &[Variable]) -> Result<(), Memory>
+        requires { length types.now ≤ 8 }
+        ensures { OnOk result (self.new ≡ further_fields tree 1 types.now variables.now self.old) }
+    {
+        let mut place = 1u8;
+        let mut types_left = types;
+        let mut left = variables;
+        'types: while let [ty, types_after @ ..] = types_left {
+            match left {
+                [] => return Ok(()),
+                [variable, after @ ..] => {
+                    match ty {
+                        Ty::Whole => {}
+                        Ty::Truth => {}
+                        Ty::Tree(_) => {
+                            self.add(StoredField {
+                                variable: variable.0,
+                                tree,
+                                place,
+                            })?;
+                            place += 8;
+                        }
+                    }
+                    types_left = types_after;
+                    left = after;
+                }
+            }
+        }
+        Ok(())
+    }
+
+    /// The packed fields of an arm come into scope.
+    pub(crate) fn enter(
+        &mut self,
+        tree: u32,
+        types: &[Ty],
+        variables: &[Variable],
+    ) -> Result<(), Memory>
+        requires { length types.now ≤ 8 }
+        ensures { OnOk result (self.new ≡ with_fields tree types.now variables.now self.old) }
+    {
+        match first_packed(types, variables) {
+            None => Ok(()),
+            Some(first) => self.add_further(tree, first.types, first.variables),
+        }
+    }
+
+    /// The newest fields leave scope, until there are so many.
+    pub(crate) fn leave(&mut self, count: usize)
+        requires { count ≤ length self.old }
+        ensures { self.new ≡ drop (length self.old - count) self.old }
+    {
+        self.items.truncate(count);
     }
 }

@@ -14,7 +14,6 @@ mod opening;
 mod parts;
 mod program;
 mod source;
-mod stack;
 mod telling;
 mod told;
 mod walk;

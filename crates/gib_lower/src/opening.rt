@@ -3,7 +3,7 @@
 ghost use Rattle.std.specs.Prelude.{◌≡◌, ◌≤◌, ◌+◌, ◌*◌, ◌++◌, length, map, IfOk, OnOk};
 ghost use Rattle.gib_types.specs.Layout.{layout_at};
 ghost use Rattle.gib_code.specs.Instruction.{instruction_of};
-ghost use Rattle.gib_core.specs.Low.{scalar_reads, arm_opening};
+ghost use Rattle.gib_core.specs.Low.{scalar_reads, first_reach, arm_opening};
 
 use crate::fields::first_packed;
 use gib_base::Memory;
@@ -50,6 +50,29 @@ fn read_scalars(
     Ok(())
 }
 
+/// The first packed field is reached, behind a head of so many bytes.
+fn reach_first(
+    instrs: &mut Vec<Instr>,
+    tree: u32,
+    place: u8,
+    types: &[Ty],
+    variables: &[Variable],
+) -> Result<(), Memory>
+    ensures { OnOk result (map instruction_of instrs.new.items ≡ map instruction_of instrs.old.items ++ first_reach tree place types.now variables.now) }
+{
+    match first_packed(types, variables) {
+        None => Ok(()),
+        Some(first) => {
+            instrs.push(Instr::First {
+                to: first.variable.0,
+                tree,
+                place,
+            })?;
+            Ok(())
+        }
+    }
+}
+
 /// What an arm begins with: its scalar fields are read, and its first packed field is reached.
 pub(crate) fn opening(
     alloc: Global,
@@ -65,15 +88,6 @@ pub(crate) fn opening(
     let types = layouts.fields(constructor);
     let mut instrs = Vec::new(alloc);
     read_scalars(&mut instrs, tree, 1 + layout.offsets, types, variables)?;
-    match first_packed(types, variables) {
-        None => Ok(instrs),
-        Some(first) => {
-            instrs.push(Instr::First {
-                to: first.variable.0,
-                tree,
-                place: layout.head,
-            })?;
-            Ok(instrs)
-        }
-    }
+    reach_first(&mut instrs, tree, layout.head, types, variables)?;
+    Ok(instrs)
 }

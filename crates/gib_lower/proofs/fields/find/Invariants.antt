@@ -1,7 +1,7 @@
 use Rattle.std.proofs.Common.{◌≡◌, ◌≤◌, length, map, reverse, take}
 use Rattle.gib_core.specs.Low.{field_of}
 use Rattle.gib_lower.specs.Stored.{stored}
-use Rattle.gib_lower.proofs.fields.field_of.Given as goal
+use Rattle.gib_lower.proofs.fields.find.Given as goal
 
 abbrev pub invariant-items : goal.invariant-items
 invariant-items l = record {
