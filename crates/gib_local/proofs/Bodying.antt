@@ -9,12 +9,10 @@ use Rattle.gib_types.specs.declared.table.Ty.TheVariants as y
 use Rattle.gib_types.specs.declared.table.ConId.{ConId}
 use Rattle.gib_types.specs.Row.{Table}
 use Rattle.gib_types.specs.Table.{is_scalar, IsTyBelow}
-use Rattle.gib_syntax.specs.declared.tree.Ident.{Ident}
 use Rattle.gib_syntax.specs.declared.tree.Parameter.{Parameter}
 use Rattle.gib_syntax.specs.declared.tree.TypeName.{TypeName}
 use Rattle.gib_syntax.specs.declared.tree.TypeName.TheVariants as w
 use Rattle.gib_syntax.specs.Declarations.{place_of, next_place, type_of_name, type_or, tree_type}
-use Rattle.gib_core.specs.declared.atom.Variable.{Variable}
 use Rattle.gib_core.specs.declared.node.TermId.{TermId}
 use Rattle.gib_core.specs.declared.program.CoreFunction.{CoreFunction}
 use Rattle.gib_core.specs.declared.program.CoreResult.{CoreResult}
@@ -35,7 +33,7 @@ use Rattle.gib_local_parse.specs.declared.tree.Mark.{Mark}
 use Rattle.gib_local_parse.specs.TextParts.{TextParts, IsFunctionIn, function_text, text_of}
 use Rattle.gib_local_parse.specs.LineArena.{tree_of}
 use Rattle.gib_local.specs.Building.{AtResult, IsPlace, Placed, Program, Termed, and_then, body, build, build_body, build_core, build_functions, con, no_mark, types_of, with_place, with_variables}
-use Rattle.gib_local.specs.Builds.{BindsAll, Builds, Fails, around_of, passed_of, program_in}
+use Rattle.gib_local.specs.Builds.{Builds, Enters, Fails, around_of, passed_of, program_in}
 use Rattle.gib_local.specs.Bodied.{BuildsBody, PutsFunction, PutsFunctions, PutsMain, name_of, packed_body, scalar_around, scalar_body}
 use Rattle.gib_local.proofs.Adding.{given, fails_for, fails_then, unmarked_fail, unmarked_go}
 
@@ -69,12 +67,11 @@ packed_built p b0 b1 b2 result w m u e h =
 pub record Begun (b0 b1 : Builder) (qs : List Parameter) : Type 0 where
   pub is : b1 ≡ record b0 { variables = with_variables 0 (map name_of qs) []; places = []; fresh = length qs; unused = [] }
 
-pub begun : (b0 b1 b2 : Builder) (qs : List Parameter) (names : List Ident) (vs : List Variable) → b1 ≡ record b0 { variables = []; places = []; fresh = 0; unused = [] } → names ≡ map name_of qs → BindsAll b1 b2 names vs → Begun b0 b2 qs
-begun b0 b1 b2 qs names vs e en h = let same : 0 + length (map name_of qs) ≡ length qs = (let l : length (map name_of qs) ≡ length qs = length-map qs name_of in omega (arith, l)) in record {
+pub begun : (b0 b1 b2 : Builder) (qs : List Parameter) → b1 ≡ record b0 { variables = []; places = []; fresh = 0; unused = [] } → Enters b1 b2 (map name_of qs) → Begun b0 b2 qs
+begun b0 b1 b2 qs e h = let same : 0 + length (map name_of qs) ≡ length qs = (let l : length (map name_of qs) ≡ length qs = length-map qs name_of in omega (arith, l)) in record {
   is =
-      h.is
-      ∙ ap (λ (x : Builder). record x { variables = with_variables x.fresh names x.variables; fresh = x.fresh + length names }) e
-      ∙ ap (λ xs. record b0 { variables = with_variables 0 xs []; places = []; fresh = 0 + length xs; unused = [] }) en
+      h
+      ∙ ap (λ (x : Builder). record x { variables = with_variables x.fresh (map name_of qs) x.variables; fresh = x.fresh + length (map name_of qs) }) e
       ∙ ap (λ n. record b0 { variables = with_variables 0 (map name_of qs) []; places = []; fresh = n; unused = [] }) same;
 }
 

@@ -73,7 +73,7 @@ region_step p b0 b1 goal r u e q =
       grows = subst (λ (x : Builder). Grows b0.terms x.terms) o (grows_none b0.terms);
       below = tt;
       variables = front_same b0.variables b1.variables (ap (λ (x : Builder). x.variables) e);
-      places = front_one (record { name = number_of r; meant = IsRegion }) b0.places b1.places (ap (λ (x : Builder). x.places) e);
+      places = front_one (number_of r, IsRegion) b0.places b1.places (ap (λ (x : Builder). x.places) e);
     }
 
 pub named_step : (b0 b1 : Builder) (goal : Goal) (l : Ident) (q : Place) (r : Placed Stepped) → b1 ≡ record b0 { places = with_place l (IsPlace q) b0.places } → r ≡ Ok (named_too (around_of b0 goal) (passed_of b0) l q) → Opens b0 b1 goal None r
@@ -83,7 +83,7 @@ named_step b0 b1 goal l q r e h =
       grows = subst (λ (x : Builder). Grows b0.terms x.terms) o (grows_none b0.terms);
       below = tt;
       variables = front_same b0.variables b1.variables (ap (λ (x : Builder). x.variables) e);
-      places = front_one (record { name = number_of l; meant = IsPlace q }) b0.places b1.places (ap (λ (x : Builder). x.places) e);
+      places = front_one (number_of l, IsPlace q) b0.places b1.places (ap (λ (x : Builder). x.places) e);
     }
 
 pub opened_step : (b0 b1 b2 : Builder) (g0 g1 : Goal) (l : Ident) (k : ConId) (head : Variable) (r : Placed Stepped) → head.0 ≡ b0.fresh → b1 ≡ record b0 { fresh = b0.fresh + 1 } → b2 ≡ record b1 { places = with_place l (IsPlace (AtFirst head.0)) b1.places }
@@ -109,13 +109,13 @@ opened_step b0 b1 b2 g0 g1 l k head r x e1 e2 ed ea h =
       grows = subst (λ (y : Builder). Grows b0.terms y.terms) o (grows_none b0.terms);
       below = tt;
       variables = front_same b0.variables b2.variables (ap (λ (y : Builder). y.variables) whole);
-      places = front_one (record { name = number_of l; meant = IsPlace (AtFirst head.0) }) b0.places b2.places (ap (λ (y : Builder). y.places) whole);
+      places = front_one (number_of l, IsPlace (AtFirst head.0)) b0.places b2.places (ap (λ (y : Builder). y.places) whole);
     }
 
-pub operation_step : (p : Program) (b0 b1 b2 : Builder) (goal : Goal) (x : Ident) (w : TypeName) (y : Operand) (op : Operator) (z : Operand) (l r : Atom) (v : Variable) → l ≡ atom (around_of b0 goal) y → r ≡ atom (around_of b0 goal) z → v.0 ≡ b0.fresh
-    → b1 ≡ record b0 { fresh = b0.fresh + 1 } → b2 ≡ record b1 { variables = with_variable x v.0 b1.variables } → Opens b0 b2 goal (Some (b.Prim v op l r)) (build_binding p (PrimIn x w y op z) (around_of b0 goal) (passed_of b0))
-operation_step p b0 b1 b2 goal x w y op z l r v el er ev e1 e2 =
-    let whole : b2 ≡ record b0 { fresh = b0.fresh + 1; variables = with_variable x v.0 b0.variables } = e2 ∙ ap (λ (k : Builder). record k { variables = with_variable x v.0 k.variables }) e1 in
+pub operation_step : (p : Program) (b0 b2 : Builder) (goal : Goal) (x : Ident) (w : TypeName) (y : Operand) (op : Operator) (z : Operand) (l r : Atom) (v : Variable) → l ≡ atom (around_of b0 goal) y → r ≡ atom (around_of b0 goal) z → v.0 ≡ b0.fresh
+    → b2 ≡ record b0 { variables = with_variable x b0.fresh b0.variables; fresh = b0.fresh + 1 } → Opens b0 b2 goal (Some (b.Prim v op l r)) (build_binding p (PrimIn x w y op z) (around_of b0 goal) (passed_of b0))
+operation_step p b0 b2 goal x w y op z l r v el er ev e =
+    let whole : b2 ≡ record b0 { fresh = b0.fresh + 1; variables = with_variable x v.0 b0.variables } = e ∙ (λ i. record b0 { fresh = b0.fresh + 1; variables = with_variable x (sym ev i) b0.variables }) in
     let o = sym whole in
     let n = sym ev in
     let left = sym el in
@@ -129,7 +129,7 @@ operation_step p b0 b1 b2 goal x w y op z l r v el er ev e1 e2 =
           ∙ (λ i. Ok (record { binds = Prim v op l r ∷ []; around = around_of (o i) goal; passed = passed_of (o i) }));
       grows = subst (λ (k : Builder). Grows b0.terms k.terms) o (grows_none b0.terms);
       below = tt;
-      variables = front_one (record { name = number_of x; number = v.0 }) b0.variables b2.variables (ap (λ (k : Builder). k.variables) whole);
+      variables = front_one (number_of x, v.0) b0.variables b2.variables (ap (λ (k : Builder). k.variables) whole);
       places = front_same b0.places b2.places (ap (λ (k : Builder). k.places) whole);
     }
 
@@ -150,7 +150,7 @@ pub between_named : (b0 b1 : Builder) (goal : Goal) (l : Ident) (q : Place) (r :
 between_named b0 b1 goal l q r e h = record {
   is = h ∙ ap (λ (x : Builder). Ok (around_of x goal)) (sym e);
   same = e ∙ (λ i. record b0 { places = (sym e i).places });
-  places = front_one (record { name = number_of l; meant = IsPlace q }) b0.places b1.places (ap (λ (x : Builder). x.places) e);
+  places = front_one (number_of l, IsPlace q) b0.places b1.places (ap (λ (x : Builder). x.places) e);
 }
 
 -- What goes on behind what is due of a packed side.

@@ -12,7 +12,6 @@ pub mod Counted
 pub mod OneLocal
 pub mod Samples
 -- For the check of names: scopes, declarations, lines, bodies and whole texts.
-pub mod InScope
 pub mod NamesKept
 pub mod ScopeNames
 pub mod KnownNames

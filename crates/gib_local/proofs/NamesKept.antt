@@ -10,7 +10,7 @@ use Rattle.gib_check.specs.Answers.{IsFaultOf}
 use Rattle.gib_check.specs.Faults.{and_then}
 use Rattle.gib_check.proofs.Loops.{passed_on, along}
 use Rattle.gib_check.proofs.RowLists.{rest-is}
-use Rattle.gib_local.specs.InScope.{NumberScope, number_in}
+use Rattle.gib_check.specs.InScope.{ScopeOf, newest}
 use Rattle.gib_local.specs.Knowing.{names_in, IsKept}
 use Rattle.gib_local.specs.Naming.{Names, After', bound, all_bound, with_variable, with_names}
 
@@ -20,15 +20,15 @@ one_found false n o None e = e
 one_found false n o (Some m) e = e
 
 -- A name is found in a scope exactly where it is one of the scope's names.
-pub found_too : (s : NumberScope) (x : ℕ) → is_some (number_in s x) ≡ is_some (place_of (names_in s) x)
+pub found_too : (s : ScopeOf ℕ) (x : ℕ) → is_some (newest s x) ≡ is_some (place_of (names_in s) x)
 found_too [] x = refl
-found_too (b ∷ s) x = one_found (eqb b.0 x) b.1 (number_in s x) (place_of (names_in s) x) (found_too s x)
+found_too (b ∷ s) x = one_found (eqb b.0 x) b.1 (newest s x) (place_of (names_in s) x) (found_too s x)
 
-pub as_many_names : (s : NumberScope) → length (names_in s) ≡ length s
+pub as_many_names : (s : ScopeOf ℕ) → length (names_in s) ≡ length s
 as_many_names [] = refl
 as_many_names (b ∷ s) = ap suc (as_many_names s)
 
-pub names_dropped : (n : ℕ) (s : NumberScope) → names_in (drop n s) ≡ drop n (names_in s)
+pub names_dropped : (n : ℕ) (s : ScopeOf ℕ) → names_in (drop n s) ≡ drop n (names_in s)
 names_dropped zero s = refl
 names_dropped (suc n) [] = refl
 names_dropped (suc n) (b ∷ s) = names_dropped n s

@@ -160,7 +160,7 @@ one_made p b0 b1 b2 g0 g1 x w at u s h e =
           ∙ (λ i. Ok (record { binds = One (side_from (term_of (o i).terms) (side_of.One s)) ∷ []; around = around_of (o i) g1; passed = passed_of (o i) }));
       grows = subst (λ (k : Builder). Grows b0.terms k.terms) o h.stays.grows;
       below = subst (λ (k : Builder). s.term.0 < length k.terms) o h.inside;
-      variables = front_one (record { name = x.name.0; number = s.variable.0 }) b0.variables b2.variables (ap (λ (k : Builder). k.variables) e ∙ ap (λ m. with_variable x s.variable.0 m) h.stays.variables);
+      variables = front_one (x.name.0, s.variable.0) b0.variables b2.variables (ap (λ (k : Builder). k.variables) e ∙ ap (λ m. with_variable x s.variable.0 m) h.stays.variables);
       places = front_same b0.places b2.places (ap (λ (k : Builder). k.places) e ∙ h.stays.places);
     }
 
@@ -228,7 +228,7 @@ both_made p b0 b1 b2 b3 b4 b5 b6 g0 g1 g2 x w at t o l r y z on u depth h k dv d
         (let m = h.left.inside in let q = up.longer in let c : length b6.terms ≡ length b3.terms = ap (λ xs. length xs) terms in omega (arith, m, q, c)),
         (let m = k.inside in let c : length b6.terms ≡ length b3.terms = ap (λ xs. length xs) terms in omega (arith, m, c)),
       );
-      variables = record { more = record { name = y.name.0; number = b1.fresh } ∷ record { name = x.name.0; number = b0.fresh } ∷ []; is = variables };
+      variables = record { more = (y.name.0, b1.fresh) ∷ (x.name.0, b0.fresh) ∷ []; is = variables };
       places = front_same b0.places b6.places places;
     }
 
@@ -299,7 +299,7 @@ with_front : (n : ℕ) (xs : List Ident) (vs : List VariableName) → Fronts vs 
 with_front n [] vs = record { more = []; is = refl }
 with_front n (x ∷ xs) vs =
     let h = with_front (n + 1) xs (with_variable x n vs) in
-    record { more = h.more ++ record { name = x.name.0; number = n } ∷ []; is = h.is ∙ sym (append_assoc h.more (record { name = x.name.0; number = n } ∷ []) vs) }
+    record { more = h.more ++ (x.name.0, n) ∷ []; is = h.is ∙ sym (append_assoc h.more ((x.name.0, n) ∷ []) vs) }
 
 pub branch_made : (p : Program) (b0 b1 b2 b3 : Builder) (g0 g1 : Goal) (k : Ident) (c : ConId) (xs : List Ident) (vs : Vec Variable) (u : Line) (t : TermId) (depth : Depth) → depth.variables ≡ length b0.variables → depth.places ≡ length b0.places
     → c ≡ con p.table k → BindsAll b0 b1 xs vs.items → destination_of g1.destination ≡ destination_of g0.destination → g1.at ≡ g0.at → Puts b1 b2 t (build p u (around_of b1 g1) (passed_of b1))

@@ -2,33 +2,19 @@
 use Rattle.std.proofs.Common.{◌≡◌, ℕ, ◌<◌, ◌≤◌, ◌-◌, Bool, true, false, cond, eqb, List, [], ◌∷◌, length, map, take, drop, get_or, refl, sym, ap, ap₂, ◌∙◌, subst, arith}
 use Rattle.std.proofs.Math.Seq.{take-length}
 use Rattle.std.proofs.lemmas.Bool.{eqb-true, eq-eqb}
-use Rattle.gib_types.specs.Row.{Table}
-use Rattle.gib_types.specs.Table.{IsTable, is_scalar}
+use Rattle.gib_types.specs.Table.{is_scalar}
 use Rattle.gib_syntax.specs.declared.tree.DataDecl.{DataDecl}
-use Rattle.gib_syntax.specs.Declarations.{constructor_names, rows_from, type_of_name}
-use Rattle.gib_syntax.specs.Parts.{data_tree}
-use Rattle.gib_check.specs.Views.{row_name, tree_number}
+use Rattle.gib_syntax.specs.Declarations.{type_of_name}
 use Rattle.gib_check.proofs.Making.{table_from}
 use Rattle.gib_local_parse.specs.declared.text.FunctionLines.{FunctionLines}
 use Rattle.gib_local_parse.specs.Tree.{Line}
 use Rattle.gib_local_parse.specs.TextParts.{TextParts, function_text}
 use Rattle.gib_local.specs.Building.{gives_scalar}
-use Rattle.gib_local.specs.Builds.{IsSource, program_in}
+use Rattle.gib_local.specs.Knowing.{declared_of}
 
-made_same : (parts : TextParts) (types : List ℕ) (ds es : List DataDecl) → types ≡ map tree_number (map data_tree ds) → ds ≡ parts.datas → es ≡ parts.datas → table_from types es ≡ (program_in parts).table
-made_same parts types ds es t d e = ap₂ (λ ts l. table_from ts l) (t ∙ ap (λ (l : List DataDecl). map tree_number (map data_tree l)) d) e
-
-pub table_asked : (parts : TextParts) (types : List ℕ) (ds es : List DataDecl) → types ≡ map tree_number (map data_tree ds) → ds ≡ parts.datas → es ≡ parts.datas → IsTable (program_in parts).table → IsTable (table_from types es)
-table_asked parts types ds es t d e h = subst IsTable (sym (made_same parts types ds es t d e)) h
-
-pub source_made : (parts : TextParts) (table : Table) (types constructors : List ℕ) (ds es : List DataDecl) → types ≡ map tree_number (map data_tree ds) → ds ≡ parts.datas → es ≡ parts.datas → table ≡ table_from types es → constructors ≡ map row_name (rows_from types 0 (map data_tree es))
-    → IsSource parts table types constructors
-source_made parts table types constructors ds es t d e h k =
-    let same : table_from types es ≡ (program_in parts).table = made_same parts types ds es t d e in record {
-      is_table = h ∙ same;
-      are_types = t ∙ ap (λ (l : List DataDecl). map tree_number (map data_tree l)) d;
-      are_constructors = k ∙ ap (λ (b : Table). constructor_names b) same;
-    }
+-- The table that is made of a text's names and declarations.
+pub table_is : (inner parts : TextParts) (types : List ℕ) (ds : List DataDecl) → inner ≡ parts → types ≡ (declared_of inner).table.types → ds ≡ inner.datas → table_from types ds ≡ (declared_of parts).table
+table_is inner parts types ds same t d = ap₂ (λ ts l. table_from ts l) t d ∙ ap (λ (p : TextParts). (declared_of p).table) same
 
 -- Functions before the one of a name.
 pub scalar_next : (g : ℕ → Line) (types : List ℕ) (rest : List FunctionLines) (one : FunctionLines) (x : ℕ) (all : Bool) → 1 ≤ length rest → one ≡ get_or rest 0 one → (one.name.name.0 ≡ x → ⊥)

@@ -20,6 +20,7 @@ use Rattle.gib_core.specs.declared.atom.Access.TheVariants as by
 use Rattle.gib_core.specs.Tree.{Term, Then, Write, Point, CallTerm, Give, CaseTerm, IfTerm, Bind, Past, One, Both, Prim, Reach, Side, On, Branches, NoBranch, BranchThen, prepend, variables_from, FunctionTerm, CoreTree}
 use Rattle.gib_core.specs.Met.{Destination, Nowhere, Empty, Open, InParts, packed_types, stands_too, result_place}
 use Rattle.gib_core.specs.Rules.{has_room, is_empty, is_nowhere}
+use Rattle.gib_check.specs.InScope.{newest}
 -- A location, by what it is: the place of a function's result; the start of the region of a name; behind the head of
 -- a variable; behind the value of a variable that stands.
 pub use Rattle.gib_local.specs.declared.place.Place.{Place}
@@ -45,14 +46,12 @@ same_place (AtNext x) (AtNext y) = x == y
 same_place p q = false
 
 -- A region's or location's name, with what it stands for.
-pub record PlaceName : Type 0 where
-  pub name : ℕ
-  pub meant : Meant
+abbrev pub PlaceName : Type 0
+PlaceName = ℕ × Meant
 
 -- A variable's name, with its number in the core.
-pub record VariableName : Type 0 where
-  pub name : ℕ
-  pub number : ℕ
+abbrev pub VariableName : Type 0
+VariableName = ℕ × ℕ
 
 -- What a term is met with: the variables in scope and the regions and locations, the newest first; the destination, and
 -- the location where it is.
@@ -83,13 +82,12 @@ if_due false p go = Err p
 
 -- What a name of a region or location stands for.
 abbrev pub meant : List PlaceName → ℕ → Option Meant
-meant [] x = None
-meant (p ∷ ps) x = if p.name == x then Some p.meant else meant ps x
+meant ps x = newest ps x
 
 -- The number of a variable; of an unknown one, 0.
 abbrev pub variable_at : List VariableName → ℕ → ℕ
 variable_at [] x = 0
-variable_at (v ∷ vs) x = if v.name == x then v.number else variable_at vs x
+variable_at (v ∷ vs) x = if v.0 == x then v.1 else variable_at vs x
 
 -- The variable of a name.
 abbrev pub variable : Around → Ident → Variable
@@ -216,11 +214,11 @@ pub record Sided : Type 0 where
 
 -- One more variable in scope.
 abbrev pub with_variable : Ident → ℕ → List VariableName → List VariableName
-with_variable x n vs = record { name = number_of x; number = n } ∷ vs
+with_variable x n vs = (number_of x, n) ∷ vs
 
 -- One more region or location in scope.
 abbrev pub with_place : Ident → Meant → List PlaceName → List PlaceName
-with_place x m ps = record { name = number_of x; meant = m } ∷ ps
+with_place x m ps = (number_of x, m) ∷ ps
 
 -- Variables in scope, with the numbers from one on.
 abbrev pub with_variables : ℕ → List Ident → List VariableName → List VariableName

@@ -7,7 +7,7 @@ use Rattle.gib_types.specs.Table.{Table}
 use Rattle.gib_types.specs.declared.table.ConId.{ConId}
 use Rattle.gib_syntax.specs.declared.tree.Ident.{Ident}
 use Rattle.gib_syntax.specs.declared.tree.TypeName.{TypeName}
-use Rattle.gib_syntax.specs.Declarations.{number_of, constructor_names}
+use Rattle.gib_syntax.specs.Declarations.{number_of}
 use Rattle.gib_core.specs.declared.atom.Atom.{Atom}
 use Rattle.gib_core.specs.declared.atom.Kind.{Kind}
 use Rattle.gib_core.specs.declared.node.Binding.{Binding as CoreBinding}
@@ -49,12 +49,6 @@ passed_of b = record { fresh = b.fresh; unused = b.unused }
 -- The text round its bodies.
 abbrev pub program_in : TextParts → Program
 program_in parts = program (text_of parts)
-
--- What stands beside a text while its core is built: the table of its types, and the names of its types and constructors.
-pub record IsSource (parts : TextParts) (table : Table) (types constructors : List ℕ) : Type 0 where
-  pub is_table : table ≡ (program_in parts).table
-  pub are_types : types ≡ (program_in parts).table.types
-  pub are_constructors : constructors ≡ constructor_names (program_in parts).table
 
 -- A refusal is that of the rules, unless memory ran out.
 abbrev pub Fails : {A : Type 0} → BuildFault → Placed A → Type 0
@@ -105,9 +99,13 @@ pub record PutsNode (old new : Builder) (id : TermId) (node : Node) : Type 0 whe
   pub is : new ≡ record old { terms = new.terms }
   pub makes : Makes old.terms new.terms id.0 node
 
+-- Names came into scope, each with a new variable.
+abbrev pub Enters : Builder → Builder → List Ident → Type 0
+Enters old new names = new ≡ record old { variables = with_variables old.fresh names old.variables; fresh = old.fresh + length names }
+
 -- New variables came into scope.
 pub record BindsAll (old new : Builder) (names : List Ident) (xs : List Variable) : Type 0 where
-  pub is : new ≡ record old { variables = with_variables old.fresh names old.variables; fresh = old.fresh + length names }
+  pub is : Enters old new names
   pub variables : xs ≡ variables_from old.fresh names
 
 -- A term was put, and nothing else changed.

@@ -19,7 +19,7 @@ use Rattle.gib_check.specs.Faults.{Checked, and_then, one_more}
 use Rattle.gib_local.specs.declared.known.Kept.{Kept}
 use Rattle.gib_local_parse.specs.declared.text.FunctionLines.{FunctionLines}
 use Rattle.gib_local.specs.Building.{declared}
-use Rattle.gib_local.specs.InScope.{NumberScope}
+use Rattle.gib_check.specs.InScope.{ScopeOf}
 use Rattle.gib_local.specs.Naming.{Names, Declared, as_many, constructor, function, known, old, operand, operands, all_bound, check_line, check_body}
 use Rattle.gib_local_parse.specs.TextParts.{TextParts, text_of}
 use Rattle.gib_local_parse.specs.Tree.{Line}
@@ -129,6 +129,6 @@ abbrev pub HasFew : FunctionLines → Type 0
 HasFew f = length f.parameters.items ≤ 200
 
 -- The names of a scope, the newest first.
-abbrev pub names_in : NumberScope → List ℕ
+abbrev pub names_in : ScopeOf ℕ → List ℕ
 names_in [] = []
 names_in (b ∷ scope) = b.0 ∷ names_in scope

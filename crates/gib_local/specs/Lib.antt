@@ -9,8 +9,6 @@ pub mod Counting
 pub mod Judged
 pub mod Sample
 -- As the code keeps names and declarations.
-pub mod InScope
-pub mod Scoped
 pub mod Knowing
 -- What the builder leaves, and the count of terms.
 pub mod Builds

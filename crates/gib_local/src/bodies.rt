@@ -7,7 +7,7 @@ ghost use Rattle.gib_core.specs.Parts.{core_of};
 ghost use Rattle.gib_local.specs.declared.destination.Goal.{Goal as Where};
 ghost use Rattle.gib_local.specs.Building.{Around, build, build_body, build_core as core_made, build_functions, con, no_mark as unmarked, types_of};
 ghost use Rattle.gib_local.specs.Builds.{Gives, around_of, passed_of, program_in};
-ghost use Rattle.gib_local.specs.Bodied.{BuildsBody, BuildsFunction, BuildsFunctions, BuildsMain, name_of, packed_body as packed_made, scalar_body as scalar_made};
+ghost use Rattle.gib_local.specs.Bodied.{BuildsBody, BuildsFunction, BuildsFunctions, BuildsMain, packed_body as packed_made, scalar_body as scalar_made};
 ghost use Rattle.gib_local_parse.specs.{LineArena.{tree_of}, TextParts.{IsFunctionIn, function_text, text_of}};
 
 use crate::build_fault::BuildFault;
@@ -20,22 +20,9 @@ use crate::steps::{no_mark, type_start};
 use gib_base::Memory;
 use gib_core::{Core, CoreFunction, CoreMain, CoreResult, TermId};
 use gib_local_parse::{FunctionLines, LineId, Mark};
-use gib_syntax::{Ident, Parameter, TypeName};
+use gib_syntax::{Parameter, TypeName};
 use gib_types::{ConId, Ty};
 use std::alloc::Global;
-
-/// The names of parameters.
-fn names_of(alloc: Global, parameters: &[Parameter]) -> Result<Vec<Ident>, Memory>
-    ensures { IfOk result (λ names. names.items ≡ map name_of parameters.now) }
-{
-    let mut names = Vec::new(alloc);
-    let mut rest = parameters;
-    'parameters: while let [parameter, after @ ..] = rest {
-        names.push(parameter.name)?;
-        rest = after;
-    }
-    Ok(names)
-}
 
 /// The types of parameters.
 fn list_types(alloc: Global, source: &Source, parameters: &[Parameter]) -> Result<Vec<Ty>, Memory>
@@ -103,8 +90,7 @@ fn body(
     ensures { BuildsBody builder.old builder.new result (build_body (program_in source.now) parameters.now ty place (tree_of source.now.lines id.0)) }
 {
     builder.begin()?;
-    let names = names_of(builder.alloc, parameters)?;
-    builder.bind_all(&names)?;
+    builder.bind_parameters(parameters)?;
     if source.type_named(ty).is_scalar() {
         scalar_body(builder, source, place, id)
     } else {
@@ -193,10 +179,10 @@ fn offsets(alloc: Global, source: &Source) -> Result<Vec<ConId>, Memory>
 pub fn build_core(alloc: Global, source: &Source) -> Result<Core, BuildFault>
     ensures { Gives core_of result (core_made (text_of source.now)) }
 {
+    let offsets = offsets(alloc, source)?;
+    let types = source.table().copy(alloc)?;
     let mut builder = Builder::new(alloc);
     let functions = functions(&mut builder, source)?;
     let main = main(&mut builder, source)?;
-    let offsets = offsets(alloc, source)?;
-    let types = source.table().copy(alloc)?;
     Ok(Core::new(types, builder.terms, functions, main, offsets, true))
 }

@@ -4,19 +4,21 @@ ghost use Rattle.std.specs.Prelude.{◌≡◌, ◌+◌, ◌-◌, [], Ok, Some, N
 ghost use Rattle.gib_syntax.specs.Declarations.{number_of};
 ghost use Rattle.gib_core.specs.Arena.{PartsBelow};
 ghost use Rattle.gib_local.specs.declared.destination.Goal.{Goal as Where};
-ghost use Rattle.gib_local.specs.Building.{access as accessed, aims as aimed, atom as atom_of, kind_at as kind_in, kind_for as kind_place, used_too, variable_at, with_place, with_variable};
-ghost use Rattle.gib_local.specs.Builds.{Gives, around_of, PutsNode, BindsAll};
+ghost use Rattle.gib_local.specs.Building.{access as accessed, aims as aimed, atom as atom_of, kind_at as kind_in, kind_for as kind_place, meant};
+ghost use Rattle.gib_local.specs.Building.{used_too, variable_at, with_place, with_variable};
+ghost use Rattle.gib_local.specs.{Bodied.{name_of}, Builds.{Gives, around_of, PutsNode, BindsAll, Enters}};
 
-use crate::around::{Places, Unused, Variables};
 use crate::build_fault::BuildFault;
 use crate::destination::Goal;
 use crate::place::{Meant, Place, is_place, is_there};
 use crate::scopes::Depth;
+use crate::unused::Unused;
 use gib_base::Memory;
 use gib_base::token::is_literal;
+use gib_check::Scope;
 use gib_core::{Access, Atom, Kind, Node, TermId, Terms, Variable};
 use gib_local_parse::{Mark, Operand, Way};
-use gib_syntax::Ident;
+use gib_syntax::{Ident, Parameter};
 use std::alloc::{AllocError, Global};
 
 /// The terms so far; the variables, regions and locations in scope; the number of the next variable; and the regions that
@@ -25,8 +27,8 @@ use std::alloc::{AllocError, Global};
 pub struct Builder {
     pub alloc: Global,
     pub terms: Terms,
-    pub variables: Variables,
-    pub places: Places,
+    pub variables: Scope<u32>,
+    pub places: Scope<Meant>,
     pub fresh: u32,
     pub unused: Unused,
 }
@@ -46,8 +48,8 @@ impl Builder {
         Builder {
             alloc,
             terms: Terms::new(alloc),
-            variables: Variables::new(alloc),
-            places: Places::new(alloc),
+            variables: Scope::new(alloc),
+            places: Scope::new(alloc),
             fresh: 0,
             unused: Unused::new(alloc),
         }
@@ -73,7 +75,7 @@ impl Builder {
         ensures { OnOk result (self.new ≡ record self.old { variables = drop (length self.old.variables - depth.variables) self.old.variables; places = drop (length self.old.places - depth.places) self.old.places }) }
     {
         self.variables.truncate(depth.variables)?;
-        self.places.truncate(self.alloc, depth.places)
+        self.places.truncate(depth.places)
     }
 
     /// A body begins: nothing is in scope, and variables count from 0 on.
@@ -117,7 +119,21 @@ impl Builder {
     pub fn bind(&mut self, x: Ident, variable: Variable) -> Result<(), Memory>
         ensures { OnOk result (self.new ≡ record self.old { variables = with_variable x variable.0 self.old.variables }) }
     {
-        self.variables.push(x, variable.0)
+        self.variables.push(x.name, variable.0)
+    }
+
+    /// A new variable comes into scope.
+    ///
+    /// # Errors
+    ///
+    /// Want of memory, where no further number is left too.
+    pub fn bind_new(&mut self, x: Ident) -> Result<Variable, Memory>
+        ensures variable { IfOk result (λ variable. variable.0 ≡ self.old.fresh) }
+        ensures new { IfOk result (λ _. self.new ≡ record self.old { variables = with_variable x self.old.fresh self.old.variables; fresh = self.old.fresh + 1 }) }
+    {
+        let variable = self.new_variable()?;
+        self.bind(x, variable)?;
+        Ok(variable)
     }
 
     /// New variables come into scope.
@@ -131,12 +147,27 @@ impl Builder {
         let mut variables = Vec::new(self.alloc);
         let mut rest = names;
         'names: while let [name, after @ ..] = rest {
-            let variable = self.new_variable()?;
-            self.bind(*name, variable)?;
+            let variable = self.bind_new(*name)?;
             variables.push(variable)?;
             rest = after;
         }
         Ok(variables)
+    }
+
+    /// New variables of parameters come into scope.
+    ///
+    /// # Errors
+    ///
+    /// Want of memory, where no further number is left too.
+    pub fn bind_parameters(&mut self, parameters: &[Parameter]) -> Result<(), Memory>
+        ensures { OnOk result (Enters self.old self.new (map name_of parameters.now)) }
+    {
+        let mut rest = parameters;
+        'parameters: while let [parameter, after @ ..] = rest {
+            self.bind_new(parameter.name)?;
+            rest = after;
+        }
+        Ok(())
     }
 
     /// A region or location gets a name.
@@ -147,14 +178,24 @@ impl Builder {
     pub fn name(&mut self, x: Ident, meant: Meant) -> Result<(), Memory>
         ensures { OnOk result (self.new ≡ record self.old { places = with_place x meant self.old.places }) }
     {
-        self.places.push(x, meant)
+        self.places.push(x.name, meant)
     }
 
     /// The variable of a name.
     pub fn variable(&self, x: Ident) -> Variable
         ensures { result ≡ record { 0 = variable_at self.now.variables (number_of x) } }
     {
-        Variable(self.variables.number(x))
+        match self.variables.find(x.name) {
+            Some(number) => Variable(number),
+            None => Variable(0),
+        }
+    }
+
+    /// What the name of a region or location stands for.
+    pub fn meant(&self, x: Ident) -> Option<Meant>
+        ensures { result ≡ meant self.now.places (number_of x) }
+    {
+        self.places.find(x.name)
     }
 
     /// The atom of an operand.
@@ -217,7 +258,7 @@ impl Builder {
         if goal.destination.is_nowhere() {
             return Err(BuildFault::Place(mark.sign.start));
         }
-        if !is_place(goal.at, self.places.meant(mark.name)) {
+        if !is_place(goal.at, self.meant(mark.name)) {
             return Err(BuildFault::Place(mark.name.span.start));
         }
         Ok(())

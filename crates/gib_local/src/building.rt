@@ -109,7 +109,7 @@ fn step(
             left,
             operator,
             right,
-        } => operation(builder, goal, *name, *left, *operator, *right),
+        } => operation(builder, *name, *left, *operator, *right),
         BindingNode::Reach(y, way) => Ok(reach(builder, source, goal, *y, *way)),
     }
 }

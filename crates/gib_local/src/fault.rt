@@ -1,6 +1,5 @@
 //! Why bytes are no program whose places are written out.
 
-use gib_base::Memory;
 use gib_check::Fault;
 use thiserror::Error;
 
@@ -36,15 +35,4 @@ pub enum LocalFault {
     /// This build rule is broken at the term of this number.
     #[error("build rule {0} is broken at term {1}")]
     Rule(u8, u64),
-}
-
-impl From<Memory> for LocalFault {
-    ghost use Rattle.std.specs.Prelude.{◌≡◌};
-    ghost use Rattle.gib_local.specs.declared.fault.LocalFault.TheVariants as fault;
-
-    ghost from_gives = { λ _ e. e ≡ fault.Memory };
-
-    fn from(_error: Memory) -> LocalFault {
-        LocalFault::Memory
-    }
 }

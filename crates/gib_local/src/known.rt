@@ -4,15 +4,17 @@ ghost use Rattle.std.specs.Prelude.{◌≡◌, ◌++◌, [], map, IfOk};
 ghost use Rattle.gib_syntax.specs.{Plain.{written_of}, Declarations.{type_of_name as type_of_written}};
 ghost use Rattle.gib_check.specs.Answers.{Gives};
 ghost use Rattle.gib_check.specs.Faults as generic;
-ghost use Rattle.gib_local.specs.Knowing.{datas_of, declared_of, function_number, kept_name, kept_in, all_kept, no_tree, constructor_of, function_of};
+ghost use Rattle.gib_local.specs.Knowing.{datas_of, declared_of, function_number, kept_in, all_kept, no_tree, constructor_of, function_of};
 ghost use Rattle.gib_local.specs.Building.{con, is_flat};
 ghost use Rattle.gib_local.specs.Naming as rule;
 
 use gib_base::{Memory, Name, Span};
-use gib_check::{Fault, Kind, NameList, TypeFault, list_types, type_of_name};
+use gib_check::{
+    Called, Fault, Kind, NameList, TypeFault, list_names, list_types, make_table, type_of_name,
+};
 use gib_local_parse::{FunctionLines, LineId, LineNode, Lines, LocalText};
 use gib_syntax::{ConstructorDecl, DataDecl, Ident, TypeName};
-use gib_types::Ty;
+use gib_types::{ConId, Ty, TypeTable};
 use std::alloc::Global;
 use std::marker::Model;
 
@@ -22,6 +24,17 @@ pub struct Kept {
     pub name: Name,
     pub count: usize,
     pub flat: bool,
+}
+
+impl Called for Kept {
+    ghost use Rattle.gib_local.specs.Knowing.{kept_name};
+
+    ghost called = { kept_name };
+
+    /// The name of the constructor.
+    fn name(&self) -> Name {
+        self.name
+    }
 }
 
 /// A text, with the places of the names that it declares.
@@ -130,22 +143,10 @@ fn list_rows(alloc: Global, types: &NameList, datas: &[DataDecl]) -> Result<Vec<
     Ok(rows)
 }
 
-/// The names of constructors.
-fn list_constructors(alloc: Global, rows: &[Kept]) -> Result<NameList, Memory>
-    ensures { IfOk result (λ names. names ≡ map kept_name rows.now) }
-{
-    let mut names = NameList::new(alloc);
-    let mut rest = rows;
-    'rows: while let [row, after @ ..] = rest {
-        names.push(row.name)?;
-        rest = after;
-    }
-    Ok(names)
-}
-
 impl Known {
     ghost use Rattle.std.specs.Prelude.{◌<◌, length};
     ghost use Rattle.gib_local_parse.specs.LineArena.{Opens};
+    ghost use Rattle.gib_types.specs.Table.{IsTable};
 
     /// A text, with the places of its names.
     ///
@@ -157,7 +158,7 @@ impl Known {
     {
         let types = list_types(alloc, text.datas())?;
         let rows = list_rows(alloc, &types, text.datas())?;
-        let constructors = list_constructors(alloc, &rows)?;
+        let constructors = list_names(alloc, &rows)?;
         let functions = list_functions(alloc, text.functions())?;
         Ok(Known {
             text,
@@ -254,14 +255,34 @@ impl Known {
         }
     }
 
+    /// The constructor of a name; of an unknown one, the first.
+    pub(crate) fn con(&self, k: Ident) -> ConId
+        ensures { result ≡ con (declared_of self.now).table k }
+    {
+        match self.constructors.place(k.name) {
+            Some(number) => ConId(number),
+            None => ConId(0),
+        }
+    }
+
     /// Whether a constructor has no packed fields.
     pub fn is_flat(&self, k: Ident) -> bool
         ensures { result ≡ is_flat (declared_of self.now).table (con (declared_of self.now).table k) }
     {
-        match self.constructors.place(k.name) {
-            Some(number) => self.is_flat_at(number),
-            None => self.is_flat_at(0),
-        }
+        self.is_flat_at(self.con(k).0)
+    }
+
+    /// The table of the text's types and constructors.
+    ///
+    /// # Errors
+    ///
+    /// Want of memory.
+    pub(crate) fn table(&self, alloc: Global) -> Result<TypeTable, Memory>
+        requires { IsTable (declared_of self.now).table }
+        ensures { IfOk result (λ table. table ≡ (declared_of self.now).table) }
+    {
+        let (table, _names) = make_table(alloc, &self.types, self.text.datas())?;
+        Ok(table)
     }
 
     /// The constructors that are said to have offsets are declared.

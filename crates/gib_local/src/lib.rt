@@ -1,7 +1,6 @@
 //! From LoCal text to a core: the check of its names, and the builder.
 #![tactic(auto)]
 
-mod around;
 mod bodies;
 mod build_fault;
 mod builder;
@@ -17,10 +16,10 @@ mod making;
 mod names;
 mod naming;
 mod place;
-mod scope;
 mod scopes;
 mod source;
 mod steps;
+mod unused;
 
 pub use bodies::build_core;
 pub use build_fault::BuildFault;

@@ -93,15 +93,24 @@ fn judged(alloc: Global, source: &Source, core: Core) -> Result<Checked, LocalFa
     }
 }
 
+/// The core that a text makes, judged.
+fn built(alloc: Global, source: &Source) -> Result<Checked, LocalFault>
+    ensures { Judges result (placed_text (text_of source.now) (core_made (text_of source.now))) }
+{
+    match build_core(alloc, source) {
+        Ok(core) => judged(alloc, source, core),
+        Err(fault) => Err(of_places(fault)),
+    }
+}
+
 /// The core of a text whose names are in order.
 fn placed(alloc: Global, known: Known) -> Result<Checked, LocalFault>
     requires { IsTable (program_in known).table }
     ensures { Judges result (placed_text (text_of known) (core_made (text_of known))) }
 {
-    let source = Source::make(alloc, known)?;
-    match build_core(alloc, &source) {
-        Ok(core) => judged(alloc, &source, core),
-        Err(fault) => Err(of_places(fault)),
+    match Source::make(alloc, known) {
+        Ok(source) => built(alloc, &source),
+        Err(_) => Err(LocalFault::Memory),
     }
 }
 

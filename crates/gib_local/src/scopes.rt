@@ -7,10 +7,9 @@ ghost use Rattle.gib_check.specs.Faults as counting;
 ghost use Rattle.gib_local.specs.Naming as rule;
 
 use crate::known::broken;
-use crate::scope::Scope;
 use gib_base::limits::{EXPRESSIONS, VARIABLES};
 use gib_base::{Memory, Span};
-use gib_check::{Counts, Kind, TypeFault};
+use gib_check::{Counts, Kind, Scope, TypeFault};
 use gib_local_parse::{Operand, Way};
 use gib_syntax::Ident;
 use std::alloc::Global;
@@ -26,8 +25,8 @@ pub struct Depth {
 /// The variables in scope, the regions and locations in scope, and counts.
 #[derive(Drop)]
 pub struct Scopes {
-    variables: Scope,
-    places: Scope,
+    variables: Scope<u32>,
+    places: Scope<u32>,
     counts: Counts,
 }
 

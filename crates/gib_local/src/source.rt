@@ -7,31 +7,29 @@ ghost use Rattle.gib_local.specs.{Building.{con, gives_scalar as scalar_given}, 
 
 use crate::known::Known;
 use gib_base::Memory;
-use gib_check::{NameList, list_types, make_table, type_of_name};
 use gib_local_parse::{LineId, LineNode, LocalText};
 use gib_syntax::{Ident, TypeName};
 use gib_types::{ConId, Ty, TypeTable};
 use std::alloc::Global;
 use std::marker::Model;
 
-/// A text, the table of its types, and the places of the names of its types and constructors.
+/// A text, and the table of its types.
 #[derive(Drop)]
 pub struct Source {
     known: Known,
     table: TypeTable,
-    types: NameList,
-    constructors: NameList,
 }
 
 impl Model for Source {
+    ghost use Rattle.std.specs.Prelude.{◌≡◌};
     ghost use Rattle.gib_local_parse.specs.TextParts.{TextParts};
-    ghost use Rattle.gib_local.specs.Builds.{IsSource};
+    ghost use Rattle.gib_local.specs.Builds.{program_in};
 
     ghost Value = { TextParts };
 
     ghost view = { λ s. s.known };
 
-    ghost invariant = { λ s. IsSource s.known s.table s.types s.constructors };
+    ghost invariant = { λ s. s.table ≡ (program_in s.known).table };
 }
 
 impl Source {
@@ -46,15 +44,8 @@ impl Source {
         requires { IsTable (program_in known).table }
         ensures { IfOk result (λ source. source ≡ known) }
     {
-        let text = known.text();
-        let types = list_types(alloc, text.datas())?;
-        let (table, constructors) = make_table(alloc, &types, text.datas())?;
-        Ok(Source {
-            known,
-            table,
-            types,
-            constructors,
-        })
+        let table = known.table(alloc)?;
+        Ok(Source { known, table })
     }
 
     /// The text, with the places of its names.
@@ -90,17 +81,14 @@ impl Source {
     pub fn type_named(&self, written: TypeName) -> Ty
         ensures { result ≡ type_in (program_in self.now).table.types written }
     {
-        type_of_name(&self.types, written)
+        self.known.type_of(written)
     }
 
     /// The constructor of a name; of an unknown one, the first.
     pub fn constructor(&self, k: Ident) -> ConId
         ensures { result ≡ con (program_in self.now).table k }
     {
-        match self.constructors.place(k.name) {
-            Some(place) => ConId(place),
-            None => ConId(0),
-        }
+        self.known.con(k)
     }
 
     /// Whether the result of the function of a name is a scalar.

@@ -4,6 +4,7 @@ ghost use Rattle.std.specs.Prelude.{◌≡◌, ◌<◌, Ok, length, IfOk};
 ghost use Rattle.gib_core.specs.{Tree.{prepend}, Arena.{term_of}};
 ghost use Rattle.gib_syntax.specs.Declarations.{number_of};
 ghost use Rattle.gib_local_parse.specs.Tree.{Called, Given, Made, Pointed, NewPlace, NewRegion, PrimIn, ReachIn};
+ghost use Rattle.gib_local.specs.declared.destination.Goal.{Goal as Where};
 ghost use Rattle.gib_local.specs.Building.{between as between_sides, build, build_binding, is_last as last, may_open as may_be_opened, new_place as place_named, no_mark as unmarked, write as written, with_variable, variable_at, type_start as start_of, Program};
 ghost use Rattle.gib_local.specs.Builds.{around_of, destination_of, passed_of, program_in, nowhere, Builds, BuildsBetween, Gives, IsStepBelow, PutsTerm, Steps, binds_of, call_due, filled_due, reserved as reserved_at, side_due};
 
@@ -239,7 +240,7 @@ fn start(
 ) -> Result<Option<Binding>, BuildFault>
     ensures { Steps builder.old builder.new goal.now result (place_named (program_in source.now).table (around_of builder.old goal.now) (passed_of builder.old) l (Location.Start r)) }
 {
-    if !is_region(builder.places.meant(r)) {
+    if !is_region(builder.meant(r)) {
         return Err(BuildFault::Place(r.span.start));
     }
     builder.name(l, Meant::IsPlace(Place::AtStart(r.name.0)))?;
@@ -251,7 +252,7 @@ fn may_open(builder: &Builder, source: &Source, goal: &Goal, d: Ident, construct
     ensures { result ≡ may_be_opened (program_in source.now).table (around_of builder.now goal.now) d constructor }
 {
     goal.destination.is_empty()
-        && (is_place(goal.at, builder.places.meant(d)) && !is_flat(source.table(), constructor))
+        && (is_place(goal.at, builder.meant(d)) && !is_flat(source.table(), constructor))
 }
 
 /// A head is opened at the destination; the place behind it gets a name.
@@ -335,18 +336,16 @@ pub fn new_place(
 /// Want of memory.
 pub fn operation(
     builder: &mut Builder,
-    goal: &Goal,
     name: Ident,
     left: Operand,
     operator: Operator,
     right: Operand,
 ) -> Result<Option<Binding>, BuildFault>
-    ensures { (p : Program) (w : TypeName) → Steps builder.old builder.new goal.now result (build_binding p (PrimIn name w left operator right) (around_of builder.old goal.now) (passed_of builder.old)) }
+    ensures { (p : Program) (w : TypeName) (goal : Where) → Steps builder.old builder.new goal result (build_binding p (PrimIn name w left operator right) (around_of builder.old goal) (passed_of builder.old)) }
 {
     let left = builder.atom(left)?;
     let right = builder.atom(right)?;
-    let variable = builder.new_variable()?;
-    builder.bind(name, variable)?;
+    let variable = builder.bind_new(name)?;
     Ok(Some(Binding::Prim {
         variable,
         operator,
@@ -421,7 +420,7 @@ pub fn due(
     let Some(mark) = mark else {
         return Err(BuildFault::Place(type_start(ty)));
     };
-    let meant = builder.places.meant(mark.name);
+    let meant = builder.meant(mark.name);
     let next = goal.destination.next_place(source.table());
     match builder.kind_at(next, meant) {
         Some(kind) => Ok((kind, place_meant(meant))),

@@ -138,10 +138,10 @@ extends_same nm n ps = record { same = λ j lt. refl }
 pub extends_on : (nm : Naming) (n : ℕ) (a b c : List PlaceName) → Extends nm n a b → Extends nm n b c → Extends nm n a c
 extends_on nm n a b c f g = record { same = λ j lt. g.same j lt ∙ f.same j lt }
 
-pub extends_location : (nm : Naming) → Apart nm → (n x : ℕ) (m : Meant) (ps : List PlaceName) → n ≤ x → Extends nm n ps (record { name = nm.location x; meant = m } ∷ ps)
+pub extends_location : (nm : Naming) → Apart nm → (n x : ℕ) (m : Meant) (ps : List PlaceName) → n ≤ x → Extends nm n ps ((nm.location x, m) ∷ ps)
 extends_location nm ok n x m ps le = record { same = λ j lt. meant_past (nm.location x) (nm.location j) m ps (λ e. let same : x ≡ j = ok.locations x j e in absurd (omega (arith, le, lt, same))) }
 
-pub extends_region : (nm : Naming) → Apart nm → (n x : ℕ) (m : Meant) (ps : List PlaceName) → Extends nm n ps (record { name = nm.region x; meant = m } ∷ ps)
+pub extends_region : (nm : Naming) → Apart nm → (n x : ℕ) (m : Meant) (ps : List PlaceName) → Extends nm n ps ((nm.region x, m) ∷ ps)
 extends_region nm ok n x m ps = record { same = λ j lt. meant_past (nm.region x) (nm.location j) m ps (λ e. absurd (ok.apart j x (sym e))) }
 
 -- The location of a side is found by its name, at a destination; these are the unused regions before and behind.
@@ -156,11 +156,11 @@ field_named nm Nowhere x ps = ps
 field_named nm Empty x ps = ps
 field_named nm (InParts ts) x ps = ps
 field_named nm (Open g c []) x ps = ps
-field_named nm (Open g c (y ∷ ys)) x ps = record { name = nm.location x; meant = IsPlace (AtNext (last_of y ys).0) } ∷ ps
+field_named nm (Open g c (y ∷ ys)) x ps = (nm.location x, IsPlace (AtNext (last_of y ys).0)) ∷ ps
 
 abbrev pub places_before : Naming → Destination → Kind → ℕ → List PlaceName → List PlaceName
 places_before nm d Here x ps = field_named nm d x ps
-places_before nm d Region x ps = record { name = nm.location x; meant = IsPlace (AtStart (nm.region x)) } ∷ record { name = nm.region x; meant = IsRegion } ∷ ps
+places_before nm d Region x ps = (nm.location x, IsPlace (AtStart (nm.region x))) ∷ (nm.region x, IsRegion) ∷ ps
 places_before nm d Scalar x ps = ps
 
 -- The regions that are not used there.
@@ -188,7 +188,7 @@ module _ (p : Program) (nm : Naming) (ok : Apart nm) where
       let back : variable h (named nm z) ≡ z = variable_back nm ok xs ps d q z (last_in_scope xs y ys s) in
       let next : next_place p.table d ≡ Some (AtNext z.0) = next_is p.table d r ∙ ap (λ (k : Place). Some k) (behind_more (AtFirst g.0) y ys) in
       let last : is_last p.table d z ≡ true = ap (λ (o : Option Place). is_there o (AtNext z.0)) next ∙ itself z.0 in
-      passing p (NewPlace l (After (named nm z))) rest h (world nm xs (record { name = nm.location x; meant = IsPlace (AtNext z.0) } ∷ ps) d q) v v
+      passing p (NewPlace l (After (named nm z))) rest h (world nm xs ((nm.location x, IsPlace (AtNext z.0)) ∷ ps) d q) v v
       (ap (λ (y : Variable). if_due (is_last p.table d y) 0 (Ok (named_too h v l (AtNext y.0)))) back
       ∙ ap (λ b. if_due b 0 (Ok (named_too h v l (AtNext z.0)))) last)
 
@@ -199,8 +199,8 @@ module _ (p : Program) (nm : Naming) (ok : Apart nm) where
   before_back d Region t x rest xs ps q n u may s =
       let r : Ident = ident (nm.region x) in
       let l : Ident = ident (nm.location x) in
-      let one : List PlaceName = record { name = nm.region x; meant = IsRegion } ∷ ps in
-      let two : List PlaceName = record { name = nm.location x; meant = IsPlace (AtStart (nm.region x)) } ∷ one in
+      let one : List PlaceName = (nm.region x, IsRegion) ∷ ps in
+      let two : List PlaceName = (nm.location x, IsPlace (AtStart (nm.region x))) ∷ one in
       let w : Passed = passed n (nm.region x ∷ u) in
       passing p (NewRegion r) (In nowhere (NewPlace l (Start r)) rest) (world nm xs ps d q) (world nm xs one d q) (passed n u) w refl
       ∙ passing p (NewPlace l (Start r)) rest (world nm xs one d q) (world nm xs two d q) w w
@@ -220,7 +220,7 @@ pub ready : (nm : Naming) (tb : Table) (d : Destination) (kind : Kind) (t : Ty) 
     → IsReady nm tb (places_before nm d kind x ps) d kind (side_number d kind x) (unused_before nm kind x u) u
 ready nm tb d Here t x ps u may h f = (field_ready nm tb d x ps may.0 h, may.0, refl)
 ready nm tb d Region t x ps u may h f =
-    (meant_here (nm.location x) (IsPlace (AtStart (nm.region x))) (record { name = nm.region x; meant = IsRegion } ∷ ps), in_here (nm.region x) u, without_here (nm.region x) u f)
+    (meant_here (nm.location x) (IsPlace (AtStart (nm.region x))) ((nm.region x, IsRegion) ∷ ps), in_here (nm.region x) u, without_here (nm.region x) u f)
 ready nm tb d Scalar t x ps u may h f = refl
 
 field_extends : (nm : Naming) → Apart nm → (d : Destination) (n x : ℕ) (ps : List PlaceName) → n ≤ x → Extends nm n ps (field_named nm d x ps)
@@ -233,6 +233,6 @@ field_extends nm ok (Open g c (y ∷ ys)) n x ps le = extends_location nm ok n x
 pub before_extends : (nm : Naming) → Apart nm → (d : Destination) (kind : Kind) (n x : ℕ) (ps : List PlaceName) → n ≤ x → Extends nm n ps (places_before nm d kind x ps)
 before_extends nm ok d Here n x ps le = field_extends nm ok d n x ps le
 before_extends nm ok d Region n x ps le =
-    let one : List PlaceName = record { name = nm.region x; meant = IsRegion } ∷ ps in
-    extends_on nm n ps one (record { name = nm.location x; meant = IsPlace (AtStart (nm.region x)) } ∷ one) (extends_region nm ok n x IsRegion ps) (extends_location nm ok n x (IsPlace (AtStart (nm.region x))) one le)
+    let one : List PlaceName = (nm.region x, IsRegion) ∷ ps in
+    extends_on nm n ps one ((nm.location x, IsPlace (AtStart (nm.region x))) ∷ one) (extends_region nm ok n x IsRegion ps) (extends_location nm ok n x (IsPlace (AtStart (nm.region x))) one le)
 before_extends nm ok d Scalar n x ps le = extends_same nm n ps

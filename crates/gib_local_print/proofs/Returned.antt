@@ -85,13 +85,13 @@ module _ (p : Program) (nm : Naming) (ok : Apart nm) where
       let bl : Bound = side_text nm p.table (On i x t l) nl in
       let br : Bound = side_text nm p.table (On j y s r) nr in
       let g : Around = world nm xs two d q in
-      let out : ℕ → Sided → Sided → Placed Stepped = λ k sl sr. Ok (record { binds = Both false sl.side sr.side ∷ []; around = record g { variables = record { name = nm.variable y.0; number = k } ∷ scope_names nm (x.0 ∷ xs); destination = sr.destination }; passed = sr.passed }) in
+      let out : ℕ → Sided → Sided → Placed Stepped = λ k sl sr. Ok (record { binds = Both false sl.side sr.side ∷ []; around = record g { variables = (nm.variable y.0, k) ∷ scope_names nm (x.0 ∷ xs); destination = sr.destination }; passed = sr.passed }) in
       let made_r' : build_bound p br (world nm xs two d1 q) (passed a w) ≡ Ok (record { side = On j y s r; destination = d2; passed = passed b u }) =
       ap (λ k. build_bound p br (world nm xs two d1 q) (passed k w)) (sym ey) ∙ made_r in
       let binding : build_binding p (ParIn bl None br) g (passed x.0 u2) ≡ Ok (record { binds = Both false (On i x t l) (On j y s r) ∷ []; around = after; passed = passed b u }) =
       ap (λ (z : Placed Sided). and_then z (λ sl. and_then (between p.table g (named nm x) x.0 sl.destination None) (λ k. and_then (build_bound p br k sl.passed) (λ sr. out sl.passed.fresh sl sr)))) made_l
       ∙ (ap (λ (z : Placed Sided). and_then z (λ sr. out a (record { side = On i x t l; destination = d1; passed = passed a w }) sr)) made_r'
-      ∙ ap (λ k. Ok (record { binds = Both false (On i x t l) (On j y s r) ∷ []; around = record g { variables = record { name = nm.variable y.0; number = k } ∷ scope_names nm (x.0 ∷ xs); destination = d2 }; passed = passed b u })) (sym ey)) in
+      ∙ ap (λ k. Ok (record { binds = Both false (On i x t l) (On j y s r) ∷ []; around = record g { variables = (nm.variable y.0, k) ∷ scope_names nm (x.0 ∷ xs); destination = d2 }; passed = passed b u })) (sym ey)) in
       let stands1 = stands_on nm i x xs ps one d q at n n on1 (omega arith) st in
       let stands2 : Stands nm (y.0 ∷ x.0 ∷ xs) two d2 q at b = stands_on nm j y (x.0 ∷ xs) one two d1 q at n b on2n (omega (arith, up1, up2)) stands1 in
       before_back p nm ok d i t x.0 (before nm d j y.0 (In nowhere (ParIn bl None br) line)) xs ps q n u hl.1 st.standing
@@ -117,7 +117,7 @@ module _ (p : Program) (nm : Naming) (ok : Apart nm) where
       let ex : x.0 ≡ n = hl.0 in
       let ey : y.0 ≡ a = hr.0 in
       let one : List PlaceName = places_before nm d Here x.0 ps in
-      let two : List PlaceName = record { name = nm.location y.0; meant = IsPlace (AtNext x.0) } ∷ one in
+      let two : List PlaceName = (nm.location y.0, IsPlace (AtNext x.0)) ∷ one in
       let nl : ℕ = place_number d x.0 in
       let lel : nl ≤ x.0 = number_below d Here n x.0 st.head_below (omega (arith, ex)) in
       let on1 : Extends nm n ps one = before_extends nm ok d Here n x.0 ps (omega (arith, ex)) in
@@ -133,21 +133,21 @@ module _ (p : Program) (nm : Naming) (ok : Apart nm) where
       let br : Bound = side_text nm p.table (On Here y s r) y.0 in
       let g : Around = world nm xs one d q in
       let mid : Option (Ident × Ident) = Some (ident (nm.location y.0), ident (nm.variable x.0)) in
-      let out : ℕ → Sided → Sided → Placed Stepped = λ k sl sr. Ok (record { binds = Both false sl.side sr.side ∷ []; around = record g { variables = record { name = nm.variable y.0; number = k } ∷ scope_names nm (x.0 ∷ xs); destination = sr.destination }; passed = sr.passed }) in
+      let out : ℕ → Sided → Sided → Placed Stepped = λ k sl sr. Ok (record { binds = Both false sl.side sr.side ∷ []; around = record g { variables = (nm.variable y.0, k) ∷ scope_names nm (x.0 ∷ xs); destination = sr.destination }; passed = sr.passed }) in
       let made_r' : build_bound p br (world nm xs two d1 q) (passed a u) ≡ Ok (record { side = On Here y s r; destination = d2; passed = passed b u }) =
       ap (λ k. build_bound p br (world nm xs two d1 q) (passed k u)) (sym ey) ∙ made_r in
       let inner : ℕ = variable_at (scope_names nm (x.0 ∷ xs)) (nm.variable x.0) in
       let found : inner ≡ x.0 = ap (λ b. if b then x.0 else variable_at (scope_names nm xs) (nm.variable x.0)) (itself (nm.variable x.0)) in
       let next : next_place p.table d1 ≡ Some (AtNext x.0) = next_is p.table d1 hr.1.0 ∙ ap (λ (k : Place). Some k) there in
       let last : is_last p.table d1 x ≡ true = ap (λ (o : Option Place). is_there o (AtNext x.0)) next ∙ itself x.0 in
-      let grown : ℕ → Around = λ k. record g { destination = d1; places = record { name = nm.location y.0; meant = IsPlace (AtNext k) } ∷ one } in
+      let grown : ℕ → Around = λ k. record g { destination = d1; places = (nm.location y.0, IsPlace (AtNext k)) ∷ one } in
       let between_is : between p.table g (named nm x) x.0 d1 mid ≡ Ok (world nm xs two d1 q) =
       ap (λ k. if_due (is_last p.table d1 (record { 0 = k })) 0 (Ok (grown k))) found ∙ ap (λ b. if_due b 0 (Ok (grown x.0))) last in
       let binding : build_binding p (ParIn bl mid br) g (passed x.0 u) ≡ Ok (record { binds = Both false (On Here x t l) (On Here y s r) ∷ []; around = after; passed = passed b u }) =
       ap (λ (z : Placed Sided). and_then z (λ sl. and_then (between p.table g (named nm x) x.0 sl.destination mid) (λ k. and_then (build_bound p br k sl.passed) (λ sr. out sl.passed.fresh sl sr)))) made_l
       ∙ (ap (λ (z : Placed Around). and_then z (λ k. and_then (build_bound p br k (passed a u)) (λ sr. out a (record { side = On Here x t l; destination = d1; passed = passed a u }) sr))) between_is
       ∙ (ap (λ (z : Placed Sided). and_then z (λ sr. out a (record { side = On Here x t l; destination = d1; passed = passed a u }) sr)) made_r'
-      ∙ ap (λ k. Ok (record { binds = Both false (On Here x t l) (On Here y s r) ∷ []; around = record g { variables = record { name = nm.variable y.0; number = k } ∷ scope_names nm (x.0 ∷ xs); destination = d2 }; passed = passed b u })) (sym ey))) in
+      ∙ ap (λ k. Ok (record { binds = Both false (On Here x t l) (On Here y s r) ∷ []; around = record g { variables = (nm.variable y.0, k) ∷ scope_names nm (x.0 ∷ xs); destination = d2 }; passed = passed b u })) (sym ey))) in
       let stands1 = stands_on nm Here x xs ps one d q at n n on1 (omega arith) st in
       let stands2 : Stands nm (y.0 ∷ x.0 ∷ xs) one d2 q at b = stands_on nm Here y (x.0 ∷ xs) one one d1 q at n b (extends_same nm n one) (omega (arith, up1, up2)) stands1 in
       before_back p nm ok d Here t x.0 (In nowhere (ParIn bl mid br) line) xs ps q n u hl.1 st.standing
@@ -202,7 +202,7 @@ module _ (p : Program) (nm : Naming) (ok : Apart nm) where
   scope_names_from n (y ∷ ys) xs e =
       let first : y.0 ≡ n = ap (λ (l : List Variable). number_or l) e in
       let rest : ys ≡ variables_from (n + 1) ys = ap (λ (l : List Variable). tail l) e in
-      ap (λ k. with_variables (n + 1) (map (named nm) ys) (record { name = nm.variable k; number = n } ∷ scope_names nm xs)) first
+      ap (λ k. with_variables (n + 1) (map (named nm) ys) ((nm.variable k, n) ∷ scope_names nm xs)) first
       ∙ scope_names_from (n + 1) ys (n ∷ xs) rest
     where
       number_or : List Variable → ℕ
@@ -317,7 +317,7 @@ module _ (p : Program) (nm : Naming) (ok : Apart nm) where
       → body (is_scalar t) p (parameters_text nm p.table 0 ts) (type_text p.table t) t (result_mark nm t) (text_of nm p.table u (result_place (results.One t)) 0) ≡ Ok (record { term = u; passed = passed h.next [] })
   body_by WholeTy ts u h = line_back ts WholeTy u [] h (λ e. absurd cc)
   body_by TruthTy ts u h = line_back ts TruthTy u [] h (λ e. absurd cc)
-  body_by (TreeTy i) ts u h = line_back ts (TreeTy i) u (record { name = nm.location 0; meant = IsPlace AtResult } ∷ []) h (λ e. meant_here (nm.location 0) (IsPlace AtResult) [])
+  body_by (TreeTy i) ts u h = line_back ts (TreeTy i) u ((nm.location 0, IsPlace AtResult) ∷ []) h (λ e. meant_here (nm.location 0) (IsPlace AtResult) [])
 
   body_back : (t : Ty) (ts : List Ty) (u : Term) (h : HasBody p ts t u)
       → build_body p (parameters_text nm p.table 0 ts) (type_text p.table t) (result_mark nm t) (text_of nm p.table u (result_place (results.One t)) 0) ≡ Ok (record { term = u; passed = passed h.next [] })

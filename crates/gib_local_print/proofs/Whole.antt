@@ -123,7 +123,7 @@ module _ (p : Program) (nm : Naming) (ok : Apart nm) where
       let r : Ident = ident (nm.location at) in
       let line : Line = text_of nm p.table rest (Open h k []) at in
       let e : h.0 ≡ n = t.0 in
-      let new : List PlaceName = record { name = nm.location h.0; meant = IsPlace (AtFirst h.0) } ∷ ps in
+      let new : List PlaceName = (nm.location h.0, IsPlace (AtFirst h.0)) ∷ ps in
       let place : is_place q (meant ps (nm.location at)) ≡ true = ap (λ (o : Option Meant). is_place q o) (st.here refl) ∙ place_itself q in
       let may : may_open p.table w r k ≡ true = λ i. ((place i) && not (flat i)) in
       let up : n + 1 ≤ m = text_up p rest xs (Open h k []) (n + 1) m t.3 in
@@ -141,7 +141,7 @@ module _ (p : Program) (nm : Naming) (ok : Apart nm) where
       ∙ (ap (λ b. if_due b 0 (Ok (opened w (passed n u) l k))) may
       ∙ (λ i. Ok (record {
         binds = Past (record { 0 = sym e i }) k ∷ [];
-        around = world nm xs (record { name = nm.location h.0; meant = IsPlace (AtFirst (sym e i)) } ∷ ps) (Open (record { 0 = sym e i }) k []) q;
+        around = world nm xs ((nm.location h.0, IsPlace (AtFirst (sym e i))) ∷ ps) (Open (record { 0 = sym e i }) k []) q;
         passed = passed (n + 1) u;
       }))))
       (back xs new (Open h k []) q at (n + 1) m u stands (clear_part nm u n m (n + 1) m (omega arith) (omega arith) c) t.3)
@@ -173,7 +173,7 @@ module _ (p : Program) (nm : Naming) (ok : Apart nm) where
       step p (PrimIn (named nm x) (type_text p.table (operator_type f)) (operand nm y) f (operand nm z)) (text_of nm p.table rest d at) w (passed n u) s rest (passed m u)
       (λ i. Ok (record {
         binds = Prim (record { 0 = sym e i }) f (atom_back nm ok xs ps d q y t.1 i) (atom_back nm ok xs ps d q z t.2 i) ∷ [];
-        around = record w { variables = record { name = nm.variable x.0; number = sym e i } ∷ scope_names nm xs };
+        around = record w { variables = (nm.variable x.0, sym e i) ∷ scope_names nm xs };
         passed = passed (n + 1) u;
       }))
       (back (x.0 ∷ xs) ps d q at (n + 1) m u stands (clear_part nm u n m (n + 1) m (omega arith) (omega arith) c) t.3)

@@ -31,10 +31,10 @@ place_itself (AtStart r) = itself r
 place_itself (AtFirst h) = itself h
 place_itself (AtNext x) = itself x
 
-pub meant_here : (n : ℕ) (m : Meant) (ps : List PlaceName) → meant (record { name = n; meant = m } ∷ ps) n ≡ Some m
+pub meant_here : (n : ℕ) (m : Meant) (ps : List PlaceName) → meant ((n, m) ∷ ps) n ≡ Some m
 meant_here n m ps = ap (λ b. if b then Some m else meant ps n) (itself n)
 
-pub meant_past : (n k : ℕ) (m : Meant) (ps : List PlaceName) → (n ≡ k → ⊥) → meant (record { name = n; meant = m } ∷ ps) k ≡ meant ps k
+pub meant_past : (n k : ℕ) (m : Meant) (ps : List PlaceName) → (n ≡ k → ⊥) → meant ((n, m) ∷ ps) k ≡ meant ps k
 meant_past n k m ps ne = ap (λ b. if b then Some m else meant ps k) (ne_eqb n k ne)
 
 pub in_here : (x : ℕ) (xs : List ℕ) → is_in (x ∷ xs) x ≡ true
@@ -105,7 +105,7 @@ con_back tb k e = ap con_or e
 -- The variables in scope, by the names that the text gives them.
 abbrev pub scope_names : Naming → List ℕ → List VariableName
 scope_names nm [] = []
-scope_names nm (x ∷ xs) = record { name = nm.variable x; number = x } ∷ scope_names nm xs
+scope_names nm (x ∷ xs) = (nm.variable x, x) ∷ scope_names nm xs
 
 -- What a line is met with.
 abbrev pub world : Naming → List ℕ → List PlaceName → Destination → Place → Around

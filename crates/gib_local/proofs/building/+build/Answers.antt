@@ -152,4 +152,4 @@ step-returns-in-Operation t c =
     let v = passed_of c.args.builder.now in
     steps_for c.args.builder.now c.operation.new.builder c.args.goal.now c.operation.result (build_binding p (binding_from (tree_of c.args.source.now.lines) c.args.bound.now) h v)
     (build_binding p (PrimIn c.in-Operation.name c.in-Operation.ty c.in-Operation.left c.in-Operation.operator c.in-Operation.right) h v) (ap (λ (z : BindingNode). build_binding p (binding_from (tree_of c.args.source.now.lines) z) h v) c.in-Operation.is)
-    (c.operation.ensures p c.in-Operation.ty)
+    (c.operation.ensures p c.in-Operation.ty c.args.goal.now)

@@ -1,7 +1,7 @@
 use Rattle.std.proofs.Common.{List, reverse, ap, ◌∙◌}
 use Rattle.gib_local.specs.Building.{without}
 use Rattle.gib_local.proofs.Scoping.{without_reverse}
-use Rattle.gib_local.proofs.around.Unused.take.Goals as goal
+use Rattle.gib_local.proofs.unused.Unused.take.Goals as goal
 
 pub returns : goal.returns
 returns c =

@@ -3,7 +3,7 @@ use Rattle.std.specs.Prelude.{◌==◌}
 use Rattle.std.proofs.lemmas.Iterator.Search.{any_from_yields_List}
 use Rattle.std.proofs.lemmas.Iterator.Adapters.{YieldsList-from_rev_slice}
 use Rattle.gib_local.proofs.Scoping.{search_in}
-use Rattle.gib_local.proofs.around.is_listed.Goals as goal
+use Rattle.gib_local.proofs.unused.is_listed.Goals as goal
 
 pub returns : goal.returns
 returns c =

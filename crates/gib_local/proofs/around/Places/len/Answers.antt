@@ -1,6 +1,0 @@
-use Rattle.gib_local.specs.Scoped.{place_name}
-use Rattle.gib_local.proofs.Scoping.{as_many_mapped}
-use Rattle.gib_local.proofs.around.Places.len.Goals as goal
-
-pub returns : goal.returns
-returns c = as_many_mapped (place_name c.self.inside.meants.items) c.self.inside.scope c.args.self.now c.len.result c.self.view_is c.len.ensures

@@ -1,6 +1,0 @@
-use Rattle.std.proofs.Common.{arith}
-use Rattle.gib_local.proofs.InScope.{as_many_in}
-use Rattle.gib_local.proofs.scope.Scope.len.Goals as goal
-
-pub returns : goal.returns
-returns c = as_many_in c.self.inside.entries.items c.args.self.now c.len.result c.self.view_is (omega (arith, c.len.ensures, c.self.inside.entries.ok))

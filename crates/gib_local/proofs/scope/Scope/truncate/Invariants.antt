@@ -1,9 +1,0 @@
-use Rattle.std.proofs.Common.{length}
-use Rattle.gib_local.proofs.InScope.{TakenOut}
-use Rattle.gib_local.proofs.scope.Scope.truncate.Given as goal
-
-abbrev pub invariant-entries : goal.invariant-entries
-invariant-entries l = TakenOut l.fn.self l.self l.len
-
-abbrev pub decreases-entries : goal.decreases-entries
-decreases-entries l = length l.self
