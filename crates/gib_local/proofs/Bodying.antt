@@ -24,7 +24,7 @@ use Rattle.gib_core.specs.Tree.{CoreTree, FunctionTerm}
 use Rattle.gib_core.proofs.Fronting.{grows_more}
 use Rattle.gib_core.proofs.Inside.{functions_more, functions_stay}
 use Rattle.gib_local.specs.declared.builder.Builder.{Builder}
-use Rattle.gib_local.specs.declared.destination.Destination.TheVariants as d
+use Rattle.gib_loccheck.specs.declared.destination.Destination.TheVariants as d
 use Rattle.gib_local.specs.declared.build_fault.BuildFault.{BuildFault}
 use Rattle.gib_local.specs.declared.build_fault.BuildFault.TheVariants as f
 use Rattle.gib_local_parse.specs.declared.text.FunctionLines.{FunctionLines}

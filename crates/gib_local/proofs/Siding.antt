@@ -26,7 +26,7 @@ use Rattle.gib_core.specs.ArenaLaws.{side_same}
 use Rattle.gib_local.proofs.Forking.{alone}
 use Rattle.gib_local.specs.declared.builder.Builder.{Builder}
 use Rattle.gib_local.specs.declared.destination.Goal.{Goal}
-use Rattle.gib_local.specs.declared.destination.Destination.TheVariants as d
+use Rattle.gib_loccheck.specs.declared.destination.Destination.TheVariants as d
 use Rattle.gib_local.specs.declared.build_fault.BuildFault.{BuildFault}
 use Rattle.gib_local.specs.declared.scopes.Depth.{Depth}
 use Rattle.gib_local_parse.specs.Tree.{Line, Cased, Chosen, LetIn, ParIn, Bound, Be, Arms, LastArm}

@@ -14,15 +14,12 @@ use Rattle.gib_core.specs.declared.node.Binding.{Binding as CoreBinding}
 use Rattle.gib_core.specs.declared.node.Branch.{Branch}
 use Rattle.gib_core.specs.declared.node.BoundTerm.{BoundTerm}
 use Rattle.gib_core.specs.declared.node.BoundSide.TheVariants as side_of
-use Rattle.gib_core.specs.PartTypes.{types_in}
 use Rattle.gib_core.specs.declared.node.TermId.{TermId}
 use Rattle.gib_core.specs.declared.atom.Variable.{Variable}
 use Rattle.gib_core.specs.declared.node.Node.{Node}
 use Rattle.gib_core.specs.Arena.{Grows, Makes, IsBindingBelow, IsBranchBelow, term_of, bind_from, side_from, branches_from}
 use Rattle.gib_core.specs.Tree.{Term, Then, Bind, Past, variables_from}
-use Rattle.gib_core.specs.Met.{Destination, Nowhere, Empty, Open, InParts}
-use Rattle.gib_local.specs.declared.destination.Destination.{Destination as Stored}
-use Rattle.gib_local.specs.declared.destination.Destination.TheVariants as d
+pub use Rattle.gib_loccheck.specs.Views.{destination_of}
 use Rattle.gib_local.specs.declared.destination.Goal.{Goal}
 use Rattle.gib_local.specs.declared.builder.Builder.{Builder}
 use Rattle.gib_local.specs.declared.build_fault.BuildFault.{BuildFault}
@@ -30,13 +27,6 @@ use Rattle.gib_local.specs.declared.build_fault.BuildFault.TheVariants as f
 use Rattle.gib_local_parse.specs.declared.tree.Mark.{Mark}
 use Rattle.gib_local_parse.specs.TextParts.{TextParts, text_of}
 use Rattle.gib_local.specs.Building.{Place, Around, Passed, Placed, Program, Termed, Stepped, Sided, Branched, program, meant, place_meant, kind_at, next_place, no_mark, with_mark, aims, type_start, with_variables, write, numbered_on, if_due, is_open_at, head_of}
-
--- Where a value is put.
-abbrev pub destination_of : Stored → Destination
-destination_of d.Nowhere = Nowhere
-destination_of d.Empty = Empty
-destination_of (d.Open h k standing) = Open h k standing.items
-destination_of (d.InParts types) = InParts (types_in types)
 
 -- What a term is met with.
 abbrev pub around_of : Builder → Goal → Around

@@ -13,13 +13,14 @@ ghost use Rattle.gib_local_parse.specs.{LineArena.{tree_of}, TextParts.{IsFuncti
 use crate::build_fault::BuildFault;
 use crate::builder::Builder;
 use crate::building::line;
-use crate::destination::{Destination, Goal};
+use crate::destination::Goal;
 use crate::place::{Meant, Place};
 use crate::source::Source;
 use crate::steps::{no_mark, type_start};
 use gib_base::Memory;
 use gib_core::{Core, CoreFunction, CoreMain, CoreResult, TermId};
 use gib_local_parse::{FunctionLines, LineId, Mark};
+use gib_loccheck::Destination;
 use gib_syntax::{Parameter, TypeName};
 use gib_types::{ConId, Ty};
 use std::alloc::Global;

@@ -8,7 +8,7 @@ ghost use Rattle.gib_local.specs.Builds.{around_of, passed_of, program_in, nowhe
 
 use crate::build_fault::BuildFault;
 use crate::builder::Builder;
-use crate::destination::{Destination, Goal};
+use crate::destination::Goal;
 use crate::source::Source;
 use crate::steps::{
     between, call, due, give, make, new_place, new_region, no_mark, operation, point, put_before,
@@ -16,6 +16,7 @@ use crate::steps::{
 };
 use gib_core::{Atom, Binding, BoundSide, BoundTerm, Branch, Kind, Node, TermId};
 use gib_local_parse::{BindingNode, LineArm, LineId, LineNode, Operand, Side};
+use gib_loccheck::Destination;
 use gib_syntax::Ident;
 use gib_types::Ty;
 

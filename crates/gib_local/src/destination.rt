@@ -1,53 +1,19 @@
 //! Where the value of a term is put.
 
-ghost use Rattle.std.specs.Prelude.{◌≡◌, ℕ, length, IfOk, OnOk};
-ghost use Rattle.gib_types.specs.Table.{tree_types};
-ghost use Rattle.gib_core.specs.{Parts.{results_of}, Tree.{Term}, Arena.{side_from}, Met.{result_place, stands_behind, stands_too, with_field}};
-ghost use Rattle.gib_core.specs.Rules.{is_empty as empty, is_nowhere as nowhere};
+ghost use Rattle.std.specs.Prelude.{◌≡◌, IfOk};
 ghost use Rattle.gib_local.specs.{Building.{behind_last, head_of, is_flat as flat, is_open_at as open_at, next_place as place_next}, Builds.{destination_of}};
 
 use crate::place::Place;
 use gib_base::Memory;
-use gib_core::{BoundSide, CoreResult, Kind, PartTypes, Variable};
-use gib_types::{ConId, Ty, TypeTable};
-
-/// Where a value is put.
-#[derive(Drop)]
-pub enum Destination {
-    /// Nowhere, since it is a scalar.
-    Nowhere,
-    /// At an empty place.
-    Empty,
-    /// Behind the fields of an open head that stand.
-    Open {
-        head: Variable,
-        constructor: ConId,
-        standing: Vec<Variable>,
-    },
-    /// As several parts of these types; no LoCal text says so.
-    InParts(PartTypes),
-}
+use gib_core::Variable;
+use gib_loccheck::{Destination, packed_count};
+use gib_types::{ConId, TypeTable};
 
 /// Where the value of a term is put: the destination, and the location where it is.
 #[derive(Drop)]
 pub struct Goal {
     pub destination: Destination,
     pub at: Place,
-}
-
-/// How many of these types are packed.
-fn packed_count(types: &[Ty]) -> usize
-    ensures { result ≡ length (tree_types types.now) }
-{
-    let mut count = 0;
-    let mut left = types;
-    'types: while let [ty, after @ ..] = left {
-        if !ty.is_scalar() {
-            count += 1;
-        }
-        left = after;
-    }
-    count
 }
 
 /// Whether a constructor has no packed field.
@@ -68,77 +34,35 @@ fn last_place(head: Variable, standing: &[Variable]) -> Place
     Place::AtNext(standing[len - 1].0)
 }
 
-impl Destination {
-    /// Where what a function gives is put.
-    pub fn of_result(given: CoreResult) -> Destination
-        ensures { destination_of result ≡ result_place (results_of given) }
-    {
-        match given {
-            CoreResult::One(Ty::Whole) => Destination::Nowhere,
-            CoreResult::One(Ty::Truth) => Destination::Nowhere,
-            CoreResult::One(Ty::Tree(_)) => Destination::Empty,
-            CoreResult::Several(types) => Destination::InParts(types),
-        }
-    }
-
-    /// Whether a scalar is due.
-    pub fn is_nowhere(&self) -> bool
-        ensures { result ≡ nowhere (destination_of self.now) }
-    {
-        match self {
-            Destination::Nowhere => true,
-            Destination::Empty => false,
-            Destination::Open { .. } => false,
-            Destination::InParts(_) => false,
-        }
-    }
-
-    /// Whether a packed value is due at an empty place.
-    pub fn is_empty(&self) -> bool
-        ensures { result ≡ empty (destination_of self.now) }
-    {
-        match self {
-            Destination::Nowhere => false,
-            Destination::Empty => true,
-            Destination::Open { .. } => false,
-            Destination::InParts(_) => false,
-        }
-    }
-
+impl Goal {
     /// Whether the head of this constructor is open.
     pub fn is_open_at(&self, constructor: ConId) -> bool
-        ensures { result ≡ open_at constructor (destination_of self.now) }
+        ensures { result ≡ open_at constructor (destination_of self.now.destination) }
     {
-        match self {
-            Destination::Nowhere => false,
-            Destination::Empty => false,
+        match &self.destination {
             Destination::Open {
                 constructor: opened,
                 ..
             } => opened.0 == constructor.0,
-            Destination::InParts(_) => false,
+            _ => false,
         }
     }
 
     /// The variable of the open head; where none is open, the first one.
     pub fn head(&self) -> Variable
-        ensures { result ≡ head_of (destination_of self.now) }
+        ensures { result ≡ head_of (destination_of self.now.destination) }
     {
-        match self {
-            Destination::Nowhere => Variable(0),
-            Destination::Empty => Variable(0),
+        match &self.destination {
             Destination::Open { head, .. } => *head,
-            Destination::InParts(_) => Variable(0),
+            _ => Variable(0),
         }
     }
 
     /// The location of the next field of the open head, where one is left to place.
     pub fn next_place(&self, types: &TypeTable) -> Option<Place>
-        ensures { result ≡ place_next types.now (destination_of self.now) }
+        ensures { result ≡ place_next types.now (destination_of self.now.destination) }
     {
-        match self {
-            Destination::Nowhere => None,
-            Destination::Empty => None,
+        match &self.destination {
             Destination::Open {
                 head,
                 constructor,
@@ -150,83 +74,10 @@ impl Destination {
                     None
                 }
             }
-            Destination::InParts(_) => None,
+            _ => None,
         }
     }
 
-    /// One more field of the open head stands.
-    fn add_field(&mut self, variable: Variable) -> Result<(), Memory>
-        ensures { OnOk result (destination_of self.new ≡ with_field variable (destination_of self.old)) }
-    {
-        match self {
-            Destination::Nowhere => Ok(()),
-            Destination::Empty => Ok(()),
-            Destination::Open { standing, .. } => {
-                standing.push(variable)?;
-                Ok(())
-            }
-            Destination::InParts(_) => Ok(()),
-        }
-    }
-
-    /// A value that is put so stands from now on.
-    ///
-    /// # Errors
-    ///
-    /// Want of memory.
-    pub fn stand(&mut self, kind: Kind, variable: Variable) -> Result<(), Memory>
-        ensures { OnOk result (destination_of self.new ≡ stands_too kind variable (destination_of self.old)) }
-    {
-        match kind {
-            Kind::Here => self.add_field(variable),
-            Kind::Region => Ok(()),
-            Kind::Scalar => Ok(()),
-        }
-    }
-
-    /// What is put so stands from now on; several variables stand at no place of their own.
-    ///
-    /// # Errors
-    ///
-    /// Want of memory.
-    pub fn stand_side(&mut self, side: BoundSide) -> Result<(), Memory>
-        ensures { (f : ℕ → Term) → OnOk result (destination_of self.new ≡ stands_behind (side_from f side) (destination_of self.old)) }
-    {
-        match side {
-            BoundSide::One(bound) => self.stand(bound.kind, bound.variable),
-            BoundSide::Several(_) => Ok(()),
-        }
-    }
-
-    /// The same destination.
-    ///
-    /// # Errors
-    ///
-    /// Want of memory.
-    pub fn copy(&self) -> Result<Destination, Memory>
-        ensures { IfOk result (λ d. destination_of d ≡ destination_of self.now) }
-    {
-        match self {
-            Destination::Nowhere => Ok(Destination::Nowhere),
-            Destination::Empty => Ok(Destination::Empty),
-            Destination::Open {
-                head,
-                constructor,
-                standing,
-            } => {
-                let standing = standing.clone()?;
-                Ok(Destination::Open {
-                    head: *head,
-                    constructor: *constructor,
-                    standing,
-                })
-            }
-            Destination::InParts(types) => Ok(Destination::InParts(*types)),
-        }
-    }
-}
-
-impl Goal {
     /// The same place.
     ///
     /// # Errors

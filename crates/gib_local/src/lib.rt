@@ -24,7 +24,7 @@ mod unused;
 pub use bodies::build_core;
 pub use build_fault::BuildFault;
 pub use counting::check_core;
-pub use destination::{Destination, is_flat};
+pub use destination::is_flat;
 pub use fault::LocalFault;
 pub use known::Known;
 pub use making::{Located, local};

@@ -10,12 +10,13 @@ ghost use Rattle.gib_local.specs.Builds.{around_of, destination_of, passed_of, p
 
 use crate::build_fault::BuildFault;
 use crate::builder::Builder;
-use crate::destination::{Destination, Goal, is_flat};
+use crate::destination::{Goal, is_flat};
 use crate::place::{Meant, Place, is_place, is_region, is_there, place_meant};
 use crate::source::Source;
 use gib_base::Memory;
 use gib_core::{Atom, Binding, Kind, Node, TermId, Variable};
 use gib_local_parse::{Location, Mark, Operand, Way};
+use gib_loccheck::Destination;
 use gib_syntax::{Ident, TypeName};
 use gib_types::{ConId, Operator, items_at};
 
@@ -178,10 +179,10 @@ fn filled(
 ) -> Result<TermId, BuildFault>
     ensures { Builds builder.old builder.new result (filled_due (program_in source.now).table (around_of builder.old goal.now) (passed_of builder.old) constructor mark arguments.now) }
 {
-    if !goal.destination.is_open_at(constructor) {
+    if !goal.is_open_at(constructor) {
         return Err(BuildFault::Place(mark.name.span.start));
     }
-    let head = goal.destination.head();
+    let head = goal.head();
     let term = write(builder, source, head, constructor, arguments)?;
     Ok(term)
 }
@@ -284,10 +285,7 @@ fn plus(
 fn is_last(source: &Source, goal: &Goal, x: Variable) -> bool
     ensures { result ≡ last (program_in source.now).table (destination_of goal.now.destination) x }
 {
-    is_there(
-        goal.destination.next_place(source.table()),
-        Place::AtNext(x.0),
-    )
+    is_there(goal.next_place(source.table()), Place::AtNext(x.0))
 }
 
 /// A name for the place of the next field, behind a variable.
@@ -421,7 +419,7 @@ pub fn due(
         return Err(BuildFault::Place(type_start(ty)));
     };
     let meant = builder.meant(mark.name);
-    let next = goal.destination.next_place(source.table());
+    let next = goal.next_place(source.table());
     match builder.kind_at(next, meant) {
         Some(kind) => Ok((kind, place_meant(meant))),
         None => Err(BuildFault::Place(mark.name.span.start)),

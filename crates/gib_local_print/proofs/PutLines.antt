@@ -13,7 +13,7 @@ use Rattle.gib_core.specs.declared.node.Branch.{Branch}
 use Rattle.gib_core.specs.Tree.{Term, Bind, Past, One, Both, Prim, Reach, On, Several, prepend}
 use Rattle.gib_core.specs.Arena.{IsLine, term_of, binds_from, branches_from}
 use Rattle.gib_core.specs.Met.{Destination, Nowhere, Empty, Open, InParts}
-use Rattle.gib_local.specs.declared.destination.Destination.{Destination as Stored}
+use Rattle.gib_loccheck.specs.declared.destination.Destination.{Destination as Stored}
 use Rattle.gib_local_parse.specs.Tree.{Line}
 use Rattle.gib_local.specs.Building.{is_flat}
 use Rattle.gib_local.specs.Builds.{destination_of}

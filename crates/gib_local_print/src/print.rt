@@ -35,7 +35,7 @@ use gib_core::{
     Atom, Binding, BoundSide, BoundTerm, Branch, Core, CoreFunction, CoreMain, CoreResult, Node,
     TermId, Variable,
 };
-use gib_local::Destination;
+use gib_loccheck::Destination;
 use gib_types::ConId;
 use std::alloc::Global;
 

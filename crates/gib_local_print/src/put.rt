@@ -13,7 +13,7 @@ use crate::spelled::{FIRST_GIVEN, Spelled, put_location, put_region, put_sign, p
 use gib_base::token::{Sign, Token};
 use gib_base::{Memory, Name};
 use gib_core::{Access, Atom, CoreResult, Kind, Variable};
-use gib_local::Destination;
+use gib_loccheck::Destination;
 use gib_syntax::sign_of;
 use gib_types::{ConId, Operator, Ty, TyId, TypeTable};
 use std::alloc::Global;

@@ -7,7 +7,7 @@ ghost use Rattle.gib_local_print.specs.{Printing.{are_fields, side_place, behind
 
 use gib_base::Memory;
 use gib_core::{Binding, Kind, Terms};
-use gib_local::Destination;
+use gib_loccheck::Destination;
 use gib_types::TypeTable;
 use std::alloc::Global;
 
