@@ -18,19 +18,14 @@ use std::thread::{Threads, join};
 /// The text of items, by one worker.
 fn text_alone(sharing: Sharing<'_>, pass: Pass, items: &[Item]) -> (Result<Vec<u8>, Memory>, Pass)
     requires own { IsOf sharing.arena.now pass }
-    requires names { AreHeld sharing.layouts.now.table sharing.names.now.short }
-    requires cut { (bytes : List ℕ) × Cut sharing.layouts.now sharing.names.now.short (cells pass) items.now bytes }
-    ensures text { (bytes : List ℕ) → Cut sharing.entry.layouts.now sharing.entry.names.now.short (cells pass) items.entry.now bytes
+    requires names { AreHeld sharing.printing.layouts.now.table sharing.printing.names.now.short }
+    requires cut { (bytes : List ℕ) × Cut sharing.printing.layouts.now sharing.printing.names.now.short (cells pass) items.now bytes }
+    ensures text { (bytes : List ℕ) → Cut sharing.entry.printing.layouts.now sharing.entry.printing.names.now.short (cells pass) items.entry.now bytes
         → IfOk result.0 (λ text. text.items ≡ bytes) }
     ensures back { IsBack sharing.entry.arena.now pass result.1 }
 {
     let mut mem = ArenaMem::make(sharing.arena, pass);
-    let printing = Printing {
-        alloc: sharing.alloc,
-        layouts: sharing.layouts,
-        names: sharing.names,
-    };
-    let text = items_text(&mut mem, printing, items, sharing.workers);
+    let text = items_text(&mut mem, sharing.printing, items, sharing.workers);
     let (_arena, pass) = mem.into_pass();
     names_tell();
     (text, pass)
@@ -45,13 +40,13 @@ fn deal<'i>(
 ) -> (Pass, Pass, &'i [Item], &'i [Item])
     requires own { IsOf sharing.arena.now pass }
     requires within { count ≤ length items.now }
-    requires cut { (bytes : List ℕ) × Cut sharing.layouts.now sharing.names.now.short (cells pass) items.now bytes }
+    requires cut { (bytes : List ℕ) × Cut sharing.printing.layouts.now sharing.printing.names.now.short (cells pass) items.now bytes }
     ensures own { IsOf sharing.entry.arena.now result.0 × IsOf sharing.entry.arena.now result.1 }
     ensures none_out { (view result.1).branch.out ≡ [] }
-    ensures first { (bytes : List ℕ) × Cut sharing.entry.layouts.now sharing.entry.names.now.short (cells result.0) result.2.now bytes }
-    ensures rest { (bytes : List ℕ) × Cut sharing.entry.layouts.now sharing.entry.names.now.short (cells result.1) result.3.now bytes }
-    ensures dealt { (bytes : List ℕ) → Cut sharing.entry.layouts.now sharing.entry.names.now.short (cells pass) items.entry.now bytes
-        → Dealt sharing.entry.layouts.now sharing.entry.names.now.short result.0 result.1 result.2.now result.3.now bytes }
+    ensures first { (bytes : List ℕ) × Cut sharing.entry.printing.layouts.now sharing.entry.printing.names.now.short (cells result.0) result.2.now bytes }
+    ensures rest { (bytes : List ℕ) × Cut sharing.entry.printing.layouts.now sharing.entry.printing.names.now.short (cells result.1) result.3.now bytes }
+    ensures dealt { (bytes : List ℕ) → Cut sharing.entry.printing.layouts.now sharing.entry.printing.names.now.short (cells pass) items.entry.now bytes
+        → Dealt sharing.entry.printing.layouts.now sharing.entry.printing.names.now.short result.0 result.1 result.2.now result.3.now bytes }
     ensures split { IsSplit pass result.0 result.1 }
 {
     let mut mine = pass;
@@ -71,23 +66,23 @@ pub(crate) fn texts_by<R: Threads + Sync>(
 ) -> (Result<Vec<Vec<u8>>, Memory>, Pass)
     requires own { IsOf sharing.arena.now pass }
     requires none_out { (view pass).branch.out ≡ [] }
-    requires names { AreHeld sharing.layouts.now.table sharing.names.now.short }
-    requires cut { (bytes : List ℕ) × Cut sharing.layouts.now sharing.names.now.short (cells pass) items.now bytes }
-    ensures text { (bytes : List ℕ) → Cut sharing.entry.layouts.now sharing.entry.names.now.short (cells pass) items.entry.now bytes
+    requires names { AreHeld sharing.printing.layouts.now.table sharing.printing.names.now.short }
+    requires cut { (bytes : List ℕ) × Cut sharing.printing.layouts.now sharing.printing.names.now.short (cells pass) items.now bytes }
+    ensures text { (bytes : List ℕ) → Cut sharing.entry.printing.layouts.now sharing.entry.printing.names.now.short (cells pass) items.entry.now bytes
         → IfOk result.0 (λ texts. gathered texts.items ≡ bytes) }
     ensures back { IsBack sharing.entry.arena.now pass result.1 }
 {
     if workers <= 1 {
         let (text, pass) = text_alone(sharing, pass, items);
-        return (alone(sharing.alloc, text), pass);
+        return (alone(sharing.printing.alloc, text), pass);
     }
-    let Sharing {
+    let arena = sharing.arena;
+    let Printing {
         alloc,
-        arena,
         layouts,
         names,
-        workers: all,
-    } = sharing;
+    } = sharing.printing;
+    let all = sharing.workers;
     let (mine, other, first, rest) = deal(sharing, pass, items, items.len() / workers as usize);
     let ((a, mut last), (b, other)) = join(
         rt,

@@ -4,16 +4,15 @@ ghost use Rattle.std.specs.Prelude.{◌≡◌};
 
 use gib_arena::Arena;
 use gib_base::Texts;
+use gib_print::Printing;
 use gib_types::Layouts;
 use std::alloc::Global;
 
 /// What all parts of a text share.
 #[derive(Clone, Copy)]
 pub(crate) struct Sharing<'a> {
-    pub(crate) alloc: Global,
     pub(crate) arena: &'a Arena,
-    pub(crate) layouts: &'a Layouts,
-    pub(crate) names: &'a Texts,
+    pub(crate) printing: Printing<'a>,
     /// How many workers make it.
     pub(crate) workers: u32,
 }
@@ -28,14 +27,17 @@ impl<'a> Sharing<'a> {
         workers: u32,
     ) -> Sharing<'a>
         ensures arena { result.arena.now ≡ arena.now }
-        ensures layouts { result.layouts.now ≡ layouts.now }
-        ensures names { result.names.now ≡ names.now }
+        ensures layouts { result.printing.layouts.now ≡ layouts.now }
+        ensures names { result.printing.names.now ≡ names.now }
     {
-        Sharing {
+        let printing = Printing {
             alloc,
-            arena,
             layouts,
             names,
+        };
+        Sharing {
+            arena,
+            printing,
             workers,
         }
     }

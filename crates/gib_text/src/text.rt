@@ -7,117 +7,75 @@ ghost use Rattle.gib_mem.specs.Memory.{Grows, fresh};
 ghost use Rattle.gib_arena.specs.Passes.{view, cells, IsOf};
 ghost use Rattle.gib_packed.specs.{Decoding.{Dec, Decodes}, Stands.{Stands}};
 ghost use Rattle.gib_print.specs.Cut.{Cut};
-ghost use Rattle.gib_compact.specs.Back.{IsBack};
+ghost use Rattle.gib_compact.specs.{Back.{IsBack}, Gathered.{gathered}};
 
 use crate::share::texts_by;
 use crate::sharing::Sharing;
 use gib_arena::{ArenaMem, Pass, SoleMem, names_tell};
 use gib_base::Memory;
-use gib_compact::gather;
+use gib_compact::{alone, gather};
 use gib_mem::Mem;
 use gib_packed::Root;
 use gib_print::{Item, Printing, cut_text, truth_line, whole_line};
+use std::alloc::Global;
 use std::thread::Threads;
 
 /// About how many parts there are for each worker, so that one with small parts has more of them.
 const PARTS: u64 = 8;
 
-/// The text of the value at an address and a line feed in items, which make about so many parts.
-fn cut_alone(
-    sharing: Sharing<'_>,
-    pass: Pass,
-    at: u64,
-    want: u64,
-) -> (Result<Vec<Item>, Memory>, Pass)
+/// The text of the value at an address and a line feed in items, which make about as many parts as the workers want.
+fn cut_alone(sharing: Sharing<'_>, pass: Pass, at: u64) -> (Result<Vec<Item>, Memory>, Pass)
     requires own { IsOf sharing.arena.now pass }
-    requires value { Decodes sharing.layouts.now (cells pass) at }
-    ensures cut { (t : ℕ) (v : Datum) (z : ℕ) → Dec sharing.entry.layouts.now (cells pass) at t v z
-        → IfOk result.0 (λ items. Cut sharing.entry.layouts.now sharing.entry.names.now.short (cells result.1) items.items
-        (text sharing.entry.layouts.now.table sharing.entry.names.now.short v ++ 10 ∷ [])) }
+    requires value { Decodes sharing.printing.layouts.now (cells pass) at }
+    ensures cut { (t : ℕ) (v : Datum) (z : ℕ) → Dec sharing.entry.printing.layouts.now (cells pass) at t v z
+        → IfOk result.0 (λ items. Cut sharing.entry.printing.layouts.now sharing.entry.printing.names.now.short (cells result.1) items.items
+        (text sharing.entry.printing.layouts.now.table sharing.entry.printing.names.now.short v ++ 10 ∷ [])) }
     ensures back { IsBack sharing.entry.arena.now pass result.1 }
 {
     let mut mem = ArenaMem::make(sharing.arena, pass);
-    let printing = Printing {
-        alloc: sharing.alloc,
-        layouts: sharing.layouts,
-        names: sharing.names,
-    };
-    let items = cut_text(&mut mem, printing, at, want);
+    let want = PARTS * sharing.workers as u64;
+    let items = cut_text(&mut mem, sharing.printing, at, want);
     let (_arena, pass) = mem.into_pass();
     names_tell();
     (items, pass)
 }
 
-/// The text of items, by so many workers.
-fn items_by<R: Threads + Sync>(
-    rt: &R,
-    sharing: Sharing<'_>,
-    pass: Pass,
-    items: &[Item],
-    workers: u32,
-) -> (Result<Vec<u8>, Memory>, Pass)
-    requires own { IsOf sharing.arena.now pass }
-    requires none_out { (view pass).branch.out ≡ [] }
-    requires names { AreHeld sharing.layouts.now.table sharing.names.now.short }
-    requires cut { (bytes : List ℕ) × Cut sharing.layouts.now sharing.names.now.short (cells pass) items.now bytes }
-    ensures text { (bytes : List ℕ) → Cut sharing.entry.layouts.now sharing.entry.names.now.short (cells pass) items.entry.now bytes
-        → IfOk result.0 (λ out. out.items ≡ bytes) }
-    ensures back { IsBack sharing.entry.arena.now pass result.1 }
-{
-    let (texts, pass) = texts_by(rt, sharing, pass, items, workers);
-    match texts {
-        Err(memory) => (Err(memory), pass),
-        Ok(texts) => match gather(sharing.alloc, texts) {
-            Err(memory) => (Err(memory), pass),
-            Ok(text) => (Ok(text), pass),
-        },
-    }
-}
-
-/// The text of the value at an address and a line feed, by so many workers.
-fn tree_by<R: Threads + Sync>(
-    rt: &R,
-    sharing: Sharing<'_>,
-    pass: Pass,
-    at: u64,
-    workers: u32,
-) -> (Result<Vec<u8>, Memory>, Pass)
-    requires own { IsOf sharing.arena.now pass }
-    requires none_out { (view pass).branch.out ≡ [] }
-    requires names { AreHeld sharing.layouts.now.table sharing.names.now.short }
-    requires value { Decodes sharing.layouts.now (cells pass) at }
-    ensures text { (t : ℕ) (v : Datum) (z : ℕ) → Dec sharing.entry.layouts.now (cells pass) at t v z
-        → IfOk result.0 (λ out. out.items ≡ text sharing.entry.layouts.now.table sharing.entry.names.now.short v ++ 10 ∷ []) }
-    ensures back { IsBack sharing.entry.arena.now pass result.1 }
-{
-    let (items, pass) = cut_alone(sharing, pass, at, PARTS * workers as u64);
-    match items {
-        Err(memory) => (Err(memory), pass),
-        Ok(items) => items_by(rt, sharing, pass, &items, workers),
-    }
-}
-
-/// The text of the value of a root and a line feed, by so many workers.
+/// The text of the value of a root and a line feed in buffers, of which the last one comes first, by so many workers.
 fn root_by<R: Threads + Sync>(
     rt: &R,
     sharing: Sharing<'_>,
     pass: Pass,
     root: Root,
-    workers: u32,
-) -> (Result<Vec<u8>, Memory>, Pass)
+) -> (Result<Vec<Vec<u8>>, Memory>, Pass)
     requires own { IsOf sharing.arena.now pass }
     requires none_out { (view pass).branch.out ≡ [] }
-    requires names { AreHeld sharing.layouts.now.table sharing.names.now.short }
-    requires stands { (ty : Type_of) × (v : Datum) × Stands sharing.layouts.now (cells pass) root ty v }
-    ensures text { (ty : Type_of) (v : Datum) → Stands sharing.entry.layouts.now (cells pass) root ty v
-        → IfOk result.0 (λ out. out.items ≡ text sharing.entry.layouts.now.table sharing.entry.names.now.short v ++ 10 ∷ []) }
+    requires names { AreHeld sharing.printing.layouts.now.table sharing.printing.names.now.short }
+    requires stands { (ty : Type_of) × (v : Datum) × Stands sharing.printing.layouts.now (cells pass) root ty v }
+    ensures text { (ty : Type_of) (v : Datum) → Stands sharing.entry.printing.layouts.now (cells pass) root ty v
+        → IfOk result.0 (λ texts. gathered texts.items
+        ≡ text sharing.entry.printing.layouts.now.table sharing.entry.printing.names.now.short v ++ 10 ∷ []) }
     ensures back { IsBack sharing.entry.arena.now pass result.1 }
 {
+    let alloc = sharing.printing.alloc;
     match root {
-        Root::Whole(z) => (whole_line(sharing.alloc, z), pass),
-        Root::Truth(b) => (truth_line(sharing.alloc, b), pass),
-        Root::At(at) => tree_by(rt, sharing, pass, at, workers),
+        Root::Whole(z) => (alone(alloc, whole_line(alloc, z)), pass),
+        Root::Truth(b) => (alone(alloc, truth_line(alloc, b)), pass),
+        Root::At(at) => {
+            let (items, pass) = cut_alone(sharing, pass, at);
+            match items {
+                Err(memory) => (Err(memory), pass),
+                Ok(items) => texts_by(rt, sharing, pass, &items, sharing.workers),
+            }
+        }
     }
+}
+
+/// The buffers of a text as one.
+fn joined(alloc: Global, texts: Result<Vec<Vec<u8>>, Memory>) -> Result<Vec<u8>, Memory>
+    ensures { (bytes : List ℕ) → IfOk texts (λ texts. gathered texts.items ≡ bytes) → IfOk result (λ text. text.items ≡ bytes) }
+{
+    let texts = texts?;
+    gather(alloc, texts)
 }
 
 /// The text of the value of a root in a memory, and a line feed, by so many workers: one text whatever their number is and however
@@ -145,12 +103,13 @@ pub fn text_by<R: Threads + Sync>(
 {
     let (arena, first) = memory.into_parts();
     let sharing = Sharing {
-        alloc: printing.alloc,
         arena: &arena,
-        layouts: printing.layouts,
-        names: printing.names,
+        printing,
         workers,
     };
-    let (text, last) = root_by(rt, sharing, first, root, workers);
-    (text, SoleMem::of_parts(arena, last))
+    let (texts, last) = root_by(rt, sharing, first, root);
+    (
+        joined(printing.alloc, texts),
+        SoleMem::of_parts(arena, last),
+    )
 }

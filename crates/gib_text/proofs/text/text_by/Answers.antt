@@ -1,7 +1,14 @@
 use Rattle.std.proofs.Common.{ap, ◌∙◌}
 use Rattle.gib_mem.specs.Memory.{Memory}
+use Rattle.gib_arena.specs.Passes.{cells}
+use Rattle.gib_packed.specs.Stands.{Stands}
 use Rattle.gib_text.proofs.text.text_by.Goals as goal
 
 pub returns-clause-free : goal.returns-clause-free
 returns-clause-free g c = λ q f.
-    ap (λ (m : Memory). m.cells q) c.of_parts.ensures ∙ c.root_by-text.ensures.back.free q (ap (λ (m : Memory). m.cells q) c.into_parts-arena.ensures.shows ∙ f)
+    ap (λ (m : Memory). m.cells q) c.of_parts.ensures ∙ c.root_by-texts.ensures.back.free q (ap (λ (m : Memory). m.cells q) c.into_parts-arena.ensures.shows ∙ f)
+
+pub returns-clause-text : goal.returns-clause-text
+returns-clause-text g c = λ ty v st.
+    let there : Stands c.args.printing.layouts.now (cells c.into_parts-arena.result.1) c.args.root ty v = search in
+    c.joined.ensures _ (c.root_by-texts.ensures.text ty v there)
