@@ -3,7 +3,6 @@
 ghost use Rattle.std.specs.Prelude.{◌≡◌};
 
 use gib_base::Memory;
-use std::alloc::AllocFailed;
 use thiserror::Error;
 
 /// Why the text of a core is not printed.
@@ -15,16 +14,6 @@ pub enum PrintFault {
     /// LoCal text, as `point`.
     #[error("no text")]
     NoText,
-}
-
-impl<T: Drop> From<AllocFailed<T>> for PrintFault {
-    ghost use Rattle.gib_local_print.specs.declared.print_fault.PrintFault.TheVariants.{Memory};
-
-    ghost from_gives = { λ _ e. e ≡ Memory };
-
-    fn from(_failed: AllocFailed<T>) -> PrintFault {
-        PrintFault::Memory
-    }
 }
 
 impl From<Memory> for PrintFault {
