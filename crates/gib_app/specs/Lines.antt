@@ -35,14 +35,18 @@ pub record IsPut (before now : SinkView) (said : List ℕ) : Type 0 where
   pub whole : (Rose before.faults now.faults → ⊥) → Appends before.taken now.taken said
   pub part : AppendsPart before.taken now.taken said
 
+-- What stands before a place.
+abbrev pub at_place : List ℕ
+at_place = codes " at "
+
 -- What is said of a broken rule of typing, before its place.
 abbrev pub rule_text : Kind → List ℕ
-rule_text rule.Unknown = codes "unknown name at "
-rule_text rule.Twice = codes "name bound twice at "
-rule_text rule.Shape = codes "wrong type at "
-rule_text rule.Arms = codes "wrong arms at "
-rule_text rule.Count = codes "wrong count at "
-rule_text rule.Limit = codes "over a limit at "
+rule_text rule.Unknown = codes "unknown name" ++ at_place
+rule_text rule.Twice = codes "name bound twice" ++ at_place
+rule_text rule.Shape = codes "wrong type" ++ at_place
+rule_text rule.Arms = codes "wrong arms" ++ at_place
+rule_text rule.Count = codes "wrong count" ++ at_place
+rule_text rule.Limit = codes "over a limit" ++ at_place
 
 -- What is said of a source that is no program.
 abbrev pub source_text : SourceFault → List ℕ

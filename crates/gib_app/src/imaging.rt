@@ -1,6 +1,6 @@
 //! The image of what a run leaves, and its text.
 
-ghost use Rattle.std.specs.Prelude.{◌≡◌, ◌<◌, ◌≤◌, ◌*◌, ℕ, List, None, true, option_map, IfOk};
+ghost use Rattle.std.specs.Prelude.{◌≡◌, ◌<◌, ◌≤◌, ◌*◌, ℕ, List, None, true, option_map, IfOk, IfErr};
 ghost use Rattle.gib_mem.specs.Memory.{IsThere};
 ghost use Rattle.gib_types.specs.{declared.table.Ty.{Ty as Type_of}, Tree.{Datum}};
 ghost use Rattle.gib_value.specs.Text.{AreHeld};
@@ -13,6 +13,7 @@ ghost use Rattle.gib_app.specs.Running.{text_line};
 use crate::buffer::Buffer;
 use crate::machine_run::{Ran, print_ran};
 use crate::made::{End, Made, Valued};
+use crate::stop::Stop;
 use gib_arena::SoleMem;
 use gib_base::{Memory, Texts};
 use gib_mem::Mem;
@@ -117,22 +118,35 @@ pub fn shown<M: Mem + Drop>(
     })
 }
 
-/// What a run over an arena makes that leaves a value: its text, and its image, where that is asked for.
+/// What a run over an arena makes that leaves a value: its text, its image, where that is asked for, and the packed file that was made of it, if one
+/// was.
 ///
 /// # Errors
 ///
 /// Want of memory.
-pub fn with_text(alloc: Global, mut value: Valued, image: bool) -> Result<Made, Memory>
+pub fn with_text(
+    alloc: Global,
+    mut value: Valued,
+    image: bool,
+    packed: Option<Vec<u8>>,
+) -> Result<Made, Stop<'static>>
     requires names { AreHeld value.ran.lowered.code.laid.table value.names.short }
     requires stands { IsMeant value }
     requires few { (⟦<SoleMem as Mem>⟧.view value.ran.memory).limit ≤ 65536 }
     ensures shown { (p : ProgramTree) (depth : ℕ) (input : List ℕ) (s : IsMeantBy p value.names depth input value.ran)
         → IfOk result (λ made. IsShownWith image value.ran.lowered.code.laid (⟦<SoleMem as Mem>⟧.view value.ran.memory) value.ran.root p value.names s.result
         (file_of made) made.end) }
-    ensures alone { IfOk result (λ made. made.packed ≡ None) }
+    ensures packed { IfOk result (λ made. made.packed ≡ packed) }
+    ensures memory { IfErr result (λ stop. stop ≡ Stop.Memory) }
 {
     value.ran.memory.owns_all();
-    shown(alloc, value.ran, &value.names, image)
+    match shown(alloc, value.ran, &value.names, image) {
+        Ok(mut made) => {
+            made.packed = packed;
+            Ok(made)
+        }
+        Err(_) => Err(Stop::Memory),
+    }
 }
 
 /// The image of what a run over an arena leaves, where that is asked for, without its text.

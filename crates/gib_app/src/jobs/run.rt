@@ -1,9 +1,9 @@
 //! `run`: prints what a program means on an input.
 
-ghost use Rattle.std.specs.Prelude.{◌≡◌, ◌≤◌, ℕ, List, length, Some, None, IfOk, IfErr};
+ghost use Rattle.std.specs.Prelude.{◌≡◌, ◌≤◌, ℕ, List, length, None, IfOk, IfErr};
 ghost use Rattle.gib_value.specs.Text.{AreHeld};
 ghost use Rattle.gib_syntax.specs.{Declarations.{output_type}, Tree.{ProgramTree}, Parts.{program_of}};
-ghost use Rattle.gib_app.specs.{Cores.{layouts_asked}, Imaging.{IsShownWith}, Jobs.{Runs, RunsBoth}, Kept.{EndsBy, EndsByBoth, file_of, packed_of}};
+ghost use Rattle.gib_app.specs.{Cores.{layouts_asked}, Jobs.{Runs, RunsBoth}, Kept.{EndsBy, EndsByBoth, file_of, packed_of}};
 ghost use Rattle.gib_app.specs.{MachineRun.{IsMeant, IsMeantAs, IsMeantBy}, Remains.{ComesOfMemory, IsLeft}, Replaying.{IsImageFile}};
 ghost use Rattle.gib_app.specs.Stops.{IsReady, IsRunStop};
 ghost use Rattle.gib_words.specs.Ranges.{AreOfRun};
@@ -51,35 +51,7 @@ fn finish<R: Threads + Sync>(
     if !options.image {
         return Ok(printed_by(alloc, threads, value, options.workers));
     }
-    match with_text(alloc, value, true) {
-        Ok(made) => Ok(made),
-        Err(_) => Err(Stop::Memory),
-    }
-}
-
-/// A packed file of a result, with the text of it, and the image of its memory, where that is asked for.
-fn with_packed(
-    alloc: Global,
-    value: Valued,
-    image: bool,
-    packed: Vec<u8>,
-) -> Result<Made, Stop<'static>>
-    requires names { AreHeld value.ran.lowered.code.laid.table value.names.short }
-    requires stands { IsMeant value }
-    requires few { (⟦<SoleMem as Mem>⟧.view value.ran.memory).limit ≤ 65536 }
-    ensures shown { (p : ProgramTree) (depth : ℕ) (input : List ℕ) (s : IsMeantBy p value.names depth input value.ran)
-        → IfOk result (λ made. IsShownWith image value.ran.lowered.code.laid (⟦<SoleMem as Mem>⟧.view value.ran.memory) value.ran.root p value.names s.result
-        (file_of made) made.end) }
-    ensures packed { IfOk result (λ made. packed_of made ≡ Some packed.items) }
-    ensures memory { IfErr result (λ stop. stop ≡ Stop.Memory) }
-{
-    match with_text(alloc, value, image) {
-        Ok(mut made) => {
-            made.packed = Some(packed);
-            Ok(made)
-        }
-        Err(_) => Err(Stop::Memory),
-    }
+    with_text(alloc, value, true, None)
 }
 
 /// What a run makes whose result would have too long a packed file: the image of its memory, where that is asked for.
@@ -128,7 +100,7 @@ fn finish_run<R: Threads + Sync>(
     }
     let (packed, value) = packed_result(alloc, threads, value, ty, options.workers);
     match packed {
-        Ok(packed) => with_packed(alloc, value, options.image, packed),
+        Ok(packed) => with_text(alloc, value, options.image, Some(packed)),
         Err(fault) => match fault {
             CompactFault::Long => without_packed(alloc, value, options.image),
             CompactFault::Memory => Err(Stop::Memory),
@@ -161,7 +133,10 @@ pub fn run<R: Threads + Wait + Sync, G: Gate + Sync>(
     let threads = runtime.threads;
     let Compiled { typed, names } = compiled;
     let ty = typed.output_type();
-    let end = match run_packed(alloc, runtime, &typed, &names, input, options) {
+    let ended = run_packed(alloc, runtime, &typed, &names, input, options);
+    // No way out has the program to drop.
+    drop(typed);
+    let end = match ended {
         Ok(end) => end,
         Err(stop) => return Err(stop),
     };

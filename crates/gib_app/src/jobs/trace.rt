@@ -5,10 +5,10 @@ ghost use Rattle.gib_value.specs.Text.{AreHeld};
 ghost use Rattle.gib_syntax.specs.Tree.{ProgramTree};
 ghost use Rattle.gib_words.specs.{declared.plan.Options.{Options as OptionValues}, Ranges.{AreOfRun}};
 ghost use Rattle.gib_app.specs.{Cores.{layouts_asked}, Jobs.{Traces}, Kept.{EndsBy, file_of, names_in, tree_in}, Stops.{IsReady, IsRunStop}};
-ghost use Rattle.gib_app.specs.Workers.{IsTraced};
+ghost use Rattle.gib_app.specs.{MachineRun.{SomeStandsIn, StandsIn}, Replaying.{IsTrace}, Workers.{IsTraced}};
 
 use crate::imaging::text_of;
-use crate::machine_run::ran_of;
+use crate::machine_run::{Ran, ran_of};
 use crate::made::{End, Made, Reason};
 use crate::printing::of_stop;
 use crate::request::Request;
@@ -23,6 +23,31 @@ use gib_mem::{Mem, PlainMem};
 use std::alloc::Global;
 use std::sync::Wait;
 use std::thread::Threads;
+
+/// What is printed of what such a run leaves, with the text of its journal.
+fn with_journal(
+    alloc: Global,
+    mut ran: Ran<PlainMem>,
+    names: &Texts,
+    journal: Vec<u8>,
+) -> Result<Made, Stop<'static>>
+    requires names { AreHeld ran.lowered.code.laid.table names.now.short }
+    requires stands { SomeStandsIn names.now ran.lowered (⟦<PlainMem as Mem>⟧.view ran.memory) ran.root }
+    ensures made { (p : ProgramTree) (options : OptionValues) (input : List ℕ) → IsTrace p names.now options input journal.items
+        → StandsIn p names.now options.depth input ran.lowered (⟦<PlainMem as Mem>⟧.view ran.memory) ran.root
+        → IfOk result (λ made. EndsBy (file_of made) made.end (Traces p names.now options input)) }
+    ensures memory { IfErr result (λ stop. stop ≡ Stop.Memory) }
+    ensures alone { IfOk result (λ made. made.packed ≡ None) }
+{
+    match text_of(alloc, &mut ran, names) {
+        Ok(text) => Ok(Made {
+            file: Some(journal),
+            packed: None,
+            end: End::Prints(text),
+        }),
+        Err(_) => Err(Stop::Memory),
+    }
+}
 
 /// What such a run leaves: its journal, and the text of its value or why there is none.
 fn left_of(alloc: Global, run: TracedRun, names: &Texts) -> Result<Made, Stop<'static>>
@@ -47,23 +72,13 @@ fn left_of(alloc: Global, run: TracedRun, names: &Texts) -> Result<Made, Stop<'s
     let Ok(file) = write_journal(alloc, &journal) else {
         return Err(Stop::Memory);
     };
-    let mut ran = match ran_of(lowered, memory, answer) {
-        Ok(ran) => ran,
-        Err(why) => {
-            return Ok(Made {
-                file: Some(file),
-                packed: None,
-                end: End::NoValue(Reason::Meant(why)),
-            });
-        }
-    };
-    match text_of(alloc, &mut ran, names) {
-        Ok(text) => Ok(Made {
+    match ran_of(lowered, memory, answer) {
+        Ok(ran) => with_journal(alloc, ran, names, file),
+        Err(why) => Ok(Made {
             file: Some(file),
             packed: None,
-            end: End::Prints(text),
+            end: End::NoValue(Reason::Meant(why)),
         }),
-        Err(_) => Err(Stop::Memory),
     }
 }
 

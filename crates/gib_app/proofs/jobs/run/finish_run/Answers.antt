@@ -1,4 +1,4 @@
-use Rattle.std.proofs.Common.{◌∙◌, ◌≤◌, length, Err, ap, arith, sym, subst, subst₂}
+use Rattle.std.proofs.Common.{◌∙◌, ◌≤◌, length, Err, option_map, ap, arith, sym, subst, subst₂}
 use Rattle.gib_types.specs.Table.{Table}
 use Rattle.gib_types.specs.declared.table.Ty.{Ty}
 use Rattle.gib_file.specs.Framed.{File2}
@@ -7,7 +7,7 @@ use Rattle.gib_compact.specs.declared.fault.CompactFault.{CompactFault}
 use Rattle.gib_app.specs.Jobs.{Runs, RunsBoth}
 use Rattle.gib_app.specs.MachineRun.{cells_of}
 use Rattle.std.proofs.lemmas.Bool.{not-true, not-false}
-use Rattle.std.proofs.lemmas.Result.{IfOk-at_ok}
+use Rattle.std.proofs.lemmas.Result.{IfOk-at_ok, IfOk-weaker}
 use Rattle.gib_app.proofs.PackedRuns.{made_alone, runs_alone, meant_again, stands_named, packed_run, long_run}
 use Rattle.gib_app.proofs.Remaining.{left_again, stands_left, packed_comes, long_comes}
 use Rattle.gib_app.proofs.jobs.run.finish_run.Goals as goal
@@ -26,12 +26,12 @@ returns-then-not-options-clause-region g c = c.finish.ensures.region
 
 -- ---- With it
 
-pub with_packed-requires-clause-stands : goal.with_packed-requires-clause-stands
-with_packed-requires-clause-stands g c =
+pub with_text-requires-clause-stands : goal.with_text-requires-clause-stands
+with_text-requires-clause-stands g c =
     meant_again c.args.value c.packed_result-packed.result.1 c.packed_result-packed.ensures.again c.requires.stands.0
 
-pub with_packed-requires-clause-few : goal.with_packed-requires-clause-few
-with_packed-requires-clause-few g c = let same = c.packed_result-packed.ensures.again.limit in let few = c.requires.few in omega (arith, same, few)
+pub with_text-requires-clause-few : goal.with_text-requires-clause-few
+with_text-requires-clause-few g c = let same = c.packed_result-packed.ensures.again.limit in let few = c.requires.few in omega (arith, same, few)
 
 pub without_packed-requires-clause-stands : goal.without_packed-requires-clause-stands
 without_packed-requires-clause-stands g c =
@@ -50,8 +50,8 @@ returns-in-Ok-clause-made g c = λ p input ty laid limit s.
     let file = IfOk-at_ok (λ file. File2 value.ran.lowered.code.laid.table value.names.long c.args.ty s.result file.items) c.in-Ok.is (c.packed_result-packed.ensures.file s.result (subst S (sym ty) s.stands)) in
     let few = IfOk-at_ok (λ file. length file.items ≤ 16777216) c.in-Ok.is c.packed_result-packed.ensures.few in
     let F : Table → Ty → Type 0 = λ t y. File2 t value.names.long y s.result c.in-Ok.packed.items in
-    packed_run p o input value new again laid limit (not-false _ c.if-not-options.false) s c.in-Ok.packed.items (subst₂ F s.table ty file) few c.with_packed.result
-    (c.with_packed.ensures.shown p o.depth input (stands_named p o.depth input value new again s)) c.with_packed.ensures.packed
+    packed_run p o input value new again laid limit (not-false _ c.if-not-options.false) s c.in-Ok.packed.items (subst₂ F s.table ty file) few c.with_text.result
+    (c.with_text.ensures.shown p o.depth input (stands_named p o.depth input value new again s)) (IfOk-weaker c.with_text.result _ _ (λ made is. ap (option_map (λ bytes. bytes.items)) is) c.with_text.ensures.packed)
 
 pub returns-in-Long-clause-made : goal.returns-in-Long-clause-made
 returns-in-Long-clause-made g c = λ p input ty laid limit s.
@@ -74,7 +74,7 @@ returns-in-Ok-clause-region g c = λ p input left.
     let new = c.packed_result-packed.result.1 in
     let again = c.packed_result-packed.ensures.again in
     let there = left_again p o input old new again left in
-    packed_comes p o input old new again there c.with_packed.result (c.with_packed.ensures.shown p o.depth input (stands_left p new.names o input new there))
+    packed_comes p o input old new again there c.with_text.result (c.with_text.ensures.shown p o.depth input (stands_left p new.names o input new there))
 
 pub returns-in-Long-clause-region : goal.returns-in-Long-clause-region
 returns-in-Long-clause-region g c = λ p input left.

@@ -18,8 +18,8 @@ returns-in-Err-clause-made c = λ p o input h laid.
       traced_none p o input settings lines (view traced.memory) traced.answer c.in-Err.why h c.in-Err.ensures.none,
     )
 
-pub text_of-requires-clause-stands : goal.text_of-requires-clause-stands
-text_of-requires-clause-stands c =
+pub with_journal-requires-clause-stands : goal.with_journal-requires-clause-stands
+with_journal-requires-clause-stands c =
     let t = c.requires.traced in
     let traced = c.args.run.traced in
     let ran = c.in-Ok-ran_of.ran in
@@ -32,15 +32,13 @@ text_of-requires-clause-stands c =
           t.3 laid (ap view c.in-Ok-ran_of.ensures.some.1) c.in-Ok-ran_of.ensures.some.0;
     }
 
-pub returns-in-Ok-text_of-clause-made : goal.returns-in-Ok-text_of-clause-made
-returns-in-Ok-text_of-clause-made c = λ p o input h is_laid.
+pub returns-in-Ok-ran_of-clause-made : goal.returns-in-Ok-ran_of-clause-made
+returns-in-Ok-ran_of-clause-made c = λ p o input h is_laid.
     let traced = c.args.run.traced in
     let settings = traced.journal.settings in
     let lines = traced.journal.lines.all.items in
     let ran = c.in-Ok-ran_of.ran in
     let laid = ap (λ (l : LoweredParts). l.code.laid) c.in-Ok-ran_of.ensures.some.2 ∙ is_laid in
     let stands = ran_stands p o input settings lines (view traced.memory) (view ran.memory) traced.answer ran.lowered.code.laid ran.root
-    h laid (ap view c.in-Ok-ran_of.ensures.some.1) c.in-Ok-ran_of.ensures.some.0 in (
-      trace_of p o input c.in-Ok.file.items settings lines (view traced.memory) traced.answer h traced.journal.lines.are c.in-Ok.ensures,
-      record { value = stands.value; result = stands.result; is_input = stands.is_input; means = stands.means; is_text = c.in-Ok-text_of.ensures p o.depth input stands },
-    )
+    h laid (ap view c.in-Ok-ran_of.ensures.some.1) c.in-Ok-ran_of.ensures.some.0 in
+    c.with_journal.ensures.made p o input (trace_of p o input c.in-Ok.file.items settings lines (view traced.memory) traced.answer h traced.journal.lines.are c.in-Ok.ensures) stands
