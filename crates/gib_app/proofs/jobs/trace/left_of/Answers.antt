@@ -9,8 +9,8 @@ use Rattle.gib_app.proofs.jobs.trace.left_of.Goals as goal
 abbrev view : PlainMem → Memory
 view m = plain_memory m.bytes.items m.drawn m.limit
 
-pub returns-in-Err-clause-made : goal.returns-in-Err-clause-made
-returns-in-Err-clause-made c = λ p o input h laid.
+pub returns-clause-made : goal.returns-clause-made
+returns-clause-made c = λ p o input h laid.
     let traced = c.args.run.traced in
     let settings = traced.journal.settings in
     let lines = traced.journal.lines.all.items in (
