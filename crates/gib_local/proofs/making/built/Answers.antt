@@ -11,6 +11,3 @@ pub returns-in-Ok : goal.returns-in-Ok
 returns-in-Ok c =
     let t = text_of c.args.source.now in
     judges_for c.judged.result (placed t (build_core t)) (judged (core_of c.in-Ok.core) (broken_text t (core_of c.in-Ok.core))) (ap (placed t) c.in-Ok.ensures) c.judged.ensures
-
-pub returns : goal.returns
-returns c = c.of_places.ensures (text_of c.args.source.now) (build_core (text_of c.args.source.now)) c.in-Err.ensures
