@@ -1,6 +1,5 @@
-use Rattle.std.proofs.Common.{ap, ◌∙◌}
+use Rattle.std.proofs.Common.{ap, sym, subst, ◌∙◌}
 use Rattle.gib_mem.specs.Memory.{Memory}
-use Rattle.gib_arena.specs.Passes.{cells}
 use Rattle.gib_packed.specs.Stands.{Stands}
 use Rattle.gib_text.proofs.text.text_by.Goals as goal
 
@@ -10,5 +9,5 @@ returns-clause-free g c = λ q f.
 
 pub returns-clause-text : goal.returns-clause-text
 returns-clause-text g c = λ ty v st.
-    let there : Stands c.args.printing.layouts.now (cells c.into_parts-arena.result.1) c.args.root ty v = search in
+    let there = subst (λ (m : Memory). Stands c.args.printing.layouts.now m.cells c.args.root ty v) (sym c.into_parts-arena.ensures.shows) st in
     c.joined.ensures _ (c.root_by-texts.ensures.text ty v there)
