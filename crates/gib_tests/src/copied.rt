@@ -104,11 +104,6 @@ fn declared(alloc: Global, source: &str) -> Result<Vec<u8>, AllocError> {
     Ok(out)
 }
 
-/// Whether the copy of a source declares this.
-fn declares(alloc: Global, source: &str, answer: &str) -> Result<bool, AllocError> {
-    Ok(declared(alloc, source)?.as_slice() == answer.as_bytes())
-}
-
 /// Sources with what their copies declare.
 const SOURCES: [(&str, &str); 6] = [
     // A copied type's fields are of the copy.
@@ -146,7 +141,11 @@ const SOURCES: [(&str, &str); 6] = [
 #[test]
 fn copies_declare(rt: HostRuntime) -> Result<(), Fail> {
     for (source, answer) in &SOURCES {
-        assert!(rt; declares(rt.alloc(), source, answer)?, "{source}");
+        assert_eq!(rt;
+            declared(rt.alloc(), source)?.as_slice(),
+            answer.as_bytes(),
+            "{source}"
+        );
     }
     Ok(())
 }

@@ -91,15 +91,10 @@ const SOURCES: [(&str, &str); 6] = [
     ),
 ];
 
-/// Whether the search says this of a source.
-fn is_told(alloc: Global, source: &str, answer: &str) -> Result<bool, AllocError> {
-    Ok(told(alloc, source)?.as_str() == answer)
-}
-
 #[test]
 fn copies_of_sources(rt: HostRuntime) -> Result<(), Fail> {
     for (source, answer) in &SOURCES {
-        assert!(rt; is_told(rt.alloc(), source, answer)?, "{source}");
+        assert_eq!(rt; told(rt.alloc(), source)?.as_str(), *answer, "{source}");
     }
     Ok(())
 }
@@ -117,15 +112,13 @@ fn wide(alloc: Global, constructors: u32) -> Result<String, AllocError> {
     Ok(text)
 }
 
-/// Whether it says this of such a source.
-fn is_told_of_wide(alloc: Global, constructors: u32, answer: &str) -> Result<bool, AllocError> {
-    let source = wide(alloc, constructors)?;
-    is_told(alloc, &source, answer)
-}
-
 #[test]
 fn constructors_of_copies(rt: HostRuntime) -> Result<(), Fail> {
-    assert!(rt; is_told_of_wide(rt.alloc(), 100, "fun 0 0;data 0 0;fun 0 1;data 0 1;")?);
-    assert!(rt; is_told_of_wide(rt.alloc(), 101, "limit 694")?);
+    let alloc = rt.alloc();
+    assert_eq!(rt;
+        told(alloc, &wide(alloc, 100)?)?.as_str(),
+        "fun 0 0;data 0 0;fun 0 1;data 0 1;"
+    );
+    assert_eq!(rt; told(alloc, &wide(alloc, 101)?)?.as_str(), "limit 694");
     Ok(())
 }

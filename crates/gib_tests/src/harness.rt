@@ -17,20 +17,20 @@ pub struct Ended {
     pub err: MemSink,
 }
 
-/// What fails: calls of the shelf by their numbers, and puts on `out` and on `err`, each behind so many bytes.
-#[derive(Clone, Copy)]
-pub struct Fails<'a> {
-    pub shelf: &'a [u64],
-    pub out: &'a [(u64, u64)],
-    pub err: &'a [(u64, u64)],
-}
-
 /// How a call has to end: its status, and all that it puts on `out` and on `err`.
 #[derive(Clone, Copy)]
 pub struct End<'a> {
     pub status: Status,
     pub out: &'a str,
     pub err: &'a str,
+}
+
+/// What fails: calls of the shelf by their numbers, and puts on `out` and on `err`, each behind so many bytes.
+#[derive(Clone, Copy)]
+pub struct Fails<'a> {
+    pub shelf: &'a [u64],
+    pub out: &'a [(u64, u64)],
+    pub err: &'a [(u64, u64)],
 }
 
 /// Puts what stands between the spaces of a line.

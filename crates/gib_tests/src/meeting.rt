@@ -16,8 +16,14 @@ use std::time::Clock;
 const BUILD: &str =
     "data Tree = Leaf Int | Node Tree Tree ; fun build (n : Int) : Tree = if (n < 1) then Leaf n else let par a = build (n - 1) and b = build (n - 1) in Node a b ; main (n : Int) : Tree = build n ;";
 
+const COUNT: &str =
+    "data Tree = Leaf Int | Node Tree Tree ; fun build (n : Int) : Tree = if (n < 1) then Leaf n else let par a = build (n - 1) and b = build (n - 1) in Node a b ; fun count (t : Tree) : Int = case t of { Leaf n -> 1 ; Node l r -> let par a = count l and b = count r in (a + b) } ; main (n : Int) : Int = let t = build n in count t ;";
+
 const RIGHT_DOWN: &str =
     "fun down (n : Int) : Int = if (n < 1) then 0 else (1 + down (n - 1)) ; main (n : Int) : Int = let par a = down 3 and b = down n in (a + b) ;";
+
+const LEFT_DOWN: &str =
+    "fun down (n : Int) : Int = if (n < 1) then 0 else (1 + down (n - 1)) ; main (n : Int) : Int = let par a = down n and b = down 3 in (a + b) ;";
 
 /// The left side divides by 0; the right one runs out of a depth of 3.
 const DIVIDES_LEFT: &str =
@@ -104,25 +110,11 @@ const ROWS: [Row<'static>; 14] = [
     // Forks inside of forks, each of whose sides is a tree: the side that is stolen forks before it is answered.
     (BUILD, THREE, TWO_FORKS, Status::Done, BUILT, None),
     // Sides that are numbers, over trees of more than one chunk.
-    (
-        "data Tree = Leaf Int | Node Tree Tree ; fun build (n : Int) : Tree = if (n < 1) then Leaf n else let par a = build (n - 1) and b = build (n - 1) in Node a b ; fun count (t : Tree) : Int = case t of { Leaf n -> 1 ; Node l r -> let par a = count l and b = count r in (a + b) } ; main (n : Int) : Int = let t = build n in count t ;",
-        NINE,
-        RUN,
-        Status::Done,
-        "512\n",
-        None,
-    ),
+    (COUNT, NINE, RUN, Status::Done, "512\n", None),
     (RIGHT_DOWN, FIVE, TEN_DEEP, Status::Done, "8\n", None),
     // One of the sides runs out of depth.
     (RIGHT_DOWN, FIFTY, TEN_DEEP, TOO_DEEP, DEPTH, None),
-    (
-        "fun down (n : Int) : Int = if (n < 1) then 0 else (1 + down (n - 1)) ; main (n : Int) : Int = let par a = down n and b = down 3 in (a + b) ;",
-        FIFTY,
-        TEN_DEEP,
-        TOO_DEEP,
-        DEPTH,
-        None,
-    ),
+    (LEFT_DOWN, FIFTY, TEN_DEEP, TOO_DEEP, DEPTH, None),
     // The whole tree has no room in so many chunks.
     (BUILD, THIRTEEN, FEW_CHUNKS, Status::Full, CHUNKS, None),
     // The journal tells it so.

@@ -1,16 +1,17 @@
 //! Texts of values of a program's types, read, packed and written. The values are those of a second
 //! implementation.
 
-ghost use Rattle.gib_syntax.specs.{Declarations.{table_of_program}, Parts.{program_of}};
+ghost use Rattle.gib_syntax.specs.Parts.{program_of};
 ghost use Rattle.gib_types.specs.Tree.{IsTyped};
+ghost use Rattle.gib_value.specs.Text.{AreHeld};
 ghost use Rattle.gib_app.specs.Stops.{IsReady};
 
 use crate::programs::compile;
 use gib_app::compile::Compiled;
-use gib_base::Memory;
+use gib_base::{Memory, Texts};
 use gib_file::pack;
-use gib_types::{Ty, TyId};
-use gib_unit_tests::bytes::{packed, push_times, repeated};
+use gib_types::{Ty, TyId, TypeTable};
+use gib_unit_tests::bytes::{packed, push_times};
 use gib_value::{TextFault, Value, read_text, write_text};
 use std::alloc::{AllocError, Global};
 use std::test::Fail;
@@ -26,13 +27,18 @@ const CHAIN: Ty = Ty::Tree(TyId(2));
 
 const MARK: Ty = Ty::Tree(TyId(3));
 
-/// The text of a copy of a value of a program.
-fn write_copy(alloc: Global, compiled: &Compiled, value: &Value) -> Result<Vec<u8>, Memory>
-    requires ready { IsReady (program_of compiled.now.typed) compiled.now.names }
-    requires typed { IsTyped (table_of_program (program_of compiled.now.typed)) value.now }
+/// The text of a copy of a value.
+fn write_copy(
+    alloc: Global,
+    value: &Value,
+    types: &TypeTable,
+    names: &Texts,
+) -> Result<Vec<u8>, Memory>
+    requires typed { IsTyped types.now value.now }
+    requires names { AreHeld types.now names.now.short }
 {
     let copy = value.copy(alloc)?;
-    write_text(alloc, compiled.typed.types(), &compiled.names, &copy)
+    write_text(alloc, types, names, &copy)
 }
 
 /// The packed file of the value of a text, and the text of a copy of it.
@@ -47,7 +53,7 @@ fn there_and_back(
     let types = compiled.typed.types();
     let value = read_text(alloc, types, &compiled.names, ty, text)?;
     let file = pack(alloc, types, &compiled.names, &value, 1)?;
-    let written = write_copy(alloc, compiled, &value)?;
+    let written = write_copy(alloc, &value, types, &compiled.names)?;
     Ok((file, written))
 }
 
@@ -124,75 +130,67 @@ fn texts_come_back(rt: HostRuntime) -> Result<(), Fail> {
     Ok(())
 }
 
-/// Texts that are of no value of a type, with the places of their faults.
-const REFUSED: [(Ty, &[(&str, u64)]); 6] = [
-    (
-        TREE,
-        &[
-            ("(Node (Leaf 1))", 14),
-            ("(Node (Leaf 1) (Leaf 2)", 23),
-            ("(Leaf 9223372036854775808)", 6),
-            ("(Leaf 01)", 6),
-            ("(Leaf -0)", 6),
-            ("(Leaf -)", 6),
-            ("(Leaf -9223372036854775809)", 6),
-            ("(Leaf  1)", 6),
-            ("(Leaf1)", 1),
-            ("(Leaf 1", 7),
-            ("(Leaf 1))", 8),
-            ("(Leaf 12a)", 8),
-            ("Leaf 1", 0),
-            ("( Leaf 1)", 1),
-            ("(Node (Leaf 1)(Leaf 2))", 14),
-            ("(End)", 1),
-            ("#", 0),
-        ],
-    ),
-    (
-        P,
-        &[
-            ("(Leaf 5)", 1),
-            ("(P 7 (Leaf 5))", 3),
-            ("(R)", 1),
-            ("(Q True) ", 8),
-        ],
-    ),
-    (Ty::Truth, &[("(Q True)", 0), ("(True)", 0)]),
-    (
-        CHAIN,
-        &[
-            ("(End)", 1),
-            ("(Link true End)", 6),
-            ("(Link True1 End)", 6),
-            ("Link", 0),
-            ("End\n", 3),
-            ("Ende", 0),
-        ],
-    ),
-    (MARK, &[("(Red)", 0), ("red", 0)]),
-    (Ty::Whole, &[("", 0), ("+1", 0), ("1 ", 1)]),
+/// Texts that are of no value, with the places of their faults.
+const REFUSED: [(Ty, &str, u64); 34] = [
+    (TREE, "(Node (Leaf 1))", 14),
+    (TREE, "(Node (Leaf 1) (Leaf 2)", 23),
+    (TREE, "(Leaf 9223372036854775808)", 6),
+    (P, "(Leaf 5)", 1),
+    (P, "(P 7 (Leaf 5))", 3),
+    (P, "(R)", 1),
+    (P, "(Q True) ", 8),
+    (Ty::Truth, "(Q True)", 0),
+    (TREE, "(Leaf 01)", 6),
+    (TREE, "(Leaf -0)", 6),
+    (TREE, "(Leaf -)", 6),
+    (TREE, "(Leaf -9223372036854775809)", 6),
+    (TREE, "(Leaf  1)", 6),
+    (TREE, "(Leaf1)", 1),
+    (TREE, "(Leaf 1", 7),
+    (TREE, "(Leaf 1))", 8),
+    (TREE, "(Leaf 12a)", 8),
+    (TREE, "Leaf 1", 0),
+    (TREE, "( Leaf 1)", 1),
+    (TREE, "(Node (Leaf 1)(Leaf 2))", 14),
+    (TREE, "(End)", 1),
+    (TREE, "#", 0),
+    (CHAIN, "(End)", 1),
+    (CHAIN, "(Link true End)", 6),
+    (CHAIN, "(Link True1 End)", 6),
+    (CHAIN, "Link", 0),
+    (CHAIN, "End\n", 3),
+    (CHAIN, "Ende", 0),
+    (MARK, "(Red)", 0),
+    (MARK, "red", 0),
+    (Ty::Whole, "", 0),
+    (Ty::Whole, "+1", 0),
+    (Ty::Whole, "1 ", 1),
+    (Ty::Truth, "(True)", 0),
 ];
 
 #[test]
 fn other_texts_are_refused(rt: HostRuntime) -> Result<(), Fail> {
-    for (ty, texts) in &REFUSED {
-        for (text, place) in *texts {
-            assert!(rt; is_refused(rt.alloc(), *ty, text, *place), "{text}");
-        }
+    for (ty, text, place) in &REFUSED {
+        assert!(rt; is_refused(rt.alloc(), *ty, text, *place), "{text}");
     }
     Ok(())
 }
 
 /// The text of a chain of so many links.
 fn chain(alloc: Global, links: usize) -> Result<Vec<u8>, AllocError> {
-    let mut text = repeated(alloc, b"(Link True ", links, b"End")?;
+    let mut text = Vec::new(alloc);
+    push_times(&mut text, b"(Link True ", links)?;
+    text.extend_from_slice(b"End")?;
     push_times(&mut text, b")", links)?;
     Ok(text)
 }
 
 /// The payload that it is packed to.
 fn packed_chain(alloc: Global, links: usize) -> Result<Vec<u8>, AllocError> {
-    repeated(alloc, b"\x06\x01", links, b"\x05")
+    let mut payload = Vec::new(alloc);
+    push_times(&mut payload, b"\x06\x01", links)?;
+    payload.push(5)?;
+    Ok(payload)
 }
 
 #[test]

@@ -2,34 +2,44 @@
 
 ghost use Rattle.std.specs.Prelude.{◌≡◌, ◌++◌, ◌∷◌, [], ◌<◌, ◌≤◌, length, map, IfOk, OnOk};
 
-use crate::bytes::joined;
 use crate::sample::trees;
 use crate::terms::*;
 use gib_base::{Memory, Name};
 use gib_core::*;
-use gib_types::{Operator, Ty};
+use gib_types::{ConId, Operator, Ty};
 use std::alloc::Global;
 use std::test::*;
+
+const LEAF: ConId = ConId(0);
+
+const NODE: ConId = ConId(1);
 
 const ADD1: Name = Name(3);
 
 // The arm of `Leaf`: prim, past and write.
-fn first_arm(alloc: Global, terms: &mut Terms) -> Result<TermId, Memory>
+fn leaf(alloc: Global, terms: &mut Terms) -> Result<TermId, Memory>
     ensures { IfOk result (λ id. (id.0 < length terms.new) × (length terms.old ≤ length terms.new)) }
 {
-    let rest = leaf(alloc, terms, 3, 2)?;
-    then(
-        terms,
-        prim(2, Operator::Add, var(1), Atom::literal(1)),
-        rest,
-    )
+    let rest = write(alloc, terms, 3, LEAF, &[var(2)], &[])?;
+    let rest = past(terms, 3, LEAF, rest)?;
+    prim(terms, 2, Operator::Add, var(1), Atom::literal(1), rest)
+}
+
+// The end of the arm of `Node`: past, two fields and write.
+fn ends(alloc: Global, terms: &mut Terms) -> Result<TermId, Memory>
+    ensures { IfOk result (λ id. (id.0 < length terms.new) × (length terms.old ≤ length terms.new)) }
+{
+    let rest = write(alloc, terms, 8, NODE, &[], &[var(9), var(10)])?;
+    let rest = here(terms, 10, 7, rest)?;
+    let rest = here(terms, 9, 6, rest)?;
+    past(terms, 8, NODE, rest)
 }
 
 // The two sides, and what follows them.
 fn sides(alloc: Global, terms: &mut Terms, fork: bool) -> Result<TermId, Memory>
     ensures { IfOk result (λ id. (id.0 < length terms.new) × (length terms.old ≤ length terms.new)) }
 {
-    let rest = node(alloc, terms, 8, 6, 7)?;
+    let rest = ends(alloc, terms)?;
     let first = call(alloc, terms, ADD1, 4)?;
     let second = call(alloc, terms, ADD1, 5)?;
     let left = bound(Kind::Region, 6, TREE, first);
@@ -46,11 +56,17 @@ fn body(
 ) -> Result<TermId, Memory>
     ensures { IfOk result (λ id. (id.0 < length terms.new) × (length terms.old ≤ length terms.new)) }
 {
-    let first = first_arm(alloc, terms)?;
+    let first = leaf(alloc, terms)?;
     let mut second = sides(alloc, terms, fork)?;
     if let Some(access) = access {
-        let field = Variable(5);
-        second = then(terms, Binding::Reach { field, access }, second)?;
+        second = then(
+            terms,
+            Binding::Reach {
+                field: Variable(5),
+                access,
+            },
+            second,
+        )?;
     }
     let leaf = arm(alloc, LEAF, &[Variable(1)], first)?;
     let node = arm(alloc, NODE, &[Variable(4), Variable(5)], second)?;
@@ -97,7 +113,10 @@ const NAMES: &[&str] = &["Tree", "Leaf", "Node", "add1"];
 
 /// Whether the program is printed with these lines in the middle.
 fn is_told(alloc: Global, access: Option<Access>, fork: bool, middle: &str) -> Result<bool, Fail> {
-    let want = joined(alloc, &[FRONT, middle, BACK])?;
+    let mut want = Vec::new(alloc);
+    want.extend_from_slice(FRONT.as_bytes())?;
+    want.extend_from_slice(middle.as_bytes())?;
+    want.extend_from_slice(BACK.as_bytes())?;
     let core = program(alloc, access, fork)?;
     is_printed(alloc, &core, NAMES, &want)
 }
@@ -114,14 +133,13 @@ fn prints_the_core_of_each_pass(rt: HostRuntime) -> Result<(), Fail> {
 fn division(alloc: Global) -> Result<Core, Memory> {
     let mut terms = Terms::new(alloc);
     let give = put(&mut terms, Node::Give(var(2)))?;
-    let rest = then(
+    let rest = prim(&mut terms, 2, Operator::Remainder, var(1), var(0), give)?;
+    let body = prim(
         &mut terms,
-        prim(2, Operator::Remainder, var(1), var(0)),
-        give,
-    )?;
-    let body = then(
-        &mut terms,
-        prim(1, Operator::Quotient, var(0), Atom::literal(3)),
+        1,
+        Operator::Quotient,
+        var(0),
+        Atom::literal(3),
         rest,
     )?;
     let main = CoreMain {

@@ -1,6 +1,6 @@
 //! Terms that are put together by hand.
 
-ghost use Rattle.std.specs.Prelude.{◌≡◌, ◌<◌, ◌≤◌, ℕ, length, IfOk};
+ghost use Rattle.std.specs.Prelude.{◌≡◌, ◌<◌, ◌≤◌, length, IfOk};
 ghost use Rattle.gib_types.specs.Table.{IsTyBelow};
 ghost use Rattle.gib_core.specs.Arena.{IsBindingBelow, PartsBelow, term_in};
 
@@ -12,12 +12,6 @@ use std::test::Fail;
 
 /// The first declared type.
 pub const TREE: Ty = Ty::Tree(TyId(0));
-
-/// Its constructor of a number.
-pub const LEAF: ConId = ConId(0);
-
-/// Its constructor of two trees.
-pub const NODE: ConId = ConId(1);
 
 /// The names of a program, in their order.
 pub fn names(alloc: Global, texts: &[&str]) -> Result<Texts, Fail> {
@@ -99,40 +93,24 @@ pub fn bound(kind: Kind, number: u32, ty: Ty, term: TermId) -> BoundSide
     })
 }
 
-/// past %h
-pub fn past(head: u32, constructor: ConId) -> Binding
-    ensures { (n : ℕ) → IsBindingBelow n result }
-{
-    Binding::Past {
-        head: Variable(head),
-        constructor,
-    }
-}
-
-/// prim %n = an operation on two atoms
-pub fn prim(number: u32, operator: Operator, left: Atom, right: Atom) -> Binding
-    ensures { (n : ℕ) → IsBindingBelow n result }
-{
-    Binding::Prim {
-        variable: Variable(number),
-        operator,
-        left,
-        right,
-    }
-}
-
-/// scalar %n, which is call f %m
-pub fn scalar(
-    alloc: Global,
+/// past %h, and the rest
+pub fn past(
     terms: &mut Terms,
-    number: u32,
-    name: Name,
-    of: u32,
-) -> Result<BoundSide, Memory>
-    ensures { IfOk result (λ side. ((term_in side).0 < length terms.new) × (length terms.old ≤ length terms.new)) }
+    head: u32,
+    constructor: ConId,
+    rest: TermId,
+) -> Result<TermId, Memory>
+    requires { rest.0 < length terms.old }
+    ensures { IfOk result (λ id. (id.0 < length terms.new) × (length terms.old ≤ length terms.new)) }
 {
-    let term = call(alloc, terms, name, of)?;
-    Ok(bound(Kind::Scalar, number, Ty::Whole, term))
+    then(
+        terms,
+        Binding::Past {
+            head: Variable(head),
+            constructor,
+        },
+        rest,
+    )
 }
 
 /// here %n, and under it point %m, and the rest
@@ -145,30 +123,28 @@ pub fn here(terms: &mut Terms, number: u32, target: u32, rest: TermId) -> Result
     then(terms, Binding::One(here), rest)
 }
 
-/// past %h, a leaf of %n
-pub fn leaf(alloc: Global, terms: &mut Terms, head: u32, number: u32) -> Result<TermId, Memory>
-    ensures { IfOk result (λ id. (id.0 < length terms.new) × (length terms.old ≤ length terms.new)) }
-{
-    let rest = write(alloc, terms, head, LEAF, &[var(number)], &[])?;
-    then(terms, past(head, LEAF), rest)
-}
-
-/// past %h, a node of two trees, whose fields are the variables behind the head and point to these
-pub fn node(
-    alloc: Global,
+/// prim %n = an operation on two atoms, and the rest
+pub fn prim(
     terms: &mut Terms,
-    head: u32,
-    left: u32,
-    right: u32,
+    number: u32,
+    operator: Operator,
+    left: Atom,
+    right: Atom,
+    rest: TermId,
 ) -> Result<TermId, Memory>
-    requires { head < 100 }
+    requires { rest.0 < length terms.old }
     ensures { IfOk result (λ id. (id.0 < length terms.new) × (length terms.old ≤ length terms.new)) }
 {
-    let fields = [var(head + 1), var(head + 2)];
-    let rest = write(alloc, terms, head, NODE, &[], &fields)?;
-    let rest = here(terms, head + 2, right, rest)?;
-    let rest = here(terms, head + 1, left, rest)?;
-    then(terms, past(head, NODE), rest)
+    then(
+        terms,
+        Binding::Prim {
+            variable: Variable(number),
+            operator,
+            left,
+            right,
+        },
+        rest,
+    )
 }
 
 pub fn arm(
@@ -185,27 +161,6 @@ pub fn arm(
         variables,
         term,
     })
-}
-
-/// if %n then a term else another one
-pub fn if_else(
-    terms: &mut Terms,
-    condition: u32,
-    then_part: TermId,
-    else_part: TermId,
-) -> Result<TermId, Memory>
-    requires first { then_part.0 < length terms.old }
-    requires second { else_part.0 < length terms.old }
-    ensures { IfOk result (λ id. (id.0 < length terms.new) × (length terms.old ≤ length terms.new)) }
-{
-    put(
-        terms,
-        Node::If {
-            condition: var(condition),
-            then_part,
-            else_part,
-        },
-    )
 }
 
 /// case %n with two arms
