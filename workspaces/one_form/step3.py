@@ -116,7 +116,7 @@ wr("src/tree.rt", "//! Names where they stand.\n\nuse gib_base::{Name, Span};\n\
 def of_workspace(path):
     s = open(f"{ws}/{path}.txt").read()
     s = s.replace("Rattle.one_form.specs.ClosedTyping.", "Rattle.gib_syntax.proofs.TableTyping.").replace("Rattle.one_form.", "Rattle.gib_syntax.")
-    return named(s).replace("HaveFine", "HasFine").replace("specs.Inferred.{parameter_forms, result_forms}", "specs.Typing.{parameter_forms, result_forms}")
+    return named(s).replace("HaveFine", "HasFine").replace("specs.Inferred.{parameter_forms}", "specs.Typing.{parameter_forms}")
 def drop(s, first, last):
     return s[:s.index(first)] + s[s.index(last):]
 today = rd("proofs/Soundness.antt")
