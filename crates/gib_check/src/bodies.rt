@@ -1,6 +1,6 @@
 //! Bodies of functions.
 
-ghost use Rattle.std.specs.Prelude.{◌≡◌, ◌<◌, length, map, IfOk};
+ghost use Rattle.std.specs.Prelude.{◌≡◌, ◌<◌, [], length, map, IfOk};
 ghost use Rattle.std.specs.List.{AllByRecursion};
 ghost use Rattle.gib_syntax.specs.GenericParts.{parameter_in, results_in, function_in, IsFunctionInside};
 ghost use Rattle.gib_check.specs.{Answers.{Gives}, Judging.{in_scope}, NameViews.{generic_globals, generic_tree}};
@@ -16,7 +16,7 @@ use crate::state::State;
 use crate::uses::result_types;
 use crate::walk::infer;
 use gib_base::Memory;
-use gib_syntax::{ExprId, GenericFunction, GenericParameter, Ident, ResultRuns};
+use gib_syntax::{ExprId, GenericFunction, GenericParameter, ResultRuns};
 
 /// Puts parameters into the scope.
 fn push_parameters(
@@ -36,6 +36,30 @@ fn push_parameters(
     Ok(())
 }
 
+/// A body, over a state that has met nothing but the number of its parameters, which are not in scope yet. The state is
+/// owned by the caller, which has one way out: each way out that owns it would drop all of it.
+fn check_from(
+    around: &Around,
+    state: &mut State,
+    parameters: &[GenericParameter],
+    gives: &ResultRuns,
+    body: ExprId,
+) -> Result<(), TypeFault>
+    requires inside { body.0 < length around.now.named.now.exprs.nodes }
+    requires scope { in_scope state.old ≡ [] }
+    requires counts { state.old.counts ≡ record { variables = length parameters.now; expressions = 0 } }
+    ensures { Gives (λ _. tt {0}) result
+        (rule.check_body (generic_globals around.now.named.now) around.now.variables.now
+        (map (parameter_in around.now.named.now.exprs.words) parameters.now) (results_in around.now.named.now.exprs.words gives.now)
+        (generic_tree around.now.named.now body.0)) }
+{
+    state.meet_plain()?;
+    push_parameters(around.named, state, parameters)?;
+    let given = infer(around, state, standing_of(gives), body)?;
+    let due = result_types(around.named, state, &Meaning::Opaque, gives)?;
+    wanted(state, due, part(around.named, body, given))
+}
+
 /// A body, in the scope of its parameters.
 pub fn check_body(
     around: &Around,
@@ -50,11 +74,7 @@ pub fn check_body(
         return Err(TypeFault::Memory);
     };
     let mut state = State::new(around.named.alloc(), count);
-    state.meet_plain()?;
-    push_parameters(around.named, &mut state, parameters)?;
-    let given = infer(around, &mut state, standing_of(gives), body)?;
-    let due = result_types(around.named, &mut state, &Meaning::Opaque, gives)?;
-    wanted(&state, due, part(around.named, body, given))
+    check_from(around, &mut state, parameters, gives, body)
 }
 
 /// The bodies of functions, in the order of the text.

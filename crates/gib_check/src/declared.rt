@@ -2,7 +2,9 @@
 
 ghost use Rattle.std.specs.Prelude.{◌≡◌, ◌<◌, length, slice_get, Some, None, IfOk, MatchOption};
 ghost use Rattle.gib_syntax.specs.{Declarations.{type_written, type_of_name, constructor_named, function_named}, Tree.{FunctionTree}};
-ghost use Rattle.gib_check.specs.{Functions.{IsNumberOf, IsHeadOf}, Origins.{made_type, result_if, fields_named}, Views.{table_in, types_in, functions_in}};
+ghost use Rattle.gib_check.specs.{Functions.{IsNumberOf, IsHeadOf}, Origins.{made_type, result_if, fields_named}};
+ghost use Rattle.gib_check.specs.Views.{IsDeclared, table_in, types_in, functions_in};
+ghost use Rattle.gib_types.specs.Table.{IsTable};
 
 use crate::functions::{FunctionHead, FunctionId, list_heads};
 use crate::names::{Called, NameList, list_names};
@@ -44,10 +46,35 @@ impl Called for FunctionDecl {
     }
 }
 
+/// What a program declares, beside the program and the names of its types.
+#[derive(Drop)]
+struct Listed {
+    table: TypeTable,
+    constructors: NameList,
+    functions: NameList,
+    heads: Vec<FunctionHead>,
+}
+
+/// All of it. The program is owned by the caller, which has one way out: each way out that owns it would drop all of it.
+fn list_all(alloc: Global, program: &Program, types: &NameList) -> Result<Listed, Memory>
+    requires types { types.now ≡ types_in program.now }
+    requires table { IsTable (table_in program.now) }
+    ensures { IfOk result (λ l. IsDeclared program.now l.table types.now l.constructors l.functions l.heads.items) }
+{
+    let heads = list_heads(alloc, types, program.functions())?;
+    let functions = list_names(alloc, program.functions())?;
+    let (table, constructors) = make_table(alloc, types, program.data_decls())?;
+    Ok(Listed {
+        table,
+        constructors,
+        functions,
+        heads,
+    })
+}
+
 impl Declared {
     ghost use Rattle.gib_syntax.specs.{Arena.{Opens}, Parts.{IsFunctionInside}};
     ghost use Rattle.std.specs.List.{AllByRecursion};
-    ghost use Rattle.gib_types.specs.Table.{IsTable};
 
     /// A program with the names of its types.
     pub fn make(alloc: Global, program: Program, types: NameList) -> Result<Declared, Memory>
@@ -55,9 +82,12 @@ impl Declared {
         requires table { IsTable (table_in program) }
         ensures { IfOk result (λ declared. declared ≡ program) }
     {
-        let functions = list_names(alloc, program.functions())?;
-        let heads = list_heads(alloc, &types, program.functions())?;
-        let (table, constructors) = make_table(alloc, &types, program.data_decls())?;
+        let Listed {
+            table,
+            constructors,
+            functions,
+            heads,
+        } = list_all(alloc, &program, &types)?;
         Ok(Declared {
             program,
             table,

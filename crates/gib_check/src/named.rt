@@ -3,7 +3,8 @@
 ghost use Rattle.std.specs.Prelude.{◌≡◌, ◌<◌, ◌+◌, ◌++◌, Some, None, map, length, IfOk};
 ghost use Rattle.gib_syntax.specs.{Declarations.{place_of}, GenericParts.{generic_program_of, function_in}, GenericTree.{data_named}, Words.{run_words, stack_of}};
 ghost use Rattle.gib_check.specs.Answers.{Gives};
-ghost use Rattle.gib_check.specs.NameViews.{generic_globals, data_number, function_number, row_decl, all_rows, row_in, row_option, arity_of, variables_at, count_of};
+ghost use Rattle.gib_check.specs.NameViews.{IsNamed, generic_globals, data_number, function_number, row_decl, all_rows, row_in, row_option};
+ghost use Rattle.gib_check.specs.NameViews.{arity_of, variables_at, count_of};
 ghost use Rattle.gib_check.specs.Faults as rule;
 
 use crate::fault::{Kind, TypeFault};
@@ -158,6 +159,31 @@ fn list_rows(alloc: Global, program: &GenericProgram) -> Result<Vec<RowDecl>, Me
     Ok(rows)
 }
 
+/// The names that a program declares, and its constructors.
+#[derive(Drop)]
+struct Listed {
+    types: NameList,
+    constructors: NameList,
+    functions: NameList,
+    rows: Vec<RowDecl>,
+}
+
+/// All of them. The program is owned by the caller, which has one way out: each way out that owns it would drop all of it.
+fn list_all(alloc: Global, program: &GenericProgram) -> Result<Listed, Memory>
+    ensures { IfOk result (λ l. IsNamed program.now l.types l.constructors l.functions l.rows.items) }
+{
+    let rows = list_rows(alloc, program)?;
+    let constructors = list_names(alloc, &rows)?;
+    let types = type_names(alloc, program)?;
+    let functions = function_names(alloc, program)?;
+    Ok(Listed {
+        types,
+        constructors,
+        functions,
+        rows,
+    })
+}
+
 impl Named {
     ghost use Rattle.gib_syntax.specs.GenericArena.{Opens, IsRunWithin};
 
@@ -169,10 +195,12 @@ impl Named {
     pub fn make(alloc: Global, program: GenericProgram) -> Result<Named, Memory>
         ensures { IfOk result (λ named. named ≡ program) }
     {
-        let types = type_names(alloc, &program)?;
-        let functions = function_names(alloc, &program)?;
-        let rows = list_rows(alloc, &program)?;
-        let constructors = list_names(alloc, &rows)?;
+        let Listed {
+            types,
+            constructors,
+            functions,
+            rows,
+        } = list_all(alloc, &program)?;
         Ok(Named {
             alloc,
             program,

@@ -1,6 +1,6 @@
 //! What is known of each expression, wherever it stands.
 
-ghost use Rattle.std.specs.Prelude.{◌≡◌, ◌<◌, ℕ, None, Some, length, slice_get, IfOk};
+ghost use Rattle.std.specs.Prelude.{◌≡◌, ◌<◌, ℕ, Some, length, IfOk};
 ghost use Rattle.gib_base.specs.declared.Span.{Span};
 ghost use Rattle.gib_syntax.specs.{declared.tree.Ident.{Ident}, Arena.{layer, case_from, PartsBelow, ArmsBelow}, Tree.{Expression, Case}};
 ghost use Rattle.gib_syntax.specs.Typing.{Globals, names_of, types_of};

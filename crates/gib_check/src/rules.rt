@@ -3,7 +3,7 @@
 ghost use Rattle.std.specs.Prelude.{◌≡◌, ◌<◌, length, IfOk};
 ghost use Rattle.gib_types.specs.{Form.{WholeForm, TruthForm}, SameForm.{same_form}, Types.{form_at, forms_at, forms_of, AreBelow}};
 ghost use Rattle.gib_syntax.specs.Results.{One};
-ghost use Rattle.gib_check.specs.{Answers.{Gives}, Judging.{Judging, forms, listed, ids_of, forms_given, AreMet, part_in, parts_in, ArePartsMet}};
+ghost use Rattle.gib_check.specs.{Answers.{Gives}, Judging.{forms, listed, ids_of, forms_given, AreMet, part_in, parts_in, ArePartsMet}};
 ghost use Rattle.gib_check.specs.Faults as rule;
 
 use crate::fault::{Fault, Kind, TypeFault};
