@@ -14,7 +14,10 @@ use Rattle.gib_core.specs.Tree.{Term, Tuple, CoreTree, parts_count, variables_fr
 use Rattle.gib_core.specs.Arena.{parts_from}
 use Rattle.gib_core.specs.Ending.{Within}
 use Rattle.gib_core.specs.declared.atom.Atom.{Atom}
-use Rattle.gib_core.specs.Low.{Field, End, operands, moves, giving_parts, takes_parts, done_all}
+use Rattle.gib_core.specs.Low.{Field, End, Over, ending, call_ending, operands, moves, giving_parts, takes_parts, done_all}
+use Rattle.gib_lower.specs.Ends.{end_of, part_slots}
+use Rattle.gib_lower.specs.declared.ending.Ending.{Ending as Kept}
+use Rattle.gib_lower.specs.declared.ending.Ending.TheVariants as k
 use Rattle.gib_lower.specs.Lowering.{lowered, lowered_parts}
 
 -- The slots of the scalar variables, or of the packed ones, of these types from a slot on.
@@ -78,9 +81,15 @@ pub moved_before : (ds slots : List ℕ) (ss : List Operand) (x : Instruction) (
 moved_before ds slots ss x old mid new moved e d f g =
     g ∙ ap (λ l. l ++ mid) f ∙ ap (λ l. moves l ss ++ mid) d ∙ ap (λ l. moves ds ss ++ l) e ∙ sym (append_assoc (moves ds ss) (x ∷ []) old)
 
-pub taken_before : (ds slots : List ℕ) (x : Instruction) (old mid new took : List Instruction) → mid ≡ x ∷ old → slots ≡ ds → took ≡ takes_parts 0 slots → new ≡ took ++ mid → new ≡ (takes_parts 0 ds ++ x ∷ []) ++ old
-taken_before ds slots x old mid new took e d f g =
-    g ∙ ap (λ l. l ++ mid) f ∙ ap (λ l. takes_parts 0 l ++ mid) d ∙ ap (λ l. takes_parts 0 ds ++ l) e ∙ sym (append_assoc (takes_parts 0 ds) (x ∷ []) old)
+pub taken_before : (kept : Kept) (os : List Over) (slots : List ℕ) (old mid new took : List Instruction) → mid ≡ ending (end_of kept os) ++ old → slots ≡ part_slots kept → took ≡ takes_parts 0 slots
+    → new ≡ took ++ mid → new ≡ call_ending (end_of kept os) ++ old
+taken_before kept os slots old mid new took e d f g =
+    g ∙ ap (λ l. l ++ mid) (f ∙ ap (takes_parts 0) d) ∙ ap (λ l. takes_parts 0 (part_slots kept) ++ l) e ∙ by_end kept
+  where
+    by_end : (what : Kept) → takes_parts 0 (part_slots what) ++ (ending (end_of what os) ++ old) ≡ call_ending (end_of what os) ++ old
+    by_end k.Returns = refl
+    by_end (k.To l s) = refl
+    by_end (k.ToParts l x tys) = sym (append_assoc (takes_parts 0 (part_slots (k.ToParts l x tys))) (i.Jump l ∷ []) old)
 
 -- One more region is finished, in front of what is there.
 pub done_next : (xs : List ℕ) (k : ℕ) (old new all : List Instruction) → k < length xs → done_all (drop k xs) ++ old ≡ all → new ≡ i.Done ∷ old → done_all (drop (k + 1) xs) ++ new ≡ all

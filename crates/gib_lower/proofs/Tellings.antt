@@ -1,8 +1,9 @@
 -- What tells ends.
-use Rattle.std.proofs.Common.{◌≡◌, ℕ, suc, ◌+◌, ◌-◌, ◌==◌, Bool, true, false, cond, not, ◌&&◌, List, [], ◌∷◌, ◌++◌, length, drop, refl, sym, ap, subst, ◌∙◌, arith}
-use Rattle.std.proofs.lemmas.List.{append_assoc}
+use Rattle.std.proofs.Common.{◌≡◌, ℕ, suc, ◌+◌, ◌-◌, ◌==◌, Bool, true, false, cond, not, ◌&&◌, List, [], ◌∷◌, ◌++◌, ◌≤◌, length, reverse, take, drop, slice_index_or, refl, sym, ap, subst, ◌∙◌, arith}
+use Rattle.std.proofs.lemmas.List.{append_assoc, reverse-append}
 use Rattle.std.specs.Prelude.{Option, Some, None}
 use Rattle.std.proofs.Math.Nat.{sub_self}
+use Rattle.std.proofs.Math.Seq.{take-length}
 use Rattle.gib_types.specs.declared.table.ConId.{ConId}
 use Rattle.gib_types.specs.Table.{fields_at}
 use Rattle.gib_code.specs.Instruction as i
@@ -13,7 +14,7 @@ use Rattle.gib_core.specs.declared.atom.Ended.{Ended}
 use Rattle.gib_core.specs.declared.atom.Atom.TheVariants as a
 use Rattle.gib_core.specs.Tree.{Term, CoreTree}
 use Rattle.gib_core.specs.Ending.{Within, has_ended, ended, last_packed, if_some, is_known}
-use Rattle.gib_core.specs.Low.{Over, got_from, with_over, arm_overs}
+use Rattle.gib_core.specs.Low.{Over, over_all, got_from, with_over, arm_overs}
 use Rattle.gib_lower.specs.Lowering.{leaf_end, got_one}
 
 -- One more argument of a call.
@@ -32,9 +33,25 @@ got_next es f k next x xs old new all e g h =
     ap (λ l. l ++ got_from es f next xs) g ∙ ap (λ m. (old ++ got_one es f k x) ++ got_from es f m xs) n
     ∙ append_assoc old (got_one es f k x) (got_from es f (suc k) xs) ∙ ap (λ l. old ++ l) (sym (got_split es f k x xs)) ∙ e
 
--- Other instructions stand before the last one: ends are told, parts are moved.
-pub before_end : (xs : List Instruction) (x : Instruction) (old mid new told : List Instruction) → mid ≡ x ∷ old → told ≡ xs → new ≡ told ++ mid → new ≡ (xs ++ x ∷ []) ++ old
-before_end xs x old mid new told e f g = g ∙ ap (λ l. l ++ mid) f ∙ ap (λ l. xs ++ l) e ∙ sym (append_assoc xs (x ∷ []) old)
+-- Other instructions stand before the last one: ends are told.
+pub before_end : (xs : List Instruction) (x : Instruction) (old mid new : List Instruction) → mid ≡ x ∷ old → new ≡ xs ++ mid → new ≡ (xs ++ x ∷ []) ++ old
+before_end xs x old mid new e g = g ∙ ap (λ l. xs ++ l) e ∙ sym (append_assoc xs (x ∷ []) old)
+
+-- One more end is told, before those of the trees around.
+over_append : (os ps : List Over) → over_all (os ++ ps) ≡ over_all os ++ over_all ps
+over_append [] ps = refl
+over_append (o ∷ os) ps = ap (λ l. i.OverEnd o.tree o.field ∷ l) (over_append os ps)
+
+pub over_next : (xs : List Over) (o d : Over) (now new all : List Instruction) → 1 ≤ length xs → o ≡ slice_index_or xs 0 d → over_all (reverse xs) ++ now ≡ all
+    → new ≡ i.OverEnd o.tree o.field ∷ now → over_all (reverse (take (length xs - 1) (drop 1 xs))) ++ new ≡ all
+over_next [] o d now new all le is h e = absurd (omega (arith, le))
+over_next (x ∷ after) o d now new all le is h e =
+    let os = reverse after in
+    let n : length (x ∷ after) - 1 ≡ length after = omega arith in
+    ap (λ k. over_all (reverse (take k after)) ++ new) n ∙ ap (λ l. over_all (reverse l) ++ new) (take-length after)
+    ∙ ap (λ l. over_all os ++ l) (e ∙ ap (λ (y : Over). i.OverEnd y.tree y.field ∷ now) is)
+    ∙ sym (ap (λ l. over_all l ++ now) (reverse-append (x ∷ []) after) ∙ ap (λ l. l ++ now) (over_append os (x ∷ [])) ∙ append_assoc (over_all os) (over_all (x ∷ [])) now)
+    ∙ h
 
 -- An arm without packed fields.
 pub leaf_unmarked : (must : Bool) (x size many : ℕ) (old : List Instruction) → must ≡ false → old ≡ leaf_end must x size many ++ old

@@ -6,5 +6,4 @@ pub mod Lowering
 pub mod Sources
 pub mod Numbers
 pub mod Counting
-pub mod Stored
 pub mod Ends

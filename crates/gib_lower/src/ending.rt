@@ -1,14 +1,13 @@
 //! Where a term stands, and what follows it.
 
-ghost use Rattle.std.specs.Prelude.{◌≡◌, map, reverse, IfOk};
-ghost use Rattle.gib_code.specs.Instruction.{instruction_of};
-ghost use Rattle.gib_core.specs.Low.{over_all};
-ghost use Rattle.gib_lower.specs.Ends.{over_of};
+ghost use Rattle.std.specs.Prelude.{◌≡◌, ◌++◌, OnOk};
+ghost use Rattle.gib_core.specs.Low.{Over, over_all};
 
+use crate::emitted::Emitted;
+use crate::stack::Stack;
 use gib_base::Memory;
 use gib_code::Instr;
 use gib_core::{PartTypes, Variable};
-use std::alloc::Global;
 use std::marker::Model;
 
 /// What follows a term: the call returns, and before it the ends of the trees of the cases around are told; or the code goes on
@@ -100,81 +99,28 @@ pub(crate) struct LastField {
     pub field: u32,
 }
 
-/// What tells the ends of trees, the last one first.
-fn told(alloc: Global, items: &[LastField]) -> Result<Vec<Instr>, Memory>
-    ensures { IfOk result (λ instrs. map instruction_of instrs.items ≡ over_all (map over_of (reverse items.now))) }
-{
-    let mut instrs = Vec::new(alloc);
-    let mut i = items.len();
-    'overs: while i > 0 {
-        i -= 1;
-        let over = items[i];
-        instrs.push(Instr::OverEnd {
-            to: over.tree,
-            from: over.field,
-        })?;
-    }
-    Ok(instrs)
+impl Model for LastField {
+    ghost Value = { Over };
+
+    ghost view = { λ f. record { tree = f.tree; field = f.field } };
+
+    ghost inverse = { λ o. record { tree = o.tree; field = o.field } };
 }
 
 /// The trees of the cases around whose ends are told before a return, the innermost last.
-#[derive(Drop)]
-pub(crate) struct Overs {
-    items: Vec<LastField>,
-}
+pub(crate) type Overs = Stack<LastField>;
 
-impl Model for Overs {
-    ghost use Rattle.std.specs.Prelude.{List, map, reverse};
-    ghost use Rattle.gib_core.specs.Low.{Over};
-    ghost use Rattle.gib_lower.specs.Ends.{over_of};
-
-    ghost Value = { List Over };
-
-    ghost view = { λ o. map over_of (reverse o.items.items) };
-}
-
-impl Overs {
-    ghost use Rattle.std.specs.Prelude.{◌≡◌, ◌≤◌, ◌-◌, [], ◌∷◌, length, drop, map, IfOk, OnOk};
-    ghost use Rattle.gib_code.specs.Instruction.{instruction_of};
-    ghost use Rattle.gib_core.specs.Low.{over_all};
-    ghost use Rattle.gib_lower.specs.Ends.{over_of};
-
-    /// None.
-    pub(crate) fn new(alloc: Global) -> Overs
-        ensures { result ≡ [] }
-    {
-        Overs {
-            items: Vec::new(alloc),
-        }
+/// Puts what tells their ends, the innermost first.
+pub(crate) fn put_told(overs: &Overs, code: &mut Emitted) -> Result<(), Memory>
+    ensures { OnOk result (code.new ≡ over_all overs.now ++ code.old) }
+{
+    let mut left = overs.as_slice();
+    'overs: while let [over, after @ ..] = left {
+        code.put(Instr::OverEnd {
+            to: over.tree,
+            from: over.field,
+        })?;
+        left = after;
     }
-
-    /// How many there are.
-    pub(crate) fn len(&self) -> usize
-        ensures { result ≡ length self.now }
-    {
-        self.items.len()
-    }
-
-    /// One more.
-    pub(crate) fn add(&mut self, over: LastField) -> Result<(), Memory>
-        ensures { OnOk result (self.new ≡ over_of over ∷ self.old) }
-    {
-        self.items.push(over)?;
-        Ok(())
-    }
-
-    /// The newest ones go, until there are so many.
-    pub(crate) fn leave(&mut self, count: usize)
-        requires { count ≤ length self.old }
-        ensures { self.new ≡ drop (length self.old - count) self.old }
-    {
-        self.items.truncate(count);
-    }
-
-    /// What tells their ends, the innermost first.
-    pub(crate) fn told(&self, alloc: Global) -> Result<Vec<Instr>, Memory>
-        ensures { IfOk result (λ instrs. map instruction_of instrs.items ≡ over_all self.now) }
-    {
-        told(alloc, &self.items)
-    }
+    Ok(())
 }

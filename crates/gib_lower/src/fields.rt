@@ -1,14 +1,13 @@
 //! The packed fields of the arms around a term.
 
-ghost use Rattle.std.specs.Prelude.{◌≡◌, ◌≤◌, [], ◌∷◌, ℕ, List, length, map, reverse, MatchOption};
+ghost use Rattle.std.specs.Prelude.{◌≡◌, ◌<◌, ◌≤◌, ◌+◌, [], ◌∷◌, ℕ, List, length, MatchOption, OnOk};
 ghost use Rattle.gib_code.specs.Instruction.{First};
 ghost use Rattle.gib_core.specs.Low.{Field, field_of, first_reach, further_fields, with_fields};
-ghost use Rattle.gib_lower.specs.Stored.{stored};
 
+use crate::stack::Stack;
 use gib_base::Memory;
 use gib_core::Variable;
 use gib_types::Ty;
-use std::alloc::Global;
 use std::marker::Model;
 
 /// A packed field: its variable, the slot of the case, and where in the head its address is stored.
@@ -19,31 +18,28 @@ pub(crate) struct StoredField {
     pub place: u8,
 }
 
-/// Packed fields, the newest last.
-#[derive(Drop)]
-pub(crate) struct Fields {
-    items: Vec<StoredField>,
+impl Model for StoredField {
+    ghost Value = { Field };
+
+    ghost view = { λ f. record { variable = f.variable; tree = f.tree; place = f.place } };
+
+    ghost inverse = { λ f. record { variable = f.variable; tree = f.tree; place = f.place } };
 }
 
-impl Model for Fields {
-    ghost use Rattle.std.specs.Prelude.{List, map, reverse};
-    ghost use Rattle.gib_core.specs.Low.{Field};
-    ghost use Rattle.gib_lower.specs.Stored.{stored};
+/// The packed fields of the arms around a term, the newest last.
+pub(crate) type Fields = Stack<StoredField>;
 
-    ghost Value = { List Field };
-
-    ghost view = { λ f. map stored (reverse f.items.items) };
-}
-
-/// A field of this variable; of no field, the place 0 of the slot 0.
-fn find(items: &[StoredField], variable: u32) -> StoredField
-    ensures { stored result ≡ field_of (map stored (reverse items.now)) variable }
+/// The newest field of this variable; of no field, the place 0 of the slot 0.
+pub(crate) fn field_of(fields: &Fields, variable: u32) -> StoredField
+    ensures { result ≡ field_of fields.now variable }
 {
+    let items = fields.as_slice();
     let mut i = items.len();
     'items: while i > 0 {
         i -= 1;
-        if items[i].variable == variable {
-            return items[i];
+        let field = items[i];
+        if field.variable == variable {
+            return field;
         }
     }
     StoredField {
@@ -63,17 +59,20 @@ pub(crate) struct FirstPacked<'a> {
 
 /// The first packed field of an arm; none where all its fields are scalars.
 pub(crate) fn first_packed<'a>(
-    types: &'a [Ty],
-    variables: &'a [Variable],
+    mut types: &'a [Ty],
+    mut variables: &'a [Variable],
 ) -> Option<FirstPacked<'a>>
-    ensures reached { (x size : ℕ) → MatchOption result (first_reach x size types.now variables.now ≡ []) (λ f. first_reach x size types.now variables.now ≡ First f.variable.0 x size ∷ []) }
-    ensures behind { (x : ℕ) (fs : List Field) → MatchOption result (with_fields x types.now variables.now fs ≡ fs) (λ f. with_fields x types.now variables.now fs ≡ further_fields x 1 f.types.now f.variables.now fs) }
-    ensures fewer { MatchOption result (Unit {0}) (λ f. length f.types.now ≤ length types.now) }
+    ensures reached { (x size : ℕ) → MatchOption result (first_reach x size types.entry.now variables.entry.now ≡ [])
+        (λ f. first_reach x size types.entry.now variables.entry.now ≡ First f.variable.0 x size ∷ []) }
+    ensures behind { (x : ℕ) (fs : List Field) → MatchOption result (with_fields x types.entry.now variables.entry.now fs ≡ fs)
+        (λ f. with_fields x types.entry.now variables.entry.now fs ≡ further_fields x 1 f.types.now f.variables.now fs) }
+    ensures further { (x p : ℕ) (fs : List Field) → MatchOption result (further_fields x p types.entry.now variables.entry.now fs ≡ fs)
+        (λ f. further_fields x p types.entry.now variables.entry.now fs
+        ≡ further_fields x (p + 8) f.types.now f.variables.now (record { variable = f.variable.0; tree = x; place = p } ∷ fs)) }
+    ensures fewer { MatchOption result (Unit {0}) (λ f. length f.types.now < length types.entry.now) }
 {
-    let mut types_left = types;
-    let mut left = variables;
-    'types: while let [ty, types_after @ ..] = types_left {
-        match left {
+    'types: while let [ty, types_after @ ..] = types {
+        match variables {
             [] => return None,
             [variable, after @ ..] => {
                 match ty {
@@ -87,103 +86,47 @@ pub(crate) fn first_packed<'a>(
                         });
                     }
                 }
-                types_left = types_after;
-                left = after;
+                types = types_after;
+                variables = after;
             }
         }
     }
     None
 }
 
-impl Fields {
-    ghost use Rattle.std.specs.Prelude.{◌≡◌, ◌≤◌, ◌+◌, ◌-◌, ◌*◌, [], ◌∷◌, ◌++◌, length, drop, map, reverse, IfOk, OnOk};
-    ghost use Rattle.gib_core.specs.Low.{field_of, further_fields, with_fields};
-    ghost use Rattle.gib_lower.specs.Stored.{stored};
-
-    /// No fields.
-    pub(crate) fn new(alloc: Global) -> Fields
-        ensures { result ≡ [] }
-    {
-        Fields {
-            items: Vec::new(alloc),
-        }
+/// The packed fields behind the first one come into scope.
+fn add_further(fields: &mut Fields, tree: u32, first: &FirstPacked<'_>) -> Result<(), Memory>
+    requires { length first.now.types.now ≤ 8 }
+    ensures { OnOk result (fields.new ≡ further_fields tree 1 first.now.types.now first.now.variables.now fields.old) }
+{
+    let mut place = 1u8;
+    let mut types_left = first.types;
+    let mut left = first.variables;
+    'fields: while let Some(field) = first_packed(types_left, left) {
+        fields.add(StoredField {
+            variable: field.variable.0,
+            tree,
+            place,
+        })?;
+        place += 8;
+        types_left = field.types;
+        left = field.variables;
     }
+    Ok(())
+}
 
-    /// How many there are.
-    pub(crate) fn len(&self) -> usize
-        ensures { result ≡ length self.now }
-    {
-        self.items.len()
-    }
-
-    /// The newest field of a variable.
-    pub(crate) fn field_of(&self, variable: Variable) -> StoredField
-        ensures { stored result ≡ field_of self.now variable.0 }
-    {
-        find(&self.items, variable.0)
-    }
-
-    /// One more field.
-    fn add(&mut self, field: StoredField) -> Result<(), Memory>
-        ensures { OnOk result (self.new ≡ stored field ∷ self.old) }
-    {
-        self.items.push(field)?;
-        Ok(())
-    }
-
-    /// The packed fields behind the first one.
-    fn add_further(&mut self, tree: u32, types: &[Ty], variables: &[Variable]) -> Result<(), Memory>
-        requires { length types.now ≤ 8 }
-        ensures { OnOk result (self.new ≡ further_fields tree 1 types.now variables.now self.old) }
-    {
-        let mut place = 1u8;
-        let mut types_left = types;
-        let mut left = variables;
-        'types: while let [ty, types_after @ ..] = types_left {
-            match left {
-                [] => return Ok(()),
-                [variable, after @ ..] => {
-                    match ty {
-                        Ty::Whole => {}
-                        Ty::Truth => {}
-                        Ty::Tree(_) => {
-                            self.add(StoredField {
-                                variable: variable.0,
-                                tree,
-                                place,
-                            })?;
-                            place += 8;
-                        }
-                    }
-                    types_left = types_after;
-                    left = after;
-                }
-            }
-        }
-        Ok(())
-    }
-
-    /// The packed fields of an arm come into scope.
-    pub(crate) fn enter(
-        &mut self,
-        tree: u32,
-        types: &[Ty],
-        variables: &[Variable],
-    ) -> Result<(), Memory>
-        requires { length types.now ≤ 8 }
-        ensures { OnOk result (self.new ≡ with_fields tree types.now variables.now self.old) }
-    {
-        match first_packed(types, variables) {
-            None => Ok(()),
-            Some(first) => self.add_further(tree, first.types, first.variables),
-        }
-    }
-
-    /// The newest fields leave scope, until there are so many.
-    pub(crate) fn leave(&mut self, count: usize)
-        requires { count ≤ length self.old }
-        ensures { self.new ≡ drop (length self.old - count) self.old }
-    {
-        self.items.truncate(count);
+/// The packed fields of an arm come into scope.
+pub(crate) fn enter(
+    fields: &mut Fields,
+    tree: u32,
+    types: &[Ty],
+    variables: &[Variable],
+) -> Result<(), Memory>
+    requires { length types.now ≤ 8 }
+    ensures { OnOk result (fields.new ≡ with_fields tree types.now variables.now fields.old) }
+{
+    match first_packed(types, variables) {
+        None => Ok(()),
+        Some(first) => add_further(fields, tree, &first),
     }
 }

@@ -14,6 +14,7 @@ mod opening;
 mod parts;
 mod program;
 mod source;
+mod stack;
 mod telling;
 mod told;
 mod walk;

@@ -3,7 +3,7 @@
 ghost use Rattle.std.specs.Prelude.{◌≡◌, ◌≤◌, ◌+◌, ◌*◌, ◌++◌, length, map, IfOk, OnOk};
 ghost use Rattle.gib_types.specs.Layout.{layout_at};
 ghost use Rattle.gib_code.specs.Instruction.{instruction_of};
-ghost use Rattle.gib_core.specs.Low.{scalar_reads, first_reach, arm_opening};
+ghost use Rattle.gib_core.specs.Low.{scalar_reads, arm_opening};
 
 use crate::fields::first_packed;
 use gib_base::Memory;
@@ -17,17 +17,15 @@ fn read_scalars(
     instrs: &mut Vec<Instr>,
     tree: u32,
     first: u8,
-    types: &[Ty],
-    variables: &[Variable],
+    mut types: &[Ty],
+    mut variables: &[Variable],
 ) -> Result<(), Memory>
     requires { first + 8 * length types.now ≤ 255 }
-    ensures { OnOk result (map instruction_of instrs.new.items ≡ map instruction_of instrs.old.items ++ scalar_reads tree first types.now variables.now) }
+    ensures { OnOk result (map instruction_of instrs.new.items ≡ map instruction_of instrs.old.items ++ scalar_reads tree first types.entry.now variables.entry.now) }
 {
     let mut place = first;
-    let mut types_left = types;
-    let mut left = variables;
-    'types: while let [ty, types_after @ ..] = types_left {
-        match left {
+    'types: while let [ty, types_after @ ..] = types {
+        match variables {
             [] => return Ok(()),
             [variable, after @ ..] => {
                 let to = variable.0;
@@ -42,35 +40,12 @@ fn read_scalars(
                     }
                     Ty::Tree(_) => {}
                 }
-                types_left = types_after;
-                left = after;
+                types = types_after;
+                variables = after;
             }
         }
     }
     Ok(())
-}
-
-/// The first packed field is reached, behind a head of so many bytes.
-fn reach_first(
-    instrs: &mut Vec<Instr>,
-    tree: u32,
-    place: u8,
-    types: &[Ty],
-    variables: &[Variable],
-) -> Result<(), Memory>
-    ensures { OnOk result (map instruction_of instrs.new.items ≡ map instruction_of instrs.old.items ++ first_reach tree place types.now variables.now) }
-{
-    match first_packed(types, variables) {
-        None => Ok(()),
-        Some(first) => {
-            instrs.push(Instr::First {
-                to: first.variable.0,
-                tree,
-                place,
-            })?;
-            Ok(())
-        }
-    }
 }
 
 /// What an arm begins with: its scalar fields are read, and its first packed field is reached.
@@ -88,6 +63,15 @@ pub(crate) fn opening(
     let types = layouts.fields(constructor);
     let mut instrs = Vec::new(alloc);
     read_scalars(&mut instrs, tree, 1 + layout.offsets, types, variables)?;
-    reach_first(&mut instrs, tree, layout.head, types, variables)?;
-    Ok(instrs)
+    match first_packed(types, variables) {
+        None => Ok(instrs),
+        Some(first) => {
+            instrs.push(Instr::First {
+                to: first.variable.0,
+                tree,
+                place: layout.head,
+            })?;
+            Ok(instrs)
+        }
+    }
 }

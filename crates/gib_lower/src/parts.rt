@@ -84,14 +84,13 @@ pub(crate) fn takes_parts(alloc: Global, slots: &[u32]) -> Result<Vec<Instr>, Me
 }
 
 /// Each of the slots gets a region.
-pub(crate) fn begins(alloc: Global, slots: &[u32]) -> Result<Vec<Instr>, Memory>
-    ensures { IfOk result (λ v. map instruction_of v.items ≡ begin_all slots.now) }
+pub(crate) fn begins(alloc: Global, mut slots: &[u32]) -> Result<Vec<Instr>, Memory>
+    ensures { IfOk result (λ v. map instruction_of v.items ≡ begin_all slots.entry.now) }
 {
     let mut instrs = Vec::new(alloc);
-    let mut left = slots;
-    'slots: while let [slot, after @ ..] = left {
+    'slots: while let [slot, after @ ..] = slots {
         instrs.push(Instr::Begin(*slot))?;
-        left = after;
+        slots = after;
     }
     Ok(instrs)
 }

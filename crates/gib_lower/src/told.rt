@@ -5,12 +5,12 @@ ghost use Rattle.gib_types.specs.Layout.{head_size, packed_at};
 ghost use Rattle.gib_code.specs.Instruction.{instruction_of};
 ghost use Rattle.gib_core.specs.{Arena.{term_of}, Parts.{core_of}};
 ghost use Rattle.gib_core.specs.Low.{Over, giving, got_from as gots_from, gots as all_gots, operands as operands_spec, ending as ending_spec, call_ending, giving_parts, arm_overs, arm_end};
-ghost use Rattle.gib_lower.specs.{Ends.{over_of, end_of, within_of}, Lowering.{leaf_end, got_one}};
+ghost use Rattle.gib_lower.specs.{Ends.{end_of, part_slots, within_of}, Lowering.{leaf_end, got_one}};
 
 use crate::atoms::operands;
 use crate::counts::plus;
 use crate::emitted::Emitted;
-use crate::ending::{Around, At, Ending, LastField, Overs};
+use crate::ending::{Around, At, Ending, LastField, Overs, put_told};
 use crate::parts::{moves, slots_at, takes_parts};
 use crate::source::Source;
 use gib_base::{Memory, Name};
@@ -85,23 +85,27 @@ pub(crate) fn gots(
 
 /// Puts what ends a packed term.
 #[tactic(auto, using(crate::proofs::Tellings::before_end))]
-pub(crate) fn put_ending(
-    alloc: Global,
-    overs: &Overs,
-    ending: Ending,
-    code: &mut Emitted,
-) -> Result<(), Memory>
+pub(crate) fn put_ending(overs: &Overs, ending: Ending, code: &mut Emitted) -> Result<(), Memory>
     ensures { OnOk result (code.new ≡ ending_spec (end_of ending overs.now) ++ code.old) }
 {
     match ending {
         Ending::Returns => {
             code.put(Instr::Return)?;
-            let told = overs.told(alloc)?;
-            code.put_all(told)?;
-            Ok(())
+            put_told(overs, code)
         }
         Ending::To { label, .. } => code.put(Instr::Jump(label)),
         Ending::ToParts { label, .. } => code.put(Instr::Jump(label)),
+    }
+}
+
+/// The slots that the scalar ones of several parts go to.
+fn part_slots(alloc: Global, ending: Ending) -> Result<Vec<u32>, Memory>
+    ensures { IfOk result (λ slots. slots.items ≡ part_slots ending) }
+{
+    match ending {
+        Ending::Returns => Ok(Vec::new(alloc)),
+        Ending::To { .. } => Ok(Vec::new(alloc)),
+        Ending::ToParts { first, types, .. } => slots_at(alloc, true, first, types),
     }
 }
 
@@ -115,19 +119,10 @@ pub(crate) fn put_call_ending(
 ) -> Result<(), Memory>
     ensures { OnOk result (code.new ≡ call_ending (end_of ending overs.now) ++ code.old) }
 {
-    match ending {
-        Ending::Returns => put_ending(alloc, overs, ending, code),
-        Ending::To { .. } => put_ending(alloc, overs, ending, code),
-        Ending::ToParts {
-            label,
-            first,
-            types,
-        } => {
-            code.put(Instr::Jump(label))?;
-            let slots = slots_at(alloc, true, first, types)?;
-            code.put_all(takes_parts(alloc, &slots)?)
-        }
-    }
+    put_ending(overs, ending, code)?;
+    let slots = part_slots(alloc, ending)?;
+    let taken = takes_parts(alloc, &slots)?;
+    code.put_all(taken)
 }
 
 /// Puts what gives several parts, behind the packed ones.
@@ -145,8 +140,7 @@ pub(crate) fn give_parts(
         Ending::Returns => {
             let values = operands(alloc, scalars)?;
             code.put(Instr::GiveParts(values))?;
-            let told = overs.told(alloc)?;
-            code.put_all(told)
+            put_told(overs, code)
         }
         Ending::To { label, .. } => code.put(Instr::Jump(label)),
         Ending::ToParts {
@@ -164,7 +158,6 @@ pub(crate) fn give_parts(
 /// Puts what gives a scalar.
 #[tactic(auto, using(crate::proofs::Tellings::before_end))]
 pub(crate) fn give(
-    alloc: Global,
     overs: &Overs,
     ending: Ending,
     value: Operand,
@@ -175,9 +168,7 @@ pub(crate) fn give(
     match ending {
         Ending::Returns => {
             code.put(Instr::Give(value))?;
-            let told = overs.told(alloc)?;
-            code.put_all(told)?;
-            Ok(())
+            put_told(overs, code)
         }
         Ending::To { label, slot } => {
             code.put(Instr::Jump(label))?;
@@ -218,7 +209,7 @@ pub(crate) fn put_leaf(
 #[tactic(auto, using(crate::proofs::Tellings::over_unmarked, crate::proofs::Tellings::over_in_par, crate::proofs::Tellings::over_unpacked, crate::proofs::Tellings::over_unknown, crate::proofs::Tellings::over_known))]
 fn last_of(source: &Source, around: Around, tree: u32, branch: &Branch) -> Option<LastField>
     requires inside { branch.now.term.0 < length source.now.terms }
-    ensures { (os : List Over) → MatchOption result (arm_overs (within_of around) (core_of source.now) tree branch.now.constructor branch.now.variables.items (term_of source.now.terms branch.now.term.0) os ≡ os) (λ o. arm_overs (within_of around) (core_of source.now) tree branch.now.constructor branch.now.variables.items (term_of source.now.terms branch.now.term.0) os ≡ over_of o ∷ os) }
+    ensures { (os : List Over) → MatchOption result (arm_overs (within_of around) (core_of source.now) tree branch.now.constructor branch.now.variables.items (term_of source.now.terms branch.now.term.0) os ≡ os) (λ o. arm_overs (within_of around) (core_of source.now) tree branch.now.constructor branch.now.variables.items (term_of source.now.terms branch.now.term.0) os ≡ o ∷ os) }
 {
     if !around.ends {
         return None;

@@ -18,7 +18,7 @@ ghost use Rattle.gib_lower.specs.Lowering.{lowered, lowered_bind, lowered_side, 
 use crate::atoms::{operand, operands, side_kind, side_targets, side_type, slot_of, slots_of};
 use crate::emitted::Emitted;
 use crate::ending::{Around, At, Ending, Overs};
-use crate::fields::Fields;
+use crate::fields::{Fields, enter, field_of};
 use crate::opening::opening;
 use crate::parts::{begins, part_number, slots_at};
 use crate::source::Source;
@@ -44,16 +44,10 @@ pub(crate) struct Lowering {
 }
 
 /// Puts what makes a packed value, and what stands behind it.
-fn put_value(
-    alloc: Global,
-    overs: &Overs,
-    ending: Ending,
-    instr: Instr,
-    code: &mut Emitted,
-) -> Result<(), Memory>
+fn put_value(overs: &Overs, ending: Ending, instr: Instr, code: &mut Emitted) -> Result<(), Memory>
     ensures { OnOk result (code.new ≡ instruction_of instr ∷ (ending_spec (end_of ending overs.now) ++ code.old)) }
 {
-    put_ending(alloc, overs, ending, code)?;
+    put_ending(overs, ending, code)?;
     code.put(instr)
 }
 
@@ -81,7 +75,7 @@ fn reach(fields: &Fields, field: Variable, access: Access) -> Instr
 {
     match access {
         Access::Offset => {
-            let stored = fields.field_of(field);
+            let stored = field_of(fields, field.0);
             Instr::Offset {
                 to: field.0,
                 tree: stored.tree,
@@ -232,16 +226,16 @@ fn lower_end(source: &Source, id: TermId, at: At, out: &mut Lowering) -> Result<
             packed,
         } => {
             let instr = fill(out.alloc, *head, *constructor, scalars, packed)?;
-            put_value(out.alloc, &out.overs, at.ending, instr, &mut out.code)
+            put_value(&out.overs, at.ending, instr, &mut out.code)
         }
         Node::Point(atom) => {
             let instr = Instr::Point(slot_of(*atom));
-            put_value(out.alloc, &out.overs, at.ending, instr, &mut out.code)
+            put_value(&out.overs, at.ending, instr, &mut out.code)
         }
         Node::Call(name, arguments) => lower_call(source, at, *name, arguments, out),
         Node::Give(atom) => {
             let given = operand(*atom);
-            give(out.alloc, &out.overs, at.ending, given, &mut out.code)
+            give(&out.overs, at.ending, given, &mut out.code)
         }
         Node::Case { subject, branches } => {
             lower_case(source, id, slot_of(*subject), branches, at, out)
@@ -509,7 +503,12 @@ fn lower_branch(
     let outer = out.fields.len();
     let told = out.overs.len();
     layouts.rules();
-    out.fields.enter(tree, layouts.fields(branch.constructor), &branch.variables)?;
+    enter(
+        &mut out.fields,
+        tree,
+        layouts.fields(branch.constructor),
+        &branch.variables,
+    )?;
     enter_arm(source, at, tree, branch, &mut out.overs)?;
     lower_term(source, branch.term, at, out)?;
     out.overs.leave(told);

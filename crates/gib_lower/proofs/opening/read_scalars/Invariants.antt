@@ -5,9 +5,9 @@ use Rattle.gib_lower.proofs.opening.read_scalars.Given as goal
 
 abbrev pub invariant-types : goal.invariant-types
 invariant-types l = record {
-  small : l.place + 8 * length l.types_left ≤ 255;
-  made : map instruction_of l.instrs.items ++ scalar_reads l.tree l.place l.types_left l.left ≡ map instruction_of l.fn.instrs.items ++ scalar_reads l.tree l.fn.first l.types l.variables;
+  small : l.place + 8 * length l.types ≤ 255;
+  made : map instruction_of l.instrs.items ++ scalar_reads l.tree l.place l.types l.variables ≡ map instruction_of l.fn.instrs.items ++ scalar_reads l.tree l.fn.first l.fn.types l.fn.variables;
 }
 
 abbrev pub decreases-types : goal.decreases-types
-decreases-types l = length l.types_left
+decreases-types l = length l.types

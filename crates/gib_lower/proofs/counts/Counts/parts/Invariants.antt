@@ -6,9 +6,9 @@ use Rattle.gib_lower.proofs.counts.Counts.parts.Given as goal
 
 abbrev pub invariant-parts : goal.invariant-parts
 invariant-parts l = record {
-  below : AllByRecursion (IsPartBelow l.self.upto) l.left;
-  so_far : l.count + length (part_binders (parts_from (term_of l.self.terms) l.left)) ≡ length (part_binders (parts_from (term_of l.self.terms) l.parts));
+  below : AllByRecursion (IsPartBelow l.self.upto) l.parts;
+  so_far : l.count + length (part_binders (parts_from (term_of l.self.terms) l.parts)) ≡ length (part_binders (parts_from (term_of l.self.terms) l.fn.parts));
 }
 
 abbrev pub decreases-parts : goal.decreases-parts
-decreases-parts l = length l.left
+decreases-parts l = length l.parts
