@@ -1,18 +1,17 @@
 //! Packs the value of a root, by several workers.
 
-ghost use Rattle.std.specs.Prelude.{◌≡◌, ◌<◌, ◌≤◌, ◌+◌, ◌^◌, [], ℕ, List, length, IfOk, IsErrOf};
+ghost use Rattle.std.specs.Prelude.{◌≡◌, ◌<◌, ◌≤◌, ◌+◌, ℕ, List, length, IfOk, IsErrOf};
 ghost use Rattle.gib_types.specs.{declared.table.Ty.{Ty as Type_of}, Tree.{Datum}};
 ghost use Rattle.gib_mem.specs.Memory.{Grows, fresh};
 ghost use Rattle.gib_file.specs.{Packed.{packed}, Framed.{Framed2, File2}};
-ghost use Rattle.gib_arena.specs.Passes.{view, cells, IsOf};
 ghost use Rattle.gib_packed.specs.Stands.{Stands};
-ghost use Rattle.gib_compact.specs.{Back.{IsBack}, declared.fault.CompactFault.TheVariants.{Long}};
+ghost use Rattle.gib_compact.specs.{Gathered.{gathered, with_head}, declared.fault.CompactFault.TheVariants.{Long}};
 
 use crate::fault::CompactFault;
 use crate::packing::{HEADER_BYTES, MOST_BYTES, Packing};
 use crate::parts::gather;
 use crate::payload::parts_by;
-use gib_arena::{Arena, Pass, SoleMem};
+use gib_arena::SoleMem;
 use gib_base::Texts;
 use gib_file::{describe, one_description};
 use gib_mem::Mem;
@@ -22,30 +21,18 @@ use gib_types::{Layouts, Ty};
 use std::alloc::Global;
 use std::thread::Threads;
 
-/// The file of the value of a root, with a description, by so many workers.
-fn file_by<R: Threads + Sync>(
-    rt: &R,
-    packing: Packing<'_>,
-    pass: Pass,
-    root: Root,
-    description: &[u8],
-    workers: u32,
-) -> (Result<Vec<u8>, CompactFault>, Pass)
-    requires own { IsOf packing.arena.now pass }
-    requires none_out { (view pass).branch.out ≡ [] }
-    requires room { length description.now + packing.most ≡ 16777192 }
-    requires stands { (ty : Type_of) × (v : Datum) × Stands packing.layouts.now (cells pass) root ty v }
-    ensures file { (ty : Type_of) (v : Datum) → Stands packing.entry.layouts.now (cells pass) root ty v → IfOk result.0 (λ file. Framed2 description.entry.now (packed v) file.items) }
-    ensures few { (ty : Type_of) (v : Datum) → Stands packing.entry.layouts.now (cells pass) root ty v → IfOk result.0 (λ file. length file.items ≤ 16777216) }
-    ensures long { (ty : Type_of) (v : Datum) → Stands packing.entry.layouts.now (cells pass) root ty v → IsErrOf result.0 Long → 16777216 < 24 + length description.entry.now + length (packed v) }
-    ensures back { IsBack packing.entry.arena.now pass result.1 }
+/// The file of buffers, of which the last one comes first.
+fn joined(alloc: Global, parts: Result<Vec<Vec<u8>>, CompactFault>) -> Result<Vec<u8>, CompactFault>
+    ensures out { (description payload : List ℕ) (most : ℕ)
+        → IfOk parts (λ parts. (gathered parts.items ≡ with_head description (length payload) payload) × (length payload ≤ most))
+        → IfOk result (λ file. (file.items ≡ with_head description (length payload) payload) × (length payload ≤ most)) }
+    ensures long { IsErrOf result Long → IsErrOf parts Long }
 {
-    let (parts, pass) = parts_by(rt, packing, pass, root, description, workers);
     match parts {
-        Err(fault) => (Err(fault), pass),
-        Ok(parts) => match gather(packing.alloc, parts) {
-            Err(_) => (Err(CompactFault::Memory), pass),
-            Ok(file) => (Ok(file), pass),
+        Err(fault) => Err(fault),
+        Ok(parts) => match gather(alloc, parts) {
+            Err(_) => Err(CompactFault::Memory),
+            Ok(file) => Ok(file),
         },
     }
 }
@@ -80,8 +67,8 @@ fn compact_as<R: Threads + Sync>(
         layouts,
         most: MOST_BYTES - HEADER_BYTES - len,
     };
-    let (file, last) = file_by(rt, packing, first, root, description, workers);
-    (file, SoleMem::of_parts(arena, last))
+    let (parts, last) = parts_by(rt, packing, first, root, description, workers);
+    (joined(alloc, parts), SoleMem::of_parts(arena, last))
 }
 
 /// The packed file, version 2, of the value of a root in a memory, by so many workers: one file whatever their number is and
