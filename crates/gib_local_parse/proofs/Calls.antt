@@ -8,14 +8,14 @@ use Rattle.gib_syntax.specs.declared.tree.TypeName.{TypeName}
 use Rattle.gib_syntax.specs.Spelling.{Places}
 use Rattle.gib_reads.specs.declared.stop.Stop.{Stop}
 use Rattle.gib_reads.specs.declared.stop.Stop.TheVariants as stop
-use Rattle.gib_reads.specs.Readers.{Read, Reader, then_at, want, var_at, next_is}
+use Rattle.gib_reads.specs.Readers.{Read, Reader, then_at, want, var_at, con_at, next_is}
 use Rattle.gib_reads.specs.Answers.{Fails, with_front}
 use Rattle.gib_reads.proofs.Tools.{done}
 use Rattle.gib_local_parse.specs.declared.lines.BindingNode.{BindingNode}
 use Rattle.gib_local_parse.specs.declared.lines.BindingNode.TheVariants as b
 use Rattle.gib_local_parse.specs.declared.lines.LineNode.{LineNode}
-use Rattle.gib_local_parse.specs.Tree.{Mark, Operand, Line, In, Called, Cased, Arms, Binding, LetIn, ParIn, Be}
-use Rattle.gib_local_parse.specs.Grammar.{type_at, let_from, one_at, operand_at, operands_at, option_at, arms_at, call_at, case_at, in_at, line_at, starts_term, no_level, parse}
+use Rattle.gib_local_parse.specs.Tree.{Mark, Operand, Line, In, Called, Cased, Chosen, Arms, Binding, LetIn, ParIn, Bound, Be}
+use Rattle.gib_local_parse.specs.Grammar.{type_at, let_from, one_at, operand_at, operands_at, option_at, arm_at, arms_at, between_at, bound_at, bound_from, call_at, case_at, if_at, in_at, line_at, names_at, par_at, starts_term, no_level, parse}
 use Rattle.gib_local_parse.specs.LineArena.{BindingBelow, Grows, binding_from, tree_of}
 use Rattle.gib_local_parse.specs.ReadingTerms.{ReadsBinding}
 
@@ -84,6 +84,28 @@ plain_stands old (Err e) g h = tt
 pub one_is : (at : Places) (sub : Reader Line) (t0 t1 t2 t3 : List Token) (x : Ident) (w : TypeName) → var_at at t0 ≡ done x t1 → want s.Colon t1 ≡ done (tt {0}) t2 → type_at at t2 ≡ done w t3
     → one_at at sub t0 ≡ let_from at sub x w t3
 one_is at sub t0 t1 t2 t3 x w e1 e2 e3 = rw (e1, e2, e3) refl
+
+-- Behind the type of a side: its place, and its term.
+pub bound_done : (at : Places) (sub : Reader Line) (x : Ident) (w : TypeName) (t0 t1 t2 t3 : List Token) (m : Option Mark) (u : Line) → option_at at t0 ≡ done m t1 → want s.Equals t1 ≡ done (tt {0}) t2 → sub t2 ≡ done u t3
+    → bound_from at sub x w t0 ≡ done (Be x w m u) t3
+bound_done at sub x w t0 t1 t2 t3 m u e1 e2 e3 = rw (e1, e2, e3) refl
+
+-- Two sides.
+pub par_done : (at : Places) (sub : Reader Line) (t0 t1 t2 t3 t4 : List Token) (l r : Bound) (m : Option (Ident × Ident)) → bound_at at sub t0 ≡ done l t1 → want s.And t1 ≡ done (tt {0}) t2 → between_at at t2 ≡ done m t3 → bound_at at sub t3 ≡ done r t4
+    → par_at at sub t0 ≡ done (ParIn l m r) t4
+par_done at sub t0 t1 t2 t3 t4 l r m e1 e2 e3 e4 = rw (e1, e2, e3, e4) refl
+
+-- An `if`, behind its sign.
+module _ (at : Places) (sub : Reader Line) (p : Span) where
+  pub if_done : (t0 t1 t2 t3 t4 t5 : List Token) (x : Operand) (u v : Line) → operand_at at t0 ≡ done x t1 → want s.Then t1 ≡ done (tt {0}) t2 → sub t2 ≡ done u t3 → want s.Else t3 ≡ done (tt {0}) t4 → sub t4 ≡ done v t5
+      → if_at at sub p t0 ≡ done (Chosen p x u v) t5
+  if_done t0 t1 t2 t3 t4 t5 x u v e1 e2 e3 e4 e5 = rw (e1, e2, e3, e4, e5) refl
+
+-- An arm.
+pub arm_done : (at : Places) (sub : Reader Line) (t0 t1 t2 t3 t4 : List Token) (k : Ident) (xs : List Ident) (u : Line) → con_at at t0 ≡ done k t1 → names_at at t1 ≡ done xs t2 → want s.Arrow t2 ≡ done (tt {0}) t3 → sub t3 ≡ done u t4
+    → arm_at at sub t0 ≡ done (record { constructor = k; variables = xs; line = u }) t4
+unfolding arm_at
+arm_done at sub t0 t1 t2 t3 t4 k xs u e1 e2 e3 e4 = rw (e1, e2, e3, e4) refl
 
 -- A binding's line.
 pub line_done : (sub : Reader Line) (p : Span) (d : Binding) (u : Line) (t0 t1 t2 : List Token) → want s.In t0 ≡ done (tt {0}) t1 → sub t1 ≡ done u t2 → in_at sub p (done d t0) ≡ done (In p d u) t2

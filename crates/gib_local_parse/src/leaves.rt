@@ -3,11 +3,13 @@
 ghost use Rattle.std.specs.Prelude.{◌≡◌, ℕ, IfOk, MatchOption};
 ghost use Rattle.gib_syntax.specs.{Spelling.{Places, places_of}, declared.tree.Ident.{Ident as Identifier}, declared.tree.TypeName.{TypeName as NamedType}};
 ghost use Rattle.gib_reads.specs.{Readers.{Reader, next_is}, Answers.{Fails, Gives}};
-ghost use Rattle.gib_local_parse.specs.Grammar.{starts_term, no_level, give_at, point_at, let_from, side_in_at, prim_at, call_at, make_at};
+ghost use Rattle.gib_local_parse.specs.Grammar.{starts_term, no_level, give_at, point_at, let_from, new_place_at, reach_at, region_at, side_in_at, prim_at, call_at, make_at};
 ghost use Rattle.gib_local_parse.specs.{LineArena.{BindingBelow, binding_from, tree_of}, Sources.{places_in}, ReadingTerms.{Reads}, Tree.{Line}};
 
 use crate::lines::{BindingNode, LineId, LineNode, Lines};
-use crate::phrases::{further_operands, mark, operand, operands, operator, optional_mark};
+use crate::phrases::{
+    further_operands, location, mark, operand, operands, operator, optional_mark, way,
+};
 use crate::source::{Read, Source};
 use gib_base::Span;
 use gib_base::token::{Sign, Token};
@@ -77,6 +79,37 @@ pub fn point<'a>(
     let (place, tokens) = mark(spans, tokens)?;
     let id = lines.put(LineNode::Point(span, name, place))?;
     Ok((id, tokens))
+}
+
+/// Behind `letregion`.
+pub fn new_region<'a>(spans: &[Span], tokens: &'a [Token]) -> Read<'a, BindingNode>
+    ensures below { (n : ℕ) → IfOk result (λ x. BindingBelow x.0 n) }
+    ensures read { (f : ℕ → Line) → Gives (λ x. (binding_from f x.0, x.1.now)) result (region_at (places_of spans.now) tokens.now) }
+{
+    let (name, tokens) = variable(spans, tokens)?;
+    Ok((BindingNode::NewRegion(name), tokens))
+}
+
+/// Behind `letloc`.
+pub fn new_place<'a>(spans: &[Span], tokens: &'a [Token]) -> Read<'a, BindingNode>
+    ensures below { (n : ℕ) → IfOk result (λ x. BindingBelow x.0 n) }
+    ensures read { (f : ℕ → Line) → Gives (λ x. (binding_from f x.0, x.1.now)) result (new_place_at (places_of spans.now) tokens.now) }
+{
+    let (name, tokens) = variable(spans, tokens)?;
+    let tokens = want(Sign::Equals, tokens)?;
+    let (place, tokens) = location(spans, tokens)?;
+    Ok((BindingNode::NewPlace(name, place), tokens))
+}
+
+/// Behind `reach`.
+pub fn reach<'a>(spans: &[Span], tokens: &'a [Token]) -> Read<'a, BindingNode>
+    ensures below { (n : ℕ) → IfOk result (λ x. BindingBelow x.0 n) }
+    ensures read { (f : ℕ → Line) → Gives (λ x. (binding_from f x.0, x.1.now)) result (reach_at (places_of spans.now) tokens.now) }
+{
+    let (name, tokens) = variable(spans, tokens)?;
+    let tokens = want(Sign::By, tokens)?;
+    let (way, tokens) = way(spans, tokens)?;
+    Ok((BindingNode::Reach(name, way), tokens))
 }
 
 /// A variable with its type, as far as a binding was read.

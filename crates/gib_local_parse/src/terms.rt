@@ -1,14 +1,16 @@
 //! Terms, by recursive descent.
 
-ghost use Rattle.std.specs.Prelude.{◌≡◌, length, IfOk};
+ghost use Rattle.std.specs.Prelude.{◌≡◌, ◌∷◌, suc, length, IfOk};
 ghost use Rattle.gib_reads.specs.Answers.{Gives};
 ghost use Rattle.gib_local_parse.specs.Grammar.{parse, line_at, in_at, binding_at, let_at, par_at, one_at, bound_at, bound_from, arm_at, next_arm_at, arms_at};
 ghost use Rattle.gib_local_parse.specs.{LineArena.{binding_from, side_from, tree_of}, Sources.{case_from, if_from, places_at, terms_at}};
 ghost use Rattle.gib_local_parse.specs.ReadingTerms.{Reads, ReadsArms, ReadsBinding, arm_text, arms_text};
 
-use crate::leaves::{Typed, behind_open, call, give, make, operation, point, too_deep};
+use crate::leaves::{
+    Typed, behind_open, call, give, make, new_place, new_region, operation, point, reach, too_deep,
+};
 use crate::lines::{BindingNode, LineArm, LineId, LineNode, Lines, Side};
-use crate::phrases::{between, location, operand, optional_mark, type_name, way};
+use crate::phrases::{between, operand, optional_mark, type_name};
 use crate::source::{Depth, Read};
 use gib_base::token::{Sign, Token};
 use gib_reads::phrases::{begins, constructor, named, span_at, variable, variables, want};
@@ -82,27 +84,31 @@ fn binding<'a>(depth: &Depth, lines: &mut Lines, tokens: &'a [Token]) -> Read<'a
     ensures read { Gives (λ x. (binding_from (tree_of lines.new) x.0, x.1.now)) result (binding_at (places_at depth.now) (terms_at depth.now) tokens.now) }
 {
     match tokens {
-        [Token::Sign(sign), rest @ ..] => match sign {
-            Sign::LetRegion => {
-                let (name, rest) = variable(depth.source.spans, rest)?;
-                Ok((BindingNode::NewRegion(name), rest))
-            }
-            Sign::LetLocation => {
-                let (name, rest) = variable(depth.source.spans, rest)?;
-                let rest = want(Sign::Equals, rest)?;
-                let (place, rest) = location(depth.source.spans, rest)?;
-                Ok((BindingNode::NewPlace(name, place), rest))
-            }
-            Sign::Reach => {
-                let (name, rest) = variable(depth.source.spans, rest)?;
-                let rest = want(Sign::By, rest)?;
-                let (way, rest) = way(depth.source.spans, rest)?;
-                Ok((BindingNode::Reach(name, way), rest))
-            }
-            Sign::Let => let_in(depth, lines, rest),
-            _ => Err(Stop::At(tokens.len())),
-        },
+        [Token::Sign(sign), rest @ ..] => binding_by(depth, lines, *sign, tokens.len(), rest),
         _ => Err(Stop::At(tokens.len())),
+    }
+}
+
+/// A binding behind its first sign, at which so many tokens are left.
+#[cycle(terms)]
+fn binding_by<'a>(
+    depth: &Depth,
+    lines: &mut Lines,
+    sign: Sign,
+    left: usize,
+    tokens: &'a [Token],
+) -> Read<'a, BindingNode>
+    requires { left ≡ suc (length tokens.now) }
+    ensures kept { IfOk result (λ x. ReadsBinding lines.old lines.new x.0) }
+    ensures read { Gives (λ x. (binding_from (tree_of lines.new) x.0, x.1.now)) result
+        (binding_at (places_at depth.now) (terms_at depth.now) (Token.Sign sign ∷ tokens.now)) }
+{
+    match sign {
+        Sign::LetRegion => new_region(depth.source.spans, tokens),
+        Sign::LetLocation => new_place(depth.source.spans, tokens),
+        Sign::Reach => reach(depth.source.spans, tokens),
+        Sign::Let => let_in(depth, lines, tokens),
+        _ => Err(Stop::At(left)),
     }
 }
 

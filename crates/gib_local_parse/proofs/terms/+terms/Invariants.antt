@@ -15,14 +15,17 @@ decreases-line l = 16 * l.depth.now.level + 14
 abbrev pub decreases-binding : goal.decreases-binding
 decreases-binding l = 16 * l.depth.now.level + 13
 
+abbrev pub decreases-binding_by : goal.decreases-binding_by
+decreases-binding_by l = 16 * l.depth.now.level + 12
+
 abbrev pub decreases-let_in : goal.decreases-let_in
-decreases-let_in l = 16 * l.depth.now.level + 12
+decreases-let_in l = 16 * l.depth.now.level + 11
 
 abbrev pub decreases-let_one : goal.decreases-let_one
-decreases-let_one l = 16 * l.depth.now.level + 11
+decreases-let_one l = 16 * l.depth.now.level + 10
 
 abbrev pub decreases-let_par : goal.decreases-let_par
-decreases-let_par l = 16 * l.depth.now.level + 11
+decreases-let_par l = 16 * l.depth.now.level + 10
 
 abbrev pub decreases-side : goal.decreases-side
 decreases-side l = 16 * l.depth.now.level + 8
