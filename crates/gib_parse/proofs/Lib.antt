@@ -23,6 +23,7 @@ pub mod PartsSoFar
 pub mod Repeating
 pub mod Opening
 pub mod Calls
+pub mod Behind
 pub mod Bodies
 pub mod Levels
 pub mod ExpressionLoops

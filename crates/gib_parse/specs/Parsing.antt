@@ -2,6 +2,7 @@
 use Rattle.std.specs.Prelude.{◌≡◌, ◌<◌, ℕ, Bool, true, List, [], ◌∷◌, ◌++◌, length, Ok}
 use Rattle.std.specs.List.{AllByRecursion}
 use Rattle.gib_base.specs.declared.Span.{Span}
+use Rattle.gib_base.specs.declared.token.Sign.{Sign}
 use Rattle.gib_base.specs.declared.token.Sign.TheVariants as s
 use Rattle.gib_base.specs.declared.token.Token.{Token}
 use Rattle.gib_base.specs.declared.token.Token.TheVariants as t
@@ -28,7 +29,7 @@ pub use Rattle.gib_reads.specs.Answers.{Fails, Gives, with_front}
 use Rattle.gib_syntax.specs.declared.generic.Side.{Side}
 use Rattle.gib_parse.specs.declared.expressions.Kind.{Kind}
 use Rattle.gib_parse.specs.declared.expressions.Kind.TheVariants as kind
-use Rattle.gib_parse.specs.Reading.{Read, Reader, next_is, starts_atom, Opened, inside, type_at, Mode, Any, App, Atom, ArmTree, BoundTree}
+use Rattle.gib_parse.specs.Reading.{Read, Reader, then_at, want, binding_at, next_is, starts_atom, Opened, inside, type_at, Mode, Any, App, Atom, ArmTree, BoundTree}
 
 -- Which expressions may stand at a place.
 abbrev pub mode_of : Kind → Mode
@@ -128,6 +129,14 @@ call_tree f ws (GenericArgument a xs) = GenericCall f ws (GenericArgument a xs)
 abbrev pub may_call : WrittenTypes → List Token → Bool
 may_call NoType ts = true
 may_call (MoreTypes w ws) ts = next_is starts_atom ts
+
+-- A sign, and what is read behind it.
+abbrev pub behind_at : {A : Type 0} → Sign → Reader A → Reader A
+behind_at a p ts = then_at (want a ts) (λ _ ts. p ts)
+
+-- The sign between two bindings, and the second one.
+abbrev pub second_at : Places → Reader GenericExpression → Reader BoundTree
+second_at at p = behind_at s.And (binding_at at p)
 
 -- What stands next in a type, and what reading a type, or behind arguments of one, then goes on with.
 abbrev pub Follows : Places → List Token → Next → List Token → Type 0

@@ -1,10 +1,10 @@
 //! Declarations and whole programs.
 
-ghost use Rattle.std.specs.Prelude.{◌≡◌, [], map, IfOk};
+ghost use Rattle.std.specs.Prelude.{[], map, IfOk};
 ghost use Rattle.gib_syntax.specs.{Spelling.{places_of}, GenericArena.{tree_of}};
 ghost use Rattle.gib_syntax.specs.GenericParts.{IsFunctionInside, constructor_in, data_in, parameter_in, function_in, main_in, generic_program_of};
-ghost use Rattle.gib_parse.specs.Reading.{Any, Fault, At, Nested, many, is_sign, constructor_at, alternative_at, constructors_at, data_at, parameter_at, parameters_at, names_at, type_parameters_at, body_at, function_at, main_at, parse, program_at, whole};
-ghost use Rattle.gib_parse.specs.Parsing.{Fails, Gives, Reads, Stands, AllStand, IsConstructorIn, IsDataIn, IsParameterIn, IsMainIn};
+ghost use Rattle.gib_parse.specs.Reading.{Any, constructor_at, alternative_at, constructors_at, data_at, parameter_at, parameters_at, names_at, type_parameters_at, body_at, function_at, main_at, parse, program_at, whole};
+ghost use Rattle.gib_parse.specs.Parsing.{Gives, Reads, Stands, AllStand, IsConstructorIn, IsDataIn, IsParameterIn, IsMainIn};
 
 use crate::expressions::{Kind, expression};
 use crate::repeated::{Repeated, all, and_more};

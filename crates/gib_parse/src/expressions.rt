@@ -1,12 +1,12 @@
 //! Expressions, by recursive descent. `level` says how many levels are left for the parts of an expression.
 
-ghost use Rattle.std.specs.Prelude.{◌≡◌, ◌<◌, ◌∷◌, ℕ, List, map, length, Some, Ok, IfOk};
+ghost use Rattle.std.specs.Prelude.{◌≡◌, ◌<◌, ℕ, List, map, length, Some, Ok, IfOk};
 ghost use Rattle.std.specs.List.{AllByRecursion};
 ghost use Rattle.gib_syntax.specs.{declared.written.Word.{Word}, GenericTree.{GenericExpression, GenericBit}, GenericFine.{is_generic_application}};
 ghost use Rattle.gib_syntax.specs.{Spelling.{places_of}, Words.{types_in, IsTypesRun}, GenericArena.{PartsBelow, IsRunWithin, layer, tree_of, arguments_from}};
 ghost use Rattle.gib_base.specs.declared.token.Sign.TheVariants as s;
-ghost use Rattle.gib_parse.specs.Reading.{Any, Atom, next_is, is_sign, many, starts, starts_atom, is_literal, literal_at, no_level, parse, any_at, let_at, binding_at, bind_at, par_at, if_at, case_at, arms_at, arm_at, next_arm_at, app_at, variable_at, make_at, constant_at, arguments_at, atom_at, open_at, close_at, next_part_at, tuple_at, close_any_at, open_any_at, operation_at, side_at, Fault, At, Nested};
-ghost use Rattle.gib_parse.specs.Parsing.{Fails, Gives, mode_of, Reads, AllStand, IsExpressionIn, ReadsArms, expression_tree, bound_tree, arm_tree, arms_tree, call_tree, may_call};
+ghost use Rattle.gib_parse.specs.Reading.{Any, Atom, next_is, is_sign, many, starts, starts_atom, is_literal, literal_at, no_level, parse, any_at, let_at, binding_at, bind_at, par_at, if_at, case_at, arms_at, arm_at, next_arm_at, app_at, variable_at, make_at, constant_at, arguments_at, atom_at, open_at, close_at, next_part_at, tuple_at, close_any_at, open_any_at, operation_at};
+ghost use Rattle.gib_parse.specs.Parsing.{Fails, Gives, mode_of, Reads, AllStand, IsExpressionIn, ReadsArms, expression_tree, behind_at, second_at, bound_tree, arm_tree, arms_tree, call_tree, may_call};
 
 use crate::phrases::names_bound;
 use crate::repeated::two_and;
@@ -121,9 +121,26 @@ fn any<'a>(
     }
 }
 
+/// A sign, and an expression behind it.
+#[cycle(expressions)]
+fn behind<'a>(
+    alloc: Global,
+    spans: &[Span],
+    exprs: &mut GenericExprs,
+    level: u32,
+    sign: Sign,
+    tokens: &'a [Token],
+) -> Result<(ExprId, &'a [Token]), Stop>
+    ensures kept { IfOk result (λ x. Reads exprs.old exprs.new x.0.0) }
+    ensures read { Gives (λ x. (tree_of exprs.new x.0.0, x.1.now)) result (behind_at sign (parse (places_of spans.now) level Any) tokens.now) }
+{
+    let tokens = want(sign, tokens)?;
+    expression(alloc, spans, exprs, level, Kind::Any, tokens)
+}
+
 /// The variables of a binding, an equals sign and an expression.
 #[cycle(expressions)]
-#[tactic(auto, unfolding(crate::specs::Reading::binding_at))]
+#[tactic(auto, using(crate::proofs::Behind::binding_is))]
 fn binding<'a>(
     alloc: Global,
     spans: &[Span],
@@ -135,9 +152,25 @@ fn binding<'a>(
     ensures read { Gives (λ x. (bound_tree (tree_of exprs.new) x.0, x.1.now)) result (binding_at (places_of spans.now) (parse (places_of spans.now) level Any) tokens.now) }
 {
     let (names, tokens) = names_bound(alloc, spans, tokens)?;
-    let tokens = want(Sign::Equals, tokens)?;
-    let (value, tokens) = expression(alloc, spans, exprs, level, Kind::Any, tokens)?;
+    let (value, tokens) = behind(alloc, spans, exprs, level, Sign::Equals, tokens)?;
     Ok((Side { names, value }, tokens))
+}
+
+/// The sign between two bindings, and the second one.
+#[cycle(expressions)]
+fn second_binding<'a>(
+    alloc: Global,
+    spans: &[Span],
+    exprs: &mut GenericExprs,
+    level: u32,
+    tokens: &'a [Token],
+) -> Result<(Side, &'a [Token]), Stop>
+    ensures kept { IfOk result (λ x. Reads exprs.old exprs.new x.0.value.0) }
+    ensures read { Gives (λ x. (bound_tree (tree_of exprs.new) x.0, x.1.now)) result
+        (second_at (places_of spans.now) (parse (places_of spans.now) level Any) tokens.now) }
+{
+    let tokens = want(Sign::And, tokens)?;
+    binding(alloc, spans, exprs, level, tokens)
 }
 
 /// Behind `let`.
@@ -163,7 +196,7 @@ fn let_in<'a>(
 }
 
 #[cycle(expressions)]
-#[tactic(auto, unfolding(crate::specs::Reading::bind_at))]
+#[tactic(auto, using(crate::proofs::Behind::bind_is))]
 fn let_one<'a>(
     alloc: Global,
     spans: &[Span],
@@ -176,8 +209,7 @@ fn let_one<'a>(
     ensures read { Gives (λ x. (tree_of exprs.new x.0.0, x.1.now)) result (bind_at (places_of spans.now) (parse (places_of spans.now) level) span tokens.now) }
 {
     let (binding, tokens) = binding(alloc, spans, exprs, level, tokens)?;
-    let tokens = want(Sign::In, tokens)?;
-    let (body, tokens) = expression(alloc, spans, exprs, level, Kind::Any, tokens)?;
+    let (body, tokens) = behind(alloc, spans, exprs, level, Sign::In, tokens)?;
     let id = exprs.put(GenericNode::Let {
         span,
         names: binding.names,
@@ -189,7 +221,7 @@ fn let_one<'a>(
 
 /// Behind `let par`.
 #[cycle(expressions)]
-#[tactic(auto, unfolding(crate::specs::Reading::par_at))]
+#[tactic(auto, using(crate::proofs::Behind::par_is))]
 fn let_par<'a>(
     alloc: Global,
     spans: &[Span],
@@ -202,10 +234,8 @@ fn let_par<'a>(
     ensures read { Gives (λ x. (tree_of exprs.new x.0.0, x.1.now)) result (par_at (places_of spans.now) (parse (places_of spans.now) level) span tokens.now) }
 {
     let (left, tokens) = binding(alloc, spans, exprs, level, tokens)?;
-    let tokens = want(Sign::And, tokens)?;
-    let (right, tokens) = binding(alloc, spans, exprs, level, tokens)?;
-    let tokens = want(Sign::In, tokens)?;
-    let (body, tokens) = expression(alloc, spans, exprs, level, Kind::Any, tokens)?;
+    let (right, tokens) = second_binding(alloc, spans, exprs, level, tokens)?;
+    let (body, tokens) = behind(alloc, spans, exprs, level, Sign::In, tokens)?;
     let id = exprs.put(GenericNode::LetPar {
         span,
         left,
@@ -217,7 +247,7 @@ fn let_par<'a>(
 
 /// Behind `if`.
 #[cycle(expressions)]
-#[tactic(auto, unfolding(crate::specs::Reading::if_at))]
+#[tactic(auto, using(crate::proofs::Behind::if_is))]
 fn if_then<'a>(
     alloc: Global,
     spans: &[Span],
@@ -230,10 +260,8 @@ fn if_then<'a>(
     ensures read { Gives (λ x. (tree_of exprs.new x.0.0, x.1.now)) result (if_at (parse (places_of spans.now) level) span tokens.now) }
 {
     let (condition, tokens) = expression(alloc, spans, exprs, level, Kind::Any, tokens)?;
-    let tokens = want(Sign::Then, tokens)?;
-    let (then_part, tokens) = expression(alloc, spans, exprs, level, Kind::Any, tokens)?;
-    let tokens = want(Sign::Else, tokens)?;
-    let (else_part, tokens) = expression(alloc, spans, exprs, level, Kind::Any, tokens)?;
+    let (then_part, tokens) = behind(alloc, spans, exprs, level, Sign::Then, tokens)?;
+    let (else_part, tokens) = behind(alloc, spans, exprs, level, Sign::Else, tokens)?;
     let id = exprs.put(GenericNode::If {
         span,
         condition,
@@ -647,8 +675,7 @@ fn next_part<'a>(
     ensures kept { IfOk result (λ x. Reads exprs.old exprs.new x.0.0) }
     ensures read { Gives (λ x. (tree_of exprs.new x.0.0, x.1.now)) result (next_part_at (parse (places_of spans.now) level Any) tokens.now) }
 {
-    let tokens = want(Sign::Comma, tokens)?;
-    expression(alloc, spans, exprs, level, Kind::Any, tokens)
+    behind(alloc, spans, exprs, level, Sign::Comma, tokens)
 }
 
 /// Parts behind a comma each, as many as there are.

@@ -1,6 +1,6 @@
 //! Laws of reading: functions that do nothing, whose contracts say what holds of every list of tokens.
 
-ghost use Rattle.std.specs.Prelude.{◌≡◌, ◌≤◌, ◌<◌, ◌⊎◌, ℕ, List, [], Ok, Err, length};
+ghost use Rattle.std.specs.Prelude.{◌≡◌, ◌≤◌, ◌<◌, ◌⊎◌, ℕ, List, [], Ok, Err};
 ghost use Rattle.gib_base.specs.{Lexed.{Lexed, IsLexed}, Spelling.{tokens_text}, declared.token.Token.{Token}};
 ghost use Rattle.gib_syntax.specs.{Source.{Spells}, GenericTree.{GenericProgramTree}};
 ghost use Rattle.gib_syntax.specs.Spelling.{Places, spell_program, Derives, IsPlacedProgram, levels_program, Blames};

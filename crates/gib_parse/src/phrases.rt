@@ -1,10 +1,9 @@
 //! The names of a binding.
 
-ghost use Rattle.std.specs.Prelude.{◌≡◌};
 ghost use Rattle.gib_syntax.specs.Spelling.{places_of};
 ghost use Rattle.gib_base.specs.declared.token.Sign.TheVariants as s;
-ghost use Rattle.gib_parse.specs.Reading.{Fault, At, Nested, is_sign, many, next_name_at, several_names_at, one_name_at, names_bound_at};
-ghost use Rattle.gib_parse.specs.Parsing.{Fails, Gives, with_front};
+ghost use Rattle.gib_parse.specs.Reading.{is_sign, many, next_name_at, several_names_at, one_name_at, names_bound_at};
+ghost use Rattle.gib_parse.specs.Parsing.{Gives, with_front};
 
 use gib_base::Span;
 use gib_base::token::{Sign, Token};

@@ -4,7 +4,7 @@ ghost use Rattle.std.specs.Prelude.{◌≡◌, [], ◌∷◌, map, IfOk};
 ghost use Rattle.std.specs.List.{AllByRecursion};
 ghost use Rattle.gib_base.specs.declared.token.Sign.{Sign as Mark};
 ghost use Rattle.gib_syntax.specs.{GenericArena.{Arena}, Spelling.{Places, places_of}};
-ghost use Rattle.gib_parse.specs.{Reading.{Fault, At, Nested, Reader, is_sign, many}, Parsing.{Fails, Gives, Stands, AllStand, Takes, Stays, with_front}};
+ghost use Rattle.gib_parse.specs.{Reading.{Reader, is_sign, many}, Parsing.{Gives, Stands, AllStand, Takes, Stays, with_front}};
 
 use gib_base::token::{Sign, Token};
 use gib_base::{Memory, Span};

@@ -1,10 +1,10 @@
 //! Types: words, read from left to right with a stack of what stands open, since types nest without a bound.
 
-ghost use Rattle.std.specs.Prelude.{◌≡◌, ◌<◌, [], ◌∷◌, map, length, IfOk, IfErr};
+ghost use Rattle.std.specs.Prelude.{◌≡◌, ◌<◌, [], ◌∷◌, length, IfOk, IfErr};
 ghost use Rattle.gib_syntax.specs.{Forms.{DataAt, NoType}, GenericParts.{results_in}, Spelling.{places_of}, Words.{stack_of, run_words, types_in, type_in}};
-ghost use Rattle.gib_parse.specs.Reading.{Fault, At, then_at, inside, type_at, bracket_at, type_arguments_at, next_type_at, further_types_at, one_type_at, declared_at, open_results_at, results_at, starts_type, is_sign, next_is, many};
+ghost use Rattle.gib_parse.specs.Reading.{then_at, inside, type_at, bracket_at, type_arguments_at, next_type_at, further_types_at, one_type_at, declared_at, open_results_at, results_at, starts_type, next_is, many};
 ghost use Rattle.gib_parse.specs.OpenTypes.{counted};
-ghost use Rattle.gib_parse.specs.Parsing.{Fails, Gives, Follows, FailsHere, ReadsWords, ReadsAllWords, Stands, AllStand, IsTypeIn, AreTypesIn, AreResultsIn};
+ghost use Rattle.gib_parse.specs.Parsing.{Fails, Gives, Follows, FailsHere, ReadsWords, ReadsAllWords, Stands, IsTypeIn, AreTypesIn, AreResultsIn};
 
 use crate::repeated::{Repeated, all, two_and};
 use gib_base::token::{Sign, Token};
