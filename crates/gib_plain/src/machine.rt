@@ -240,11 +240,8 @@ impl Machine {
         let Some(frame) = self.frames.pop() else {
             return Ok(());
         };
-        push_bindings(
-            &mut self.vars,
-            names,
-            between(&self.temps, frame.start, frame.temps_len),
-        )?;
+        let done = between(&self.temps, frame.start, frame.temps_len);
+        push_bindings(&mut self.vars, names, done)?;
         self.temps.truncate(frame.start);
         self.next = Now::Enter(body);
         Ok(())
@@ -260,11 +257,8 @@ impl Machine {
             return Ok(());
         };
         self.base = self.vars.len();
-        push_parameters(
-            &mut self.vars,
-            parameters,
-            between(&self.temps, frame.start, frame.temps_len),
-        )?;
+        let done = between(&self.temps, frame.start, frame.temps_len);
+        push_parameters(&mut self.vars, parameters, done)?;
         self.temps.truncate(frame.start);
         self.left -= 1;
         self.next = Now::Enter(body);
@@ -279,13 +273,8 @@ impl Machine {
         let Some(frame) = self.frames.pop() else {
             return Ok(());
         };
-        let value = make(
-            &mut self.heap,
-            &mut self.placed,
-            con,
-            types,
-            between(&self.temps, frame.start, frame.temps_len),
-        )?;
+        let done = between(&self.temps, frame.start, frame.temps_len);
+        let value = make(&mut self.heap, &mut self.placed, con, types, done)?;
         self.temps.truncate(frame.start);
         self.next = Now::Leave(value);
         Ok(())
@@ -301,12 +290,13 @@ impl Machine {
         let Some(frame) = self.frames.pop() else {
             return Ok(());
         };
+        let done = between(&self.temps, frame.start, frame.temps_len);
         let value = make(
             &mut self.heap,
             &mut self.placed,
             ConId(0),
             &self.types,
-            between(&self.temps, frame.start, frame.temps_len),
+            done,
         )?;
         self.temps.truncate(frame.start);
         self.next = Now::Leave(value);

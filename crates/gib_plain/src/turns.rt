@@ -11,30 +11,32 @@ use gib_value::Node;
 
 /// The argument at a place among those at scalar fields, or at packed ones; where there are fewer, how far past
 /// them the place is.
-fn nth_at(scalars: bool, types: &[Ty], arguments: &[ExprId], at: usize) -> Result<ExprId, usize>
+fn nth_at(
+    scalars: bool,
+    mut types: &[Ty],
+    mut arguments: &[ExprId],
+    mut at: usize,
+) -> Result<ExprId, usize>
     ensures { MatchResult result
-        (λ argument. slice_get (at_fields scalars types.now arguments.now) at ≡ Some argument)
-        (λ past. at ≡ length (at_fields scalars types.now arguments.now) + past) }
+        (λ argument. slice_get (at_fields scalars types.entry.now arguments.entry.now) at ≡ Some argument)
+        (λ past. at ≡ length (at_fields scalars types.entry.now arguments.entry.now) + past) }
 {
-    let mut rest_types = types;
-    let mut rest = arguments;
-    let mut left = at;
-    'arguments: while let [argument, after @ ..] = rest {
-        match rest_types {
-            [] => return Err(left),
+    'arguments: while let [argument, after @ ..] = arguments {
+        match types {
+            [] => return Err(at),
             [ty, types_after @ ..] => {
                 if ty.is_scalar() == scalars {
-                    if left == 0 {
+                    if at == 0 {
                         return Ok(*argument);
                     }
-                    left -= 1;
+                    at -= 1;
                 }
-                rest_types = types_after;
-                rest = after;
+                types = types_after;
+                arguments = after;
             }
         }
     }
-    Err(left)
+    Err(at)
 }
 
 /// The argument at a place behind so many.

@@ -3,4 +3,4 @@ use Rattle.gib_plain.proofs.InTurn.{none_at}
 use Rattle.gib_plain.proofs.turns.nth_at.Goals as goal
 
 pub returns : goal.returns
-returns c = omega (arith, c.arguments.invariant.1, none_at c.args.scalars c.arguments.rest_types.now c.arguments.rest.now c.in_default.len_below)
+returns c = omega (arith, c.arguments.invariant.1, none_at c.args.scalars c.arguments.types.now c.arguments.arguments.now c.in_default.len_below)

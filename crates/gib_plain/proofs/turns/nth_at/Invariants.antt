@@ -4,8 +4,8 @@ use Rattle.gib_plain.proofs.turns.nth_at.Given as goal
 
 abbrev pub invariant-arguments : goal.invariant-arguments
 invariant-arguments l =
-    (slice_get (at_fields l.scalars l.rest_types l.rest) l.left ≡ slice_get (at_fields l.scalars l.types l.arguments) l.at)
-    × (length (at_fields l.scalars l.types l.arguments) + l.left ≡ l.at + length (at_fields l.scalars l.rest_types l.rest))
+    (slice_get (at_fields l.scalars l.types l.arguments) l.at ≡ slice_get (at_fields l.scalars l.fn.types l.fn.arguments) l.fn.at)
+    × (length (at_fields l.scalars l.fn.types l.fn.arguments) + l.at ≡ l.fn.at + length (at_fields l.scalars l.types l.arguments))
 
 abbrev pub decreases-arguments : goal.decreases-arguments
-decreases-arguments l = length l.rest
+decreases-arguments l = length l.arguments
