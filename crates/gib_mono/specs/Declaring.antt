@@ -12,13 +12,13 @@ use Rattle.gib_syntax.specs.declared.tree.DataDecl.{DataDecl}
 use Rattle.gib_syntax.specs.declared.tree.FunctionDecl.{FunctionDecl}
 use Rattle.gib_syntax.specs.declared.tree.MainDecl.{MainDecl}
 use Rattle.gib_syntax.specs.declared.program.GenericConstructor.{GenericConstructor}
-use Rattle.gib_syntax.specs.Tree.{ConstructorTree}
+use Rattle.gib_syntax.specs.Tree.{ConstructorTree, ProgramTree}
 use Rattle.gib_syntax.specs.Arena.{tree_of, Grows}
 use Rattle.gib_syntax.specs.Declarations.{number_of}
 use Rattle.gib_syntax.specs.Parts.{data_tree, results_tree, function_tree, main_tree, IsFunctionInside}
 use Rattle.gib_syntax.specs.Forms.{WrittenType, formed}
 use Rattle.gib_syntax.specs.GenericParts.{GenericParts, generic_program_of}
-use Rattle.gib_syntax.specs.GenericTree.{GenericExpression, GenericConstructorTree, GenericDataTree, GenericParameterTree, GenericFunctionTree, GenericMainTree, GenericGlobals}
+use Rattle.gib_syntax.specs.GenericTree.{GenericExpression, GenericConstructorTree, GenericDataTree, GenericParameterTree, GenericFunctionTree, GenericMainTree, GenericGlobals, GenericProgramTree}
 use Rattle.gib_syntax.specs.GenericTyping.{FormScope}
 use Rattle.gib_mono.specs.declared.copier.Copier.{Copier}
 use Rattle.gib_mono.specs.declared.declaring.CopiedParts.{CopiedParts}
@@ -31,10 +31,10 @@ use Rattle.gib_mono.specs.Copied.{Item}
 use Rattle.gib_mono.specs.Copying.{Naming, name_of_form, copy, copy_written, copy_constructor, copy_data, copy_parameter, copy_function, copy_main, bind_forms}
 use Rattle.gib_mono.specs.Found.{copy_from, IsFound}
 use Rattle.gib_mono.specs.Made.{naming, Stays, Binds}
-use Rattle.gib_mono.specs.Naming.{entry}
+use Rattle.gib_mono.specs.Naming.{entry, entries, listed_entries, naming_of, with_entries}
 use Rattle.gib_mono.specs.Scenes.{forms, meaning, scope_in, names_in}
 use Rattle.gib_mono.specs.Sources.{globals_in}
-use Rattle.gib_mono.specs.Walk.{Copy, DataCopy, FunctionCopy, datas_in, function_copies, copies_of}
+use Rattle.gib_mono.specs.Walk.{Copy, DataCopy, FunctionCopy, datas_in, function_copies, copies_of, copied_program}
 
 -- The copies that keys stand for.
 abbrev pub copies_with : Option Copy → List Copy → List Copy
@@ -151,6 +151,19 @@ pub record Declares (g : GenericGlobals) (old new : Copier) (datas_before : List
   pub functions : functions_after ≡ functions_before ++ more_functions
   pub inside : AllByRecursion (IsFunctionInside (length new.exprs)) more_functions
   pub functions_are : map (function_tree (tree_of new.exprs)) more_functions ≡ map (λ (c : FunctionCopy). copy_function g (naming old) c.function c.types) (function_copies cs)
+
+-- The copies of keys were named, then put, and main was copied: what was copied stands in between.
+pub record CopiesKeys (p : GenericParts) (old new : Copier) (keys : List CopyKey) (ds : List DataDecl) (fs : List FunctionDecl) (main : MainDecl) : Type 0 where
+  pub named : Copier
+  pub put : Copier
+  pub enters : Enters old named (with_entries (names_in old.scene) (listed_entries (copies_from (globals_in p) (forms old.scene) keys)))
+  pub declares : Declares (globals_in p) named put [] [] ds fs (copies_from (globals_in p) (forms named.scene) keys)
+  pub ends : CopiesMain (globals_in p) put new main (generic_program_of p).main
+
+-- A program and its names are the copy of one with type parameters.
+abbrev pub IsCopyOf : GenericProgramTree → ℕ → ProgramTree → List Item → Type 0
+IsCopyOf p base made names =
+    (found : List Copy) × (copies_of p ≡ Ok found) × (made ≡ copied_program p (naming_of base (entries found)) found) × (names ≡ entries found)
 
 -- The copies that were found are those of the program.
 pub record Finds (parts : GenericParts) (asked : Asked) : Type 0 where

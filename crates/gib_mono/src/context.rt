@@ -27,9 +27,8 @@ impl Model for Context {
 
 impl Context {
     ghost use Rattle.std.specs.Prelude.{◌≡◌, [], length, IfOk};
-    ghost use Rattle.gib_types.specs.Types.{AreBelow, forms_at};
-    ghost use Rattle.gib_syntax.specs.Forms.{assign};
-    ghost use Rattle.gib_mono.specs.Contexts.{forms, meaning, ReadsIn};
+    ghost use Rattle.gib_types.specs.Types.{AreBelow};
+    ghost use Rattle.gib_mono.specs.Contexts.{meaning, ReadsIn};
 
     /// Nothing was met yet.
     pub fn new(alloc: Global) -> Context

@@ -1,7 +1,7 @@
 //! The second phase, declarations: each is copied with types put for its type variables.
 
 ghost use Rattle.std.specs.Prelude.{◌≡◌, ◌<◌, [], ◌∷◌, length, map, slice_get, Some, IfOk};
-ghost use Rattle.gib_types.specs.Types.{form_at, forms_at, AreBelow};
+ghost use Rattle.gib_types.specs.Types.{forms_at, AreBelow};
 ghost use Rattle.gib_syntax.specs.{Parts.{constructor_tree}, GenericArena.{tree_of as generic_of}};
 ghost use Rattle.gib_syntax.specs.GenericParts.{constructor_in, generic_program_of, parameter_in, results_in};
 ghost use Rattle.gib_syntax.specs.{GenericTree.{GenericDataTree, GenericFunctionTree}, Words.{first_type, stack_of, type_in}};

@@ -3,7 +3,7 @@
 ghost use Rattle.std.specs.Prelude.{◌≡◌, List, [], OnOk, OnErr};
 ghost use Rattle.gib_mono.specs.Entries.{place_in, with_key};
 
-use gib_base::{Memory, Name};
+use gib_base::Memory;
 use gib_types::types::TypeId;
 use indexmap::IndexSet;
 use std::alloc::{AllocError, Global};

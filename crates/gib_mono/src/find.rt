@@ -8,7 +8,7 @@ ghost use Rattle.gib_syntax.specs.GenericParts.{generic_program_of, constructor_
 ghost use Rattle.gib_syntax.specs.{GenericTree.{GenericDataTree, GenericFunctionTree, GenericParameterTree}, Words.{type_in, IsTypeRun}};
 ghost use Rattle.gib_mono.specs.{Contexts.{forms}, Found.{IsFound}, Limits.{IsLimitOf, IsMemory}, Closed.{IsGood}};
 ghost use Rattle.gib_mono.specs.{Searching.{IsAt, IsOpen, Walked, Asks, AsksAll}, Sources.{globals_in}};
-ghost use Rattle.gib_mono.specs.Walk.{Copy, DataOf, FunctionOf, copies_of, copy_asks, main_asks, copies_asks, constructor_asks, function_asks, results_asks, types_asks, plain_copies, plain_data, plain_datas, plain_function, plain_functions};
+ghost use Rattle.gib_mono.specs.Walk.{Copy, DataOf, FunctionOf, copies_of, copy_asks, main_asks, copies_asks, constructor_asks, function_asks, results_asks, types_asks, plain_copies, plain_data, plain_function};
 
 use crate::asks::ask_expression;
 use crate::context::Context;

@@ -1,6 +1,6 @@
 //! The copies that were asked for, each once.
 
-ghost use Rattle.std.specs.Prelude.{◌≡◌, ℕ, ◌<◌, ◌≤◌, List, [], ◌∷◌, false, length, slice_get, Some, IfOk};
+ghost use Rattle.std.specs.Prelude.{◌≡◌, ◌<◌, ◌≤◌, List, [], ◌∷◌, false, length, slice_get, Some, IfOk};
 ghost use Rattle.gib_mono.specs.{declared.found.CopyKey.{CopyKey as Kind}, Walk.{Copy, add_new, is_found, constructors_in}};
 ghost use Rattle.gib_mono.specs.Found.{AreDeclarations, KeyBelow, copy_from, IsFound, Adds, IsNewKey, types_by, functions_by, has_room, AreAlike};
 ghost use Rattle.gib_syntax.specs.{Forms.{Form}, GenericTree.{GenericGlobals}};

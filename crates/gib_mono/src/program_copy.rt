@@ -1,17 +1,18 @@
 //! The copy of a program with type parameters.
 
-ghost use Rattle.std.specs.Prelude.{◌≡◌, ℕ, List, Ok, Err, IfOk, IfErr, MatchResult};
+ghost use Rattle.std.specs.Prelude.{◌≡◌, ℕ, List, length, Ok, Err, IfOk, IfErr, MatchResult};
 ghost use Rattle.gib_base.specs.declared.Span.{Span as SpanOf};
-ghost use Rattle.gib_syntax.specs.{GenericParts.{generic_program_of}, GenericTyping.{IsTypedGeneric}, Parts.{program_of}};
+ghost use Rattle.gib_syntax.specs.{GenericParts.{generic_program_of}, GenericTyping.{IsTypedGeneric}, Parts.{program_of}, Typing.{IsTypedProgram}};
 ghost use Rattle.gib_mono.specs.{Walk.{Copy, copies_of, copied_program, plain_copies}, Naming.{entries, naming_of, AreNamedBelow}};
-ghost use Rattle.gib_mono.specs.{Bare.{AreSingleTrees, IsPlainProgram, bare_program}, Declaring.{Finds}, Entries.{items_of}};
+ghost use Rattle.gib_mono.specs.{Bare.{AreSingleTrees, IsPlainProgram, bare_program}, Entries.{items_of}, Sources.{globals_in}};
+ghost use Rattle.gib_mono.specs.Declaring.{AreKeysInside, CopiesKeys, Finds, IsCopyOf};
 ghost use Rattle.gib_mono.specs.Limits.{IsLimitOf, IsMemory, IsMemoryOr};
 
 use crate::copier::Copier;
 use crate::copy_names::CopyNames;
-use crate::declaring::{copy_all, copy_main};
+use crate::declaring::{Declarations, copy_all, copy_main};
 use crate::find::{Asked, find_copies};
-use crate::found::MonoFault;
+use crate::found::{CopyKey, MonoFault};
 use crate::naming::name_copies;
 use crate::plain::{bare_program, is_plain};
 use crate::plain_names::plain_names;
@@ -19,7 +20,7 @@ use crate::scene::Scene;
 use crate::source::Source;
 use gib_base::Memory;
 use gib_check::{Generic, Typed};
-use gib_syntax::{Exprs, GenericProgram, Program};
+use gib_syntax::{Exprs, GenericProgram, MainDecl, Program};
 use std::alloc::Global;
 
 /// A program's copy, which is typed, and what its copies are called.
@@ -29,7 +30,53 @@ pub struct MonoProgram {
     pub copies: CopyNames,
 }
 
-/// The copied program, for copies that were found.
+/// What is copied of a program, beside its expressions.
+#[derive(Drop)]
+struct ProgramParts {
+    declared: Declarations,
+    main: MainDecl,
+}
+
+/// The copies of these keys and of main. The copier is owned by the caller, which has one way out by want of memory: each way
+/// out that owns it would drop all of it.
+fn copy_keys(copier: &mut Copier, source: &Source, keys: &[CopyKey]) -> Result<ProgramParts, Memory>
+    requires { AreKeysInside (globals_in source.now) (length copier.old.scene.types) keys.now }
+    ensures { IfOk result (λ c. CopiesKeys source.now copier.old copier.new keys.now c.declared.datas.items c.declared.functions.items c.main) }
+{
+    name_copies(copier, source, keys)?;
+    let declared = copy_all(copier, source, keys)?;
+    let main = copy_main(copier, source)?;
+    Ok(ProgramParts { declared, main })
+}
+
+/// The copied program and what its copies are called, for copies that were found.
+fn copy_program(
+    alloc: Global,
+    source: &Source,
+    asked: Asked,
+    base: u32,
+) -> Result<(Program, CopyNames), Memory>
+    requires finds { Finds source.now asked }
+    requires below { AreNamedBelow base (generic_program_of source.now) }
+    ensures { IfOk result (λ m. IsTypedProgram (program_of m.0) × IsCopyOf (generic_program_of source.now) base (program_of m.0) (items_of m.1)) }
+{
+    let _program = source.program();
+    let scene = Scene::new(alloc, asked.context.into_types());
+    let mut copier = Copier {
+        alloc,
+        scene,
+        parts: Vec::new(alloc),
+        base,
+        exprs: Exprs::new(alloc),
+    };
+    let parts = copy_keys(&mut copier, source, asked.found.keys())?;
+    let declared = parts.declared;
+    let program = Program::new(copier.exprs, declared.datas, declared.functions, parts.main);
+    let copies = copier.scene.into_copies();
+    Ok((program, copies))
+}
+
+/// The copied program, typed, for copies that were found.
 fn copy_asked(
     alloc: Global,
     source: &Source,
@@ -41,21 +88,8 @@ fn copy_asked(
     ensures { IfOk result (λ m. (found : List Copy) × (copies_of (generic_program_of source.now) ≡ Ok found)
         × (program_of m.typed ≡ copied_program (generic_program_of source.now) (naming_of base (entries found)) found) × (items_of m.copies ≡ entries found)) }
 {
-    let _program = source.program();
-    let scene = Scene::new(alloc, asked.context.into_types());
-    let mut copier = Copier {
-        alloc,
-        scene,
-        parts: Vec::new(alloc),
-        base,
-        exprs: Exprs::new(alloc),
-    };
-    name_copies(&mut copier, source, asked.found.keys())?;
-    let declared = copy_all(&mut copier, source, asked.found.keys())?;
-    let main = copy_main(&mut copier, source)?;
-    let program = Program::new(copier.exprs, declared.datas, declared.functions, main);
+    let (program, copies) = copy_program(alloc, source, asked, base)?;
     let typed = Typed::of(alloc, program)?;
-    let copies = copier.scene.into_copies();
     Ok(MonoProgram { typed, copies })
 }
 
