@@ -6,7 +6,7 @@ use Rattle.gib_mem.specs.Memory.{Memory}
 use Rattle.gib_code.specs.Instruction.{Instruction}
 use Rattle.gib_code.specs.Program.{CodeTree, Runs}
 use Rattle.gib_machine.specs.State.{Ask, Silent, Get, Put, Draw, AtFork, AtJoin, Ended, widest}
-use Rattle.gib_machine.specs.Sides.{Waiting, left_starts, right_of}
+use Rattle.gib_machine.specs.Sides.{Waiting, left_starts, right_of, side_start}
 use Rattle.gib_machine.specs.Starting.{waiting_of}
 use Rattle.gib_machine.specs.Stepping.{Can}
 use Rattle.gib_machine.specs.Frames.{FitsFrame}
@@ -74,6 +74,10 @@ stage_of stage.Joined = w.Joined
 -- The left side of the task's fork starts, and its right side waits.
 abbrev pub forked : Task → Option Instruction → Task
 forked t i = record { state = left_starts t.state i; sides = Waits (right_of t.state i) ∷ t.sides; stage = t.stage }
+
+-- A right side as a task of its own.
+abbrev pub side_task : CodeTree → Waiting → Task
+side_task code x = record { state = side_start code x; sides = []; stage = w.Running }
 
 -- A fork of a task leaves this, by its answer.
 abbrev pub IsForked : Task → Option Instruction → Task → Result (Unit {0}) WeaveFault → Type 0

@@ -4,8 +4,9 @@ ghost use Rattle.std.specs.Prelude.{◌≡◌, ◌<◌, ◌^◌, ◌++◌, ◌�
 ghost use Rattle.gib_mem.specs.Memory as M;
 ghost use Rattle.gib_core.specs.Parts.{core_of};
 ghost use Rattle.gib_code.specs.Program.{Runs};
-ghost use Rattle.gib_weave.specs.Applied.{Applied, CanGo, HaveWidth, can_steal_from, event_of, over, picked_of, stepped};
-ghost use Rattle.gib_weave.specs.{Weave.{Finished, IsFinished, IsOn, pick_steal, steal_below, task, weave_start}, Running.{word_of}};
+ghost use Rattle.gib_machine.specs.{Machine.{next}, Sides.{Waiting}, State.{AtJoin, widest}};
+ghost use Rattle.gib_weave.specs.Applied.{Applied, CanGo, HaveWidth, IsOldest, can_steal_from, event_of, over, picked_of, side_task, stepped};
+ghost use Rattle.gib_weave.specs.{Weave.{Finished, HasWaiting, IsFinished, IsOn, pick_steal, steal_below, task, weave_start}, Running.{word_of}};
 ghost use Rattle.gib_weave.specs.Weave as w;
 
 use crate::event::Event;
@@ -101,6 +102,31 @@ impl Tasks {
         self.at(number).is_running()
     }
 
+    /// Whether the task is on, and stands at a join.
+    fn is_at_join(&self, code: &Code, number: usize) -> bool
+        ensures on { (v : M.Memory) → IsTrue result ↔ (IsOn (over v self.now) number × (next code.now (task self.now number).state ≡ AtJoin)) }
+        ensures below { IsTrue result → number < length self.now }
+    {
+        if !self.is_on(number) {
+            return false;
+        }
+        self.at(number).is_at_join(code)
+    }
+
+    /// Whether the task is on and has a right side that waits, and one more task has a number.
+    fn can_be_stolen_from(&self, number: usize) -> bool
+        ensures on { (v : M.Memory) → IsTrue result ↔ (IsOn (over v self.now) number × (length self.now < 2 ^ 32) × HasWaiting (task self.now number).sides) }
+        ensures below { IsTrue result → number < length self.now }
+    {
+        if !self.is_on(number) {
+            return false;
+        }
+        if self.items.len() >= TASKS {
+            return false;
+        }
+        self.at(number).has_waiting()
+    }
+
     /// A task makes a micro-step.
     ///
     /// # Errors
@@ -154,6 +180,25 @@ impl Tasks {
         Ok(())
     }
 
+    /// One more task, which runs the oldest right side of a task that waits.
+    ///
+    /// # Errors
+    ///
+    /// Want of memory. The tasks are then as they were.
+    fn add_oldest(&mut self, alloc: Global, code: &Code, number: usize) -> Result<(), Memory>
+        requires there { number < length self.old }
+        requires few { length self.old < 2 ^ 32 }
+        requires waits { HasWaiting (task self.old number).sides }
+        requires width { (task self.old number).state.width ≡ widest code.now.functions }
+        ensures added { OnOk result ((x : Waiting) × IsOldest (task self.old number).sides x × (self.new ≡ self.old ++ side_task code.now x ∷ [])) }
+        ensures same { OnErr result (self.new ≡ self.old) }
+    {
+        let machine = self.at(number).oldest(alloc, code)?;
+        let task = Task::new(alloc, machine, Tails::new());
+        self.add(task)?;
+        Ok(())
+    }
+
     /// The oldest right side of a task that waits becomes a task of its own.
     ///
     /// # Errors
@@ -165,27 +210,15 @@ impl Tasks {
         ensures { (v : M.Memory) → Applied code.now (over v self.old) (w.Steal number) (over v self.new) result }
     {
         let place = number as usize;
-        if !self.is_on(place) {
+        if !self.can_be_stolen_from(place) {
             return Err(WeaveFault::NotNow);
         }
-        if self.items.len() >= TASKS {
-            return Err(WeaveFault::NotNow);
-        }
-        if !self.at(place).has_waiting() {
-            return Err(WeaveFault::NotNow);
-        }
-        match self.at(place).oldest(alloc, code) {
+        let side = self.items.len() as u32;
+        match self.add_oldest(alloc, code, place) {
             Err(_) => Err(WeaveFault::Memory),
-            Ok(machine) => {
-                let side = self.items.len() as u32;
-                let task = Task::new(alloc, machine, Tails::new());
-                match self.add(task) {
-                    Err(_) => Err(WeaveFault::Memory),
-                    Ok(()) => {
-                        self.items[place].begin_oldest(side);
-                        Ok(())
-                    }
-                }
+            Ok(()) => {
+                self.items[place].begin_oldest(side);
+                Ok(())
             }
         }
     }
@@ -201,10 +234,7 @@ impl Tasks {
         ensures { (v : M.Memory) → Applied code.now (over v self.old) (w.Take number) (over v self.new) result }
     {
         let place = number as usize;
-        if !self.is_on(place) {
-            return Err(WeaveFault::NotNow);
-        }
-        if !self.at(place).is_at_join(code) {
+        if !self.is_at_join(code, place) {
             return Err(WeaveFault::NotNow);
         }
         if !self.at(place).side_waits() {
@@ -259,10 +289,7 @@ impl Tasks {
         ensures { (v : M.Memory) → Applied code.now (over v self.old) (w.Join number) (over v self.new) result }
     {
         let place = number as usize;
-        if !self.is_on(place) {
-            return Err(WeaveFault::NotNow);
-        }
-        if !self.at(place).is_at_join(code) {
+        if !self.is_at_join(code, place) {
             return Err(WeaveFault::NotNow);
         }
         match self.at(place).side_begun() {
