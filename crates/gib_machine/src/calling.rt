@@ -49,12 +49,30 @@ pub enum Entrance {
     SwitchOne { constructor: u8, label: u32 },
 }
 
-/// Where a function starts, how many slots a frame of it has, and how it begins.
+/// How a call of a scalar function with one argument ends at once, so that no frame is made for it.
+#[derive(Clone, Copy)]
+pub enum Quick {
+    /// It is not known to.
+    Never,
+    /// Where the argument's head is of the constructor, by the number at a place of it; `told` is the size of a head whose end is told.
+    Leaf {
+        constructor: u8,
+        place: u8,
+        told: Option<u8>,
+    },
+    /// Where the argument is less than the number, by the argument.
+    Below {
+        number: u64,
+    },
+}
+
+/// Where a function starts, how many slots a frame of it has, how it begins, and how it ends at once.
 #[derive(Clone, Copy)]
 pub struct Callee {
     pub start: u32,
     pub slots: u32,
     pub entrance: Entrance,
+    pub quick: Quick,
 }
 
 impl Machine {
