@@ -3,7 +3,7 @@
 ghost use Rattle.std.specs.Prelude.{◌≡◌, ◌++◌, ◌∷◌, [], ◌<◌, ◌≤◌, length, map, IfOk, OnOk};
 
 use crate::sample::add;
-use crate::terms::*;
+use crate::terms::{TREE, arm, call, core_of, is_printed, point, put, scalar, then, var};
 use gib_access::reach;
 use gib_base::{Memory, Name};
 use gib_core::*;
@@ -82,22 +82,6 @@ fn program(alloc: Global) -> Result<Core, Memory> {
     core_of(alloc, types, terms, LAST, TREE, (body, main_body))
 }
 
-// scalar %number, which is call sum %of, and then the rest
-fn summed(
-    alloc: Global,
-    terms: &mut Terms,
-    number: u32,
-    of: u32,
-    rest: TermId,
-) -> Result<TermId, Memory>
-    requires { rest.0 < length terms.old }
-    ensures { IfOk result (λ id. (id.0 < length terms.new) × (length terms.old ≤ length terms.new)) }
-{
-    let term = call(alloc, terms, SUM, of)?;
-    let side = bound(Kind::Scalar, number, Ty::Whole, term);
-    then(terms, Binding::One(side), rest)
-}
-
 // give %n
 fn give(terms: &mut Terms, number: u32) -> Result<TermId, Memory>
     ensures { IfOk result (λ id. (id.0 < length terms.new) × (length terms.old ≤ length terms.new)) }
@@ -110,11 +94,14 @@ fn sum_body(alloc: Global, terms: &mut Terms) -> Result<TermId, Memory>
     ensures { IfOk result (λ id. (id.0 < length terms.new) × (length terms.old ≤ length terms.new)) }
 {
     let leaf = give(terms, 1)?;
-    let second = give(terms, 5)?;
-    let second = summed(alloc, terms, 5, 3, second)?;
-    let pair = summed(alloc, terms, 4, 2, second)?;
-    let last = give(terms, 9)?;
-    let node = summed(alloc, terms, 9, 8, last)?;
+    let rest = give(terms, 5)?;
+    let second = scalar(alloc, terms, 5, SUM, 3)?;
+    let rest = then(terms, Binding::One(second), rest)?;
+    let first = scalar(alloc, terms, 4, SUM, 2)?;
+    let pair = then(terms, Binding::One(first), rest)?;
+    let rest = give(terms, 9)?;
+    let last = scalar(alloc, terms, 9, SUM, 8)?;
+    let node = then(terms, Binding::One(last), rest)?;
     case_of_all(alloc, terms, 6, leaf, pair, node)
 }
 
@@ -123,19 +110,11 @@ fn sum_program(alloc: Global) -> Result<Core, Memory> {
     let mut terms = Terms::new(alloc);
     let body = sum_body(alloc, &mut terms)?;
     let given = give(&mut terms, 1)?;
-    let main_body = summed(alloc, &mut terms, 1, 0, given)?;
+    let sum = scalar(alloc, &mut terms, 1, SUM, 0)?;
+    let main_body = then(&mut terms, Binding::One(sum), given)?;
     let types = table(alloc)?;
     core_of(alloc, types, terms, SUM, Ty::Whole, (body, main_body))
 }
-
-const SKIPS: &str =
-    "fun last %0:Tree : Tree\n  case %0\n    Leaf %1\n      point %0\n    Pair %2 %3\n      reach %3 by skip %2\n      call last %3\n    Node %4 %5 %6\n      reach %5 by skip %4\n      reach %6 by skip %5\n      call last %6\nmain %0:Tree : Tree\n  call last %0\n";
-
-const OFFSETS: &str =
-    "fun last %0:Tree : Tree\n  case %0\n    Leaf %1\n      point %0\n    Pair %2 %3\n      reach %3 by offset\n      call last %3\n    Node %4 %5 %6\n      reach %6 by offset\n      call last %6\nmain %0:Tree : Tree\n  call last %0\n";
-
-const ENDS: &str =
-    "fun last %0:Tree : Tree\n  case %0\n    Leaf %1\n      point %0\n    Pair %2 %3\n      reach %3 by offset\n      call last %3 ends %3\n    Node %4 %5 %6\n      reach %6 by offset\n      call last %6 ends %6\nmain %0:Tree : Tree\n  call last %0 ends %0\n";
 
 const SUM_BY_ENDS: &str =
     "fun sum %0:Tree : Int\n  case %0\n    Leaf %1\n      give %1\n    Pair %2 %3\n      scalar %4\n        call sum %2 ends %2\n      reach %3 by end %2\n      scalar %5\n        call sum %3 ends %3\n      give %5\n    Node %6 %7 %8\n      reach %8 by offset\n      scalar %9\n        call sum %8 ends %8\n      give %9\nmain %0:Tree : Int\n  scalar %1\n    call sum %0 ends %0\n  give %1\n";
@@ -165,9 +144,21 @@ fn reaches_fields_by_ends(rt: HostRuntime) -> Result<(), Fail> {
 
 /// How fields are reached, the text, and the constructors with offsets.
 const CASES: [(AccessMode, &str, &[ConId]); 3] = [
-    (AccessMode::Skips, SKIPS, &[]),
-    (AccessMode::Offsets, OFFSETS, &[PAIR, NODE]),
-    (AccessMode::Ends, ENDS, &[PAIR, NODE]),
+    (
+        AccessMode::Skips,
+        "fun last %0:Tree : Tree\n  case %0\n    Leaf %1\n      point %0\n    Pair %2 %3\n      reach %3 by skip %2\n      call last %3\n    Node %4 %5 %6\n      reach %5 by skip %4\n      reach %6 by skip %5\n      call last %6\nmain %0:Tree : Tree\n  call last %0\n",
+        &[],
+    ),
+    (
+        AccessMode::Offsets,
+        "fun last %0:Tree : Tree\n  case %0\n    Leaf %1\n      point %0\n    Pair %2 %3\n      reach %3 by offset\n      call last %3\n    Node %4 %5 %6\n      reach %6 by offset\n      call last %6\nmain %0:Tree : Tree\n  call last %0\n",
+        &[PAIR, NODE],
+    ),
+    (
+        AccessMode::Ends,
+        "fun last %0:Tree : Tree\n  case %0\n    Leaf %1\n      point %0\n    Pair %2 %3\n      reach %3 by offset\n      call last %3 ends %3\n    Node %4 %5 %6\n      reach %6 by offset\n      call last %6 ends %6\nmain %0:Tree : Tree\n  call last %0 ends %0\n",
+        &[PAIR, NODE],
+    ),
 ];
 
 #[test]

@@ -116,15 +116,12 @@ fn put_and_get<M: Mem>(mem: &mut M, at: u64, value: u8) -> u8
     mem.get(at)
 }
 
+/// Three bytes that were read, and the number of chunks.
+type Seen = (u8, u8, u8, u32);
+
 // Each of two threads puts a byte. After the join: what the one pass reads of both, a third byte that it puts behind that of
 // the other thread, and the number of chunks.
-fn exchange<R: Threads + Sync>(
-    rt: &R,
-    shared: Arena,
-    pass: Pass,
-    one: u8,
-    two: u8,
-) -> Option<(u8, u8, u8, u32)>
+fn exchange<R: Threads + Sync>(rt: &R, shared: Arena, pass: Pass, one: u8, two: u8) -> Option<Seen>
     requires { IsOf shared pass × (view pass ≡ first_view 2) }
 {
     let mut pass = pass;
@@ -209,7 +206,7 @@ fn share_a_word<R: Threads + Sync>(
     pass: Pass,
     one: u8,
     two: u8,
-) -> Option<(u8, u8, u8, u32)>
+) -> Option<Seen>
     requires { IsOf shared pass × (view pass ≡ first_view 1) }
 {
     let (pass, at) = write_once(&shared, pass, one)?;

@@ -17,3 +17,25 @@ pub fn push_times(bytes: &mut Vec<u8>, piece: &[u8], count: usize) -> Result<(),
     }
     Ok(())
 }
+
+/// Texts, one behind another.
+pub fn joined(alloc: Global, texts: &[&str]) -> Result<Vec<u8>, AllocError> {
+    let mut bytes = Vec::new(alloc);
+    for text in texts {
+        bytes.extend_from_slice(text.as_bytes())?;
+    }
+    Ok(bytes)
+}
+
+/// Bytes so many times, and an end.
+pub fn repeated(
+    alloc: Global,
+    piece: &[u8],
+    count: usize,
+    end: &[u8],
+) -> Result<Vec<u8>, AllocError> {
+    let mut bytes = Vec::new(alloc);
+    push_times(&mut bytes, piece, count)?;
+    bytes.extend_from_slice(end)?;
+    Ok(bytes)
+}

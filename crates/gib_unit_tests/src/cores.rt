@@ -2,44 +2,30 @@
 
 ghost use Rattle.std.specs.Prelude.{◌≡◌, ◌++◌, ◌∷◌, [], ◌<◌, ◌≤◌, length, map, IfOk, OnOk};
 
+use crate::bytes::joined;
 use crate::sample::trees;
 use crate::terms::*;
 use gib_base::{Memory, Name};
 use gib_core::*;
-use gib_types::{ConId, Operator, Ty};
+use gib_types::{Operator, Ty};
 use std::alloc::Global;
 use std::test::*;
-
-const LEAF: ConId = ConId(0);
-
-const NODE: ConId = ConId(1);
 
 const ADD1: Name = Name(3);
 
 // The arm of `Leaf`: prim, past and write.
-fn leaf(alloc: Global, terms: &mut Terms) -> Result<TermId, Memory>
+fn first_arm(alloc: Global, terms: &mut Terms) -> Result<TermId, Memory>
     ensures { IfOk result (λ id. (id.0 < length terms.new) × (length terms.old ≤ length terms.new)) }
 {
-    let rest = write(alloc, terms, 3, LEAF, &[var(2)], &[])?;
-    let rest = past(terms, 3, LEAF, rest)?;
+    let rest = leaf(alloc, terms, 3, 2)?;
     prim(terms, 2, Operator::Add, var(1), Atom::literal(1), rest)
-}
-
-// The end of the arm of `Node`: past, two fields and write.
-fn ends(alloc: Global, terms: &mut Terms) -> Result<TermId, Memory>
-    ensures { IfOk result (λ id. (id.0 < length terms.new) × (length terms.old ≤ length terms.new)) }
-{
-    let rest = write(alloc, terms, 8, NODE, &[], &[var(9), var(10)])?;
-    let rest = here(terms, 10, 7, rest)?;
-    let rest = here(terms, 9, 6, rest)?;
-    past(terms, 8, NODE, rest)
 }
 
 // The two sides, and what follows them.
 fn sides(alloc: Global, terms: &mut Terms, fork: bool) -> Result<TermId, Memory>
     ensures { IfOk result (λ id. (id.0 < length terms.new) × (length terms.old ≤ length terms.new)) }
 {
-    let rest = ends(alloc, terms)?;
+    let rest = node(alloc, terms, 8, 6, 7)?;
     let first = call(alloc, terms, ADD1, 4)?;
     let second = call(alloc, terms, ADD1, 5)?;
     let left = bound(Kind::Region, 6, TREE, first);
@@ -56,17 +42,11 @@ fn body(
 ) -> Result<TermId, Memory>
     ensures { IfOk result (λ id. (id.0 < length terms.new) × (length terms.old ≤ length terms.new)) }
 {
-    let first = leaf(alloc, terms)?;
+    let first = first_arm(alloc, terms)?;
     let mut second = sides(alloc, terms, fork)?;
     if let Some(access) = access {
-        second = then(
-            terms,
-            Binding::Reach {
-                field: Variable(5),
-                access,
-            },
-            second,
-        )?;
+        let field = Variable(5);
+        second = then(terms, Binding::Reach { field, access }, second)?;
     }
     let leaf = arm(alloc, LEAF, &[Variable(1)], first)?;
     let node = arm(alloc, NODE, &[Variable(4), Variable(5)], second)?;
@@ -113,10 +93,7 @@ const NAMES: &[&str] = &["Tree", "Leaf", "Node", "add1"];
 
 /// Whether the program is printed with these lines in the middle.
 fn is_told(alloc: Global, access: Option<Access>, fork: bool, middle: &str) -> Result<bool, Fail> {
-    let mut want = Vec::new(alloc);
-    want.extend_from_slice(FRONT.as_bytes())?;
-    want.extend_from_slice(middle.as_bytes())?;
-    want.extend_from_slice(BACK.as_bytes())?;
+    let want = joined(alloc, &[FRONT, middle, BACK])?;
     let core = program(alloc, access, fork)?;
     is_printed(alloc, &core, NAMES, &want)
 }

@@ -3,7 +3,7 @@
 ghost use Rattle.std.specs.Prelude.{IfOk};
 ghost use Rattle.gib_types.specs.Tree.{IsTyped};
 
-use crate::bytes::{packed, push_times};
+use crate::bytes::{packed, repeated};
 use crate::sample::mixed;
 use gib_base::{Names, Texts};
 use gib_file::{pack, read_header, survey, unpack};
@@ -79,10 +79,8 @@ const PAYLOADS: [(Ty, &[u8], u64); 6] = [
 
 /// The payload of a list of so many cells.
 fn list(alloc: Global, cells: usize) -> Result<Vec<u8>, AllocError> {
-    let mut payload = Vec::new(alloc);
-    push_times(&mut payload, b"\x05\x01\x02\x03\x04\x05\x06\x07\x08", cells)?;
-    payload.push(4)?;
-    Ok(payload)
+    let cell = b"\x05\x01\x02\x03\x04\x05\x06\x07\x08";
+    repeated(alloc, cell, cells, b"\x04")
 }
 
 #[test]

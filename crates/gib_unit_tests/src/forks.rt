@@ -50,6 +50,25 @@ fn program(alloc: Global, sides: (bool, bool), fork: bool) -> Result<Core, Memor
     core_of(alloc, types, terms, WORK, TREE, (work, body))
 }
 
+const BOTH: &str =
+    "fun work %0:Tree : Tree\n  point %0\nmain %0:Tree : Tree\n  par fork\n    region %1\n      call work %0\n    region %2\n      call work %0\n  call work %0\n";
+
+/// Whether the sides call, the mark before, and the text.
+const ROWS: [((bool, bool), bool, &str); 4] = [
+    ((true, true), false, BOTH),
+    ((true, true), true, BOTH),
+    (
+        (true, false),
+        true,
+        "fun work %0:Tree : Tree\n  point %0\nmain %0:Tree : Tree\n  par\n    region %1\n      call work %0\n    region %2\n      point %0\n  call work %0\n",
+    ),
+    (
+        (false, true),
+        true,
+        "fun work %0:Tree : Tree\n  point %0\nmain %0:Tree : Tree\n  par\n    region %1\n      point %0\n    region %2\n      call work %0\n  call work %0\n",
+    ),
+];
+
 /// Whether the program, which breaks no rule, is marked to this text.
 fn is_marked(alloc: Global, sides: (bool, bool), fork: bool, want: &str) -> Result<bool, Fail> {
     let Ok(checked) = loccheck(alloc, program(alloc, sides, fork)?) else {
@@ -63,23 +82,6 @@ fn is_marked(alloc: Global, sides: (bool, bool), fork: bool, want: &str) -> Resu
         want.as_bytes(),
     )
 }
-
-const BOTH: &str =
-    "fun work %0:Tree : Tree\n  point %0\nmain %0:Tree : Tree\n  par fork\n    region %1\n      call work %0\n    region %2\n      call work %0\n  call work %0\n";
-
-const LEFT: &str =
-    "fun work %0:Tree : Tree\n  point %0\nmain %0:Tree : Tree\n  par\n    region %1\n      call work %0\n    region %2\n      point %0\n  call work %0\n";
-
-const RIGHT: &str =
-    "fun work %0:Tree : Tree\n  point %0\nmain %0:Tree : Tree\n  par\n    region %1\n      point %0\n    region %2\n      call work %0\n  call work %0\n";
-
-/// Whether the sides call, the mark before, and the text.
-const ROWS: [((bool, bool), bool, &str); 4] = [
-    ((true, true), false, BOTH),
-    ((true, true), true, BOTH),
-    ((true, false), true, LEFT),
-    ((false, true), true, RIGHT),
-];
 
 #[test]
 fn marks_where_both_sides_call(rt: HostRuntime) -> Result<(), Fail> {

@@ -1,11 +1,11 @@
 //! Memory where loading ends for want of chunks; what is loaded whole stands in `examples/rows`, by images.
 
-ghost use Rattle.std.specs.Prelude.{◌≡◌, true};
+ghost use Rattle.std.specs.Prelude.{◌≡◌, true, IfOk};
 
-use crate::bytes::{packed, push_times};
+use crate::bytes::{packed, repeated};
 use crate::sample::mixed;
 use gib_base::Memory;
-use gib_file::{read_header, survey};
+use gib_file::{Survey, read_header, survey};
 use gib_load::{LoadFault, load};
 use gib_mem::{Mem, PlainMem};
 use gib_packed::Root;
@@ -14,28 +14,21 @@ use gib_types::{Layouts, Ty, TyId, TypeTable};
 use std::alloc::{AllocError, Global};
 use std::test::*;
 
-/// What loading the value of a packed file into a memory answers.
-fn load_file(
+/// The survey of a packed file.
+fn surveyed<'a>(
     alloc: Global,
-    types: &TypeTable,
+    types: &'a TypeTable,
     ty: Ty,
-    file: &[u8],
-    mem: &mut PlainMem,
-) -> Result<Result<Root, LoadFault>, Fail>
-    requires alone { (⟦<PlainMem as Mem>⟧.view mem.old).alone ≡ true }
-    requires undrawn { (⟦<PlainMem as Mem>⟧.view mem.old).drawn ≡ 0 }
+    file: &'a [u8],
+) -> Result<Survey<'a>, Fail>
+    ensures { IfOk result (λ survey. survey.table ≡ types.now) }
 {
-    let Ok(header) = read_header(file) else {
-        return Err("header".into());
-    };
-    let Ok(survey) = survey(alloc, types, ty, header) else {
-        return Err("payload".into());
-    };
-    let layouts = Layouts::make(alloc, types, &[])?;
-    Ok(load(alloc, &layouts, survey, mem, &mut Tails::new()))
+    let header = read_header(file).map_err(|_| "header")?;
+    let survey = survey(alloc, types, ty, header).map_err(|_| "payload")?;
+    Ok(survey)
 }
 
-/// The same of a payload.
+/// What loading the value of a payload into a memory answers.
 fn load_payload(
     alloc: Global,
     ty: Ty,
@@ -46,8 +39,10 @@ fn load_payload(
     requires undrawn { (⟦<PlainMem as Mem>⟧.view mem.old).drawn ≡ 0 }
 {
     let types = mixed(alloc)?;
+    let layouts = Layouts::make(alloc, &types, &[])?;
     let file = packed(alloc, payload)?;
-    load_file(alloc, &types, ty, &file, mem)
+    let survey = surveyed(alloc, &types, ty, &file)?;
+    Ok(load(alloc, &layouts, survey, mem, &mut Tails::new()))
 }
 
 /// The bytes of drawn chunks, at most so many.
@@ -78,10 +73,7 @@ fn ends_full(
 
 /// As many cells of a list as a chunk takes, and these bytes.
 fn cells(alloc: Global, end: &[u8]) -> Result<Vec<u8>, AllocError> {
-    let mut cells = Vec::new(alloc);
-    push_times(&mut cells, b"\x05\x07\0\0\0\0\0\0\0", 454)?;
-    cells.extend_from_slice(end)?;
-    Ok(cells)
+    repeated(alloc, b"\x05\x07\0\0\0\0\0\0\0", 454, end)
 }
 
 #[test]

@@ -7,23 +7,10 @@ use crate::terms::*;
 use gib_base::{Memory, Name};
 use gib_core::*;
 use gib_place::place;
-use gib_types::ConId;
 use std::alloc::Global;
 use std::test::*;
 
-const NODE: ConId = ConId(1);
-
 const WORK: Name = Name(3);
-
-// Node %l %r, with its fields in %4 and %5.
-fn node(alloc: Global, terms: &mut Terms, fields: (u32, u32)) -> Result<TermId, Memory>
-    ensures { IfOk result (λ id. (id.0 < length terms.new) × (length terms.old ≤ length terms.new)) }
-{
-    let rest = write(alloc, terms, 3, NODE, &[], &[var(4), var(5)])?;
-    let rest = here(terms, 5, fields.1, rest)?;
-    let rest = here(terms, 4, fields.0, rest)?;
-    past(terms, 3, NODE, rest)
-}
 
 // The body of main, which binds two calls, %1 and %2, side by side or one after the other, and then makes a node.
 fn body(
@@ -34,7 +21,7 @@ fn body(
 ) -> Result<TermId, Memory>
     ensures { IfOk result (λ id. (id.0 < length terms.new) × (length terms.old ≤ length terms.new)) }
 {
-    let node = node(alloc, terms, fields)?;
+    let node = node(alloc, terms, 3, fields.0, fields.1)?;
     let left = call(alloc, terms, WORK, 0)?;
     let right = call(alloc, terms, WORK, 0)?;
     let left = bound(Kind::Region, 1, TREE, left);
@@ -71,32 +58,43 @@ fn places(alloc: Global, is_par: bool, fields: (u32, u32), want: &str) -> Result
     )
 }
 
-const BOTH: &str =
-    "main %0:Tree : Tree\n  past %1 Node\n  here %2\n    call work %0\n  here %3\n    call work %0\n  write %1 %2 %3\n";
-
-const USED_TWICE: &str =
-    "main %0:Tree : Tree\n  region %1\n    call work %0\n  region %2\n    call work %0\n  past %3 Node\n  here %4\n    point %1\n  here %5\n    point %1\n  write %3 %4 %5\n";
-
-const BEHIND_A_POINTED: &str =
-    "main %0:Tree : Tree\n  region %1\n    call work %0\n  past %2 Node\n  here %3\n    point %0\n  here %4\n    call work %0\n  write %2 %3 %4\n";
-
-const EXCHANGED: &str =
-    "main %0:Tree : Tree\n  region %1\n    call work %0\n  past %2 Node\n  here %3\n    call work %0\n  here %4\n    point %1\n  write %2 %3 %4\n";
-
-const BOTH_SIDES: &str =
-    "main %0:Tree : Tree\n  past %1 Node\n  par\n    here %2\n      call work %0\n    here %3\n      call work %0\n  write %1 %2 %3\n";
-
-const RIGHT_SIDE: &str =
-    "main %0:Tree : Tree\n  past %1 Node\n  here %2\n    point %0\n  par\n    region %3\n      call work %0\n    here %4\n      call work %0\n  write %1 %2 %4\n";
-
 /// Whether the two calls stand side by side, to which variables the fields point, and the text that is made of it.
 const CASES: [(bool, (u32, u32), &str); 6] = [
-    (false, (1, 2), BOTH),
-    (false, (1, 1), USED_TWICE),
-    (false, (0, 2), BEHIND_A_POINTED),
-    (false, (2, 1), EXCHANGED),
-    (true, (1, 2), BOTH_SIDES),
-    (true, (0, 2), RIGHT_SIDE),
+    // Both calls stand in the fields.
+    (
+        false,
+        (1, 2),
+        "main %0:Tree : Tree\n  past %1 Node\n  here %2\n    call work %0\n  here %3\n    call work %0\n  write %1 %2 %3\n",
+    ),
+    // A value that is used twice, and one that is not used.
+    (
+        false,
+        (1, 1),
+        "main %0:Tree : Tree\n  region %1\n    call work %0\n  region %2\n    call work %0\n  past %3 Node\n  here %4\n    point %1\n  here %5\n    point %1\n  write %3 %4 %5\n",
+    ),
+    // A call behind a field that points.
+    (
+        false,
+        (0, 2),
+        "main %0:Tree : Tree\n  region %1\n    call work %0\n  past %2 Node\n  here %3\n    point %0\n  here %4\n    call work %0\n  write %2 %3 %4\n",
+    ),
+    // The fields in the other order.
+    (
+        false,
+        (2, 1),
+        "main %0:Tree : Tree\n  region %1\n    call work %0\n  past %2 Node\n  here %3\n    call work %0\n  here %4\n    point %1\n  write %2 %3 %4\n",
+    ),
+    // Both sides, and the right one alone.
+    (
+        true,
+        (1, 2),
+        "main %0:Tree : Tree\n  past %1 Node\n  par\n    here %2\n      call work %0\n    here %3\n      call work %0\n  write %1 %2 %3\n",
+    ),
+    (
+        true,
+        (0, 2),
+        "main %0:Tree : Tree\n  past %1 Node\n  here %2\n    point %0\n  par\n    region %3\n      call work %0\n    here %4\n      call work %0\n  write %1 %2 %4\n",
+    ),
 ];
 
 #[test]

@@ -4,18 +4,15 @@ ghost use Rattle.std.specs.Prelude.{◌≡◌, ◌∷◌, [], ◌<◌, ◌≤◌
 ghost use Rattle.gib_types.specs.declared.table.Ty.TheVariants.{Whole, Tree};
 ghost use Rattle.gib_core.specs.{Arena.{term_in}, PartTypes.{types_in}};
 
+use crate::bytes::joined;
 use crate::sample::trees;
 use crate::terms::*;
 use gib_access::reach;
 use gib_base::{Memory, Name};
 use gib_core::*;
-use gib_types::{ConId, Operator, Ty};
+use gib_types::{Operator, Ty};
 use std::alloc::Global;
 use std::test::*;
-
-const LEAF: ConId = ConId(0);
-
-const NODE: ConId = ConId(1);
 
 const SPLIT: Name = Name(3);
 
@@ -58,32 +55,6 @@ fn split(alloc: Global, terms: &mut Terms, first: u32, of: u32) -> Result<BoundS
         types,
         term,
     }))
-}
-
-// past %head, a leaf of a number
-fn leaf(alloc: Global, terms: &mut Terms, head: u32, number: u32) -> Result<TermId, Memory>
-    ensures { IfOk result (λ id. (id.0 < length terms.new) × (length terms.old ≤ length terms.new)) }
-{
-    let rest = write(alloc, terms, head, LEAF, &[var(number)], &[])?;
-    past(terms, head, LEAF, rest)
-}
-
-// past %head, a node of two trees, whose fields are the variables behind the head
-fn node(
-    alloc: Global,
-    terms: &mut Terms,
-    head: u32,
-    left: u32,
-    right: u32,
-) -> Result<TermId, Memory>
-    requires { head < 100 }
-    ensures { IfOk result (λ id. (id.0 < length terms.new) × (length terms.old ≤ length terms.new)) }
-{
-    let fields = [var(head + 1), var(head + 2)];
-    let rest = write(alloc, terms, head, NODE, &[], &fields)?;
-    let rest = here(terms, head + 2, right, rest)?;
-    let rest = here(terms, head + 1, left, rest)?;
-    past(terms, head, NODE, rest)
 }
 
 // The arm of `Leaf`: the tree is a leaf of the next number.
@@ -170,12 +141,6 @@ fn program(alloc: Global, beside: bool) -> Result<Core, Memory> {
 const FRONT: &str =
     "fun split %0:Tree : (Tree, Int)\n  case %0\n    Leaf %1\n      tuple %1\n        to\n          prim %2 = %1 + 1\n          past %3 Leaf\n          write %3 %2\n    Node %4 %5\n";
 
-const BESIDE: &str =
-    "      par\n        several %6 %7\n          call split %4\n        several %8 %9\n          call split %5\n";
-
-const BEHIND: &str =
-    "      several %6 %7\n        call split %4\n      several %8 %9\n        call split %5\n";
-
 const BACK: &str =
     "      prim %10 = %7 + %9\n      tuple %10\n        to\n          past %11 Node\n          here %12\n            point %6\n          here %13\n            point %8\n          write %11 %12 %13\nmain %0:Tree : Tree\n  several %1 %2\n    call split %0\n  region %3\n    past %4 Leaf\n    write %4 %2\n  past %5 Node\n  here %6\n    point %1\n  here %7\n    point %3\n  write %5 %6 %7\n";
 
@@ -183,12 +148,12 @@ const NAMES: &[&str] = &["Tree", "Leaf", "Node", "split"];
 
 /// Whether the program, with its fields reached so, is printed with this line and the calls.
 fn is_told(alloc: Global, mode: AccessMode, line: &str, beside: bool) -> Result<bool, Fail> {
-    let calls = if beside { BESIDE } else { BEHIND };
-    let mut want = Vec::new(alloc);
-    want.extend_from_slice(FRONT.as_bytes())?;
-    want.extend_from_slice(line.as_bytes())?;
-    want.extend_from_slice(calls.as_bytes())?;
-    want.extend_from_slice(BACK.as_bytes())?;
+    let calls = if beside {
+        "      par\n        several %6 %7\n          call split %4\n        several %8 %9\n          call split %5\n"
+    } else {
+        "      several %6 %7\n        call split %4\n      several %8 %9\n        call split %5\n"
+    };
+    let want = joined(alloc, &[FRONT, line, calls, BACK])?;
     let core = program(alloc, beside)?;
     let core = reach(alloc, core, mode)?;
     is_printed(alloc, &core, NAMES, &want)

@@ -13,6 +13,12 @@ use std::test::Fail;
 /// The first declared type.
 pub const TREE: Ty = Ty::Tree(TyId(0));
 
+/// Its constructor of a number.
+pub const LEAF: ConId = ConId(0);
+
+/// Its constructor of two trees.
+pub const NODE: ConId = ConId(1);
+
 /// The names of a program, in their order.
 pub fn names(alloc: Global, texts: &[&str]) -> Result<Texts, Fail> {
     let mut names = Names::make(alloc)?;
@@ -93,34 +99,14 @@ pub fn bound(kind: Kind, number: u32, ty: Ty, term: TermId) -> BoundSide
     })
 }
 
-/// past %h, and the rest
-pub fn past(
-    terms: &mut Terms,
-    head: u32,
-    constructor: ConId,
-    rest: TermId,
-) -> Result<TermId, Memory>
+/// past %h of a tag, and the rest
+pub fn past(terms: &mut Terms, head: u32, tag: ConId, rest: TermId) -> Result<TermId, Memory>
     requires { rest.0 < length terms.old }
     ensures { IfOk result (λ id. (id.0 < length terms.new) × (length terms.old ≤ length terms.new)) }
 {
-    then(
-        terms,
-        Binding::Past {
-            head: Variable(head),
-            constructor,
-        },
-        rest,
-    )
-}
-
-/// here %n, and under it point %m, and the rest
-pub fn here(terms: &mut Terms, number: u32, target: u32, rest: TermId) -> Result<TermId, Memory>
-    requires { rest.0 < length terms.old }
-    ensures { IfOk result (λ id. (id.0 < length terms.new) × (length terms.old ≤ length terms.new)) }
-{
-    let point = point(terms, target)?;
-    let here = bound(Kind::Here, number, TREE, point);
-    then(terms, Binding::One(here), rest)
+    let head = Variable(head);
+    let constructor = tag;
+    then(terms, Binding::Past { head, constructor }, rest)
 }
 
 /// prim %n = an operation on two atoms, and the rest
@@ -135,16 +121,67 @@ pub fn prim(
     requires { rest.0 < length terms.old }
     ensures { IfOk result (λ id. (id.0 < length terms.new) × (length terms.old ≤ length terms.new)) }
 {
+    let variable = Variable(number);
     then(
         terms,
         Binding::Prim {
-            variable: Variable(number),
+            variable,
             operator,
             left,
             right,
         },
         rest,
     )
+}
+
+/// scalar %n, which is call f %m
+pub fn scalar(
+    alloc: Global,
+    terms: &mut Terms,
+    number: u32,
+    name: Name,
+    of: u32,
+) -> Result<BoundSide, Memory>
+    ensures { IfOk result (λ side. ((term_in side).0 < length terms.new) × (length terms.old ≤ length terms.new)) }
+{
+    let term = call(alloc, terms, name, of)?;
+    Ok(bound(Kind::Scalar, number, Ty::Whole, term))
+}
+
+/// here %n, and under it point %m, and the rest
+pub fn here(terms: &mut Terms, number: u32, target: u32, rest: TermId) -> Result<TermId, Memory>
+    requires { rest.0 < length terms.old }
+    ensures { IfOk result (λ id. (id.0 < length terms.new) × (length terms.old ≤ length terms.new)) }
+{
+    let point = point(terms, target)?;
+    let here = bound(Kind::Here, number, TREE, point);
+    then(terms, Binding::One(here), rest)
+}
+
+/// past %h, a leaf of %n
+pub fn leaf(alloc: Global, terms: &mut Terms, head: u32, number: u32) -> Result<TermId, Memory>
+    ensures { IfOk result (λ id. (id.0 < length terms.new) × (length terms.old ≤ length terms.new)) }
+{
+    let rest = write(alloc, terms, head, LEAF, &[var(number)], &[])?;
+    past(terms, head, LEAF, rest)
+}
+
+/// past %h, a node of two trees, whose fields are the variables behind the head and point to these
+pub fn node(
+    alloc: Global,
+    terms: &mut Terms,
+    head: u32,
+    left: u32,
+    right: u32,
+) -> Result<TermId, Memory>
+    requires { head < 100 }
+    ensures { IfOk result (λ id. (id.0 < length terms.new) × (length terms.old ≤ length terms.new)) }
+{
+    let fields = [var(head + 1), var(head + 2)];
+    let rest = write(alloc, terms, head, NODE, &[], &fields)?;
+    let rest = here(terms, head + 2, right, rest)?;
+    let rest = here(terms, head + 1, left, rest)?;
+    past(terms, head, NODE, rest)
 }
 
 pub fn arm(
@@ -161,6 +198,27 @@ pub fn arm(
         variables,
         term,
     })
+}
+
+/// if %n then a term else another one
+pub fn if_else(
+    terms: &mut Terms,
+    condition: u32,
+    then_part: TermId,
+    else_part: TermId,
+) -> Result<TermId, Memory>
+    requires first { then_part.0 < length terms.old }
+    requires second { else_part.0 < length terms.old }
+    ensures { IfOk result (λ id. (id.0 < length terms.new) × (length terms.old ≤ length terms.new)) }
+{
+    put(
+        terms,
+        Node::If {
+            condition: var(condition),
+            then_part,
+            else_part,
+        },
+    )
 }
 
 /// case %n with two arms
