@@ -100,10 +100,10 @@ main (n : Int) : Int = let tree = grow 10 in copies n tree ;
 # What is counted in instructions: the program and its two numbers, what it gives for a number, of what there are so many more in the run on the
 # second number, and how many instructions each may take.
 COUNTED = (
-    ("a sum, a leaf", GROW + SUM_TREE + SUMS, 2, 20, lambda n: n * LEAVES, 18 * LEAVES, 450),
-    ("a sum in place, a leaf", GROW + SUM_PAR + SUMS, 2, 20, lambda n: n * LEAVES, 18 * LEAVES, 640),
+    ("a sum, a leaf", GROW + SUM_TREE + SUMS, 2, 20, lambda n: n * LEAVES, 18 * LEAVES, 380),
+    ("a sum in place, a leaf", GROW + SUM_PAR + SUMS, 2, 20, lambda n: n * LEAVES, 18 * LEAVES, 570),
     ("add_one, a leaf", GROW + COPIES, 2, 20, lambda n: 0, 18 * LEAVES, 830),
-    ("fib, a call", FIB, 0, 20, fibonacci, 2 * fibonacci(21) - 2, 210),
+    ("fib, a call", FIB, 0, 20, fibonacci, 2 * fibonacci(21) - 2, 155),
     ("a box", BOXES, 0, 20_000, lambda n: 2 * n * (n + 1), 20_000, 1_350),
 )
 
